@@ -12,6 +12,8 @@ import subprocess
 import sys
 import textwrap
 
+from long_lines import broken
+
 OUT = 'crates/brk_tables_schema/proofs'
 SPECS = 'crates/brk_tables_schema/specs'
 MAKING = 'crates/brk_tables_create/proofs'
@@ -226,11 +228,12 @@ def save(path, text):
     if '/proofs/' not in path:
         kept = [one for line in kept for one in short_uses(line)]
         body = '\n'.join(one for line in body.split('\n') for one in short_uses(line))
+    text = '\n'.join(kept) + '\n\n' + body
     if os.path.exists(path):
         with open(path) as file:
             BEFORE[path] = (file.read(), os.stat(path))
     with open(path, 'w') as file:
-        file.write('\n'.join(kept) + '\n\n' + body)
+        file.write(broken(text) if '/proofs/' in path else text)
 
 def write(crate, name, what, table, body):
     save(f'crates/{crate}/proofs/{name}.antt', HEAD.format(what=what, table=table) + body)

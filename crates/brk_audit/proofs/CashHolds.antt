@@ -22,7 +22,8 @@ use Rattle.brk_changes.specs.declared.cash_row.CashRow as cash
 use Rattle.brk_audit_sums.specs.AccountTerms.{account_tax_status_in_terms}
 use Rattle.brk_audit_sums.specs.Conditions.{HasValidStatuses}
 use Rattle.brk_audit.specs.CashMoveFigures.{abstract_posted_figures}
-use Rattle.brk_audit_sums.specs.Settling.{MoveRowFigures, settlement_amount_at_tax_status, is_completed_cash_trade, is_numbered_by_stamp, posted_figures_of_trade, posted_figures_of_row, account_tax_status_or_untaxed}
+use Rattle.brk_audit_sums.specs.Settling.{MoveRowFigures, settlement_amount_at_tax_status, is_completed_cash_trade, is_numbered_by_stamp}
+use Rattle.brk_audit_sums.specs.Settling.{posted_figures_of_trade, posted_figures_of_row, account_tax_status_or_untaxed}
 use Rattle.brk_audit_sums.specs.declared.account_terms.AccountTerms.{AccountTerms}
 use Rattle.brk_audit.specs.declared.cash.CashMoveFigures as code
 use Rattle.brk_audit_sums.proofs.AccountTerms.{HasTerms, same_tax_statuses}
@@ -48,10 +49,12 @@ pub record IsSortedOwn (s : Sheets) (own : List MoveRowFigures) : Type 0 where
   pub permutation : IsPermutation (filter_map posted_figures_of_row (abstract_sheets s).moves) own
   pub order : Ascends (λ p. p.trade) own
 
-pub sorted_own : (s : Sheets) (rows sorted : List code.CashMoveFigures) (ms : List move.MoveRow) → ms ≡ s.moves.items → map abstract_posted_figures rows ≡ filter_map (λ r. posted_figures_of_row (abstract_move_row r)) ms
+pub sorted_own : (s : Sheets) (rows sorted : List code.CashMoveFigures) (ms : List move.MoveRow) → ms ≡ s.moves.items
+    → map abstract_posted_figures rows ≡ filter_map (λ r. posted_figures_of_row (abstract_move_row r)) ms
     → IsPermutation rows sorted → IsNonDecreasingBy (λ (p : code.CashMoveFigures). p.trade) sorted → IsSortedOwn s (map abstract_posted_figures sorted)
 sorted_own s rows sorted ms e a p n =
-    let all : map abstract_posted_figures rows ≡ filter_map posted_figures_of_row (map abstract_move_row s.moves.items) = a ∙ ap (filter_map (λ r. posted_figures_of_row (abstract_move_row r))) e ∙ posted_rows s.moves.items in
+    let all : map abstract_posted_figures rows ≡ filter_map posted_figures_of_row (map abstract_move_row s.moves.items) = a
+    ∙ ap (filter_map (λ r. posted_figures_of_row (abstract_move_row r))) e ∙ posted_rows s.moves.items in
     record {
       permutation = subst (λ (xs : List MoveRowFigures). IsPermutation xs (map abstract_posted_figures sorted)) all (IsPermutation-map abstract_posted_figures rows sorted p);
       order = ascends_map (λ (p : MoveRowFigures). p.trade) abstract_posted_figures sorted (ascends (λ (p : code.CashMoveFigures). p.trade) sorted n);
@@ -70,7 +73,8 @@ moves_hold schema s terms own ms ts n f w h o e g =
     let law = cash_by_moves schema t own n f w o.permutation o.order in
     let turn : is_numbered_by_stamp 1 0 (map abstract_move_row ms) ≡ is_numbered_by_stamp 1 0 t.moves = ap (λ rs. is_numbered_by_stamp 1 0 (map abstract_move_row rs)) e in
     let rows : List TradeRow = filter is_completed_cash_trade (map abstract_trade_row s.trades.items) in
-    let right : map (posted_figures_of_trade (account_tax_status_in_terms terms)) (filter is_completed_cash_trade (map abstract_trade_row ts)) ≡ map (posted_figures_of_trade (account_tax_status_or_untaxed t)) rows =
+    let right : map (posted_figures_of_trade (account_tax_status_in_terms terms)) (filter is_completed_cash_trade (map abstract_trade_row ts))
+    ≡ map (posted_figures_of_trade (account_tax_status_or_untaxed t)) rows =
     ap (λ xs. map (posted_figures_of_trade (account_tax_status_in_terms terms)) (filter is_completed_cash_trade (map abstract_trade_row xs))) g
     ∙ map-same (posted_figures_of_trade (account_tax_status_in_terms terms)) (posted_figures_of_trade (account_tax_status_or_untaxed t)) rows
     (All-of rows (λ r i. record { account = r.account; trade = r.id; stamp = r.stamp; amount = settlement_amount_at_tax_status (same_tax_statuses s terms h r.account i) r })) in (

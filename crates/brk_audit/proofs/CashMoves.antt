@@ -81,7 +81,8 @@ Apart (p ∷ ps) = AllByRecursion (λ q. (q.stamp == p.stamp) ≡ false) ps × A
 lower : (a b : ℕ) → nat_lt b a ≡ false → (b == a) ≡ false → a < b
 lower a b e f = grind (arith, nat_tests)
 
-rise_insert : (p : Posting) (ps : List Posting) → AllByRecursion (λ q. (q.stamp == p.stamp) ≡ false) ps → Rises (λ q. q.stamp) ps → Rises (λ q. q.stamp) (insert_by (λ a b. nat_lt a.stamp b.stamp) p ps)
+rise_insert : (p : Posting) (ps : List Posting) → AllByRecursion (λ q. (q.stamp == p.stamp) ≡ false) ps → Rises (λ q. q.stamp) ps
+    → Rises (λ q. q.stamp) (insert_by (λ a b. nat_lt a.stamp b.stamp) p ps)
 rise_insert p [] h r = (tt, tt)
 rise_insert p (q ∷ qs) h r = by_test (nat_lt q.stamp p.stamp) refl (rise_insert p qs h.1 r.1)
   where
@@ -164,7 +165,14 @@ postings_decide a b = (
       let q = and_parts (same_option a.trade b.trade) _ p.1 in
       let r = and_parts (a.stamp == b.stamp) _ q.1 in
       let m = and_parts (int_eq a.amount b.amount) (bytes_eq a.name b.name) r.1 in
-      λ i. record { account = eqb-true a.account b.account p.0 i; trade = (options_decide a.trade b.trade).0 q.0 i; stamp = eqb-true a.stamp b.stamp r.0 i; amount = (Decides-int_eq a.amount b.amount).0 m.0 i; name = (bytes_eq-Decides a.name b.name).0 m.1 i }),
+      λ i. record {
+        account = eqb-true a.account b.account p.0 i;
+        trade = (options_decide a.trade b.trade).0 q.0 i;
+        stamp =
+            eqb-true a.stamp b.stamp r.0 i;
+        amount = (Decides-int_eq a.amount b.amount).0 m.0 i;
+        name = (bytes_eq-Decides a.name b.name).0 m.1 i;
+      }),
   (λ e.
       and_from (a.account == b.account) _ (eq-eqb a.account b.account (ap (λ (p : Posting). p.account) e))
       (and_from (same_option a.trade b.trade) _ ((options_decide a.trade b.trade).1 (ap (λ (p : Posting). p.trade) e))
@@ -183,7 +191,13 @@ posted_decide a b = (
       let p = and_parts (a.account == b.account) _ e in
       let q = and_parts (a.trade == b.trade) _ p.1 in
       let r = and_parts (a.stamp == b.stamp) (int_eq a.amount b.amount) q.1 in
-      λ i. record { account = eqb-true a.account b.account p.0 i; trade = eqb-true a.trade b.trade q.0 i; stamp = eqb-true a.stamp b.stamp r.0 i; amount = (Decides-int_eq a.amount b.amount).0 r.1 i }),
+      λ i. record {
+        account = eqb-true a.account b.account p.0 i;
+        trade = eqb-true a.trade b.trade q.0 i;
+        stamp = eqb-true a.stamp b.stamp r.0 i;
+        amount =
+            (Decides-int_eq a.amount b.amount).0 r.1 i;
+      }),
   (λ e.
       and_from (a.account == b.account) _ (eq-eqb a.account b.account (ap (λ (p : MoveRowFigures). p.account) e))
       (and_from (a.trade == b.trade) _ (eq-eqb a.trade b.trade (ap (λ (p : MoveRowFigures). p.trade) e))
@@ -223,11 +237,13 @@ found_own (r ∷ rs) d = (here, later r.trade refl d (found_own rs))
     here id e =
         ap (λ b. cond b (Some (posting_of_cash_move_row r)) (find (is_posting_of_trade id) (map posting_of_cash_move_row rs))) (ap (λ o. option_map_or (λ n. n == id) o false) e ∙ eq-eqb id id refl)
 
-    passed : (qs : List MoveRow) → AllByRecursion (λ q. (id : ℕ) → q.trade ≡ Some id → is_posting_of_trade id (posting_of_cash_move_row r) ≡ false) qs → AllByRecursion (IsOwn rs) qs → AllByRecursion (IsOwn (r ∷ rs)) qs
+    passed : (qs : List MoveRow) → AllByRecursion (λ q. (id : ℕ) → q.trade ≡ Some id → is_posting_of_trade id (posting_of_cash_move_row r) ≡ false) qs
+        → AllByRecursion (IsOwn rs) qs → AllByRecursion (IsOwn (r ∷ rs)) qs
     passed [] n h = tt
     passed (q ∷ qs) n h = ((λ id e. ap (λ b. cond b (Some (posting_of_cash_move_row r)) (find (is_posting_of_trade id) (map posting_of_cash_move_row rs))) (n.0 id e) ∙ h.0 id e), passed qs n.1 h.1)
 
-    later : (o : Option ℕ) → r.trade ≡ o → all_distinct (option_to_list o ++ trade_ids_of_cash_rows rs) ≡ true → (all_distinct (trade_ids_of_cash_rows rs) ≡ true → AllByRecursion (IsOwn rs) rs) → AllByRecursion (IsOwn (r ∷ rs)) rs
+    later : (o : Option ℕ) → r.trade ≡ o → all_distinct (option_to_list o ++ trade_ids_of_cash_rows rs) ≡ true
+        → (all_distinct (trade_ids_of_cash_rows rs) ≡ true → AllByRecursion (IsOwn rs) rs) → AllByRecursion (IsOwn (r ∷ rs)) rs
     later None e d ih = passed rs (All-of rs (λ q id f. ap (λ o. option_map_or (λ n. n == id) o false) e)) (ih d)
     later (Some m) e d ih =
         let p = and_parts (not (contains_number m (trade_ids_of_cash_rows rs))) (all_distinct (trade_ids_of_cash_rows rs)) d in
@@ -294,7 +310,9 @@ trades_back : (t : Tables) → satisfies_status_condition t ≡ true → map (ba
 trades_back t s =
     map-map (back t) (posted_figures_of_trade (account_tax_status_or_untaxed t)) (cash_done t)
     ∙ map-same (λ r. back t (posted_figures_of_trade (account_tax_status_or_untaxed t) r)) (λ r. posting_of_trade (accounts_in t) (trade_of_row t r)) (cash_done t)
-    (All-map (cash_done t) (λ r e i. record (back t (posted_figures_of_trade (account_tax_status_or_untaxed t) r)) { stamp = sym (row_moment t r e) i; amount = sym (same_amount t r) i }) (right_cash t s))
+    (All-map (cash_done t)
+    (λ r e i. record (back t (posted_figures_of_trade (account_tax_status_or_untaxed t) r))
+    { stamp = sym (row_moment t r e) i; amount = sym (same_amount t r) i }) (right_cash t s))
 
 -- what a posting has of a trade
 abbrev of_posting : Posting → Option MoveRowFigures
@@ -311,7 +329,8 @@ sum_posted : (g : MoveRowFigures → ℕ) (ps : List Posting) → sum_by g (filt
 sum_posted g [] = refl
 sum_posted g (p ∷ ps) = by_trade (of_posting p) refl (sum_posted g ps)
   where
-    by_trade : (o : Option MoveRowFigures) → of_posting p ≡ o → sum_by g (filter_map of_posting ps) ≡ sum_by (counted g) ps → sum_by g (cons_option o (filter_map of_posting ps)) ≡ sum_by (counted g) (p ∷ ps)
+    by_trade : (o : Option MoveRowFigures) → of_posting p ≡ o → sum_by g (filter_map of_posting ps) ≡ sum_by (counted g) ps
+        → sum_by g (cons_option o (filter_map of_posting ps)) ≡ sum_by (counted g) (p ∷ ps)
     by_trade None e ih = let v : counted g p ≡ 0 = ap (λ o. option_map_or g o 0) e in omega (arith, v, ih, sum_by-cons (counted g) p ps)
     by_trade (Some x) e ih =
         let v : counted g p ≡ g x = ap (λ o. option_map_or g o 0) e in omega (arith, v, ih, sum_by-cons (counted g) p ps, sum_by-cons g x (filter_map of_posting ps))
@@ -324,7 +343,8 @@ none_counted g (m ∷ ms) =
     omega (arith, v, ih, sum_by-cons (counted g) (posting_of_movement m) (map posting_of_movement ms))
 
 -- of all postings of the base, those of trades
-base_counted : (t : Tables) (g : MoveRowFigures → ℕ) → satisfies_status_condition t ≡ true → sum_by (counted g) (postings_of_base (base_of_tables t)) ≡ sum_by g (map (posted_figures_of_trade (account_tax_status_or_untaxed t)) (cash_done t))
+base_counted : (t : Tables) (g : MoveRowFigures → ℕ) → satisfies_status_condition t ≡ true
+    → sum_by (counted g) (postings_of_base (base_of_tables t)) ≡ sum_by g (map (posted_figures_of_trade (account_tax_status_or_untaxed t)) (cash_done t))
 base_counted t g s =
     let T : List Posting = by_trades t in
     let V : List Posting = moved_rows t.moves in
@@ -341,19 +361,27 @@ later_trade m n h = grind (arith, nat_tests)
 
 trades_rise : (f : TradeRow → MoveRowFigures) (rs : List TradeRow) → ((r : TradeRow) → (f r).trade ≡ r.id) → Climbs trade_key rs → Rises (λ p. p.trade) (map f rs)
 trades_rise f [] e c = tt
-trades_rise f (r ∷ rs) e c = (All-mapped (λ p. (f r).trade < p.trade) f rs (All-map rs (λ u k. let l : r.id < u.id = later_trade r.id u.id k in let a = e r in let b = e u in omega (arith, l, a, b)) c.0), trades_rise f rs e c.1)
+trades_rise f (r ∷ rs) e c = (
+  All-mapped (λ p. (f r).trade < p.trade) f rs
+      (All-map rs (λ u k. let l : r.id < u.id = later_trade r.id u.id k in let a = e r in let b = e u in omega (arith, l, a, b)) c.0),
+  trades_rise f rs e c.1,
+)
 
 -- ---- together
 
 wanted_no_cash : (schema : Schema) (t : Tables) → schema.has_cash_move_table ≡ true → (expected_tables schema t).cash ≡ []
 unfolding tables_sorted_by_key tables_of_base_in_schema
 wanted_no_cash schema t n =
-    ap (λ b. rows_sorted_by_key cash_transaction_key (cond b [] (map (cash_transaction_row (base_of_tables t).accounts) (cash_trades (completed_trades (base_of_tables t)))))) n ∙ no_rows (is_row_key_less cash_transaction_key)
+    ap (λ b. rows_sorted_by_key cash_transaction_key
+    (cond b [] (map (cash_transaction_row (base_of_tables t).accounts) (cash_trades (completed_trades (base_of_tables t)))))) n
+    ∙ no_rows (is_row_key_less cash_transaction_key)
 
-wanted_moves : (schema : Schema) (t : Tables) → schema.has_cash_move_table ≡ true → (expected_tables schema t).moves ≡ numbered_move_rows 1 (postings_sorted_by_stamp (postings_of_base (base_of_tables t)))
+wanted_moves : (schema : Schema) (t : Tables) → schema.has_cash_move_table ≡ true
+    → (expected_tables schema t).moves ≡ numbered_move_rows 1 (postings_sorted_by_stamp (postings_of_base (base_of_tables t)))
 unfolding tables_sorted_by_key tables_of_base_in_schema
 wanted_moves schema t n =
-    ap (λ b. rows_sorted_by_key cash_move_key (cond b (numbered_move_rows 1 (postings_sorted_by_stamp (postings_of_base (base_of_tables t)))) [])) n ∙ numbered_stay 1 (postings_sorted_by_stamp (postings_of_base (base_of_tables t)))
+    ap (λ b. rows_sorted_by_key cash_move_key (cond b (numbered_move_rows 1 (postings_sorted_by_stamp (postings_of_base (base_of_tables t)))) [])) n
+    ∙ numbered_stay 1 (postings_sorted_by_stamp (postings_of_base (base_of_tables t)))
 
 -- what the rows of cash are to be, where they are numbered
 pub record AreMoves (t : Tables) (own : List MoveRowFigures) : Type 0 where
@@ -362,7 +390,8 @@ pub record AreMoves (t : Tables) (own : List MoveRowFigures) : Type 0 where
   pub posted : own ≡ map (posted_figures_of_trade (account_tax_status_or_untaxed t)) (filter is_completed_cash_trade t.trades)
 
 pub cash_by_moves : (schema : Schema) (t : Tables) (own : List MoveRowFigures) → schema.has_cash_move_table ≡ true → satisfies_form_condition schema t ≡ true → satisfies_status_condition t ≡ true
-    → IsPermutation (filter_map posted_figures_of_row t.moves) own → Ascends (λ p. p.trade) own → (AreMoves t own → ConditionHolds schema condition.Cash t) × (ConditionHolds schema condition.Cash t → AreMoves t own)
+    → IsPermutation (filter_map posted_figures_of_row t.moves) own → Ascends (λ p. p.trade) own → (AreMoves t own → ConditionHolds schema condition.Cash t)
+    × (ConditionHolds schema condition.Cash t → AreMoves t own)
 unfolding ConditionHolds
 cash_by_moves schema t own n f s p a =
     let W : List Posting = postings_sorted_by_stamp (postings_of_base (base_of_tables t)) in
@@ -390,8 +419,10 @@ cash_by_moves schema t own n f s p a =
             no_others = h.0 ∙ wanted_no_cash schema t n;
             turn = ap (is_numbered_by_stamp 1 0) rows ∙ numbered_in_turn 1 0 W (All-of W (λ p. omega arith)) asc;
             posted = one_order (λ p. p.trade) same_posted posted_decide E own
-                (trades_rise (posted_figures_of_trade (account_tax_status_or_untaxed t)) (cash_done t) (λ r. refl) (climbs_filter trade_key is_completed_cash_trade t.trades (key_parts t parts_of.keys).trades)) a
-                (λ g. permuted (filter_map posted_figures_of_row t.moves) own p g ∙ ap (λ rs. sum_by g (filter_map posted_figures_of_row rs)) rows ∙ ap (sum_by g) (numbered_posted 1 W) ∙ sum_posted g W
+                (trades_rise (posted_figures_of_trade (account_tax_status_or_untaxed t)) (cash_done t) (λ r. refl)
+                (climbs_filter trade_key is_completed_cash_trade t.trades (key_parts t parts_of.keys).trades)) a
+                (λ g. permuted (filter_map posted_figures_of_row t.moves) own p g ∙ ap (λ rs. sum_by g (filter_map posted_figures_of_row rs)) rows
+                ∙ ap (sum_by g) (numbered_posted 1 W) ∙ sum_posted g W
                 ∙ sum_sort (counted g) (λ a b. nat_lt a.stamp b.stamp) (postings_of_base (base_of_tables t)) ∙ base_counted t g s);
           }),
     )

@@ -127,10 +127,12 @@ parted r run later h v same apart = by_test (at_place r h) refl
         rw (e, k) (omega arith)
 
 -- the deals of a position's trades, among others
-pub deals_among : (r x : TradeRow) (run later : List TradeRow) → AllByRecursion (λ s. is_same_position r s ≡ true) run → is_same_position r x ≡ false → filter (is_same_position x) (r ∷ run ++ later) ≡ filter (is_same_position x) later
+pub deals_among : (r x : TradeRow) (run later : List TradeRow) → AllByRecursion (λ s. is_same_position r s ≡ true) run → is_same_position r x ≡ false
+    → filter (is_same_position x) (r ∷ run ++ later) ≡ filter (is_same_position x) later
 deals_among r x run later same n =
     filter-append (is_same_position x) (r ∷ run) later
-    ∙ ap (λ (rs : List TradeRow). rs ++ filter (is_same_position x) later) (filter-none (is_same_position x) (r ∷ run) (All-map (r ∷ run) (λ s e. other s e (is_same_position x s) refl) (same_self r, same)))
+    ∙ ap (λ (rs : List TradeRow). rs ++ filter (is_same_position x) later)
+    (filter-none (is_same_position x) (r ∷ run) (All-map (r ∷ run) (λ s e. other s e (is_same_position x s) refl) (same_self r, same)))
   where
     other : (s : TradeRow) → is_same_position r s ≡ true → (b : Bool) → is_same_position x s ≡ b → is_same_position x s ≡ false
     other s e false f = f
@@ -140,7 +142,8 @@ deals_among r x run later same n =
         let m : is_same_position r x ≡ true = one_place r x (record { account = k.account ∙ sym l.account; symbol = k.symbol ∙ sym l.symbol }) in
         absurd (cc)
 
-pub own_run : (r : TradeRow) (run later : List TradeRow) → AllByRecursion (λ s. is_same_position r s ≡ true) run → AllByRecursion (λ s. is_same_position r s ≡ false) later → filter (is_same_position r) (r ∷ run ++ later) ≡ r ∷ run
+pub own_run : (r : TradeRow) (run later : List TradeRow) → AllByRecursion (λ s. is_same_position r s ≡ true) run
+    → AllByRecursion (λ s. is_same_position r s ≡ false) later → filter (is_same_position r) (r ∷ run ++ later) ≡ r ∷ run
 own_run r run later same apart =
     filter-append (is_same_position r) (r ∷ run) later
     ∙ (λ i. filter-all (is_same_position r) (r ∷ run) (same_self r, same) i ++ filter-none (is_same_position r) later apart i)
@@ -170,7 +173,9 @@ leave_sums base books (position r run later rows same apart l) d f =
     ∙ sym (sum_same (λ h. cond (at_any (r ∷ run ++ later) h) (f h) 0) (λ h. cond (at_place r h) (f h) 0 + cond (at_any later h) (f h) 0) E (All-of E (λ h. parted r run later h (f h) same apart)))
     ∙ sym (sum_filter f (at_any (r ∷ run ++ later)) E)
   where
-    both : (ss : List TradeRow) → AllByRecursion (λ s. is_same_position r s ≡ false) ss → AllByRecursion (λ s. map deal_of_completed_row (filter (is_same_position s) (r ∷ run ++ later)) ≡ deals_of_position (completed_trades base) s.account s.symbol) ss
+    both : (ss : List TradeRow) → AllByRecursion (λ s. is_same_position r s ≡ false) ss
+        → AllByRecursion (λ s. map deal_of_completed_row (filter (is_same_position s) (r ∷ run ++ later))
+        ≡ deals_of_position (completed_trades base) s.account s.symbol) ss
         → AllByRecursion (λ s. map deal_of_completed_row (filter (is_same_position s) later) ≡ deals_of_position (completed_trades base) s.account s.symbol) ss
     both [] a e = tt
     both (s ∷ ss) a e = (ap (map deal_of_completed_row) (sym (deals_among r s run later same a.0)) ∙ e.0, both ss a.1 e.1)

@@ -1,6 +1,7 @@
 -- The lots of a database's trades: what form and statuses give to a replay, and when its lots are
 -- those of the tables.
-use Rattle.std.proofs.Common.{◌≡◌, ℕ, zero, suc, ◌<◌, ◌≤◌, ◌==◌, ◌&&◌, ◌||◌, not, Bool, true, false, cond, List, [], ◌∷◌, refl, sym, ap, ◌∙◌, subst, map, filter, length, get_or, arith, inl, inr, Option, Some, None, Bor}
+use Rattle.std.proofs.Common.{◌≡◌, ℕ, zero, suc, ◌<◌, ◌≤◌, ◌==◌, ◌&&◌, ◌||◌, not, Bool, true, false, cond, List, [], ◌∷◌, refl, sym, ap, ◌∙◌, subst, map}
+use Rattle.std.proofs.Common.{filter, length, get_or, arith, inl, inr, Option, Some, None, Bor}
 use Rattle.std.specs.Prelude.{bytes_eq, nat_lt, nat_le, IsSome}
 use Rattle.std.specs.Bool.{Decides}
 use Rattle.std.specs.List.{AllByRecursion, IsDistinct, list_any, sum_by}
@@ -73,7 +74,8 @@ priced_row schema t r f e d =
     let k : IsOf t r.id l.mark = last_is_row t r l.mark l.is in
     let status : is_same_trade_status k.row.status Completed ≡ true = ap (λ s. is_same_trade_status s Completed) (k.status ∙ sym (same_statuses r.status l.mark.status l.status)) ∙ d in
     let done : list_any (λ h. is_same_trade_status h.status Completed) (history_rows_with_trade_id t r.id) ≡ true =
-    any_in (λ h. is_same_trade_status h.status Completed) (history_rows_with_trade_id t r.id) k.row (in_filter (λ h. h.trade == r.id) t.history k.row k.there (eq-eqb k.row.trade r.id k.trade)) status in
+    any_in (λ h. is_same_trade_status h.status Completed) (history_rows_with_trade_id t r.id) k.row
+    (in_filter (λ h. h.trade == r.id) t.history k.row k.there (eq-eqb k.row.trade r.id k.trade)) status in
     let p = parts10 (is_id r.id) (is_quantity_in_schema schema r.qty) (is_price r.bid) (nat_le r.charge greatest_charge) (nat_le r.commission greatest_amount) (nat_le r.tax greatest_amount)
     (is_at_most_last_stamp t r.stamp) (has_security t r.symbol) (has_account t r.account) (has_price_matching_completion t r) f in
     let q : option_map_or is_price r.price false ≡ true = rw done at p.9 in
@@ -84,15 +86,18 @@ priced_rows t f s =
     let p : SatisfiesFormParts f.schema t = form_parts f.schema t f.form in
     All-map (completed_trade_rows t) (λ r k. priced_row f.schema t r k.0.0 k.0.1 k.1)
     (filtered (λ r. (is_well_formed_trade_row f.schema t r ≡ true) × (has_valid_status_history t r ≡ true)) is_completed_row t.trades
-    (both_all (λ r. is_well_formed_trade_row f.schema t r ≡ true) (λ r. has_valid_status_history t r ≡ true) t.trades (list_all_true (is_well_formed_trade_row f.schema t) t.trades p.trades) (right_rows t s)))
+    (both_all (λ r. is_well_formed_trade_row f.schema t r ≡ true) (λ r. has_valid_status_history t r ≡ true) t.trades
+    (list_all_true (is_well_formed_trade_row f.schema t) t.trades p.trades) (right_rows t s)))
 
-no_clash : (t : Tables) (rs : List TradeRow) → IdsApart (map (trade_of_row t) rs) → HasDistinctLastStatusStamps (map (trade_of_row t) rs) → AllByRecursion (λ r. last_status_stamp_of_trade (trade_of_row t r) ≡ r.stamp) rs
+no_clash : (t : Tables) (rs : List TradeRow) → IdsApart (map (trade_of_row t) rs) → HasDistinctLastStatusStamps (map (trade_of_row t) rs)
+    → AllByRecursion (λ r. last_status_stamp_of_trade (trade_of_row t r) ≡ r.stamp) rs
     → IsDistinct has_same_id_or_stamp rs
 unfolding IsDistinct
 no_clash t [] i m h = tt
 no_clash t (r ∷ rs) i m h = (ahead rs i.0 m.0 h.1, no_clash t rs i.1 m.1 h.1)
   where
-    ahead : (ss : List TradeRow) → NonePass (λ u. u.id == r.id) (map (trade_of_row t) ss) → AllByRecursion (λ u. (last_status_stamp_of_trade u == last_status_stamp_of_trade (trade_of_row t r)) ≡ false) (map (trade_of_row t) ss)
+    ahead : (ss : List TradeRow) → NonePass (λ u. u.id == r.id) (map (trade_of_row t) ss)
+        → AllByRecursion (λ u. (last_status_stamp_of_trade u == last_status_stamp_of_trade (trade_of_row t r)) ≡ false) (map (trade_of_row t) ss)
         → AllByRecursion (λ u. last_status_stamp_of_trade (trade_of_row t u) ≡ u.stamp) ss → AllByRecursion (λ u. has_same_id_or_stamp r u ≡ false) ss
     ahead [] j n k = tt
     ahead (u ∷ ss) j n k =
@@ -144,7 +149,15 @@ deals_decide a b =
           let r = and_parts (a.price == b.price) _ q.1 in
           let m = and_parts (a.stamp == b.stamp) (s && l) r.1 in
           let n = and_parts s l m.1 in
-          λ i. record { trade = eqb-true a.trade b.trade p.0 i; side = (sides a.side b.side).0 n.0 i; qty = eqb-true a.qty b.qty q.0 i; price = eqb-true a.price b.price r.0 i; stamp = eqb-true a.stamp b.stamp m.0 i; is_lifo = (bools a.is_lifo b.is_lifo).0 n.1 i }),
+          λ i. record {
+            trade = eqb-true a.trade b.trade p.0 i;
+            side = (sides a.side b.side).0 n.0 i;
+            qty = eqb-true a.qty b.qty q.0 i;
+            price =
+                eqb-true a.price b.price r.0 i;
+            stamp = eqb-true a.stamp b.stamp m.0 i;
+            is_lifo = (bools a.is_lifo b.is_lifo).0 n.1 i;
+          }),
       (λ e.
           and_from (a.trade == b.trade) _ (eq-eqb a.trade b.trade (ap (λ (d : Deal). d.trade) e))
           (and_from (a.qty == b.qty) _ (eq-eqb a.qty b.qty (ap (λ (d : Deal). d.qty) e))
@@ -165,7 +178,8 @@ rows_ascend : (p : TradeRow) (rs : List TradeRow) → AllByRecursion (λ r. is_s
 rows_ascend p [] a s = tt
 rows_ascend p (r ∷ rs) a s = (ahead rs a.1 s.0, rows_ascend p rs a.1 s.1)
   where
-    ahead : (ss : List TradeRow) → AllByRecursion (λ u. is_same_position p u ≡ true) ss → NoneBefore is_before_by_position r ss → AllByRecursion (λ (d : Deal). r.stamp ≤ d.stamp) (map deal_of_completed_row ss)
+    ahead : (ss : List TradeRow) → AllByRecursion (λ u. is_same_position p u ≡ true) ss → NoneBefore is_before_by_position r ss
+        → AllByRecursion (λ (d : Deal). r.stamp ≤ d.stamp) (map deal_of_completed_row ss)
     ahead [] b n = tt
     ahead (u ∷ ss) b n =
         let x = at_one p r a.0 in
@@ -194,19 +208,24 @@ sums_alike t r f rs h =
     ∙ sym (sum_filter (λ u. f (deal_of_trade (g u))) named (filter ours rs))
     ∙ sym (sum_map (λ u. f (deal_of_trade u)) g (filter named (filter ours rs)))
     ∙ sym (sum_map f deal_of_trade (map g (filter named (filter ours rs))))
-    ∙ ap (λ (ts : List Trade). sum_by f (map deal_of_trade ts)) (sym (ap (filter (λ u. bytes_eq u.symbol r.symbol)) (filter-map (λ u. u.account == r.account) g rs) ∙ filter-map (λ u. bytes_eq u.symbol r.symbol) g (filter ours rs)))
+    ∙ ap (λ (ts : List Trade). sum_by f (map deal_of_trade ts))
+    (sym (ap (filter (λ u. bytes_eq u.symbol r.symbol)) (filter-map (λ u. u.account == r.account) g rs)
+    ∙ filter-map (λ u. bytes_eq u.symbol r.symbol) g (filter ours rs)))
   where
     parted : (a b : Bool) (v : ℕ) → cond (a && b) v 0 ≡ cond a (cond b v 0) 0
     parted true b v = refl
     parted false b v = refl
 
-    one : (u : TradeRow) → last_status_stamp_of_trade (trade_of_row t u) ≡ u.stamp → cond (is_same_position r u) (f (deal_of_completed_row u)) 0 ≡ cond (u.account == r.account) (cond (bytes_eq u.symbol r.symbol) (f (deal_of_trade (trade_of_row t u))) 0) 0
+    one : (u : TradeRow) → last_status_stamp_of_trade (trade_of_row t u) ≡ u.stamp
+        → cond (is_same_position r u) (f (deal_of_completed_row u)) 0
+        ≡ cond (u.account == r.account) (cond (bytes_eq u.symbol r.symbol) (f (deal_of_trade (trade_of_row t u))) 0) 0
     one u m =
         (λ i. cond (numbers_back r.account u.account i && texts_back r.symbol u.symbol i) (f (record (deal_of_completed_row u) { stamp = sym m i })) 0)
         ∙ parted (u.account == r.account) (bytes_eq u.symbol r.symbol) (f (deal_of_trade (trade_of_row t u)))
 
 -- in sorted rows a position's deals are those of the base
-pub dealt : (t : Tables) → IsWellFormedBySomeSchema t → satisfies_status_condition t ≡ true → (rs : List TradeRow) → IsPermutation (completed_trade_rows t) rs → Sorted is_before_by_position rs → (r : TradeRow)
+pub dealt : (t : Tables) → IsWellFormedBySomeSchema t → satisfies_status_condition t ≡ true → (rs : List TradeRow) → IsPermutation (completed_trade_rows t) rs
+    → Sorted is_before_by_position rs → (r : TradeRow)
     → map deal_of_completed_row (filter (is_same_position r) rs) ≡ deals_of_position (completed_trades (base_of_tables t)) r.account r.symbol
 dealt t f s rs p o r =
     let base : Base = base_of_tables t in
@@ -243,7 +262,16 @@ holdings_decide a b =
           let r = and_parts w _ q.1 in
           let m = and_parts (a.stamp == b.stamp) _ r.1 in
           let n = and_parts (a.price == b.price) z m.1 in
-          λ i. record { trade = eqb-true a.trade b.trade p.0 i; account = eqb-true a.account b.account q.0 i; symbol = (bytes_eq-Decides a.symbol b.symbol).0 r.0 i; stamp = eqb-true a.stamp b.stamp m.0 i; price = eqb-true a.price b.price n.0 i; qty = (Decides-int_eq a.qty b.qty).0 n.1 i }),
+          λ i. record {
+            trade = eqb-true a.trade b.trade p.0 i;
+            account = eqb-true a.account b.account q.0 i;
+            symbol =
+                (bytes_eq-Decides a.symbol b.symbol).0 r.0 i;
+            stamp = eqb-true a.stamp b.stamp m.0 i;
+            price = eqb-true a.price b.price n.0 i;
+            qty =
+                (Decides-int_eq a.qty b.qty).0 n.1 i;
+          }),
       (λ e.
           and_from (a.trade == b.trade) _ (eq-eqb a.trade b.trade (ap (λ (h : HoldingRow). h.trade) e))
           (and_from (a.account == b.account) _ (eq-eqb a.account b.account (ap (λ (h : HoldingRow). h.account) e))
@@ -267,10 +295,12 @@ lots_placed : (t : Tables) (done : List Trade) (rs all : List TradeRow) → ((r 
     → AllByRecursion (λ h. at_any rs h ≡ true) (map (holding_row done) (map (trade_of_row t) all))
 lots_placed t done rs [] m = tt
 lots_placed t done rs (r ∷ all) m =
-    let here : at_place r (holding_row done (trade_of_row t r)) ≡ true = and_from (r.account == r.account) (bytes_eq r.symbol r.symbol) (eq-eqb r.account r.account refl) ((bytes_eq-Decides r.symbol r.symbol).1 refl) in
+    let here : at_place r (holding_row done (trade_of_row t r)) ≡ true =
+    and_from (r.account == r.account) (bytes_eq r.symbol r.symbol) (eq-eqb r.account r.account refl) ((bytes_eq-Decides r.symbol r.symbol).1 refl) in
     (any_in (λ u. at_place u (holding_row done (trade_of_row t r))) rs r (m r (inl refl)) here, lots_placed t done rs all (λ u k. m u (inr k)))
 
-pub lots_told : (schema : Schema) (t : Tables) → IsWellFormedBySomeSchema t → satisfies_status_condition t ≡ true → (rs : List TradeRow) (rows held : List HoldingRow) → IsPermutation (completed_trade_rows t) rs → Sorted is_before_by_position rs
+pub lots_told : (schema : Schema) (t : Tables) → IsWellFormedBySomeSchema t → satisfies_status_condition t ≡ true
+    → (rs : List TradeRow) (rows held : List HoldingRow) → IsPermutation (completed_trade_rows t) rs → Sorted is_before_by_position rs
     → AreLotsLeftByTrades rs rows → IsPermutation rows held → Ascends (λ h. h.trade) held → held ≡ (expected_tables schema t).holdings
 lots_told schema t f s rs rows held p o l q a =
     let base : Base = base_of_tables t in
@@ -278,11 +308,14 @@ lots_told schema t f s rs rows held p o l q a =
     let E : List HoldingRow = (sheets base).holdings in
     let done : List Trade = completed_trades base in
     let listed : E ≡ filter is_left (map (holding_row done) done) = holdings_in_order base books.numbered in
-    let rise : Rises (λ h. h.trade) E = subst (Rises (λ (h : HoldingRow). h.trade)) (sym listed) (rows_rise done done (rise_filter is_completed base.trades (numbered_rise 1 base.trades books.numbered))) in
+    let rise : Rises (λ h. h.trade) E =
+    subst (Rises (λ (h : HoldingRow). h.trade)) (sym listed)
+    (rows_rise done done (rise_filter is_completed base.trades (numbered_rise 1 base.trades books.numbered))) in
     let placed : AllByRecursion (λ h. at_any (completed_trade_rows t) h ≡ true) E =
     subst (AllByRecursion (λ h. at_any (completed_trade_rows t) h ≡ true)) (sym listed)
     (All-filter (λ h. at_any (completed_trade_rows t) h ≡ true) is_left (map (holding_row done) done)
-    (subst (λ (ts : List Trade). AllByRecursion (λ h. at_any (completed_trade_rows t) h ≡ true) (map (holding_row done) ts)) (sym (completed_rows t s)) (lots_placed t done (completed_trade_rows t) (completed_trade_rows t) (λ r k. k)))) in
+    (subst (λ (ts : List Trade). AllByRecursion (λ h. at_any (completed_trade_rows t) h ≡ true) (map (holding_row done) ts)) (sym (completed_rows t s))
+    (lots_placed t done (completed_trade_rows t) (completed_trade_rows t) (λ r k. k)))) in
     let all : filter (at_any rs) E ≡ E =
     filter-all (at_any rs) E (All-map E (λ h k. sym (list_any-IsPermutation (λ r. at_place r h) (completed_trade_rows t) rs p) ∙ k) placed) in
     one_order (λ h. h.trade) same_holding holdings_decide E held rise a
@@ -307,7 +340,9 @@ pub clash_moved : (rs ss : List TradeRow) → IsPermutation rs ss → IsDistinct
 clash_moved rs ss p d = IsDistinct-IsPermutation has_same_id_or_stamp (λ r s. (λ i. numbers_back r.id s.id i || numbers_back r.stamp s.stamp i)) rs ss p d
 
 -- the rows are those of the tables
-pub rows_moved : (rows now : List trade.TradeRow) (t : Tables) (done held : List (Bor trade.TradeRow)) → now ≡ rows → held ≡ done → t.trades ≡ map abstract_trade_row rows → IsPermutation (filter is_completed_row (map abstract_trade_row now)) (map seen done) → IsPermutation (completed_trade_rows t) (map seen held)
+pub rows_moved : (rows now : List trade.TradeRow) (t : Tables) (done held : List (Bor trade.TradeRow)) → now ≡ rows → held ≡ done
+    → t.trades ≡ map abstract_trade_row rows → IsPermutation (filter is_completed_row (map abstract_trade_row now)) (map seen done)
+    → IsPermutation (completed_trade_rows t) (map seen held)
 rows_moved rows now t done held e h u p =
     subst (λ (rs : List TradeRow). IsPermutation (filter is_completed_row rs) (map seen held)) (sym u)
     (subst (λ (rs : List trade.TradeRow). IsPermutation (filter is_completed_row (map abstract_trade_row rs)) (map seen held)) e

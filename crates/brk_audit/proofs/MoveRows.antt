@@ -55,7 +55,8 @@ abbrev level : {X : Type 0} → (X → X → Bool) → (X → X → Bool) → X 
 level before same m x = cond (before x m) 0 (cond (before m x) 0 (cond (same x m) 0 1))
 
 -- two lists with the same sums, of which one climbs and the other is sorted, are one
-pub key_order_one : {X : Type 0} (key : X → List KeyPart) (same : X → X → Bool) → ((x y : X) → Decides (same x y) (x ≡ y)) → (xs ys : List X) → Climbs key xs → Sorted (is_row_key_less key) ys → SameSums ys xs → ys ≡ xs
+pub key_order_one : {X : Type 0} (key : X → List KeyPart) (same : X → X → Bool) → ((x y : X) → Decides (same x y) (x ≡ y)) → (xs ys : List X) → Climbs key xs
+    → Sorted (is_row_key_less key) ys → SameSums ys xs → ys ≡ xs
 key_order_one key same d [] [] c a h = refl
 key_order_one key same d [] (y ∷ ys) c a h = let e = h (λ _. 1) in absurd (omega (arith, e, sum_by-cons (λ _. 1) y ys))
 key_order_one key same d (x ∷ xs) [] c a h = let e = h (λ _. 1) in absurd (omega (arith, e, sum_by-cons (λ _. 1) x xs))
@@ -128,10 +129,15 @@ trace_sums base books (moves r run later rows same apart l) d f =
     both later apart (all_back (λ s. map deal_of_completed_row (filter (is_same_position s) (r ∷ run ++ later)) ≡ deals_of_position (completed_trades base) s.account s.symbol) run later d.1) in
     sum_append f (lot_changes_of_deals ds []) rows ∙ (λ i. here i + trace_sums base books l rest f i) ∙ sym (sum_append (own base f) (r ∷ run) later)
   where
-    one : (s : TradeRow) → is_same_position r s ≡ true → (ds : List Deal) → ds ≡ deals_of_position (completed_trades base) r.account r.symbol → sum_by f (filter has_quantity_change (lot_history_rows_per_deal s.id [] ds)) ≡ own base f s
-    one s p ds e = let k = at_one r s p in ap (λ (es : List Deal). sum_by f (filter has_quantity_change (lot_history_rows_per_deal s.id [] es))) (e ∙ (λ i. deals_of_position (completed_trades base) (k.account i) (k.symbol i)))
+    one : (s : TradeRow) → is_same_position r s ≡ true → (ds : List Deal) → ds ≡ deals_of_position (completed_trades base) r.account r.symbol
+        → sum_by f (filter has_quantity_change (lot_history_rows_per_deal s.id [] ds)) ≡ own base f s
+    one s p ds e = let k = at_one r s p in
+        ap (λ (es : List Deal). sum_by f (filter has_quantity_change (lot_history_rows_per_deal s.id [] es)))
+        (e ∙ (λ i. deals_of_position (completed_trades base) (k.account i) (k.symbol i)))
 
-    both : (ss : List TradeRow) → AllByRecursion (λ s. is_same_position r s ≡ false) ss → AllByRecursion (λ s. map deal_of_completed_row (filter (is_same_position s) (r ∷ run ++ later)) ≡ deals_of_position (completed_trades base) s.account s.symbol) ss
+    both : (ss : List TradeRow) → AllByRecursion (λ s. is_same_position r s ≡ false) ss
+        → AllByRecursion (λ s. map deal_of_completed_row (filter (is_same_position s) (r ∷ run ++ later))
+        ≡ deals_of_position (completed_trades base) s.account s.symbol) ss
         → AllByRecursion (λ s. map deal_of_completed_row (filter (is_same_position s) later) ≡ deals_of_position (completed_trades base) s.account s.symbol) ss
     both [] a e = tt
     both (s ∷ ss) a e = (ap (map deal_of_completed_row) (sym (deals_among r s run later same a.0)) ∙ e.0, both ss a.1 e.1)
@@ -154,7 +160,13 @@ changes_decide a b =
           let p = and_parts (a.lot == b.lot) _ e in
           let q = and_parts (a.trade == b.trade) (v && w) p.1 in
           let r = and_parts v w q.1 in
-          λ i. record { lot = eqb-true a.lot b.lot p.0 i; trade = eqb-true a.trade b.trade q.0 i; before = (Decides-int_eq a.before b.before).0 r.0 i; after = (Decides-int_eq a.after b.after).0 r.1 i }),
+          λ i. record {
+            lot = eqb-true a.lot b.lot p.0 i;
+            trade = eqb-true a.trade b.trade q.0 i;
+            before = (Decides-int_eq a.before b.before).0 r.0 i;
+            after =
+                (Decides-int_eq a.after b.after).0 r.1 i;
+          }),
       (λ e.
           and_from (a.lot == b.lot) _ (eq-eqb a.lot b.lot (ap (λ (h : HoldingHistoryRow). h.lot) e))
           (and_from (a.trade == b.trade) (v && w) (eq-eqb a.trade b.trade (ap (λ (h : HoldingHistoryRow). h.trade) e))
@@ -165,8 +177,10 @@ listed : (base : Base) → (sheets base).holding_history ≡ rows_sorted_by_key 
 unfolding tables_of_base_in_schema tables_sorted_by_key
 listed base = ap (rows_sorted_by_key holding_history_key) (rows_of_lots_are (completed_trades base) (completed_trades base))
 
-pub moves_told : (schema : Schema) (t : Tables) → IsWellFormedBySomeSchema t → satisfies_status_condition t ≡ true → (rs : List TradeRow) (rows moved : List HoldingHistoryRow) → IsPermutation (completed_trade_rows t) rs → Sorted is_before_by_position rs
-    → AreLotChangesOfTrades rs rows → IsPermutation rows moved → Sorted (is_row_key_less holding_history_key) moved → (moved ≡ t.holding_history) ↔ (t.holding_history ≡ (expected_tables schema t).holding_history)
+pub moves_told : (schema : Schema) (t : Tables) → IsWellFormedBySomeSchema t → satisfies_status_condition t ≡ true
+    → (rs : List TradeRow) (rows moved : List HoldingHistoryRow) → IsPermutation (completed_trade_rows t) rs → Sorted is_before_by_position rs
+    → AreLotChangesOfTrades rs rows → IsPermutation rows moved → Sorted (is_row_key_less holding_history_key) moved
+    → (moved ≡ t.holding_history) ↔ (t.holding_history ≡ (expected_tables schema t).holding_history)
 moves_told schema t f s rs rows moved p o l q a =
     let base : Base = base_of_tables t in
     let books : BooksInvariant base = adopted_books f.schema t f.form s in
@@ -174,7 +188,10 @@ moves_told schema t f s rs rows moved p o l q a =
     let E : List HoldingHistoryRow = (sheets base).holding_history in
     let climb : Climbs holding_history_key t.holding_history = (key_parts t (form_parts f.schema t f.form).keys).holding_history in
     let ordered : Sorted (is_row_key_less holding_history_key) E =
-    subst (Sorted (is_row_key_less holding_history_key)) (sym (listed base)) (sorted_sort (is_row_key_less holding_history_key) (flat_map (changing_rows_of_lot done) done) (λ x y z. key_splits (holding_history_key x) (holding_history_key y) (holding_history_key z)) (λ x y. key_one_way (holding_history_key x) (holding_history_key y))) in
+    subst (Sorted (is_row_key_less holding_history_key)) (sym (listed base))
+    (sorted_sort (is_row_key_less holding_history_key) (flat_map (changing_rows_of_lot done) done)
+    (λ x y z. key_splits (holding_history_key x) (holding_history_key y) (holding_history_key z))
+    (λ x y. key_one_way (holding_history_key x) (holding_history_key y))) in
     let sums : SameSums moved E = λ g.
     permuted rows moved q g ∙ trace_sums base books l (All-of rs (dealt t f s rs p o)) g ∙ permuted (completed_trade_rows t) rs p (own base g)
     ∙ sym (ap (sum_by g) (listed base) ∙ sum_sort g (is_row_key_less holding_history_key) (flat_map (changing_rows_of_lot done) done) ∙ sum_flat g (changing_rows_of_lot done) done

@@ -6,7 +6,8 @@ use Rattle.std.proofs.lemmas.Bool.{eq-eqb, eqb-true, eqb-false, ne_eqb}
 use Rattle.std.proofs.lemmas.List.Sums.{sum_by-cons}
 use Rattle.std.proofs.lemmas.List.Sorted.{IsPermutation-reverse}
 use Rattle.brk_model.specs.Lists.{is_zero}
-use Rattle.brk_model.specs.Shares.{Share, Deal, Touch, first_shares_of_lots, lot_touches_of_deal, changes_lot_quantity, lot_quantity, lots_of_shares, opened_shares, shares_after_deal, touch_of_lot_with_share, touches_of_existing_lots, touch_of_lot}
+use Rattle.brk_model.specs.Shares.{Share, Deal, Touch, first_shares_of_lots, lot_touches_of_deal, changes_lot_quantity, lot_quantity, lots_of_shares}
+use Rattle.brk_model.specs.Shares.{opened_shares, shares_after_deal, touch_of_lot_with_share, touches_of_existing_lots, touch_of_lot}
 use Rattle.brk_model.specs.Tables.{HoldingHistoryRow, holding_history_row}
 use Rattle.brk_lots.specs.HistoryRows.{has_quantity_change, lot_history_rows_per_deal}
 use Rattle.brk_lots.specs.Chains.{lot_changes_of_deal, opening_touch, lot_changes_of_deals}
@@ -70,7 +71,8 @@ parted {X = X} n G k xs =
 
 -- those that stay have every other number as often
 others_count : {X : Type 0} (n : X → ℕ) (k j : ℕ) (xs : List X) → k ≢ j → count n j (filter (λ x. not (n x == k)) xs) ≡ count n j xs
-others_count {X = X} n k j xs h = sum_filter (λ x. cond (n x == j) 1 0) (λ x. not (n x == k)) xs ∙ sum_same (λ x. cond (not (n x == k)) (cond (n x == j) 1 0) 0) (λ x. cond (n x == j) 1 0) xs (All-of xs (λ x. one x (n x == k) refl))
+others_count {X = X} n k j xs h = sum_filter (λ x. cond (n x == j) 1 0) (λ x. not (n x == k)) xs
+    ∙ sum_same (λ x. cond (not (n x == k)) (cond (n x == j) 1 0) 0) (λ x. cond (n x == j) 1 0) xs (All-of xs (λ x. one x (n x == k) refl))
   where
     one : (x : X) (b : Bool) → (n x == k) ≡ b → cond {A = ℕ} (not (n x == k)) (cond (n x == j) 1 0) 0 ≡ cond {A = ℕ} (n x == j) 1 0
     one x true e = let d : (n x == j) ≡ false = ne_eqb (n x) j (λ p. h (sym (eqb-true (n x) k e) ∙ p)) in rw (e, d) refl
@@ -121,7 +123,9 @@ firsts_once (u ∷ us) t = by_test (u.trade == t) refl (firsts_once us t)
     cons = sum_by-cons (λ (v : Share). cond (v.trade == t) 1 0) u rest
 
     none : u.trade ≡ t → count of_trade t rest ≡ 0
-    none e = sum_none (λ (v : Share). cond (v.trade == t) 1 0) rest (All-map rest (λ v h. one v h.1) (filtered (λ v. ⊤) (λ v. not (v.trade == u.trade)) (first_shares_of_lots us) (All-of (first_shares_of_lots us) (λ v. tt))))
+    none e = sum_none (λ (v : Share). cond (v.trade == t) 1 0) rest
+        (All-map rest (λ v h. one v h.1)
+        (filtered (λ v. ⊤) (λ v. not (v.trade == u.trade)) (first_shares_of_lots us) (All-of (first_shares_of_lots us) (λ v. tt))))
       where
         one : (v : Share) → not (v.trade == u.trade) ≡ true → cond {A = ℕ} (v.trade == t) 1 0 ≡ 0
         one v h = ap (λ (b : Bool). cond {A = ℕ} b 1 0) (ap (λ k. v.trade == k) (sym e) ∙ untrue (v.trade == u.trade) h)
@@ -197,12 +201,18 @@ replay_sums ks u (d ∷ ds) us a o m n f =
     let after : List Share = shares_after_deal us d in
     let there : AllByRecursion (λ v. In v.trade ks) after = all_after (λ v. In v.trade ks) d us n.0 m in
     let here : sum_by f (lot_changes_of_deal d us) ≡ sum_by (by_lot f d us) ks = deal_sum ks u d us (All-map us (λ v k. k.0) o.0) (All-append (λ v. In v.trade ks) us after m there) f in
-    let ih : sum_by f (lot_changes_of_deals ds after) ≡ sum_by (λ t. sum_by f (filter has_quantity_change (lot_history_rows_per_deal t after ds))) ks = replay_sums ks u ds after a.1 (older_after d ds us a.0 o.1) there n.1 f in
+    let ih : sum_by f (lot_changes_of_deals ds after) ≡ sum_by (λ t. sum_by f (filter has_quantity_change (lot_history_rows_per_deal t after ds))) ks =
+    replay_sums ks u ds after a.1 (older_after d ds us a.0 o.1) there n.1 f in
     sum_append f (lot_changes_of_deal d us) (lot_changes_of_deals ds after) ∙ (λ i. here i + ih i)
     ∙ sym (sum_both (by_lot f d us) (λ t. sum_by f (filter has_quantity_change (lot_history_rows_per_deal t after ds))) ks)
-    ∙ sym (sum_same (λ t. sum_by f (filter has_quantity_change (lot_history_rows_per_deal t us (d ∷ ds)))) (λ t. by_lot f d us t + sum_by f (filter has_quantity_change (lot_history_rows_per_deal t after ds))) ks (All-of ks (λ t. first t (changes_lot_quantity (touch_of_lot t d us)))))
+    ∙ sym (sum_same (λ t. sum_by f (filter has_quantity_change (lot_history_rows_per_deal t us (d ∷ ds))))
+    (λ t. by_lot f d us t + sum_by f (filter has_quantity_change (lot_history_rows_per_deal t after ds))) ks
+    (All-of ks (λ t. first t (changes_lot_quantity (touch_of_lot t d us)))))
   where
-    first : (t : ℕ) (b : Bool) → sum_by f (cond b (holding_history_row d.trade (touch_of_lot t d us) ∷ filter has_quantity_change (lot_history_rows_per_deal t (shares_after_deal us d) ds)) (filter has_quantity_change (lot_history_rows_per_deal t (shares_after_deal us d) ds)))
+    first : (t : ℕ) (b : Bool)
+        → sum_by f (cond b (holding_history_row d.trade (touch_of_lot t d us)
+        ∷ filter has_quantity_change (lot_history_rows_per_deal t (shares_after_deal us d) ds))
+        (filter has_quantity_change (lot_history_rows_per_deal t (shares_after_deal us d) ds)))
         ≡ cond b (f (holding_history_row d.trade (touch_of_lot t d us))) 0 + sum_by f (filter has_quantity_change (lot_history_rows_per_deal t (shares_after_deal us d) ds))
     first t true = sum_by-cons f (holding_history_row d.trade (touch_of_lot t d us)) (filter has_quantity_change (lot_history_rows_per_deal t (shares_after_deal us d) ds))
     first t false = omega arith
@@ -215,7 +225,8 @@ trades_unique (d ∷ ds) a = (ahead ds a.0, trades_unique ds a.1)
     ahead [] h = tt
     ahead (e ∷ es) h = (h.0.0, ahead es h.1)
 
-pub run_sums : (ds : List Deal) → AreDistinctAscendingDeals ds → (f : HoldingHistoryRow → ℕ) → sum_by f (lot_changes_of_deals ds []) ≡ sum_by (λ d. sum_by f (filter has_quantity_change (lot_history_rows_per_deal d.trade [] ds))) ds
+pub run_sums : (ds : List Deal) → AreDistinctAscendingDeals ds → (f : HoldingHistoryRow → ℕ)
+    → sum_by f (lot_changes_of_deals ds []) ≡ sum_by (λ d. sum_by f (filter has_quantity_change (lot_history_rows_per_deal d.trade [] ds))) ds
 run_sums ds a f =
     replay_sums (map (λ d. d.trade) ds) (trades_unique ds a) ds [] a (All-of ds (λ d. tt)) tt (All-map ds (λ d m. in_map (λ (e : Deal). e.trade) ds d m) (each_in ds)) f
     ∙ sum_map (λ t. sum_by f (filter has_quantity_change (lot_history_rows_per_deal t [] ds))) (λ d. d.trade) ds

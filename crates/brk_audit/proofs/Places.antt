@@ -1,5 +1,6 @@
 -- The order of completed trades, by position and moment.
-use Rattle.std.proofs.Common.{◌≡◌, ◌≢◌, ℕ, zero, suc, ◌≤◌, List, [], ◌∷◌, ◌++◌, Bool, true, false, not, ◌&&◌, ◌||◌, ◌==◌, Ordering, Less, Equal, Greater, nat_cmp, map, drop, refl, sym, ◌∙◌, arith, eq-eqb, eqb-true}
+use Rattle.std.proofs.Common.{◌≡◌, ◌≢◌, ℕ, zero, suc, ◌≤◌, List, [], ◌∷◌, ◌++◌, Bool, true, false, not, ◌&&◌, ◌||◌, ◌==◌, Ordering, Less, Equal, Greater}
+use Rattle.std.proofs.Common.{nat_cmp, map, drop, refl, sym, ◌∙◌, arith, eq-eqb, eqb-true}
 use Rattle.std.specs.Prelude.{nat_lt, bytes_eq}
 use Rattle.std.specs.Cmp.{IsStrictWeakOrder}
 use Rattle.std.specs.Cmp.Lexicographic.{slice_cmp}
@@ -88,7 +89,8 @@ moments_told a s m n = let e : nat_lt a a ≡ false = le-ltb a a (omega arith) i
 
 pub moment_order : (r s : TradeRow) → AtOne r s → is_before_by_position s r ≡ false → r.stamp ≤ s.stamp
 moment_order r s e h =
-    let k : is_key_less (number r.account ∷ word r.symbol ∷ number s.stamp ∷ []) (position_sort_key r) ≡ false = (λ i. is_key_less (number (e.account i) ∷ word (e.symbol i) ∷ number s.stamp ∷ []) (position_sort_key r)) ∙ h in
+    let k : is_key_less (number r.account ∷ word r.symbol ∷ number s.stamp ∷ []) (position_sort_key r) ≡ false =
+    (λ i. is_key_less (number (e.account i) ∷ word (e.symbol i) ∷ number s.stamp ∷ []) (position_sort_key r)) ∙ h in
     ltb-false s.stamp r.stamp (sym (moments_told r.account r.symbol s.stamp r.stamp) ∙ k)
 
 or_none : (a b : Bool) → (a || b) ≡ false → (a ≡ false) × (b ≡ false)
@@ -158,19 +160,23 @@ distinct_drop same (suc n) [] d = tt
 distinct_drop same (suc n) (x ∷ xs) d = distinct_drop same n xs d.1
 
 -- those behind the trades of a position are of others
-pub others : (r : TradeRow) (run later : List TradeRow) → Sorted is_before_by_position (r ∷ run ++ later) → FirstElementSatisfies (λ s. is_same_position r s ≡ false) later → AllByRecursion (λ s. is_same_position r s ≡ false) later
+pub others : (r : TradeRow) (run later : List TradeRow) → Sorted is_before_by_position (r ∷ run ++ later)
+    → FirstElementSatisfies (λ s. is_same_position r s ≡ false) later → AllByRecursion (λ s. is_same_position r s ≡ false) later
 others r run later s h = by_first later (all_back (λ y. is_before_by_position y r ≡ false) run later s.0) (sorted_back is_before_by_position run later s.1) h
   where
-    other : (y z : TradeRow) → is_before_by_position y r ≡ false → is_same_position r y ≡ false → is_before_by_position z y ≡ false → (b : Bool) → is_same_position r z ≡ b → is_same_position r z ≡ false
+    other : (y z : TradeRow) → is_before_by_position y r ≡ false → is_same_position r y ≡ false → is_before_by_position z y ≡ false → (b : Bool)
+        → is_same_position r z ≡ b → is_same_position r z ≡ false
     other y z e n f false k = k
     other y z e n f true k = let p : is_same_position r y ≡ true = one_place r y (between r y z (at_one r z k) e f) in absurd (cc)
 
-    by_first : (ys : List TradeRow) → AllByRecursion (λ y. is_before_by_position y r ≡ false) ys → Sorted is_before_by_position ys → FirstElementSatisfies (λ s. is_same_position r s ≡ false) ys → AllByRecursion (λ s. is_same_position r s ≡ false) ys
+    by_first : (ys : List TradeRow) → AllByRecursion (λ y. is_before_by_position y r ≡ false) ys → Sorted is_before_by_position ys
+        → FirstElementSatisfies (λ s. is_same_position r s ≡ false) ys → AllByRecursion (λ s. is_same_position r s ≡ false) ys
     by_first [] a t h = tt
     by_first (y ∷ ys) a t h = (h, All-map ys (λ z f. other y z a.0 h f (is_same_position r z) refl) t.0)
 
 -- the trades of a position are deals one after another
-follows : (p r s : TradeRow) → is_same_position p r ≡ true → is_same_position p s ≡ true → has_same_id_or_stamp r s ≡ false → is_before_by_position s r ≡ false → IsLaterDealOfOtherTrade (deal_of_completed_row r) (deal_of_completed_row s)
+follows : (p r s : TradeRow) → is_same_position p r ≡ true → is_same_position p s ≡ true → has_same_id_or_stamp r s ≡ false → is_before_by_position s r ≡ false
+    → IsLaterDealOfOtherTrade (deal_of_completed_row r) (deal_of_completed_row s)
 follows p r s e f c b =
     let x = at_one p r e in
     let y = at_one p s f in
@@ -178,12 +184,15 @@ follows p r s e f c b =
     let low : r.stamp ≤ s.stamp = moment_order r s (record { account = sym x.account ∙ y.account; symbol = sym x.symbol ∙ y.symbol }) b in
     (eqb-false r.id s.id k.0, let n : r.stamp ≢ s.stamp = eqb-false r.stamp s.stamp k.1 in omega (arith, low, n))
 
-pub deals_follow : (p : TradeRow) (run : List TradeRow) → Sorted is_before_by_position run → IsDistinct has_same_id_or_stamp run → AllByRecursion (λ s. is_same_position p s ≡ true) run → AreDistinctAscendingDeals (map deal_of_completed_row run)
+pub deals_follow : (p : TradeRow) (run : List TradeRow) → Sorted is_before_by_position run → IsDistinct has_same_id_or_stamp run
+    → AllByRecursion (λ s. is_same_position p s ≡ true) run → AreDistinctAscendingDeals (map deal_of_completed_row run)
 unfolding IsDistinct
 deals_follow p [] s d a = tt
 deals_follow p (r ∷ run) s d a = (behind run s.0 d.0 a.1, deals_follow p run s.1 d.1 a.1)
   where
-    behind : (ss : List TradeRow) → NoneBefore is_before_by_position r ss → AllByRecursion (λ t. has_same_id_or_stamp r t ≡ false) ss → AllByRecursion (λ t. is_same_position p t ≡ true) ss → AllByRecursion (IsLaterDealOfOtherTrade (deal_of_completed_row r)) (map deal_of_completed_row ss)
+    behind : (ss : List TradeRow) → NoneBefore is_before_by_position r ss → AllByRecursion (λ t. has_same_id_or_stamp r t ≡ false) ss
+        → AllByRecursion (λ t. is_same_position p t ≡ true) ss
+        → AllByRecursion (IsLaterDealOfOtherTrade (deal_of_completed_row r)) (map deal_of_completed_row ss)
     behind [] h k l = tt
     behind (t ∷ ts) h k l = (follows p r t a.0 l.0 k.0 h.0, behind ts h.1 k.1 l.1)
 

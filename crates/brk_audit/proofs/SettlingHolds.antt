@@ -22,7 +22,9 @@ use Rattle.brk_changes.specs.declared.cash_row.CashRow as cash
 use Rattle.brk_audit_sums.specs.AccountTerms.{account_broker_in_terms, account_tax_status_in_terms}
 use Rattle.brk_audit_sums.specs.Completed.{is_completed_row, is_pending_row}
 use Rattle.brk_audit_sums.specs.Conditions.{HasWellFormedRows, HasValidStatuses}
-use Rattle.brk_audit_sums.specs.Settling.{settlement_amount_at_tax_status, settlement_figures_of_row, settlement_figures_of_trade, is_completed_cash_trade, cash_figures_of_trade, cash_figures_of_row, request_row_of_trade, account_tax_status_or_untaxed, account_broker_or_zero}
+use Rattle.brk_audit_sums.specs.Settling.{settlement_amount_at_tax_status, settlement_figures_of_row, settlement_figures_of_trade, is_completed_cash_trade}
+use Rattle.brk_audit_sums.specs.Settling.{cash_figures_of_trade, cash_figures_of_row, request_row_of_trade, account_tax_status_or_untaxed}
+use Rattle.brk_audit_sums.specs.Settling.{account_broker_or_zero}
 use Rattle.brk_audit_sums.specs.declared.account_terms.AccountTerms.{AccountTerms}
 use Rattle.brk_audit_sums.proofs.AccountTerms.{HasTerms, same_brokers, same_tax_statuses}
 use Rattle.brk_audit_sums.proofs.Settling.{cash_by_rows, requests_by_rows, settlements_by_rows}
@@ -33,13 +35,16 @@ keys_of s f = key_parts (abstract_sheets s) (form_parts f.schema (abstract_sheet
 
 pub settlements_hold : (schema : Schema) (s : Sheets) (terms : BTreeMap ℕ AccountTerms) (ss : List settlement.SettlementRow) (ts : List trade.TradeRow) → HasWellFormedRows s → HasValidStatuses s
     → HasTerms terms s.accounts.items → ss ≡ s.settlements.items → ts ≡ s.trades.items
-    → (map settlement_figures_of_row (map abstract_settlement_row ss) ≡ map (settlement_figures_of_trade s.rule (account_tax_status_in_terms terms)) (filter is_completed_row (map abstract_trade_row ts))) ↔ ConditionHolds schema condition.Settlement (abstract_sheets s)
+    → (map settlement_figures_of_row (map abstract_settlement_row ss) ≡ map (settlement_figures_of_trade s.rule (account_tax_status_in_terms terms))
+    (filter is_completed_row (map abstract_trade_row ts))) ↔ ConditionHolds schema condition.Settlement (abstract_sheets s)
 settlements_hold schema s terms ss ts f w h e g =
     let t : Tables = abstract_sheets s in
     let law = settlements_by_rows schema t (keys_of s f).trades (keys_of s f).settlements w in
-    let left : map settlement_figures_of_row (map abstract_settlement_row ss) ≡ map settlement_figures_of_row t.settlements = ap (λ xs. map settlement_figures_of_row (map abstract_settlement_row xs)) e in
+    let left : map settlement_figures_of_row (map abstract_settlement_row ss) ≡ map settlement_figures_of_row t.settlements =
+    ap (λ xs. map settlement_figures_of_row (map abstract_settlement_row xs)) e in
     let rows : List TradeRow = filter is_completed_row (map abstract_trade_row s.trades.items) in
-    let right : map (settlement_figures_of_trade s.rule (account_tax_status_in_terms terms)) (filter is_completed_row (map abstract_trade_row ts)) ≡ map (settlement_figures_of_trade t.rule (account_tax_status_or_untaxed t)) rows =
+    let right : map (settlement_figures_of_trade s.rule (account_tax_status_in_terms terms)) (filter is_completed_row (map abstract_trade_row ts))
+    ≡ map (settlement_figures_of_trade t.rule (account_tax_status_or_untaxed t)) rows =
     ap (λ xs. map (settlement_figures_of_trade s.rule (account_tax_status_in_terms terms)) (filter is_completed_row (map abstract_trade_row xs))) g
     ∙ map-same (settlement_figures_of_trade s.rule (account_tax_status_in_terms terms)) (settlement_figures_of_trade t.rule (account_tax_status_or_untaxed t)) rows
     (All-of rows (λ r i. record { trade = r.id; due_day = due_day_of_completion_stamp s.rule r.stamp; amount = settlement_amount_at_tax_status (same_tax_statuses s terms h r.account i) r })) in
@@ -56,14 +61,17 @@ fitting schema t f n =
 pub cash_holds : (schema : Schema) (s : Sheets) (terms : BTreeMap ℕ AccountTerms) (cs : List cash.CashRow) (ts : List trade.TradeRow) → schema.has_cash_move_table ≡ false
     → satisfies_form_condition schema (abstract_sheets s) ≡ true → HasValidStatuses s
     → HasTerms terms s.accounts.items → cs ≡ s.cash.items → ts ≡ s.trades.items
-    → (map cash_figures_of_row (map abstract_cash_row cs) ≡ map (cash_figures_of_trade (account_tax_status_in_terms terms)) (filter is_completed_cash_trade (map abstract_trade_row ts))) ↔ ConditionHolds schema condition.Cash (abstract_sheets s)
+    → (map cash_figures_of_row (map abstract_cash_row cs)
+    ≡ map (cash_figures_of_trade (account_tax_status_in_terms terms)) (filter is_completed_cash_trade (map abstract_trade_row ts))) ↔ ConditionHolds schema
+    condition.Cash (abstract_sheets s)
 cash_holds schema s terms cs ts n f w h e g =
     let t : Tables = abstract_sheets s in
     let formed : HasWellFormedRows s = record { schema = schema; form = f } in
     let law = cash_by_rows schema t n (fitting schema t (form_parts schema t f).fits n) (keys_of s formed).trades (keys_of s formed).cash w in
     let left : map cash_figures_of_row (map abstract_cash_row cs) ≡ map cash_figures_of_row t.cash = ap (λ xs. map cash_figures_of_row (map abstract_cash_row xs)) e in
     let rows : List TradeRow = filter is_completed_cash_trade (map abstract_trade_row s.trades.items) in
-    let right : map (cash_figures_of_trade (account_tax_status_in_terms terms)) (filter is_completed_cash_trade (map abstract_trade_row ts)) ≡ map (cash_figures_of_trade (account_tax_status_or_untaxed t)) rows =
+    let right : map (cash_figures_of_trade (account_tax_status_in_terms terms)) (filter is_completed_cash_trade (map abstract_trade_row ts))
+    ≡ map (cash_figures_of_trade (account_tax_status_or_untaxed t)) rows =
     ap (λ xs. map (cash_figures_of_trade (account_tax_status_in_terms terms)) (filter is_completed_cash_trade (map abstract_trade_row xs))) g
     ∙ map-same (cash_figures_of_trade (account_tax_status_in_terms terms)) (cash_figures_of_trade (account_tax_status_or_untaxed t)) rows
     (All-of rows (λ r i. record { trade = r.id; stamp = r.stamp; amount = settlement_amount_at_tax_status (same_tax_statuses s terms h r.account i) r })) in
@@ -71,7 +79,9 @@ cash_holds schema s terms cs ts n f w h e g =
 
 pub requests_hold : (schema : Schema) (s : Sheets) (terms : BTreeMap ℕ AccountTerms) (qs : List request.RequestRow) (ts : List trade.TradeRow) → HasWellFormedRows s → HasValidStatuses s
     → HasTerms terms s.accounts.items → qs ≡ s.requests.items → ts ≡ s.trades.items
-    → (map (λ q. q) (map abstract_request_row qs) ≡ map (request_row_of_trade (account_broker_in_terms terms)) (filter is_pending_row (map abstract_trade_row ts))) ↔ ConditionHolds schema condition.Requests (abstract_sheets s)
+    → (map (λ q. q) (map abstract_request_row qs)
+    ≡ map (request_row_of_trade (account_broker_in_terms terms)) (filter is_pending_row (map abstract_trade_row ts))) ↔ ConditionHolds schema
+    condition.Requests (abstract_sheets s)
 requests_hold schema s terms qs ts f w h e g =
     let t : Tables = abstract_sheets s in
     let law = requests_by_rows schema t (keys_of s f).trades w in

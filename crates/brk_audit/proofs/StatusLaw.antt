@@ -72,7 +72,8 @@ same_all t (r ∷ rs) c =
     same_tests (has_valid_status_history t r) (is_valid_history r (history_rows_with_trade_id t r.id)) (status_by_rows t r c).0 (status_by_rows t r c).1 in
     λ i. e i && same_all t rs c i
 
-pub statuses_by_rows : (t : Tables) → IsWellFormedBySomeSchema t → satisfies_status_condition t ≡ all_histories_are_valid t.trades t.history && all_distinct (completion_stamps_of_history t.history ++ movement_stamps t)
+pub statuses_by_rows : (t : Tables) → IsWellFormedBySomeSchema t
+    → satisfies_status_condition t ≡ all_histories_are_valid t.trades t.history && all_distinct (completion_stamps_of_history t.history ++ movement_stamps t)
 unfolding satisfies_status_condition runs
 statuses_by_rows t f =
     let p : SatisfiesFormParts f.schema t = form_parts f.schema t f.form in
@@ -80,7 +81,8 @@ statuses_by_rows t f =
     let j : runs t t.trades ≡ t.history = joined t k.history k.trades (list_all_true (is_well_formed_history_row t) t.history p.history) in
     ap (λ b. b && all_distinct (completion_stamps t ++ movement_stamps t)) (same_all t t.trades k.history ∙ sym (go_each t t.trades k.trades) ∙ ap (all_histories_are_valid t.trades) j)
 
-pub status_holds : (schema : Schema) (t : Tables) (go apart : Bool) → IsWellFormedBySomeSchema t → go ≡ all_histories_are_valid t.trades t.history → apart ≡ all_distinct (completion_stamps_of_history t.history ++ movement_stamps t)
+pub status_holds : (schema : Schema) (t : Tables) (go apart : Bool) → IsWellFormedBySomeSchema t → go ≡ all_histories_are_valid t.trades t.history
+    → apart ≡ all_distinct (completion_stamps_of_history t.history ++ movement_stamps t)
     → (go && apart ≡ true → ConditionHolds schema condition.Status t) × (ConditionHolds schema condition.Status t → go && apart ≡ true)
 unfolding ConditionHolds
 status_holds schema t go apart f g a =

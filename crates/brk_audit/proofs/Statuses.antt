@@ -71,7 +71,8 @@ two_go r id Pending Submitted x y w l e =
     ap (is_valid_history r) (put_under (at id Pending x) (at id Submitted y) (by_code id Submitted Pending y x)) ∙ and_from (nat_lt x y) (has_status_and_stamp_of_row r (at id Submitted y)) l e
 two_go r id _ _ x y w l e = false_true w
 
-three_go : (r : TradeRow) (id : ℕ) (s u v : Status) (x y z : ℕ) → is_valid_status_sequence (s ∷ u ∷ v ∷ []) ≡ true → nat_lt x y ≡ true → nat_lt y z ≡ true → has_status_and_stamp_of_row r (at id v z) ≡ true
+three_go : (r : TradeRow) (id : ℕ) (s u v : Status) (x y z : ℕ) → is_valid_status_sequence (s ∷ u ∷ v ∷ []) ≡ true → nat_lt x y ≡ true → nat_lt y z ≡ true
+    → has_status_and_stamp_of_row r (at id v z) ≡ true
     → is_valid_history r (rows_sorted_by_key history_key (at id s x ∷ at id u y ∷ at id v z ∷ [])) ≡ true
 three_go r id Pending Submitted Completed x y z w l m e =
     ap (is_valid_history r) (put_three (at id Pending x) (at id Submitted y) (at id Completed z)
@@ -116,7 +117,8 @@ over_both : (m n o : StatusChange) → nat_lt o.stamp n.stamp ≡ false → nat_
 unfolding sort_by
 over_both m n o e f g = rw e (rw f (rw g refl))
 
-right_two : (r : TradeRow) (s u : Status) (x y : ℕ) → is_valid_status_sequence (s ∷ u ∷ []) ≡ true → nat_lt x y ≡ true → matches_last_status_change r (mark u y ∷ []) ≡ true → IsRightOf r (mark s x ∷ mark u y ∷ [])
+right_two : (r : TradeRow) (s u : Status) (x y : ℕ) → is_valid_status_sequence (s ∷ u ∷ []) ≡ true → nat_lt x y ≡ true
+    → matches_last_status_change r (mark u y ∷ []) ≡ true → IsRightOf r (mark s x ∷ mark u y ∷ [])
 right_two r s u x y w l e = record { way = w; rising = and_from (nat_lt x y) true l refl; last = e }
 
 along : (r : TradeRow) (ms ns : List StatusChange) → ms ≡ ns → IsRightOf r ns → IsRightOf r ms
@@ -184,7 +186,8 @@ own_history t r c =
 
 right_of : (t : Tables) (r : TradeRow) → has_valid_status_history t r ≡ true → IsRightOf r (status_changes_of_trade t r.id)
 right_of t r e =
-    let k = parts3 (is_valid_status_sequence (map (λ m. m.status) (status_changes_of_trade t r.id))) (is_strictly_ascending (map (λ m. m.stamp) (status_changes_of_trade t r.id))) (matches_last_status_change r (status_changes_of_trade t r.id)) e in
+    let k = parts3 (is_valid_status_sequence (map (λ m. m.status) (status_changes_of_trade t r.id)))
+    (is_strictly_ascending (map (λ m. m.stamp) (status_changes_of_trade t r.id))) (matches_last_status_change r (status_changes_of_trade t r.id)) e in
     record { way = k.0; rising = k.1; last = k.2 }
 
 status_of : (t : Tables) (r : TradeRow) → IsRightOf r (status_changes_of_trade t r.id) → has_valid_status_history t r ≡ true
@@ -194,7 +197,8 @@ status_of t r h =
     and_from (way && rising) (matches_last_status_change r (status_changes_of_trade t r.id)) (and_from way rising h.way h.rising) h.last
 
 pub status_by_rows : (t : Tables) (r : TradeRow) → Climbs history_key t.history
-    → (has_valid_status_history t r ≡ true → is_valid_history r (history_rows_with_trade_id t r.id) ≡ true) × (is_valid_history r (history_rows_with_trade_id t r.id) ≡ true → has_valid_status_history t r ≡ true)
+    → (has_valid_status_history t r ≡ true → is_valid_history r (history_rows_with_trade_id t r.id) ≡ true)
+    × (is_valid_history r (history_rows_with_trade_id t r.id) ≡ true → has_valid_status_history t r ≡ true)
 status_by_rows t r c = (
   (λ e. sym (ap (is_valid_history r) (own_history t r c)) ∙ marks_go r r.id (status_changes_of_trade t r.id) (right_of t r e)),
   (λ e. status_of t r (rows_right r r.id (history_rows_with_trade_id t r.id) (of_trade t r.id) e)),

@@ -53,17 +53,27 @@ stretch done b n x h e sorted apart same next =
     ∙ ap (λ (ys : List TradeRow). seen x ∷ ys) (map-append seen (take n rest) (drop n rest))
     ∙ ap (λ (ys : List (Bor code.TradeRow)). seen x ∷ map seen (take n rest) ++ map seen ys) later in
     let length_is : b + 1 + n - b ≡ suc n = omega arith in
-    let ordered : Sorted is_before_by_position (map seen (drop b done)) = sorted_map is_before_by_position seen (drop b done) (sorted_drop (λ y z. is_before_by_position (seen y) (seen z)) b done (sorted_by (λ y z. is_before_by_position (seen y) (seen z)) (place_order seen) done sorted)) in
-    let distinct : IsDistinct has_same_id_or_stamp (map seen (drop b done)) = subst (IsDistinct has_same_id_or_stamp) (map_drop seen b done) (distinct_drop has_same_id_or_stamp b (map seen done) apart) in
+    let ordered : Sorted is_before_by_position (map seen (drop b done)) =
+    sorted_map is_before_by_position seen (drop b done)
+    (sorted_drop (λ y z. is_before_by_position (seen y) (seen z)) b done
+    (sorted_by (λ y z. is_before_by_position (seen y) (seen z)) (place_order seen) done sorted)) in
+    let distinct : IsDistinct has_same_id_or_stamp (map seen (drop b done)) =
+    subst (IsDistinct has_same_id_or_stamp) (map_drop seen b done) (distinct_drop has_same_id_or_stamp b (map seen done) apart) in
     let s : Sorted is_before_by_position (seen x ∷ map seen (take n rest) ++ map seen (drop (b + 1 + n) done)) = subst (Sorted is_before_by_position) is ordered in
     let d : IsDistinct has_same_id_or_stamp (seen x ∷ map seen (take n rest) ++ map seen (drop (b + 1 + n) done)) = subst (IsDistinct has_same_id_or_stamp) is distinct in
-    let a : AllByRecursion (λ t. is_same_position (seen x) t ≡ true) (map seen (take n rest)) = all_mapped (λ t. is_same_position (seen x) t ≡ true) seen (take n rest) (subst (λ (ys : List (Bor code.TradeRow)). AllByRecursion (λ y. is_same_position (seen x) (seen y) ≡ true) (take n ys)) whole same) in
-    let heads : FirstElementSatisfies (λ y. is_same_position (seen x) (seen y) ≡ false) (drop (b + 1 + n) done) = subst (λ (ys : List (Bor code.TradeRow)). FirstElementSatisfies (λ y. is_same_position (seen x) (seen y) ≡ false) ys) (ap (drop n) whole ∙ later) next in
+    let a : AllByRecursion (λ t. is_same_position (seen x) t ≡ true) (map seen (take n rest)) =
+    all_mapped (λ t. is_same_position (seen x) t ≡ true) seen (take n rest)
+    (subst (λ (ys : List (Bor code.TradeRow)). AllByRecursion (λ y. is_same_position (seen x) (seen y) ≡ true) (take n ys)) whole same) in
+    let heads : FirstElementSatisfies (λ y. is_same_position (seen x) (seen y) ≡ false) (drop (b + 1 + n) done) =
+    subst (λ (ys : List (Bor code.TradeRow)). FirstElementSatisfies (λ y. is_same_position (seen x) (seen y) ≡ false) ys) (ap (drop n) whole ∙ later) next
+    in
     record {
       is = is;
       run = ap (map seen) (ap (λ m. take m (drop b done)) length_is ∙ ap (take (suc n)) first);
       same = a;
-      deals = deals_follow (seen x) (seen x ∷ map seen (take n rest)) (sorted_front is_before_by_position (seen x ∷ map seen (take n rest)) (map seen (drop (b + 1 + n) done)) s) (distinct_front has_same_id_or_stamp (seen x ∷ map seen (take n rest)) (map seen (drop (b + 1 + n) done)) d) (same_self (seen x), a);
+      deals = deals_follow (seen x) (seen x ∷ map seen (take n rest))
+          (sorted_front is_before_by_position (seen x ∷ map seen (take n rest)) (map seen (drop (b + 1 + n) done)) s)
+          (distinct_front has_same_id_or_stamp (seen x ∷ map seen (take n rest)) (map seen (drop (b + 1 + n) done)) d) (same_self (seen x), a);
       behind = others (seen x) (map seen (take n rest)) (map seen (drop (b + 1 + n) done)) s (heads_mapped (λ t. is_same_position (seen x) t ≡ false) seen (drop (b + 1 + n) done) heads);
     }
 

@@ -30,7 +30,8 @@ pub go_more : (ts : List TradeRow) (i : ℕ) (t : TradeRow) (hs rows others : Li
 go_more ts i t hs rows others n l e m r o =
     let k : prefix_len (λ h. h.trade == t.id) (map abstract_history_row hs) ≡ n = prefix_len-map (λ h. h.trade == t.id) abstract_history_row hs ∙ sym m in
     ap (λ us. all_histories_are_valid (map abstract_trade_row us) (map abstract_history_row hs)) (drop_more ts i t l ∙ ap (λ u. u ∷ drop (i + 1) ts) (sym e))
-    ∙ (λ j. is_valid_history (abstract_trade_row t) (take (k j) (map abstract_history_row hs)) && all_histories_are_valid (map abstract_trade_row (drop (i + 1) ts)) (drop (k j) (map abstract_history_row hs)))
+    ∙ (λ j. is_valid_history (abstract_trade_row t) (take (k j) (map abstract_history_row hs))
+    && all_histories_are_valid (map abstract_trade_row (drop (i + 1) ts)) (drop (k j) (map abstract_history_row hs)))
     ∙ (λ j. is_valid_history (abstract_trade_row t) ((take-map abstract_history_row n hs ∙ ap (map abstract_history_row) (sym r)) j)
     && all_histories_are_valid (map abstract_trade_row (drop (i + 1) ts)) ((drop-map abstract_history_row n hs ∙ ap (map abstract_history_row) (sym o)) j))
 
@@ -89,8 +90,10 @@ told-append [] ks = refl
 told-append (h ∷ hs) ks = by_test (is_same_trade_status h.status Completed) (told-append hs ks)
   where
     by_test : (b : Bool) → told_stamps (hs ++ ks) ≡ told_stamps hs ++ told_stamps ks
-        → map (λ h. h.stamp) (cond b (abstract_history_row h ∷ filter (λ h. is_same_trade_status h.status Completed) (map abstract_history_row (hs ++ ks))) (filter (λ h. is_same_trade_status h.status Completed) (map abstract_history_row (hs ++ ks))))
-        ≡ map (λ h. h.stamp) (cond b (abstract_history_row h ∷ filter (λ h. is_same_trade_status h.status Completed) (map abstract_history_row hs)) (filter (λ h. is_same_trade_status h.status Completed) (map abstract_history_row hs))) ++ told_stamps ks
+        → map (λ h. h.stamp) (cond b (abstract_history_row h ∷ filter (λ h. is_same_trade_status h.status Completed) (map abstract_history_row (hs ++ ks)))
+        (filter (λ h. is_same_trade_status h.status Completed) (map abstract_history_row (hs ++ ks))))
+        ≡ map (λ h. h.stamp) (cond b (abstract_history_row h ∷ filter (λ h. is_same_trade_status h.status Completed) (map abstract_history_row hs))
+        (filter (λ h. is_same_trade_status h.status Completed) (map abstract_history_row hs))) ++ told_stamps ks
     by_test true e = ap (λ ns. h.stamp ∷ ns) e
     by_test false e = e
 
@@ -117,7 +120,8 @@ apart_more hs i h was l e f g d =
     ap all_distinct (told_more hs i h l e)
     ∙ by_test (is_same_trade_status h.status Completed) (told_stamps (take i hs)) (sym (ap (λ b. not (is_same_trade_status h.status Completed && b)) f) ∙ g) d
   where
-    by_test : (b : Bool) (ns : List ℕ) → not (b && contains_number h.stamp ns) ≡ true → all_distinct ns ≡ true → all_distinct (ns ++ map (λ h. h.stamp) (cond b (abstract_history_row h ∷ []) [])) ≡ true
+    by_test : (b : Bool) (ns : List ℕ) → not (b && contains_number h.stamp ns) ≡ true → all_distinct ns ≡ true
+        → all_distinct (ns ++ map (λ h. h.stamp) (cond b (abstract_history_row h ∷ []) [])) ≡ true
     by_test true ns n d = distinct_more ns h.stamp ∙ and_from (all_distinct ns) (not (contains_number h.stamp ns)) d n
     by_test false ns n d = ap all_distinct (append-nil ns) ∙ d
 

@@ -1,5 +1,6 @@
 -- Bands that rise by key, of which no neighbours share a quantity.
-use Rattle.std.proofs.Common.{◌≡◌, ℕ, zero, suc, ◌<◌, ◌≤◌, Bool, true, false, not, List, [], ◌∷◌, refl, sym, ◌∙◌, ap, subst, map, length, get_or, Ordering, Less, Equal, Greater, nat_cmp, add-one, arith}
+use Rattle.std.proofs.Common.{◌≡◌, ℕ, zero, suc, ◌<◌, ◌≤◌, Bool, true, false, not, List, [], ◌∷◌, refl, sym, ◌∙◌, ap, subst, map, length, get_or, Ordering}
+use Rattle.std.proofs.Common.{Less, Equal, Greater, nat_cmp, add-one, arith}
 use Rattle.std.specs.Prelude.{◌&&◌, ◌||◌, ◌==◌, bytes_eq, nat_le}
 use Rattle.std.specs.List.{AllByRecursion, IsAllAdjacentAnswer, list_any, list_all}
 use Rattle.std.specs.Ordering.{is_eq, ordering_then, ordering_reverse}
@@ -85,8 +86,12 @@ between a b c h e f m =
     let tier : c.tier ≡ a.tier = sym (eqb-true a.tier c.tier parts.0) in
     let code : trade_type_code c.kind ≡ trade_type_code a.kind = sym ((bytes_eq-Decides (trade_type_code a.kind) (trade_type_code c.kind)).0 (type_same a.kind c.kind ∙ parts.1)) in
     let exchange : c.exchange ≡ a.exchange = sym ((bytes_eq-Decides a.exchange c.exchange).0 parts.2) in
-    let g : ordering_then (nat_cmp b.tier a.tier) (ordering_then (slice_cmp nat_cmp (trade_type_code b.kind) (trade_type_code a.kind)) (ordering_then (slice_cmp nat_cmp b.exchange a.exchange) (nat_cmp b.from_qty c.from_qty))) ≡ Less =
-    sym (λ i. ordering_then (nat_cmp b.tier (tier i)) (ordering_then (slice_cmp nat_cmp (trade_type_code b.kind) (code i)) (ordering_then (slice_cmp nat_cmp b.exchange (exchange i)) (nat_cmp b.from_qty c.from_qty)))) ∙ f in
+    let g : ordering_then (nat_cmp b.tier a.tier)
+    (ordering_then (slice_cmp nat_cmp (trade_type_code b.kind) (trade_type_code a.kind))
+    (ordering_then (slice_cmp nat_cmp b.exchange a.exchange) (nat_cmp b.from_qty c.from_qty))) ≡ Less =
+    sym (λ i. ordering_then (nat_cmp b.tier (tier i))
+    (ordering_then (slice_cmp nat_cmp (trade_type_code b.kind) (code i))
+    (ordering_then (slice_cmp nat_cmp b.exchange (exchange i)) (nat_cmp b.from_qty c.from_qty)))) ∙ f in
     let x = squeeze nat_cmp_total a.tier b.tier _ _ e g in
     let y = squeeze nat_list_cmp_total (trade_type_code a.kind) (trade_type_code b.kind) _ _ x.1 x.2 in
     let z = squeeze nat_list_cmp_total a.exchange b.exchange _ _ y.1 y.2 in
@@ -138,7 +143,8 @@ some_meet of (x ∷ y ∷ ys) (suc k) h f =
 pub bounded : (schema : Schema) (b : Band) → is_well_formed_band_row schema b ≡ true → Bounded b
 bounded schema b e =
     leb-true b.from_qty b.to_qty
-    (parts6 (is_tier b.tier) (is_exchange b.exchange) (is_quantity_in_schema schema b.from_qty) (is_quantity_in_schema schema b.to_qty) (nat_le b.from_qty b.to_qty) (nat_le b.rate greatest_commission_rate) e).4
+    (parts6 (is_tier b.tier) (is_exchange b.exchange) (is_quantity_in_schema schema b.from_qty) (is_quantity_in_schema schema b.to_qty)
+    (nat_le b.from_qty b.to_qty) (nat_le b.rate greatest_commission_rate) e).4
 
 all_bounded : (schema : Schema) (bs : List Band) → AllByRecursion (λ b. is_well_formed_band_row schema b ≡ true) bs → AllByRecursion Bounded bs
 all_bounded schema [] a = tt

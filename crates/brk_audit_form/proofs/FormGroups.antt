@@ -3,10 +3,18 @@ use Rattle.std.proofs.Common.{◌≡◌, Bool, true, false, List, [], ◌∷◌,
 use Rattle.std.specs.Prelude.{◌&&◌}
 use Rattle.std.specs.List.{list_all}
 use Rattle.std.proofs.lemmas.List.Folds.{list_all-map}
-use Rattle.brk_model.specs.Keys.{KeyPart, is_key_less, kept_key, broker_key, customer_key, account_key, permission_key, security_key, last_trade_key, charge_key, band_key, tax_rate_key, customer_tax_key, trade_key, history_key, request_key, holding_key, summary_key, holding_history_key, settlement_key, cash_transaction_key, cash_move_key}
-use Rattle.brk_model.specs.Form.{is_sorted_by_unique_key, has_tables_sorted_by_unique_key, is_well_formed_kept_row, is_well_formed_broker_row, is_well_formed_customer_row, is_well_formed_account_row, is_well_formed_permission_row, is_well_formed_security_row, is_well_formed_last_trade_row, is_well_formed_charge_row, is_well_formed_band_row, is_well_formed_tax_rate_row, is_well_formed_customer_tax_row, is_well_formed_trade_row, is_well_formed_history_row, is_well_formed_request_row, is_well_formed_holding_row, is_well_formed_summary_row, is_well_formed_holding_history_row, is_well_formed_settlement_row}
-use Rattle.brk_ref.specs.Records.{kept_row_with_empty_texts, abstract_broker_row, abstract_customer, abstract_account_row, abstract_permission, abstract_security_row, abstract_last_trade_row, abstract_charge, abstract_band, abstract_tax_rate, abstract_customer_tax}
-use Rattle.brk_changes.specs.Rows.{abstract_trade_row, abstract_history_row, abstract_request_row, abstract_holding_row, abstract_summary_row, abstract_lot_change_row, abstract_settlement_row, abstract_cash_row, abstract_move_row}
+use Rattle.brk_model.specs.Keys.{KeyPart, is_key_less, kept_key, broker_key, customer_key, account_key, permission_key, security_key, last_trade_key}
+use Rattle.brk_model.specs.Keys.{charge_key, band_key, tax_rate_key, customer_tax_key, trade_key, history_key, request_key, holding_key, summary_key}
+use Rattle.brk_model.specs.Keys.{holding_history_key, settlement_key, cash_transaction_key, cash_move_key}
+use Rattle.brk_model.specs.Form.{is_sorted_by_unique_key, has_tables_sorted_by_unique_key, is_well_formed_kept_row, is_well_formed_broker_row}
+use Rattle.brk_model.specs.Form.{is_well_formed_customer_row, is_well_formed_account_row, is_well_formed_permission_row, is_well_formed_security_row}
+use Rattle.brk_model.specs.Form.{is_well_formed_last_trade_row, is_well_formed_charge_row, is_well_formed_band_row, is_well_formed_tax_rate_row}
+use Rattle.brk_model.specs.Form.{is_well_formed_customer_tax_row, is_well_formed_trade_row, is_well_formed_history_row, is_well_formed_request_row}
+use Rattle.brk_model.specs.Form.{is_well_formed_holding_row, is_well_formed_summary_row, is_well_formed_holding_history_row, is_well_formed_settlement_row}
+use Rattle.brk_ref.specs.Records.{kept_row_with_empty_texts, abstract_broker_row, abstract_customer, abstract_account_row, abstract_permission}
+use Rattle.brk_ref.specs.Records.{abstract_security_row, abstract_last_trade_row, abstract_charge, abstract_band, abstract_tax_rate, abstract_customer_tax}
+use Rattle.brk_changes.specs.Rows.{abstract_trade_row, abstract_history_row, abstract_request_row, abstract_holding_row, abstract_summary_row}
+use Rattle.brk_changes.specs.Rows.{abstract_lot_change_row, abstract_settlement_row, abstract_cash_row, abstract_move_row}
 use Rattle.brk_changes.specs.Sheets.{abstract_sheets}
 use Rattle.brk_model.specs.Schemas.{Schema}
 use Rattle.brk_model.specs.Tables.{Tables}
@@ -97,7 +105,9 @@ reference_rests schema s =
     list_all is_well_formed_tax_rate_row (map abstract_tax_rate s.tax_rates.items) ∷
     list_all (is_well_formed_customer_tax_row (abstract_sheets s)) (map abstract_customer_tax s.customer_taxes.items) ∷ []
 
-reference_mapped : (schema : Schema) (s : Sheets) → joined (list_all is_well_formed_kept_row (map kept_row_with_empty_texts s.kept.items)) (reference_rests schema s) ≡ reference_rows_are_well_formed schema s
+reference_mapped : (schema : Schema) (s : Sheets)
+    → joined (list_all is_well_formed_kept_row (map kept_row_with_empty_texts s.kept.items)) (reference_rests schema s)
+    ≡ reference_rows_are_well_formed schema s
 reference_mapped schema s = λ i.
     list_all-map is_well_formed_kept_row kept_row_with_empty_texts s.kept.items i
     && list_all-map is_well_formed_broker_row abstract_broker_row s.brokers.items i
@@ -131,7 +141,13 @@ reference_forms_parts schema s h =
 pub reference_forms_whole : (schema : Schema) (s : Sheets) → ReferenceForms schema s → reference_rows_are_well_formed schema s ≡ true
 reference_forms_whole schema s p =
     sym (reference_mapped schema s)
-    ∙ whole (list_all is_well_formed_kept_row (map kept_row_with_empty_texts s.kept.items)) (reference_rests schema s) p.kept (p.brokers, (p.customers, (p.accounts, (p.permissions, (p.securities, (p.last_trades, (p.charges, (p.bands, (p.tax_rates, (p.customer_taxes, tt))))))))))
+    ∙ whole (list_all is_well_formed_kept_row (map kept_row_with_empty_texts s.kept.items)) (reference_rests schema s) p.kept (
+      p.brokers,
+      (
+        p.customers,
+        (p.accounts, (p.permissions, (p.securities, (p.last_trades, (p.charges, (p.bands, (p.tax_rates, (p.customer_taxes, tt)))))))),
+      ),
+    )
 
 -- those after the first one
 abbrev trading_rests : Schema → Sheets → List Bool
@@ -143,7 +159,9 @@ trading_rests schema s =
     list_all (is_well_formed_holding_history_row (abstract_sheets s)) (map abstract_lot_change_row s.holding_history.items) ∷
     list_all (is_well_formed_settlement_row (abstract_sheets s)) (map abstract_settlement_row s.settlements.items) ∷ []
 
-trading_mapped : (schema : Schema) (s : Sheets) → joined (list_all (is_well_formed_trade_row schema (abstract_sheets s)) (map abstract_trade_row s.trades.items)) (trading_rests schema s) ≡ trading_rows_are_well_formed schema s
+trading_mapped : (schema : Schema) (s : Sheets)
+    → joined (list_all (is_well_formed_trade_row schema (abstract_sheets s)) (map abstract_trade_row s.trades.items)) (trading_rests schema s)
+    ≡ trading_rows_are_well_formed schema s
 trading_mapped schema s = λ i.
     list_all-map (is_well_formed_trade_row schema (abstract_sheets s)) abstract_trade_row s.trades.items i
     && list_all-map (is_well_formed_history_row (abstract_sheets s)) abstract_history_row s.history.items i
@@ -169,7 +187,8 @@ trading_forms_parts schema s h =
 pub trading_forms_whole : (schema : Schema) (s : Sheets) → TradingForms schema s → trading_rows_are_well_formed schema s ≡ true
 trading_forms_whole schema s p =
     sym (trading_mapped schema s)
-    ∙ whole (list_all (is_well_formed_trade_row schema (abstract_sheets s)) (map abstract_trade_row s.trades.items)) (trading_rests schema s) p.trades (p.history, (p.requests, (p.holdings, (p.summaries, (p.holding_history, (p.settlements, tt))))))
+    ∙ whole (list_all (is_well_formed_trade_row schema (abstract_sheets s)) (map abstract_trade_row s.trades.items)) (trading_rests schema s) p.trades
+    (p.history, (p.requests, (p.holdings, (p.summaries, (p.holding_history, (p.settlements, tt))))))
 
 -- the keys of the bands
 pub bands_rise : (t : Tables) → has_tables_sorted_by_unique_key t ≡ true → is_sorted_by_unique_key band_key t.bands ≡ true

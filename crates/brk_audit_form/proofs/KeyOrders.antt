@@ -1,5 +1,6 @@
 -- The order of keys, as a comparison tells it, and rows by rising key.
-use Rattle.std.proofs.Common.{◌≡◌, ℕ, zero, suc, ◌<◌, List, [], ◌∷◌, Bool, true, false, not, ◌&&◌, ◌||◌, ◌==◌, Ordering, Less, Equal, Greater, nat_cmp, refl, sym, ap, subst, add-one, ◌∙◌, inl, inr, length, get_or, arith, eq-eqb, ne_eqb}
+use Rattle.std.proofs.Common.{◌≡◌, ℕ, zero, suc, ◌<◌, List, [], ◌∷◌, Bool, true, false, not, ◌&&◌, ◌||◌, ◌==◌, Ordering, Less, Equal, Greater, nat_cmp, refl}
+use Rattle.std.proofs.Common.{sym, ap, subst, add-one, ◌∙◌, inl, inr, length, get_or, arith, eq-eqb, ne_eqb}
 use Rattle.std.specs.Prelude.{nat_lt}
 use Rattle.std.specs.List.{IsAllAdjacentAnswer}
 use Rattle.std.specs.Ordering.{is_gt, is_lt, ordering_then, ordering_reverse}

@@ -1,5 +1,6 @@
 -- Tax ids that are of one customer each.
-use Rattle.std.proofs.Common.{◌≡◌, ℕ, ◌+◌, ◌<◌, Bool, true, false, cond, not, List, [], ◌∷◌, ◌++◌, refl, sym, ◌∙◌, ap, map, take, drop, length, get_or, append_assoc, Ordering, Less, Equal, Greater, nat_cmp}
+use Rattle.std.proofs.Common.{◌≡◌, ℕ, ◌+◌, ◌<◌, Bool, true, false, cond, not, List, [], ◌∷◌, ◌++◌, refl, sym, ◌∙◌, ap, map, take, drop, length, get_or}
+use Rattle.std.proofs.Common.{append_assoc, Ordering, Less, Equal, Greater, nat_cmp}
 use Rattle.std.specs.Prelude.{◌&&◌, ◌||◌, bytes_eq}
 use Rattle.std.specs.List.{list_any}
 use Rattle.std.specs.Ordering.{is_eq, ordering_reverse}

@@ -1,5 +1,6 @@
 -- The row that a search finds, and the completion of a trade in its history.
-use Rattle.std.proofs.Common.{◌≡◌, ℕ, zero, suc, ◌<◌, Bool, true, false, cond, List, [], ◌∷◌, refl, sym, ◌∙◌, ap, subst, map, filter, length, get_or, Option, Some, None, Result, Ordering, Less, Equal, Greater, nat_cmp, arith}
+use Rattle.std.proofs.Common.{◌≡◌, ℕ, zero, suc, ◌<◌, Bool, true, false, cond, List, [], ◌∷◌, refl, sym, ◌∙◌, ap, subst, map, filter, length, get_or, Option}
+use Rattle.std.proofs.Common.{Some, None, Result, Ordering, Less, Equal, Greater, nat_cmp, arith}
 use Rattle.std.specs.Prelude.{◌||◌, ◌&&◌, ◌==◌, bytes_eq, find, option_map, is_some, is_ok}
 use Rattle.std.specs.List.{AllByRecursion, list_any}
 use Rattle.std.specs.List.Sorted.{IsSearchInRange, IsBinarySearchResult}
@@ -54,7 +55,8 @@ none_found {X = X} p xs e = by_found (find p xs) (e ∙ any_found p xs)
 pub number_placed : {X Y : Type 0} (of : X → Y) (key : Y → ℕ) (xs ys : List X) (n : ℕ) (at : ℕ) (x : X) → ys ≡ xs → Climbs (λ y. number (key y) ∷ []) (map of xs)
     → at < length ys → nat_cmp (key (of (get_or ys at x))) n ≡ Equal → x ≡ get_or xs at x → Some (of x) ≡ find (λ y. key y == n) (map of xs)
 number_placed of key xs ys n at x e c h f is =
-    let rows : Climbing nat_cmp (λ x. key (of x)) ys = subst (Climbing nat_cmp (λ x. key (of x))) (sym e) (climbing nat_cmp of (λ y. number (key y) ∷ []) key (λ y z. number_less (key y) (key z)) xs c) in
+    let rows : Climbing nat_cmp (λ x. key (of x)) ys =
+    subst (Climbing nat_cmp (λ x. key (of x))) (sym e) (climbing nat_cmp of (λ y. number (key y) ∷ []) key (λ y z. number_less (key y) (key z)) xs c) in
     ap (λ x. Some (of x)) (is ∙ ap (λ l. get_or l at x) (sym e))
     ∙ sym (ap (option_map of) (placed nat_cmp_total (λ x. key (of x)) (λ x. key (of x) == n) n (λ x. eq_number (key (of x)) n) ys rows at x h f))
     ∙ find-mapped (λ y. key y == n) of ys ∙ ap (λ l. find (λ y. key y == n) (map of l)) e
@@ -116,11 +118,15 @@ pub completion_found : (xs ys : List HistoryRow) (n : ℕ) (code : List ℕ) (r 
     → b ≡ list_any (λ h. is_same_trade_status h.status Completed) (filter (λ h. h.trade == n) (map abstract_history_row xs))
 completion_found xs ys n code r b e f c within found is =
     let rows : Climbing pair_cmp pair_of ys =
-    subst (Climbing pair_cmp pair_of) (sym e) (climbing pair_cmp abstract_history_row history_key (λ h. (h.trade, trade_status_code h.status)) (λ g h. pair_less (g.trade, trade_status_code g.status) (h.trade, trade_status_code h.status)) xs c) in
+    subst (Climbing pair_cmp pair_of) (sym e)
+    (climbing pair_cmp abstract_history_row history_key (λ h. (h.trade, trade_status_code h.status))
+    (λ g h. pair_less (g.trade, trade_status_code g.status) (h.trade, trade_status_code h.status)) xs c) in
     is
     ∙ any_searched (λ h. ordering_then (nat_cmp h.trade n) (slice_cmp nat_cmp (trade_status_code h.status) code)) (λ h. (h.trade == n) && is_same_trade_status h.status Completed) ys r
     (λ h. then_eq (nat_cmp h.trade n) (slice_cmp nat_cmp (trade_status_code h.status) code)
-    ∙ (λ i. eq_number h.trade n i && ((λ j. is_eq (slice_cmp nat_cmp (trade_status_code h.status) (f j))) ∙ is_eq-slice_cmp (trade_status_code h.status) (trade_status_code Completed) ∙ same_code h.status) i))
+    ∙ (λ i. eq_number h.trade n i
+    && ((λ j. is_eq (slice_cmp nat_cmp (trade_status_code h.status) (f j))) ∙ is_eq-slice_cmp (trade_status_code h.status) (trade_status_code Completed)
+    ∙ same_code h.status) i))
     (rising_keys pair_total pair_of ys rows (n, code)) within found
     ∙ any_map (λ h. (h.trade == n) && is_same_trade_status h.status Completed) abstract_history_row ys
     ∙ ap (λ l. list_any (λ h. (h.trade == n) && is_same_trade_status h.status Completed) (map abstract_history_row l)) e

@@ -1,5 +1,6 @@
 -- What a binary search among rows by rising key finds.
-use Rattle.std.proofs.Common.{◌≡◌, ℕ, zero, suc, ◌<◌, ◌≤◌, Bool, true, false, cond, List, [], ◌∷◌, refl, sym, ◌∙◌, ap, subst, map, length, get_or, Some, Result, Ok, Err, Ordering, Less, Equal, Greater, nat_cmp, add-one, arith, inl, inr}
+use Rattle.std.proofs.Common.{◌≡◌, ℕ, zero, suc, ◌<◌, ◌≤◌, Bool, true, false, cond, List, [], ◌∷◌, refl, sym, ◌∙◌, ap, subst, map, length, get_or, Some, Result}
+use Rattle.std.proofs.Common.{Ok, Err, Ordering, Less, Equal, Greater, nat_cmp, add-one, arith, inl, inr}
 use Rattle.std.specs.Prelude.{⊤, ◌||◌, ◌&&◌, not, ◌==◌, find, is_some, is_ok}
 use Rattle.std.specs.List.{AllByRecursion, list_any}
 use Rattle.std.specs.List.Sorted.{IsSearchInRange, IsBinarySearchResult, IsNonDecreasingBy}
@@ -42,7 +43,8 @@ ahead : {X Y K : Type 0} (R : K → K → Ordering) (of : X → Y) (P : Y → Ty
 ahead R of P key k less [] a = tt
 ahead R of P key k less (x ∷ xs) a = (less (of x) a.0, ahead R of P key k less xs a.1)
 
-pub climbing : {X Y K : Type 0} (R : K → K → Ordering) (of : X → Y) (whole : Y → List KeyPart) (key : Y → K) → ((y z : Y) → is_key_less (whole y) (whole z) ≡ true → R (key y) (key z) ≡ Less) → (xs : List X)
+pub climbing : {X Y K : Type 0} (R : K → K → Ordering) (of : X → Y) (whole : Y → List KeyPart) (key : Y → K)
+    → ((y z : Y) → is_key_less (whole y) (whole z) ≡ true → R (key y) (key z) ≡ Less) → (xs : List X)
     → Climbs whole (map of xs) → Climbing R (λ x. key (of x)) xs
 climbing R of whole key less [] c = tt
 climbing R of whole key less (x ∷ xs) c = (ahead R of _ key (key (of x)) (λ y h. less (of x) y h) xs c.0, climbing R of whole key less xs c.1)

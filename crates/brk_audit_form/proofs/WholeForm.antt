@@ -9,7 +9,9 @@ use Rattle.brk_money.specs.Moments.{greatest_day, greatest_stamp}
 use Rattle.brk_model.specs.Limits.{greatest_id}
 use Rattle.brk_model.specs.Lists.{all_distinct}
 use Rattle.brk_model.specs.Schemas.{Schema}
-use Rattle.brk_model.specs.Form.{satisfies_form_condition, has_tables_sorted_by_unique_key, has_disjoint_bands, are_equal_number_lists, has_distinct_tax_ids, is_within_customer_limits, is_well_formed_cash_transaction_row, is_well_formed_cash_move_row, trade_ids_of_cash_rows, has_rows_only_in_tables_of_schema}
+use Rattle.brk_model.specs.Form.{satisfies_form_condition, has_tables_sorted_by_unique_key, has_disjoint_bands, are_equal_number_lists, has_distinct_tax_ids}
+use Rattle.brk_model.specs.Form.{is_within_customer_limits, is_well_formed_cash_transaction_row, is_well_formed_cash_move_row, trade_ids_of_cash_rows}
+use Rattle.brk_model.specs.Form.{has_rows_only_in_tables_of_schema}
 use Rattle.brk_ref.specs.Records.{abstract_customer, abstract_band}
 use Rattle.brk_changes.specs.Rows.{abstract_trade_row, abstract_cash_row, abstract_move_row}
 use Rattle.brk_changes.specs.Sheets.{abstract_sheets}
@@ -130,7 +132,8 @@ pub form_told : (schema : Schema) (s : Sheets) → joined (passes_nonallocating_
 form_told schema s =
     both_ways _ _
     (λ e. let p = parts (passes_nonallocating_form_checks schema s) (rests s) e in forth schema s p.0 p.1)
-    (λ e. let p = form_parts schema (abstract_sheets s) e in whole (passes_nonallocating_form_checks schema s) (rests s) (back schema s p) (p.tax_ids, (p.limits, (p.cash, (p.moves, (p.own_moves, tt))))))
+    (λ e. let p = form_parts schema (abstract_sheets s) e in
+    whole (passes_nonallocating_form_checks schema s) (rests s) (back schema s p) (p.tax_ids, (p.limits, (p.cash, (p.moves, (p.own_moves, tt))))))
 
 -- ---- what an answer of the checker says
 

@@ -27,7 +27,8 @@ same_brokers s terms h id =
     of_row None = refl
     of_row (Some a) = refl
 
-pub same_tax_statuses : (s : Sheets) (terms : BTreeMap ℕ AccountTerms) → HasTerms terms s.accounts.items → (id : ℕ) → account_tax_status_in_terms terms id ≡ account_tax_status_or_untaxed (abstract_sheets s) id
+pub same_tax_statuses : (s : Sheets) (terms : BTreeMap ℕ AccountTerms) → HasTerms terms s.accounts.items → (id : ℕ)
+    → account_tax_status_in_terms terms id ≡ account_tax_status_or_untaxed (abstract_sheets s) id
 same_tax_statuses s terms h id =
     ap (λ o. option_map_or (λ x. x.tax_status) o Untaxed) (h id) ∙ of_row (find (λ a. a.account.id == id) s.accounts.items)
     ∙ sym (ap (λ o. option_map_or (λ a. a.tax_status) o Untaxed) (find-map (λ a. a.id == id) abstract_account_row s.accounts.items))

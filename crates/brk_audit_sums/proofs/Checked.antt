@@ -27,11 +27,15 @@ use Rattle.brk_audit_sums.proofs.Postings.{total_mapped, total_posted}
 
 -- the sum of what is posted of rows in types, as one over the rows that they are
 pub posted_sum : (p : TradeRow → Bool) (k j : TradeRow → ℕ) (a b : TradeRow → ℤ) (rows : List trade.TradeRow) (q : ℕ) → ((r : TradeRow) → k r ≡ j r) → ((r : TradeRow) → a r ≡ b r)
-    → total_amount_at_key nat_cmp (filter_map {Y = KeyedAmount ℕ} (λ r. cond (p (abstract_trade_row r)) (Some (record { key = k (abstract_trade_row r); amount = a (abstract_trade_row r) })) None) rows) q
+    → total_amount_at_key nat_cmp
+    (filter_map {Y = KeyedAmount ℕ}
+    (λ r. cond (p (abstract_trade_row r)) (Some (record { key = k (abstract_trade_row r); amount = a (abstract_trade_row r) })) None) rows) q
     ≡ total_by b (filter (λ r. p r && (j r == q)) (map abstract_trade_row rows))
 posted_sum p k j a b rows q e f =
     total_posted nat_cmp (λ r. p (abstract_trade_row r)) (λ r. k (abstract_trade_row r)) (λ r. a (abstract_trade_row r)) rows q
-    ∙ ap (total_by (λ r. a (abstract_trade_row r))) (filter-same (λ r. p (abstract_trade_row r) && is_eq (nat_cmp (k (abstract_trade_row r)) q)) (λ r. p (abstract_trade_row r) && (j (abstract_trade_row r) == q)) rows
+    ∙ ap (total_by (λ r. a (abstract_trade_row r)))
+    (filter-same (λ r. p (abstract_trade_row r) && is_eq (nat_cmp (k (abstract_trade_row r)) q))
+    (λ r. p (abstract_trade_row r) && (j (abstract_trade_row r) == q)) rows
     (All-of rows (λ r i. p (abstract_trade_row r) && same_key (abstract_trade_row r) i)))
     ∙ total_by-same (λ r. a (abstract_trade_row r)) (λ r. b (abstract_trade_row r)) (filter (λ r. p (abstract_trade_row r) && (j (abstract_trade_row r) == q)) rows)
     (All-of (filter (λ r. p (abstract_trade_row r) && (j (abstract_trade_row r) == q)) rows) (λ r. f (abstract_trade_row r)))
@@ -47,14 +51,17 @@ pub broker_sums : (s : Sheets) (terms : BTreeMap ℕ AccountTerms) (amount : Tra
     → (q : ℕ) → sum_at_key nat_cmp sums q ≡ sum_over_broker_trades (abstract_sheets s) amount q
 broker_sums s terms amount sums postings has summed posted q =
     summed q ∙ ap (λ ps. total_amount_at_key nat_cmp ps q) posted
-    ∙ posted_sum is_completed_row (λ r. account_broker_in_terms terms r.account) (λ r. account_broker_or_zero (abstract_sheets s) r.account) amount amount s.trades.items q (λ r. same_brokers s terms has r.account) (λ r. refl)
+    ∙ posted_sum is_completed_row (λ r. account_broker_in_terms terms r.account) (λ r. account_broker_or_zero (abstract_sheets s) r.account) amount amount
+    s.trades.items q (λ r. same_brokers s terms has r.account) (λ r. refl)
 
 -- the sum of movements in types, as one over the rows that they are
 pub moved_sum : (rows : List move.MoveRow) (q : ℕ) → total_amount_at_key nat_cmp (filter_map (λ r. movement_posting_of_row (abstract_move_row r)) rows) q
     ≡ total_by (λ r. r.amount) (filter (λ r. is_none r.trade && (r.account == q)) (map abstract_move_row rows))
 moved_sum rows q =
     total_posted nat_cmp (λ r. is_none (abstract_move_row r).trade) (λ r. (abstract_move_row r).account) (λ r. (abstract_move_row r).amount) rows q
-    ∙ ap (total_by (λ r. (abstract_move_row r).amount)) (filter-same (λ r. is_none (abstract_move_row r).trade && is_eq (nat_cmp (abstract_move_row r).account q)) (λ r. is_none (abstract_move_row r).trade && ((abstract_move_row r).account == q)) rows
+    ∙ ap (total_by (λ r. (abstract_move_row r).amount))
+    (filter-same (λ r. is_none (abstract_move_row r).trade && is_eq (nat_cmp (abstract_move_row r).account q))
+    (λ r. is_none (abstract_move_row r).trade && ((abstract_move_row r).account == q)) rows
     (All-of rows (λ r i. is_none (abstract_move_row r).trade && sym (unsigned_ties (abstract_move_row r).account q) i)))
     ∙ sym (total_mapped (λ r. r.amount) (λ r. is_none r.trade && (r.account == q)) abstract_move_row rows)
 

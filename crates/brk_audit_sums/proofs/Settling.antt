@@ -26,7 +26,9 @@ use Rattle.brk_audit_theorems.proofs.Climbs.{Climbs, In, climbs_filter, climbs_m
 use Rattle.brk_audit_theorems.proofs.Members.{FoundIn, found_in, map-map, one_of_key}
 use Rattle.brk_audit_theorems.proofs.AdoptedBooks.{filter-map}
 use Rattle.brk_audit_sums.specs.Completed.{completed_trade_rows, is_completed_row, is_pending_row, pending_trade_rows}
-use Rattle.brk_audit_sums.specs.Settling.{settlement_amount_at_tax_status, account_broker_or_zero, settlement_figures_of_row, settlement_figures_of_trade, is_completed_cash_trade, cash_figures_of_trade, cash_figures_of_row, request_row_of_trade, account_tax_status_or_untaxed}
+use Rattle.brk_audit_sums.specs.Settling.{settlement_amount_at_tax_status, account_broker_or_zero, settlement_figures_of_row, settlement_figures_of_trade}
+use Rattle.brk_audit_sums.specs.Settling.{is_completed_cash_trade, cash_figures_of_trade, cash_figures_of_row, request_row_of_trade}
+use Rattle.brk_audit_sums.specs.Settling.{account_tax_status_or_untaxed}
 use Rattle.brk_audit_sums.proofs.Completed.{completed_rows, pending_rows, right_rows, row_moment}
 use Rattle.brk_model.specs.Schemas.{Schema}
 
@@ -107,7 +109,9 @@ no_rows before = refl
 
 wanted_no_moves : (schema : Schema) (t : Tables) → schema.has_cash_move_table ≡ false → (expected_tables schema t).moves ≡ []
 unfolding tables_sorted_by_key tables_of_base_in_schema
-wanted_no_moves schema t n = ap (λ b. rows_sorted_by_key cash_move_key (cond b (numbered_move_rows 1 (postings_sorted_by_stamp (postings_of_base (base_of_tables t)))) [])) n ∙ no_rows (is_row_key_less cash_move_key)
+wanted_no_moves schema t n =
+    ap (λ b. rows_sorted_by_key cash_move_key (cond b (numbered_move_rows 1 (postings_sorted_by_stamp (postings_of_base (base_of_tables t)))) [])) n
+    ∙ no_rows (is_row_key_less cash_move_key)
 
 -- ---- requests
 
@@ -119,10 +123,12 @@ same_requests t [] = refl
 same_requests t (r ∷ rs) =
     λ i. record { trade = r.id; kind = r.kind; symbol = r.symbol; qty = r.qty; bid = r.bid; broker = same_broker t r.account i } ∷ same_requests t rs i
 
-pub requests_by_rows : (schema : Schema) (t : Tables) → Climbs trade_key t.trades → satisfies_status_condition t ≡ true → (ConditionHolds schema condition.Requests t → HasRequests t) × (HasRequests t → ConditionHolds schema condition.Requests t)
+pub requests_by_rows : (schema : Schema) (t : Tables) → Climbs trade_key t.trades → satisfies_status_condition t ≡ true
+    → (ConditionHolds schema condition.Requests t → HasRequests t) × (HasRequests t → ConditionHolds schema condition.Requests t)
 unfolding ConditionHolds
 requests_by_rows schema t c s =
-    let e : (expected_tables schema t).requests ≡ map (request_row_of_trade (account_broker_or_zero t)) (pending_trade_rows t) = wanted_requests schema t c s ∙ same_requests t (pending_trade_rows t) in
+    let e : (expected_tables schema t).requests ≡ map (request_row_of_trade (account_broker_or_zero t)) (pending_trade_rows t) = wanted_requests schema t c s
+    ∙ same_requests t (pending_trade_rows t) in
     ((λ h. h ∙ e), (λ h. h ∙ sym e))
 
 -- ---- settlements
@@ -133,7 +139,9 @@ HasSettlements t = map settlement_figures_of_row t.settlements ≡ map (settleme
 abbrev IsRight : Tables → TradeRow → Type 0
 IsRight t r = has_valid_status_history t r ≡ true
 
-due_right : (t : Tables) (r : TradeRow) → IsRight t r → settlement_figures_of_row (settlement_row (accounts_in t) t.rule (trade_of_row t r)) ≡ settlement_figures_of_trade t.rule (account_tax_status_or_untaxed t) r
+due_right : (t : Tables) (r : TradeRow) → IsRight t r
+    → settlement_figures_of_row (settlement_row (accounts_in t) t.rule (trade_of_row t r))
+    ≡ settlement_figures_of_trade t.rule (account_tax_status_or_untaxed t) r
 due_right t r e = λ i. record { trade = r.id; due_day = due_day_of_completion_stamp t.rule (row_moment t r e i); amount = same_amount t r i }
 
 right_done : (t : Tables) (p : TradeRow → Bool) → satisfies_status_condition t ≡ true → AllByRecursion (IsRight t) (filter p t.trades)
@@ -164,7 +172,8 @@ same_settlement t s r f e d =
     λ i. record { trade = (g i).trade; cash_type = w i; due_day = (g i).due_day; amount = (g i).amount }
 
 same_settlements : (t : Tables) (ss : List SettlementRow) (rs : List TradeRow) → AllByRecursion (λ s. find (λ x. x.trade == s.trade) t.settlements ≡ Some s) ss
-    → AllByRecursion (IsRight t) rs → map settlement_figures_of_row ss ≡ map (settlement_figures_of_trade t.rule (account_tax_status_or_untaxed t)) rs → ss ≡ map (λ r. settlement_row (accounts_in t) t.rule (trade_of_row t r)) rs
+    → AllByRecursion (IsRight t) rs → map settlement_figures_of_row ss ≡ map (settlement_figures_of_trade t.rule (account_tax_status_or_untaxed t)) rs
+    → ss ≡ map (λ r. settlement_row (accounts_in t) t.rule (trade_of_row t r)) rs
 same_settlements t [] [] f e d = refl
 same_settlements t [] (r ∷ rs) f e d = absurd (cc)
 same_settlements t (s ∷ ss) [] f e d = absurd (cc)
@@ -182,7 +191,9 @@ settlements_by_rows schema t c d s =
     let f : TradeRow → SettlementRow = λ r. settlement_row (accounts_in t) t.rule (trade_of_row t r) in
     let right : AllByRecursion (IsRight t) (completed_trade_rows t) = right_done t is_completed_row s in
     let e = wanted_settlements schema t c s in (
-      (λ h. ap (map settlement_figures_of_row) (h ∙ e) ∙ map-map settlement_figures_of_row f (completed_trade_rows t) ∙ map-same (λ r. settlement_figures_of_row (f r)) (settlement_figures_of_trade t.rule (account_tax_status_or_untaxed t)) (completed_trade_rows t) (All-map (completed_trade_rows t) (due_right t) right)),
+      (λ h. ap (map settlement_figures_of_row) (h ∙ e) ∙ map-map settlement_figures_of_row f (completed_trade_rows t)
+          ∙ map-same (λ r. settlement_figures_of_row (f r)) (settlement_figures_of_trade t.rule (account_tax_status_or_untaxed t)) (completed_trade_rows t)
+          (All-map (completed_trade_rows t) (due_right t) right)),
       (λ h. same_settlements t t.settlements (completed_trade_rows t) (settlement_found t.settlements d) right h ∙ sym e),
     )
 
@@ -211,7 +222,8 @@ cash_found cs c = both cs (each_in cs) (find-each (λ c x. x.trade == c.trade) c
 -- what is posted by a trade, where no rows are numbered
 posted_cash : (t : Tables) → t.moves ≡ [] → (id : ℕ) → find (is_posting_of_trade id) (postings_of_tables t) ≡ option_map (posting_of_cash_transaction_row t) (find (λ x. x.trade == id) t.cash)
 posted_cash t e id =
-    ap (λ ms. find (is_posting_of_trade id) (map (posting_of_cash_transaction_row t) t.cash ++ map posting_of_cash_move_row ms)) e ∙ ap (find (is_posting_of_trade id)) (append_nil (map (posting_of_cash_transaction_row t) t.cash))
+    ap (λ ms. find (is_posting_of_trade id) (map (posting_of_cash_transaction_row t) t.cash ++ map posting_of_cash_move_row ms)) e
+    ∙ ap (find (is_posting_of_trade id)) (append_nil (map (posting_of_cash_transaction_row t) t.cash))
     ∙ find-map (is_posting_of_trade id) (posting_of_cash_transaction_row t) t.cash
 
 same_cash_row : (t : Tables) (c : CashRow) (r : TradeRow) → t.moves ≡ [] → find (λ x. x.trade == c.trade) t.cash ≡ Some c → IsRight t r
@@ -220,12 +232,14 @@ same_cash_row t c r n f e d =
     let g : cash_figures_of_row c ≡ cash_figures_of_row (cash_transaction_row (accounts_in t) (trade_of_row t r)) = d ∙ sym (moved_right t r e) in
     let id : c.trade ≡ r.id = ap (λ x. x.trade) g in
     let w : c.name ≡ option_map_or (λ p. p.name) (find (is_posting_of_trade r.id) (postings_of_tables t)) [] =
-    sym (ap (λ o. option_map_or (λ p. p.name) (option_map (posting_of_cash_transaction_row t) o) []) f) ∙ ap (λ k. option_map_or (λ p. p.name) (option_map (posting_of_cash_transaction_row t) (find (λ x. x.trade == k) t.cash)) []) id
+    sym (ap (λ o. option_map_or (λ p. p.name) (option_map (posting_of_cash_transaction_row t) o) []) f)
+    ∙ ap (λ k. option_map_or (λ p. p.name) (option_map (posting_of_cash_transaction_row t) (find (λ x. x.trade == k) t.cash)) []) id
     ∙ ap (λ o. option_map_or (λ p. p.name) o []) (sym (posted_cash t n r.id)) in
     λ i. record { trade = (g i).trade; stamp = (g i).stamp; amount = (g i).amount; name = w i }
 
 same_cash : (t : Tables) (cs : List CashRow) (rs : List TradeRow) → t.moves ≡ [] → AllByRecursion (λ c. find (λ x. x.trade == c.trade) t.cash ≡ Some c) cs
-    → AllByRecursion (IsRight t) rs → map cash_figures_of_row cs ≡ map (cash_figures_of_trade (account_tax_status_or_untaxed t)) rs → cs ≡ map (λ r. cash_transaction_row (accounts_in t) (trade_of_row t r)) rs
+    → AllByRecursion (IsRight t) rs → map cash_figures_of_row cs ≡ map (cash_figures_of_trade (account_tax_status_or_untaxed t)) rs
+    → cs ≡ map (λ r. cash_transaction_row (accounts_in t) (trade_of_row t r)) rs
 same_cash t [] [] n f e d = refl
 same_cash t [] (r ∷ rs) n f e d = absurd (cc)
 same_cash t (c ∷ cs) [] n f e d = absurd (cc)
@@ -236,7 +250,8 @@ same_cash t (c ∷ cs) (r ∷ rs) n f e d =
     let more = same_cash t cs rs n f.1 e.1 k in
     λ i. g i ∷ more i
 
-pub cash_by_rows : (schema : Schema) (t : Tables) → schema.has_cash_move_table ≡ false → t.moves ≡ [] → Climbs trade_key t.trades → Climbs cash_transaction_key t.cash → satisfies_status_condition t ≡ true
+pub cash_by_rows : (schema : Schema) (t : Tables) → schema.has_cash_move_table ≡ false → t.moves ≡ [] → Climbs trade_key t.trades
+    → Climbs cash_transaction_key t.cash → satisfies_status_condition t ≡ true
     → (ConditionHolds schema condition.Cash t → HasCash t) × (HasCash t → ConditionHolds schema condition.Cash t)
 unfolding ConditionHolds
 cash_by_rows schema t n m c d s =
@@ -244,6 +259,7 @@ cash_by_rows schema t n m c d s =
     let rows : List TradeRow = filter is_completed_cash_trade t.trades in
     let right : AllByRecursion (IsRight t) rows = right_done t is_completed_cash_trade s in
     let e = wanted_cash schema t n c s in (
-      (λ h. ap (map cash_figures_of_row) (h.0 ∙ e) ∙ map-map cash_figures_of_row f rows ∙ map-same (λ r. cash_figures_of_row (f r)) (cash_figures_of_trade (account_tax_status_or_untaxed t)) rows (All-map rows (moved_right t) right)),
+      (λ h. ap (map cash_figures_of_row) (h.0 ∙ e) ∙ map-map cash_figures_of_row f rows
+          ∙ map-same (λ r. cash_figures_of_row (f r)) (cash_figures_of_trade (account_tax_status_or_untaxed t)) rows (All-map rows (moved_right t) right)),
       (λ h. (same_cash t t.cash rows m (cash_found t.cash d) right h ∙ sym e, m ∙ sym (wanted_no_moves schema t n))),
     )

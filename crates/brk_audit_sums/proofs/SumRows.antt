@@ -9,7 +9,8 @@ use Rattle.brk_money.specs.declared.fault.Condition.TheVariants as condition
 use Rattle.brk_model.specs.Lists.{total_by}
 use Rattle.brk_model.specs.Records.{Trade}
 use Rattle.brk_model.specs.Base.{broker_id_in_accounts, completed_trades, is_completed, opening_balance_in_accounts}
-use Rattle.brk_model.specs.Derived.{Posting, settlement_amount, balance_of_account, cash_trades, commission_total_of_broker, trades_of_broker, postings_to_account, posting_of_movement, postings_of_base, trade_count_of_broker}
+use Rattle.brk_model.specs.Derived.{Posting, settlement_amount, balance_of_account, cash_trades, commission_total_of_broker, trades_of_broker}
+use Rattle.brk_model.specs.Derived.{postings_to_account, posting_of_movement, postings_of_base, trade_count_of_broker}
 use Rattle.brk_model.specs.Joins.{account_row_with_id}
 use Rattle.brk_model.specs.Tables.{Tables, AccountRow, BrokerRow, TradeRow, account_row, broker_row, tables_of_base_in_schema}
 use Rattle.brk_model.specs.Sheets.{tables_sorted_by_key}
@@ -48,13 +49,15 @@ unfolding base_of_tables
 of_broker_sum t f g broker s e =
     ap (λ ts. total_by f (filter (λ u. broker_id_in_accounts (accounts_in t) u.account == broker) ts)) (completed_rows t s)
     ∙ total_mapped f (λ u. broker_id_in_accounts (accounts_in t) u.account == broker) (trade_of_row t) (completed_trade_rows t)
-    ∙ total_by-same (λ r. f (trade_of_row t r)) g (filter (λ r. broker_id_in_accounts (accounts_in t) r.account == broker) (completed_trade_rows t)) (All-of (filter (λ r. broker_id_in_accounts (accounts_in t) r.account == broker) (completed_trade_rows t)) e)
+    ∙ total_by-same (λ r. f (trade_of_row t r)) g (filter (λ r. broker_id_in_accounts (accounts_in t) r.account == broker) (completed_trade_rows t))
+    (All-of (filter (λ r. broker_id_in_accounts (accounts_in t) r.account == broker) (completed_trade_rows t)) e)
     ∙ ap (total_by g) (filter-filter (λ r. broker_id_in_accounts (accounts_in t) r.account == broker) is_completed_row t.trades
     ∙ filter-same (λ r. is_completed_row r && (broker_id_in_accounts (accounts_in t) r.account == broker)) (λ r. is_completed_row r && (account_broker_or_zero t r.account == broker)) t.trades
     (All-of t.trades (λ r i. is_completed_row r && (same_broker t r.account i == broker))))
 
 of_account_sum : (t : Tables) (account : ℕ) → satisfies_status_condition t ≡ true
-    → total_by (settlement_amount (base_of_tables t).accounts) (filter (λ u. u.account == account) (cash_trades (completed_trades (base_of_tables t)))) ≡ sum_over_account_cash_trades t (λ r. settlement_amount_at_tax_status (account_tax_status_or_untaxed t r.account) r) account
+    → total_by (settlement_amount (base_of_tables t).accounts) (filter (λ u. u.account == account) (cash_trades (completed_trades (base_of_tables t))))
+    ≡ sum_over_account_cash_trades t (λ r. settlement_amount_at_tax_status (account_tax_status_or_untaxed t r.account) r) account
 unfolding base_of_tables
 of_account_sum t account s =
     let f : Trade → ℤ = settlement_amount (accounts_in t) in
@@ -62,7 +65,8 @@ of_account_sum t account s =
     ap (λ ts. total_by f (filter (λ u. u.account == account) (cash_trades ts))) (completed_rows t s)
     ∙ ap (total_by f) (filter-filter (λ u. u.account == account) (λ u. u.is_cash) (map (trade_of_row t) (completed_trade_rows t)))
     ∙ total_mapped f (λ u. u.is_cash && (u.account == account)) (trade_of_row t) (completed_trade_rows t)
-    ∙ total_by-same (λ r. f (trade_of_row t r)) g (filter (λ r. r.is_cash && (r.account == account)) (completed_trade_rows t)) (All-of (filter (λ r. r.is_cash && (r.account == account)) (completed_trade_rows t)) (same_amount t))
+    ∙ total_by-same (λ r. f (trade_of_row t r)) g (filter (λ r. r.is_cash && (r.account == account)) (completed_trade_rows t))
+    (All-of (filter (λ r. r.is_cash && (r.account == account)) (completed_trade_rows t)) (same_amount t))
     ∙ ap (total_by g) (filter-filter (λ r. r.is_cash && (r.account == account)) is_completed_row t.trades
     ∙ filter-same (λ r. is_completed_row r && (r.is_cash && (r.account == account))) (λ r. is_completed_cash_trade r && (r.account == account)) t.trades
     (All-of t.trades (λ r. regrouped (is_completed_row r) r.is_cash (r.account == account))))
@@ -123,7 +127,8 @@ moved_on t account = sum_over_account_cash_trades t (λ r. settlement_amount_at_
 abbrev pub BalancesHold : Tables → Type 0
 BalancesHold t = AllByRecursion (λ a. a.balance ≡ a.opening +ℤ moved_on t a.id) t.accounts
 
-count_is : (t : Tables) (broker : ℕ) → satisfies_status_condition t ≡ true → pos (trade_count_of_broker (base_of_tables t).accounts (completed_trades (base_of_tables t)) broker) ≡ sum_over_broker_trades t (λ r. pos 1) broker
+count_is : (t : Tables) (broker : ℕ) → satisfies_status_condition t ≡ true
+    → pos (trade_count_of_broker (base_of_tables t).accounts (completed_trades (base_of_tables t)) broker) ≡ sum_over_broker_trades t (λ r. pos 1) broker
 unfolding trade_count_of_broker
 count_is t broker s = pos_length (trades_of_broker (base_of_tables t).accounts (completed_trades (base_of_tables t)) broker) ∙ of_broker_sum t (λ u. pos 1) (λ r. pos 1) broker s (λ r. refl)
 
@@ -131,9 +136,11 @@ commission_is : (t : Tables) (broker : ℕ) → satisfies_status_condition t ≡
     → pos (commission_total_of_broker (base_of_tables t).accounts (completed_trades (base_of_tables t)) broker) ≡ sum_over_broker_trades t (λ r. pos r.commission) broker
 unfolding commission_total_of_broker
 commission_is t broker s =
-    pos_sum (λ u. u.commission) (trades_of_broker (base_of_tables t).accounts (completed_trades (base_of_tables t)) broker) ∙ of_broker_sum t (λ u. pos u.commission) (λ r. pos r.commission) broker s (λ r. refl)
+    pos_sum (λ u. u.commission) (trades_of_broker (base_of_tables t).accounts (completed_trades (base_of_tables t)) broker)
+    ∙ of_broker_sum t (λ u. pos u.commission) (λ r. pos r.commission) broker s (λ r. refl)
 
-pub counts_by_rows : (schema : Schema) (t : Tables) → Climbs broker_key t.brokers → satisfies_status_condition t ≡ true → (ConditionHolds schema condition.Count t → CountsHold t) × (CountsHold t → ConditionHolds schema condition.Count t)
+pub counts_by_rows : (schema : Schema) (t : Tables) → Climbs broker_key t.brokers → satisfies_status_condition t ≡ true
+    → (ConditionHolds schema condition.Count t → CountsHold t) × (CountsHold t → ConditionHolds schema condition.Count t)
 unfolding ConditionHolds
 counts_by_rows schema t c s =
     let n : BrokerRow → ℤ = λ b. pos (trade_count_of_broker (base_of_tables t).accounts (completed_trades (base_of_tables t)) b.id) in (
@@ -181,7 +188,8 @@ both_all : {X : Type 0} (P Q : X → Type 0) (xs : List X) → AllByRecursion P 
 both_all P Q [] g h = tt
 both_all P Q (x ∷ xs) g h = ((g.0, h.0), both_all P Q xs g.1 h.1)
 
-pub balances_by_rows : (schema : Schema) (t : Tables) → Climbs account_key t.accounts → satisfies_status_condition t ≡ true → (ConditionHolds schema condition.Balance t → BalancesHold t) × (BalancesHold t → ConditionHolds schema condition.Balance t)
+pub balances_by_rows : (schema : Schema) (t : Tables) → Climbs account_key t.accounts → satisfies_status_condition t ≡ true
+    → (ConditionHolds schema condition.Balance t → BalancesHold t) × (BalancesHold t → ConditionHolds schema condition.Balance t)
 unfolding ConditionHolds
 balances_by_rows schema t c s =
     let n : AccountRow → ℤ = λ a. balance_of_account (base_of_tables t).accounts (postings_of_base (base_of_tables t)) a.id in

@@ -14,7 +14,8 @@ use Rattle.std.proofs.lemmas.Map.Text.{is_eq-slice_cmp}
 use Rattle.std.proofs.lemmas.Slice.Eq.{bytes_eq-Decides}
 use Rattle.brk_money.specs.Kinds.{side_of_trade_type}
 use Rattle.brk_money.specs.Spelling.{Text}
-use Rattle.brk_model.specs.Form.{has_account, has_security, is_id, is_price, is_quantity_in_schema, is_at_most_last_stamp, has_price_matching_completion, is_well_formed_summary_row, is_well_formed_trade_row}
+use Rattle.brk_model.specs.Form.{has_account, has_security, is_id, is_price, is_quantity_in_schema, is_at_most_last_stamp, has_price_matching_completion}
+use Rattle.brk_model.specs.Form.{is_well_formed_summary_row, is_well_formed_trade_row}
 use Rattle.brk_model.specs.Limits.{greatest_amount, greatest_charge}
 use Rattle.brk_model.specs.Lists.{is_zero, total_by}
 use Rattle.brk_model.specs.Shares.{signed_by_side}
@@ -29,7 +30,8 @@ use Rattle.brk_audit_theorems.proofs.Members.{FoundIn, found_in}
 use Rattle.brk_model_theorems.proofs.FormParts.{form_parts}
 use Rattle.brk_model_theorems.proofs.Conjunctions.{parts10, parts3}
 use Rattle.brk_audit_sums.specs.Completed.{is_completed_row}
-use Rattle.brk_audit_sums.specs.PositionSums.{SummariesMatchTrades, HasNonzeroQuantity, posting_with_owned_symbol, position_cmp, share_posting_of_trade, share_sum_of_completed_trades, share_sum_of_summaries, share_posting_of_summary}
+use Rattle.brk_audit_sums.specs.PositionSums.{SummariesMatchTrades, HasNonzeroQuantity, posting_with_owned_symbol, position_cmp, share_posting_of_trade}
+use Rattle.brk_audit_sums.specs.PositionSums.{share_sum_of_completed_trades, share_sum_of_summaries, share_posting_of_summary}
 use Rattle.brk_audit_sums.specs.Tally.{sum_at_key, total_amount_at_key}
 use Rattle.brk_audit_sums.specs.declared.tally.KeyedAmount.{KeyedAmount}
 use Rattle.brk_audit_sums.proofs.Checked.{rows_back, rows_hold}
@@ -95,25 +97,33 @@ trade_known schema t r e =
 summary_known : (schema : Schema) (t : Tables) (h : SummaryRow) → is_well_formed_summary_row schema t h ≡ true → IsKnown t h.account h.symbol
 summary_known schema t h e = let p = parts3 (has_account t h.account) (has_security t h.symbol) (nat_le (nat_abs h.qty) schema.greatest_summary) e in (p.0, p.1)
 
-postings_known : (s : Sheets) (ps : List (KeyedAmount Place)) → IsWellFormedBySomeSchema (abstract_sheets s) → map posting_with_owned_symbol ps ≡ filter_map (λ r. share_posting_of_trade (abstract_trade_row r)) s.trades.items
+postings_known : (s : Sheets) (ps : List (KeyedAmount Place)) → IsWellFormedBySomeSchema (abstract_sheets s)
+    → map posting_with_owned_symbol ps ≡ filter_map (λ r. share_posting_of_trade (abstract_trade_row r)) s.trades.items
     → AllByRecursion (λ p. IsKnown (abstract_sheets s) p.key.0 p.key.1.now) ps
 postings_known s ps f e =
     let t : Tables = abstract_sheets s in
     rows_back (λ p. IsKnown t p.key.0 p.key.1.now) (λ p. IsKnown t p.key.0 p.key.1) posting_with_owned_symbol ps (λ p h. h)
     (subst (AllByRecursion (λ p. IsKnown t p.key.0 p.key.1)) (sym e)
     (All-filter_map (λ p. IsKnown t p.key.0 p.key.1) (λ r. is_completed_row (abstract_trade_row r))
-    (λ r. record { key = ((abstract_trade_row r).account, (abstract_trade_row r).symbol); amount = signed_by_side (side_of_trade_type (abstract_trade_row r).kind) (abstract_trade_row r).qty }) s.trades.items
-    (rows_back (λ r. IsKnown t (abstract_trade_row r).account (abstract_trade_row r).symbol) (λ r. is_well_formed_trade_row f.schema t r ≡ true) abstract_trade_row s.trades.items (λ r. trade_known f.schema t (abstract_trade_row r))
+    (λ r. record {
+      key = ((abstract_trade_row r).account, (abstract_trade_row r).symbol);
+      amount =
+          signed_by_side (side_of_trade_type (abstract_trade_row r).kind) (abstract_trade_row r).qty;
+    }) s.trades.items
+    (rows_back (λ r. IsKnown t (abstract_trade_row r).account (abstract_trade_row r).symbol) (λ r. is_well_formed_trade_row f.schema t r ≡ true)
+    abstract_trade_row s.trades.items (λ r. trade_known f.schema t (abstract_trade_row r))
     (list_all_true (is_well_formed_trade_row f.schema t) t.trades (form_parts f.schema t f.form).trades))))
 
-claims_known : (s : Sheets) (cs : List (KeyedAmount Place)) → IsWellFormedBySomeSchema (abstract_sheets s) → map posting_with_owned_symbol cs ≡ map (λ r. share_posting_of_summary (abstract_summary_row r)) s.summaries.items
+claims_known : (s : Sheets) (cs : List (KeyedAmount Place)) → IsWellFormedBySomeSchema (abstract_sheets s)
+    → map posting_with_owned_symbol cs ≡ map (λ r. share_posting_of_summary (abstract_summary_row r)) s.summaries.items
     → AllByRecursion (λ p. IsKnown (abstract_sheets s) p.key.0 p.key.1.now) cs
 claims_known s cs f e =
     let t : Tables = abstract_sheets s in
     rows_back (λ p. IsKnown t p.key.0 p.key.1.now) (λ p. IsKnown t p.key.0 p.key.1) posting_with_owned_symbol cs (λ p h. h)
     (subst (AllByRecursion (λ p. IsKnown t p.key.0 p.key.1)) (sym e)
     (All-mapped (λ p. IsKnown t p.key.0 p.key.1) (λ r. share_posting_of_summary (abstract_summary_row r)) s.summaries.items
-    (rows_back (λ r. IsKnown t (abstract_summary_row r).account (abstract_summary_row r).symbol) (λ r. is_well_formed_summary_row f.schema t r ≡ true) abstract_summary_row s.summaries.items (λ r. summary_known f.schema t (abstract_summary_row r))
+    (rows_back (λ r. IsKnown t (abstract_summary_row r).account (abstract_summary_row r).symbol) (λ r. is_well_formed_summary_row f.schema t r ≡ true)
+    abstract_summary_row s.summaries.items (λ r. summary_known f.schema t (abstract_summary_row r))
     (list_all_true (is_well_formed_summary_row f.schema t) t.summaries (form_parts f.schema t f.form).summaries))))
 
 -- ---- where tallies agree

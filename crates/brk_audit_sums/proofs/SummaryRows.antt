@@ -145,7 +145,9 @@ before_symbol : (m : ℕ) (s u : Text) → is_key_less (word s ∷ []) (word u �
 before_symbol m s u h = ap (λ b. b || (not b && is_key_less (word s ∷ []) (word u ∷ []))) (not_lower m) ∙ h
 
 one_climbs : (done : List Trade) (account : ℕ) (symbol : Text) → Climbs summary_key (summary_rows done account symbol)
-one_climbs done account symbol = climbs_filter summary_key (λ row. not (is_zero row.qty)) (record { account = account; symbol = symbol; qty = holding_summary_quantity done account symbol } ∷ []) (tt, tt)
+one_climbs done account symbol =
+    climbs_filter summary_key (λ row. not (is_zero row.qty))
+    (record { account = account; symbol = symbol; qty = holding_summary_quantity done account symbol } ∷ []) (tt, tt)
 
 block_climbs : (done : List Trade) (account : ℕ) (ss : List Security) → Climbs security_symbol_key ss → Climbs summary_key (summaries_in done ss account)
 block_climbs done account [] c = tt
@@ -273,7 +275,8 @@ each_alike t xs ys c d n k e =
     All-map xs (λ h m. told_alike xs ys h c d m.1.0 m.0 (e h.account h.symbol m.1.1.0 m.1.1.1))
     (both_all (λ h. In h xs) (λ h. HasNonzeroQuantity h × IsKnown t h) xs (each_in xs) (both_all HasNonzeroQuantity (IsKnown t) xs n k))
 
-pub summaries_by_rows : (schema : Schema) (t : Tables) → IsWellFormedBySomeSchema t → satisfies_status_condition t ≡ true → (ConditionHolds schema condition.Summary t → SummariesMatchTrades t) × (SummariesMatchTrades t → ConditionHolds schema condition.Summary t)
+pub summaries_by_rows : (schema : Schema) (t : Tables) → IsWellFormedBySomeSchema t → satisfies_status_condition t ≡ true
+    → (ConditionHolds schema condition.Summary t → SummariesMatchTrades t) × (SummariesMatchTrades t → ConditionHolds schema condition.Summary t)
 unfolding ConditionHolds
 summaries_by_rows schema t f s =
     let p : SatisfiesFormParts f.schema t = form_parts f.schema t f.form in

@@ -21,10 +21,17 @@ use Rattle.brk_model.specs.Keys.{number, word, is_key_less, account_key, permiss
 use Rattle.brk_model.specs.Tests.{bands_overlap}
 use Rattle.brk_model.specs.Forms.{is_name, is_exchange}
 use Rattle.brk_model.specs.Adopted.{account_of_row, base_of_tables, movement_of_row, zero_last_trade_row, security_of_row, security_of_rows, trade_of_row}
-use Rattle.brk_model.specs.Form.{is_well_formed_account_row, is_well_formed_band_row, has_account, has_broker, has_customer, satisfies_form_condition, has_security, has_trade, is_well_formed_history_row, has_cash_row_name_of_trade, is_id, is_cash_row_number, is_movement_name_and_amount, is_price, is_quantity_in_schema, is_at_most_last_stamp, is_tier, is_well_formed_last_trade_row, is_well_formed_cash_move_row, has_disjoint_bands, has_price_matching_completion, are_equal_number_lists, is_well_formed_trade_row}
+use Rattle.brk_model.specs.Form.{is_well_formed_account_row, is_well_formed_band_row, has_account, has_broker, has_customer, satisfies_form_condition}
+use Rattle.brk_model.specs.Form.{has_security, has_trade, is_well_formed_history_row, has_cash_row_name_of_trade, is_id, is_cash_row_number}
+use Rattle.brk_model.specs.Form.{is_movement_name_and_amount, is_price, is_quantity_in_schema, is_at_most_last_stamp, is_tier, is_well_formed_last_trade_row}
+use Rattle.brk_model.specs.Form.{is_well_formed_cash_move_row, has_disjoint_bands, has_price_matching_completion, are_equal_number_lists}
+use Rattle.brk_model.specs.Form.{is_well_formed_trade_row}
 use Rattle.brk_model.specs.Ways.{completion_stamps, satisfies_status_condition, movement_stamps, has_valid_status_history}
 use Rattle.brk_model.specs.Names.{AccountOfTradeExists, BrokerOfAccountExists, CustomerOfAccountExists, SecurityOfTradeExists, TradesAreNumberedFrom}
-use Rattle.brk_book_theorems.specs.Books.{MovementBooksInvariant, HasDisjointBands, HasNoCompletionIfSubmitted, HasDistinctAccountIds, HasDistinctSymbols, HasOrderedBounds, MovementAccountExists, HasVolumeWithinLimit, BooksInvariant, TradeStampIsAtMostLastStamp, MovementStampIsAtMostLastStamp, HasLastStatusAtOtherStamp, HasDistinctLastStatusStamps, HasDistinctMovementStamps, HasDistinctPermissions, HasOneStatusChangeIfPending}
+use Rattle.brk_book_theorems.specs.Books.{MovementBooksInvariant, HasDisjointBands, HasNoCompletionIfSubmitted, HasDistinctAccountIds, HasDistinctSymbols}
+use Rattle.brk_book_theorems.specs.Books.{HasOrderedBounds, MovementAccountExists, HasVolumeWithinLimit, BooksInvariant, TradeStampIsAtMostLastStamp}
+use Rattle.brk_book_theorems.specs.Books.{MovementStampIsAtMostLastStamp, HasLastStatusAtOtherStamp, HasDistinctLastStatusStamps, HasDistinctMovementStamps}
+use Rattle.brk_book_theorems.specs.Books.{HasDistinctPermissions, HasOneStatusChangeIfPending}
 use Rattle.brk_book_theorems.proofs.Bools.{numbers_back}
 use Rattle.brk_book_theorems.proofs.Same.{All-map, All-mapped, All-of, any-none, find-All}
 use Rattle.brk_book_theorems.proofs.Reading.{find-map, is_some-map, some-is-any}
@@ -58,7 +65,8 @@ knows_customer t a e = (account_names t a e).0
 
 trade_names : (schema : Schema) (t : Tables) (row : TradeRow) → is_well_formed_trade_row schema t row ≡ true → (has_security t row.symbol ≡ true) × (has_account t row.account ≡ true)
 trade_names schema t row e =
-    let k = parts10 (is_id row.id) (is_quantity_in_schema schema row.qty) (is_price row.bid) (nat_le row.charge greatest_charge) (nat_le row.commission greatest_amount) (nat_le row.tax greatest_amount)
+    let k = parts10 (is_id row.id) (is_quantity_in_schema schema row.qty) (is_price row.bid) (nat_le row.charge greatest_charge)
+    (nat_le row.commission greatest_amount) (nat_le row.tax greatest_amount)
     (is_at_most_last_stamp t row.stamp) (has_security t row.symbol) (has_account t row.account) (has_price_matching_completion t row) e in (k.7, k.8)
 
 knows_account : (schema : Schema) (t : Tables) (row : TradeRow) → is_well_formed_trade_row schema t row ≡ true → AccountOfTradeExists (base_of_tables t) (trade_of_row t row)
@@ -145,7 +153,8 @@ numbered t n (r ∷ rows) e =
 
 bounds_of : (schema : Schema) (b : Band) → is_well_formed_band_row schema b ≡ true → HasOrderedBounds b
 bounds_of schema b e =
-    (parts6 (is_tier b.tier) (is_exchange b.exchange) (is_quantity_in_schema schema b.from_qty) (is_quantity_in_schema schema b.to_qty) (nat_le b.from_qty b.to_qty) (nat_le b.rate greatest_commission_rate) e).4
+    (parts6 (is_tier b.tier) (is_exchange b.exchange) (is_quantity_in_schema schema b.from_qty) (is_quantity_in_schema schema b.to_qty)
+    (nat_le b.from_qty b.to_qty) (nat_le b.rate greatest_commission_rate) e).4
 
 bands_apart : (bs : List Band) → has_disjoint_bands bs ≡ true → HasDisjointBands bs
 bands_apart [] e = tt
@@ -250,7 +259,8 @@ early_at None u n e h = false_true h
 early_at (Some last) u n e h = let k : n ≤ last = leb-true n last h in omega arith
 
 stamp_of : (t : Tables) (h : HistoryRow) → is_well_formed_history_row t h ≡ true → is_at_most_last_stamp t h.stamp ≡ true
-stamp_of t h e = (parts3 (has_trade t h.trade) (is_at_most_last_stamp t h.stamp) (not (is_same_trade_status h.status Completed) || nat_le (due_day_of_completion_stamp t.rule h.stamp) greatest_day) e).1
+stamp_of t h e = (parts3 (has_trade t h.trade) (is_at_most_last_stamp t h.stamp)
+    (not (is_same_trade_status h.status Completed) || nat_le (due_day_of_completion_stamp t.rule h.stamp) greatest_day) e).1
 
 early_of : (t : Tables) (r : TradeRow) → AllByRecursion (λ h. is_well_formed_history_row t h ≡ true) t.history → IsDone t r → TradeStampIsAtMostLastStamp t.last (trade_of_row t r)
 early_of t r f k = early_at t.last (trade_of_row t r) k.row.stamp k.stamp (stamp_of t k.row (of_all (λ h. is_well_formed_history_row t h ≡ true) t.history k.row f k.there))
@@ -275,9 +285,13 @@ movements_apart t ds (r ∷ rows) h d =
     let k = and_parts (not (contains_number r.stamp (map (λ r. r.stamp) rows))) (all_distinct (map (λ r. r.stamp) rows)) d in
     let other : List ℕ = map (λ r. r.stamp) rows in (
       All-mapped (HasLastStatusAtOtherStamp r.stamp) (trade_of_row t) ds
-          (All-map ds (λ d e. numbers_back (last_status_stamp_of_trade (trade_of_row t d)) r.stamp ∙ (both_false (r.stamp == last_status_stamp_of_trade (trade_of_row t d)) (contains_number (last_status_stamp_of_trade (trade_of_row t d)) other) e).0) h),
+          (All-map ds (λ d e. numbers_back (last_status_stamp_of_trade (trade_of_row t d)) r.stamp
+          ∙ (both_false (r.stamp == last_status_stamp_of_trade (trade_of_row t d)) (contains_number (last_status_stamp_of_trade (trade_of_row t d)) other)
+          e).0) h),
       All-mapped (λ m. (m.stamp == r.stamp) ≡ false) movement_of_row rows (no_number r.stamp rows (not-true (contains_number r.stamp other) k.0)),
-      movements_apart t ds rows (All-map ds (λ d e. (both_false (r.stamp == last_status_stamp_of_trade (trade_of_row t d)) (contains_number (last_status_stamp_of_trade (trade_of_row t d)) other) e).1) h) k.1,
+      movements_apart t ds rows
+          (All-map ds (λ d e. (both_false (r.stamp == last_status_stamp_of_trade (trade_of_row t d))
+          (contains_number (last_status_stamp_of_trade (trade_of_row t d)) other) e).1) h) k.1,
     )
 
 -- numbers that are distinct, in two parts
@@ -320,7 +334,9 @@ made_at (Some last) n m e h = let k : n ≤ last = leb-true n last h in omega ar
 
 pub move_parts : (t : Tables) (r : MoveRow) → is_well_formed_cash_move_row t r ≡ true → (has_account t r.account ≡ true) × (is_at_most_last_stamp t r.stamp ≡ true)
 move_parts t r e =
-    let k = parts5 (is_cash_row_number r.id) (has_account t r.account) (option_map_or (has_cash_row_name_of_trade t r) r.trade (is_movement_name_and_amount r.name r.amount)) (is_at_most_last_stamp t r.stamp) (is_within_amount_limit r.amount) e in (k.1, k.3)
+    let k = parts5 (is_cash_row_number r.id) (has_account t r.account)
+    (option_map_or (has_cash_row_name_of_trade t r) r.trade (is_movement_name_and_amount r.name r.amount)) (is_at_most_last_stamp t r.stamp)
+    (is_within_amount_limit r.amount) e in (k.1, k.3)
 
 adopted_movements : (t : Tables) (ds : List TradeRow) → AllByRecursion (λ r. is_well_formed_cash_move_row t r ≡ true) t.moves
     → AllByRecursion (λ d. contains_number (last_status_stamp_of_trade (trade_of_row t d)) (movement_stamps t) ≡ false) ds → all_distinct (movement_stamps t) ≡ true

@@ -103,7 +103,8 @@ in_own t h m e =
     (in_filter (λ k. k.trade == f.item.id) t.history h m (eq-eqb h.trade f.item.id (sym (eqb-true f.item.id h.trade f.passes))))
 
 trade_there : (t : Tables) (h : HistoryRow) → is_well_formed_history_row t h ≡ true → has_trade t h.trade ≡ true
-trade_there t h e = (parts3 (has_trade t h.trade) (is_at_most_last_stamp t h.stamp) (not (is_same_trade_status h.status Completed) || nat_le (due_day_of_completion_stamp t.rule h.stamp) greatest_day) e).0
+trade_there t h e = (parts3 (has_trade t h.trade) (is_at_most_last_stamp t h.stamp)
+    (not (is_same_trade_status h.status Completed) || nat_le (due_day_of_completion_stamp t.rule h.stamp) greatest_day) e).0
 
 both_all : {X : Type 0} (P Q : X → Type 0) (xs : List X) → AllByRecursion P xs → AllByRecursion Q xs → AllByRecursion (λ x. P x × Q x) xs
 both_all P Q [] g h = tt

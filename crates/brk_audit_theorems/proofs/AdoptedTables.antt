@@ -15,7 +15,8 @@ use Rattle.brk_model.specs.Schemas.{Schema}
 use Rattle.brk_model.specs.Derived.{Posting, postings_of_base}
 use Rattle.brk_model.specs.Tables.{Tables, AccountRow, BrokerRow, SecurityRow, LastTradeRow, TradeRow, account_row, broker_row, last_trade_row, security_row, tables_of_base_in_schema, trade_row}
 use Rattle.brk_model.specs.Sheets.{tables_sorted_by_key}
-use Rattle.brk_model.specs.Keys.{word, rows_sorted_by_key, account_key, broker_key, last_trade_key, security_key, trade_key, kept_key, customer_key, permission_key, charge_key, band_key, tax_rate_key, customer_tax_key}
+use Rattle.brk_model.specs.Keys.{word, rows_sorted_by_key, account_key, broker_key, last_trade_key, security_key, trade_key, kept_key, customer_key}
+use Rattle.brk_model.specs.Keys.{permission_key, charge_key, band_key, tax_rate_key, customer_tax_key}
 use Rattle.brk_model.specs.Forms.{is_exchange, is_name, is_symbol}
 use Rattle.brk_model.specs.Adopted.{account_of_row, base_of_tables, zero_last_trade_row, security_of_row, security_of_rows, trade_of_row}
 use Rattle.brk_model.specs.Form.{satisfies_form_condition, has_security, is_well_formed_history_row, is_price, is_at_most_last_stamp, is_well_formed_last_trade_row, is_well_formed_security_row}
@@ -56,7 +57,8 @@ brokers_there accounts done bs c =
     ∙ stays broker_key (map (λ b. broker_row accounts done (record { id = b.id; name = b.name })) bs)
     (climbs_map broker_key broker_key (λ b. broker_row accounts done (record { id = b.id; name = b.name })) bs (λ b. refl) c)
 
-adopted_brokers : (schema : Schema) (t : Tables) → Climbs broker_key t.brokers → ConditionHolds schema condition.Count t → ConditionHolds schema condition.Commission t → (expected_tables schema t).brokers ≡ t.brokers
+adopted_brokers : (schema : Schema) (t : Tables) → Climbs broker_key t.brokers → ConditionHolds schema condition.Count t
+    → ConditionHolds schema condition.Commission t → (expected_tables schema t).brokers ≡ t.brokers
 unfolding ConditionHolds base_of_tables tables_sorted_by_key tables_of_base_in_schema
 adopted_brokers schema t c e f =
     let accounts : List Account = (base_of_tables t).accounts in
@@ -106,7 +108,9 @@ security_back t s = by_found (find (λ l. bytes_eq l.symbol s.symbol) t.last_tra
 adopted_securities : (schema : Schema) (t : Tables) → Climbs security_key t.securities → (expected_tables schema t).securities ≡ t.securities
 unfolding base_of_tables tables_sorted_by_key tables_of_base_in_schema
 adopted_securities schema t c =
-    ap (rows_sorted_by_key security_key) (map-map security_row (security_of_row t) t.securities ∙ map_back (λ s. security_row (security_of_row t s)) t.securities (All-of t.securities (security_back t)))
+    ap (rows_sorted_by_key security_key)
+    (map-map security_row (security_of_row t) t.securities
+    ∙ map_back (λ s. security_row (security_of_row t s)) t.securities (All-of t.securities (security_back t)))
     ∙ stays security_key t.securities c
 
 -- the last trade of a security, as it was joined
@@ -162,7 +166,8 @@ all_mapped P f [] h = tt
 all_mapped P f (x ∷ xs) h = (h.0, all_mapped P f xs h.1)
 
 adopted_last_trades : (schema : Schema) (t : Tables) → Climbs security_key t.securities → Climbs last_trade_key t.last_trades
-    → AllByRecursion (λ s. is_well_formed_security_row t s ≡ true) t.securities → AllByRecursion (λ l. is_well_formed_last_trade_row t l ≡ true) t.last_trades → (expected_tables schema t).last_trades ≡ t.last_trades
+    → AllByRecursion (λ s. is_well_formed_security_row t s ≡ true) t.securities → AllByRecursion (λ l. is_well_formed_last_trade_row t l ≡ true) t.last_trades
+    → (expected_tables schema t).last_trades ≡ t.last_trades
 unfolding base_of_tables tables_sorted_by_key tables_of_base_in_schema
 adopted_last_trades schema t c d g h =
     let climb : Climbs last_trade_key (map (last_of t) t.securities) = climbs_map security_key last_trade_key (last_of t) t.securities (λ s i. word (symbol_of t s i) ∷ []) c in
@@ -203,8 +208,10 @@ histories : (schema : Schema) (t : Tables) → KeyParts t → AllByRecursion (λ
 unfolding base_of_tables tables_sorted_by_key tables_of_base_in_schema
 histories schema t k h = adopted_history t k.history k.trades h
 
-references : (schema : Schema) (t : Tables) → KeyParts t → ((expected_tables schema t).kept ≡ t.kept) × ((expected_tables schema t).customers ≡ t.customers) × ((expected_tables schema t).permissions ≡ t.permissions)
-    × ((expected_tables schema t).charges ≡ t.charges) × ((expected_tables schema t).bands ≡ t.bands) × ((expected_tables schema t).tax_rates ≡ t.tax_rates) × ((expected_tables schema t).customer_taxes ≡ t.customer_taxes)
+references : (schema : Schema) (t : Tables) → KeyParts t → ((expected_tables schema t).kept ≡ t.kept) × ((expected_tables schema t).customers ≡ t.customers)
+    × ((expected_tables schema t).permissions ≡ t.permissions)
+    × ((expected_tables schema t).charges ≡ t.charges) × ((expected_tables schema t).bands ≡ t.bands) × ((expected_tables schema t).tax_rates ≡ t.tax_rates)
+    × ((expected_tables schema t).customer_taxes ≡ t.customer_taxes)
 unfolding base_of_tables tables_sorted_by_key tables_of_base_in_schema
 references schema t k = (
   stays kept_key t.kept k.kept,
@@ -224,8 +231,10 @@ same_rule : (schema : Schema) (t : Tables) → (expected_tables schema t).rule �
 unfolding base_of_tables tables_sorted_by_key tables_of_base_in_schema
 same_rule schema t = refl
 
-derived : (schema : Schema) (t : Tables) → Derives schema t → ((expected_tables schema t).requests ≡ t.requests) × ((expected_tables schema t).holdings ≡ t.holdings) × ((expected_tables schema t).summaries ≡ t.summaries)
-    × ((expected_tables schema t).holding_history ≡ t.holding_history) × ((expected_tables schema t).settlements ≡ t.settlements) × ((expected_tables schema t).cash ≡ t.cash) × ((expected_tables schema t).moves ≡ t.moves)
+derived : (schema : Schema) (t : Tables) → Derives schema t → ((expected_tables schema t).requests ≡ t.requests)
+    × ((expected_tables schema t).holdings ≡ t.holdings) × ((expected_tables schema t).summaries ≡ t.summaries)
+    × ((expected_tables schema t).holding_history ≡ t.holding_history) × ((expected_tables schema t).settlements ≡ t.settlements)
+    × ((expected_tables schema t).cash ≡ t.cash) × ((expected_tables schema t).moves ≡ t.moves)
 unfolding ConditionHolds
 derived schema t d = (sym d.requests, sym d.lots, sym d.summary, sym d.history, sym d.settlement, sym d.cash.0, sym d.cash.1)
 
@@ -243,7 +252,8 @@ adopted_tables schema t f s d =
     let brokers = adopted_brokers schema t k.brokers d.count d.commission in
     let accounts = adopted_accounts schema t k.accounts d.balance in
     let securities = adopted_securities schema t k.securities in
-    let last_trades = adopted_last_trades schema t k.securities k.last_trades (list_all_true (is_well_formed_security_row t) t.securities p.securities) (list_all_true (is_well_formed_last_trade_row t) t.last_trades p.last_trades) in
+    let last_trades = adopted_last_trades schema t k.securities k.last_trades (list_all_true (is_well_formed_security_row t) t.securities p.securities)
+    (list_all_true (is_well_formed_last_trade_row t) t.last_trades p.last_trades) in
     let trades = adopted_trades schema t k.trades ways in
     let history = histories schema t k (list_all_true (is_well_formed_history_row t) t.history p.history) in
     λ i. record {

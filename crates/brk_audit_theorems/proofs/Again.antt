@@ -14,7 +14,9 @@ use Rattle.brk_model.specs.Derived.{Posting, cash_trades, postings_sorted_by_sta
 use Rattle.brk_model.specs.Tables.{HistoryRow, account_row, broker_row, history_rows, last_trade_row, security_row, settlement_row, tables_of_base_in_schema, trade_row}
 use Rattle.brk_model.specs.Sheets.{sheets, tables_sorted_by_key}
 use Rattle.brk_model.specs.Keys.{number, word, rows_sorted_by_key, is_row_key_less, account_key, broker_key, history_key, security_key}
-use Rattle.brk_model.specs.Adopted.{account_of_row, base_of_tables, is_posting_of_trade, status_changes_of_trade, movement_of_row, zero_last_trade_row, posting_of_cash_transaction_row, posting_of_cash_move_row, postings_of_tables, security_of_row, security_of_rows, trade_of_row}
+use Rattle.brk_model.specs.Adopted.{account_of_row, base_of_tables, is_posting_of_trade, status_changes_of_trade, movement_of_row, zero_last_trade_row}
+use Rattle.brk_model.specs.Adopted.{posting_of_cash_transaction_row, posting_of_cash_move_row, postings_of_tables, security_of_row, security_of_rows}
+use Rattle.brk_model.specs.Adopted.{trade_of_row}
 use Rattle.brk_model.specs.Ways.{is_strictly_ascending}
 use Rattle.brk_model.specs.Names.{TradesAreNumberedFrom}
 use Rattle.brk_book_theorems.specs.Books.{HasDistinctSymbols, BooksInvariant}
@@ -240,15 +242,18 @@ cash_type_again : (base : Base) (t : Trade) → IsRead base t → HasTextsOnlyIf
 unfolding tables_sorted_by_key tables_of_base_in_schema
 cash_type_again base t r w =
     ap (λ o. option_map_or (λ s. s.cash_type) o [])
-    (find-id (λ s. s.trade) t.id (map (settlement_row base.accounts base.rule) (completed_trades base)) ∙ find-map (λ s. s.trade == t.id) (settlement_row base.accounts base.rule) (completed_trades base)
+    (find-id (λ s. s.trade) t.id (map (settlement_row base.accounts base.rule) (completed_trades base))
+    ∙ find-map (λ s. s.trade == t.id) (settlement_row base.accounts base.rule) (completed_trades base)
     ∙ ap (option_map (settlement_row base.accounts base.rule)) r.done)
     ∙ word_if (λ s. s.cash_type) (settlement_row base.accounts base.rule) t t.cash_type (is_completed t) refl w.settled
 
 -- the posting of a trade among all of them
-pub posting_again : (base : Base) (t : Trade) → IsRead base t → filter (is_posting_of_trade t.id) (postings_of_base base) ≡ cond (is_completed t && t.is_cash) (posting_of_trade base.accounts t ∷ []) []
+pub posting_again : (base : Base) (t : Trade) → IsRead base t
+    → filter (is_posting_of_trade t.id) (postings_of_base base) ≡ cond (is_completed t && t.is_cash) (posting_of_trade base.accounts t ∷ []) []
 posting_again base t r =
     filter-append (is_posting_of_trade t.id) (map (posting_of_trade base.accounts) (cash_trades (completed_trades base))) (map posting_of_movement base.movements)
-    ∙ (λ i. of_trades (cash_trades (completed_trades base)) i ++ of_movements base.movements i) ∙ append_none (map (posting_of_trade base.accounts) (filter (λ u. u.id == t.id) (cash_trades (completed_trades base))))
+    ∙ (λ i. of_trades (cash_trades (completed_trades base)) i ++ of_movements base.movements i)
+    ∙ append_none (map (posting_of_trade base.accounts) (filter (λ u. u.id == t.id) (cash_trades (completed_trades base))))
     ∙ ap (map (posting_of_trade base.accounts)) r.cash_alone ∙ one_posting (is_completed t && t.is_cash)
   where
     of_trades : (ts : List Trade) → filter (is_posting_of_trade t.id) (map (posting_of_trade base.accounts) ts) ≡ map (posting_of_trade base.accounts) (filter (λ u. u.id == t.id) ts)
@@ -256,7 +261,8 @@ posting_again base t r =
     of_trades (u ∷ us) = by_test (u.id == t.id) (of_trades us)
       where
         by_test : (b : Bool) → filter (is_posting_of_trade t.id) (map (posting_of_trade base.accounts) us) ≡ map (posting_of_trade base.accounts) (filter (λ u. u.id == t.id) us)
-            → cond b (posting_of_trade base.accounts u ∷ filter (is_posting_of_trade t.id) (map (posting_of_trade base.accounts) us)) (filter (is_posting_of_trade t.id) (map (posting_of_trade base.accounts) us))
+            → cond b (posting_of_trade base.accounts u ∷ filter (is_posting_of_trade t.id) (map (posting_of_trade base.accounts) us))
+            (filter (is_posting_of_trade t.id) (map (posting_of_trade base.accounts) us))
             ≡ map (posting_of_trade base.accounts) (cond b (u ∷ filter (λ u. u.id == t.id) us) (filter (λ u. u.id == t.id) us))
         by_test true ih = ap (λ ps. posting_of_trade base.accounts u ∷ ps) ih
         by_test false ih = ih
@@ -283,7 +289,8 @@ unfolding sort_by
 turn_one true p = refl
 turn_one false p = refl
 
-cash_name_again : (base : Base) (t : Trade) → IsRead base t → HasTextsOnlyIfCompleted t → option_map_or (λ p. p.name) (find (is_posting_of_trade t.id) (postings_of_tables (sheets base))) [] ≡ t.cash_name
+cash_name_again : (base : Base) (t : Trade) → IsRead base t → HasTextsOnlyIfCompleted t
+    → option_map_or (λ p. p.name) (find (is_posting_of_trade t.id) (postings_of_tables (sheets base))) [] ≡ t.cash_name
 cash_name_again base t r w =
     let done : Bool = is_completed t && t.is_cash in
     ap (λ ps. option_map_or (λ p. p.name) (find (is_posting_of_trade t.id) ps) []) (posted_in base)
@@ -307,7 +314,8 @@ trades_again base books told =
     ap (map (trade_of_row (sheets base))) (trades_in_order base books.numbered) ∙ map-map (trade_of_row (sheets base)) trade_row base.trades
     ∙ map_back (λ t. trade_of_row (sheets base) (trade_row t)) base.trades
     (All-map base.trades (λ t h. trade_again base t h.0 h.1.0 h.1.1)
-    (both_all (IsRead base) (λ t. HasAscendingStatusStamps t × HasTextsOnlyIfCompleted t) base.trades (reads base books.numbered) (both_all HasAscendingStatusStamps HasTextsOnlyIfCompleted base.trades told.stamps told.words)))
+    (both_all (IsRead base) (λ t. HasAscendingStatusStamps t × HasTextsOnlyIfCompleted t) base.trades (reads base books.numbered)
+    (both_all HasAscendingStatusStamps HasTextsOnlyIfCompleted base.trades told.stamps told.words)))
 
 -- ---- securities
 

@@ -44,7 +44,8 @@ same_itself Submitted = refl
 same_itself Pending = refl
 same_itself Canceled = refl
 
-last_is : (row : TradeRow) (m : StatusChange) (ms : List StatusChange) (n : StatusChange) → last_or (Some m) ms ≡ Some n → row.status ≡ n.status → row.stamp ≡ n.stamp → matches_last_status_change row (m ∷ ms) ≡ true
+last_is : (row : TradeRow) (m : StatusChange) (ms : List StatusChange) (n : StatusChange) → last_or (Some m) ms ≡ Some n → row.status ≡ n.status
+    → row.stamp ≡ n.stamp → matches_last_status_change row (m ∷ ms) ≡ true
 last_is row m [] n e s t =
     let j : m ≡ n = cc in
     and_from (is_same_trade_status row.status m.status) (row.stamp == m.stamp) (ap (λ u. is_same_trade_status u m.status) (s ∙ sym (ap (λ m. m.status) j)) ∙ same_itself m.status)
@@ -111,7 +112,9 @@ own_stamp : (id : ℕ) (ms : List StatusChange) → is_valid_status_sequence (ma
 own_stamp id [] w = refl
 own_stamp id (m ∷ []) w = one_stamp id m
 own_stamp id (m ∷ n ∷ []) w =
-    ap (λ b. map (λ h. h.stamp) (cond b (row_of id m ∷ filter (λ h. is_same_trade_status h.status Completed) (row_of id n ∷ [])) (filter (λ h. is_same_trade_status h.status Completed) (row_of id n ∷ []))))
+    ap (λ b. map (λ h. h.stamp)
+    (cond b (row_of id m ∷ filter (λ h. is_same_trade_status h.status Completed) (row_of id n ∷ []))
+    (filter (λ h. is_same_trade_status h.status Completed) (row_of id n ∷ []))))
     (first_of_two m.status n.status w)
     ∙ one_stamp id n
 own_stamp id (m ∷ n ∷ o ∷ []) w =
@@ -130,7 +133,8 @@ stamps_are (t ∷ ts) w =
     ap (map (λ h. h.stamp)) (filter-append C (history_rows t) (flat_map history_rows ts)) ∙ map-append (λ h. h.stamp) (filter C (history_rows t)) (filter C (flat_map history_rows ts))
     ∙ (λ i. own_stamp t.id t.marks w.0 i ++ stamps_are ts w.1 i) ∙ by_test (is_completed t)
   where
-    by_test : (b : Bool) → one_if b (last_status_stamp_of_trade t) ++ map last_status_stamp_of_trade (filter is_completed ts) ≡ map last_status_stamp_of_trade (cond b (t ∷ filter is_completed ts) (filter is_completed ts))
+    by_test : (b : Bool) → one_if b (last_status_stamp_of_trade t) ++ map last_status_stamp_of_trade (filter is_completed ts)
+        ≡ map last_status_stamp_of_trade (cond b (t ∷ filter is_completed ts) (filter is_completed ts))
     by_test true = refl
     by_test false = refl
 
@@ -167,7 +171,8 @@ distinct_insert before x (y ∷ ys) = by_test (before y x) (distinct_insert befo
     Y = map (λ h. h.stamp) ys
 
     by_test : (b : Bool) → all_distinct (map (λ h. h.stamp) (insert_by before x ys)) ≡ not (contains_number x.stamp Y) && all_distinct Y
-        → all_distinct (map (λ h. h.stamp) (cond b (y ∷ insert_by before x ys) (x ∷ y ∷ ys))) ≡ not (contains_number x.stamp (map (λ h. h.stamp) (y ∷ ys))) && all_distinct (map (λ h. h.stamp) (y ∷ ys))
+        → all_distinct (map (λ h. h.stamp) (cond b (y ∷ insert_by before x ys) (x ∷ y ∷ ys))) ≡ not (contains_number x.stamp (map (λ h. h.stamp) (y ∷ ys)))
+        && all_distinct (map (λ h. h.stamp) (y ∷ ys))
     by_test true e =
         (λ i. not (contains_insert before y.stamp x ys i) && e i)
         ∙ swap (x.stamp == y.stamp) (contains_number y.stamp Y) (contains_number x.stamp Y) (all_distinct Y)
@@ -262,6 +267,8 @@ status_again base books told =
     (all_list (has_valid_status_history (sheets base)) (sheets base).trades
     (subst (AllByRecursion (λ r. has_valid_status_history (sheets base) r ≡ true)) (sym (trades_in_order base books.numbered))
     (mapped (λ r. has_valid_status_history (sheets base) r ≡ true) trade_row base.trades
-    (each_of (λ t. IsRead base t × (HasAscendingStatusStamps t × HasValidStatusSequence t)) (λ t. has_valid_status_history (sheets base) (trade_row t) ≡ true) base.trades (λ t h. each_right base t h.0 h.1.0 h.1.1)
-    (both_all (IsRead base) (λ t. HasAscendingStatusStamps t × HasValidStatusSequence t) base.trades (reads base books.numbered) (both_all HasAscendingStatusStamps HasValidStatusSequence base.trades told.stamps told.ways))))))
+    (each_of (λ t. IsRead base t × (HasAscendingStatusStamps t × HasValidStatusSequence t)) (λ t. has_valid_status_history (sheets base) (trade_row t) ≡ true)
+    base.trades (λ t h. each_right base t h.0 h.1.0 h.1.1)
+    (both_all (IsRead base) (λ t. HasAscendingStatusStamps t × HasValidStatusSequence t) base.trades (reads base books.numbered)
+    (both_all HasAscendingStatusStamps HasValidStatusSequence base.trades told.stamps told.ways))))))
     (stamps_apart base books told)

@@ -115,7 +115,8 @@ no_more_ways Canceled Submitted c d ss e = false_true e
 no_more_ways Canceled Pending c d ss e = false_true e
 no_more_ways Canceled Canceled c d ss e = false_true e
 
-pending_is_one : (marks : List StatusChange) → is_valid_status_sequence (map (λ m. m.status) marks) ≡ true → option_map_or (λ m. is_same_trade_status m.status Pending) (last_or None marks) false ≡ true → HasOneStatusChange marks
+pending_is_one : (marks : List StatusChange) → is_valid_status_sequence (map (λ m. m.status) marks) ≡ true
+    → option_map_or (λ m. is_same_trade_status m.status Pending) (last_or None marks) false ≡ true → HasOneStatusChange marks
 pending_is_one [] w h = false_true h
 pending_is_one (m ∷ []) w h = tt
 pending_is_one (m ∷ n ∷ []) w h = false_true (sym (two_ways m.status n.status w) ∙ h)
@@ -130,7 +131,8 @@ submitted_not_done Submitted e = refl
 submitted_not_done Pending e = refl
 submitted_not_done Canceled e = refl
 
-submitted_uncompleted : (marks : List StatusChange) → is_valid_status_sequence (map (λ m. m.status) marks) ≡ true → option_map_or (λ m. is_same_trade_status m.status Submitted) (last_or None marks) false ≡ true
+submitted_uncompleted : (marks : List StatusChange) → is_valid_status_sequence (map (λ m. m.status) marks) ≡ true
+    → option_map_or (λ m. is_same_trade_status m.status Submitted) (last_or None marks) false ≡ true
     → AllByRecursion IsNotCompletion marks
 submitted_uncompleted [] w h = tt
 submitted_uncompleted (m ∷ []) w h = (submitted_not_done m.status h, tt)
@@ -141,11 +143,13 @@ submitted_uncompleted (m ∷ n ∷ o ∷ p ∷ marks) w h = absurd (no_more_ways
 
 way_of : (t : Tables) (row : TradeRow) → has_valid_status_history t row ≡ true → is_valid_status_sequence (map (λ m. m.status) (status_changes_of_trade t row.id)) ≡ true
 way_of t row e =
-    (parts3 (is_valid_status_sequence (map (λ m. m.status) (status_changes_of_trade t row.id))) (is_strictly_ascending (map (λ m. m.stamp) (status_changes_of_trade t row.id))) (matches_last_status_change row (status_changes_of_trade t row.id)) e).0
+    (parts3 (is_valid_status_sequence (map (λ m. m.status) (status_changes_of_trade t row.id)))
+    (is_strictly_ascending (map (λ m. m.stamp) (status_changes_of_trade t row.id))) (matches_last_status_change row (status_changes_of_trade t row.id)) e).0
 
 last_of : (t : Tables) (row : TradeRow) → has_valid_status_history t row ≡ true → matches_last_status_change row (status_changes_of_trade t row.id) ≡ true
 last_of t row e =
-    (parts3 (is_valid_status_sequence (map (λ m. m.status) (status_changes_of_trade t row.id))) (is_strictly_ascending (map (λ m. m.stamp) (status_changes_of_trade t row.id))) (matches_last_status_change row (status_changes_of_trade t row.id)) e).2
+    (parts3 (is_valid_status_sequence (map (λ m. m.status) (status_changes_of_trade t row.id)))
+    (is_strictly_ascending (map (λ m. m.stamp) (status_changes_of_trade t row.id))) (matches_last_status_change row (status_changes_of_trade t row.id)) e).2
 
 pub waits_first : (t : Tables) (row : TradeRow) → has_valid_status_history t row ≡ true → HasOneStatusChangeIfPending (trade_of_row t row)
 waits_first t row e h = pending_is_one (status_changes_of_trade t row.id) (way_of t row e) h

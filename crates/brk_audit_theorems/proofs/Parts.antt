@@ -2,7 +2,9 @@
 use Rattle.std.proofs.Common.{◌≡◌, true}
 use Rattle.brk_model.specs.Tables.{Tables}
 use Rattle.brk_model.specs.Form.{has_tables_sorted_by_unique_key}
-use Rattle.brk_model.specs.Keys.{kept_key, broker_key, customer_key, account_key, permission_key, security_key, last_trade_key, charge_key, band_key, tax_rate_key, customer_tax_key, trade_key, history_key, request_key, holding_key, summary_key, holding_history_key, settlement_key, cash_transaction_key, cash_move_key}
+use Rattle.brk_model.specs.Keys.{kept_key, broker_key, customer_key, account_key, permission_key, security_key, last_trade_key, charge_key, band_key}
+use Rattle.brk_model.specs.Keys.{tax_rate_key, customer_tax_key, trade_key, history_key, request_key, holding_key, summary_key, holding_history_key}
+use Rattle.brk_model.specs.Keys.{settlement_key, cash_transaction_key, cash_move_key}
 use Rattle.brk_model_theorems.specs.FormParts.{HasSortedTables}
 use Rattle.brk_model_theorems.proofs.FormParts.{keys_rise}
 use Rattle.brk_audit_theorems.proofs.Climbs.{Climbs, climbs}

@@ -18,7 +18,8 @@ use Rattle.brk_audit_theorems.proofs.AgainStatus.{status_again}
 pub tables_again : (base : Base) → BooksInvariant base → HasValidHistories base → sheets (base_of_tables (sheets base)) ≡ sheets base
 tables_again base books told = ap sheets (base_again base books told) ∙ sorted_tables base books
 
-pub same_tables_pass : (schema : Schema) (t : Tables) → satisfies_form_condition schema t ≡ true → satisfies_status_condition t ≡ true → sheets_in_schema schema (base_of_tables t) ≡ t → PassesAudit schema t
+pub same_tables_pass : (schema : Schema) (t : Tables) → satisfies_form_condition schema t ≡ true → satisfies_status_condition t ≡ true
+    → sheets_in_schema schema (base_of_tables t) ≡ t → PassesAudit schema t
 unfolding ConditionHolds
 same_tables_pass schema t f s e =
     inl (

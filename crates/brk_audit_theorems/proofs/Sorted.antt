@@ -11,10 +11,14 @@ use Rattle.brk_money.specs.declared.tax_status.TaxStatus.TheVariants.{Untaxed}
 use Rattle.brk_model.specs.Lists.{total_by, is_zero}
 use Rattle.brk_model.specs.Records.{Account, Broker, Movement, Security, Trade}
 use Rattle.brk_model.specs.Base.{Base, completed_trades, account_with_id_in_list, completion_price, is_withholding_status}
-use Rattle.brk_model.specs.Derived.{settlement_amount, balance_of_account, cash_trades, commission_total_of_broker, postings_sorted_by_stamp, pending_trades, postings_to_account, posting_of_movement, posting_of_trade, postings, signed_proceeds, holding_summary_quantity, trade_count_of_broker}
+use Rattle.brk_model.specs.Derived.{settlement_amount, balance_of_account, cash_trades, commission_total_of_broker, postings_sorted_by_stamp, pending_trades}
+use Rattle.brk_model.specs.Derived.{postings_to_account, posting_of_movement, posting_of_trade, postings, signed_proceeds, holding_summary_quantity}
+use Rattle.brk_model.specs.Derived.{trade_count_of_broker}
 use Rattle.brk_model.specs.Tables.{SummaryRow, account_row, broker_row, rows_by_position, last_trade_row, numbered_move_rows, security_row, settlement_row, summary_rows, tables_of_base_in_schema}
 use Rattle.brk_model.specs.Sheets.{sheets, tables_sorted_by_key}
-use Rattle.brk_model.specs.Keys.{KeyPart, number, word, is_row_key_less, rows_sorted_by_key, insert_row_by_key, account_key, band_key, broker_key, charge_key, customer_key, customer_tax_key, kept_key, last_trade_key, cash_move_key, permission_key, request_key, security_key, settlement_key, summary_key, tax_rate_key}
+use Rattle.brk_model.specs.Keys.{KeyPart, number, word, is_row_key_less, rows_sorted_by_key, insert_row_by_key, account_key, band_key, broker_key, charge_key}
+use Rattle.brk_model.specs.Keys.{customer_key, customer_tax_key, kept_key, last_trade_key, cash_move_key, permission_key, request_key, security_key}
+use Rattle.brk_model.specs.Keys.{settlement_key, summary_key, tax_rate_key}
 use Rattle.brk_book_theorems.specs.Books.{HasDistinctAccountIds, HasDistinctSymbols, BooksInvariant}
 use Rattle.brk_book_theorems.proofs.Order.{by_key-map, key_one_way, key_splits, rows_commute, sort_sorted, sorted_sort}
 use Rattle.brk_book_theorems.proofs.Same.{All-map, All-of, map-same}
@@ -114,7 +118,9 @@ All-append' P (x ∷ xs) ys g h = (g.0, All-append' P xs ys g.1 h)
 pub All-block : (P : SummaryRow → Type 0) (done : List Trade) (account : ℕ) (ss : List Security)
     → ((symbol : Text) → P (record { account = account; symbol = symbol; qty = holding_summary_quantity done account symbol })) → AllByRecursion P (flat_map (rows_at done account) ss)
 All-block P done account [] p = tt
-All-block P done account (s ∷ ss) p = All-append' P (summary_rows done account s.symbol) (flat_map (rows_at done account) ss) (All-rows P done account s.symbol (p s.symbol)) (All-block P done account ss p)
+All-block P done account (s ∷ ss) p =
+    All-append' P (summary_rows done account s.symbol) (flat_map (rows_at done account) ss) (All-rows P done account s.symbol (p s.symbol))
+    (All-block P done account ss p)
 
 other_key : (m n : ℕ) (j k : List KeyPart) → number m ∷ j ≡ number n ∷ k → m ≡ n
 other_key m n j k e = cc
@@ -179,8 +185,11 @@ unfolding tables_sorted_by_key tables_of_base_in_schema
 sorted_tables base books =
     let done : List Trade = completed_trades base in
     let accounts : List Account = base.accounts in
-    let brokers = sorted_map broker_id_key broker_key (broker_row (rows_sorted_by_key account_id_key accounts) done) (broker_row accounts done) base.brokers (λ b. refl) (λ b. refl) (same_broker_row accounts done) in
-    let rows = sorted_map account_id_key account_key (account_row (rows_sorted_by_key account_id_key accounts) (postings (rows_sorted_by_key account_id_key accounts) done base.movements)) (account_row accounts (postings accounts done base.movements)) accounts (λ a. refl) (λ a. refl) (same_account_row accounts done base.movements) in
+    let brokers = sorted_map broker_id_key broker_key (broker_row (rows_sorted_by_key account_id_key accounts) done) (broker_row accounts done) base.brokers
+    (λ b. refl) (λ b. refl) (same_broker_row accounts done) in
+    let rows = sorted_map account_id_key account_key
+    (account_row (rows_sorted_by_key account_id_key accounts) (postings (rows_sorted_by_key account_id_key accounts) done base.movements))
+    (account_row accounts (postings accounts done base.movements)) accounts (λ a. refl) (λ a. refl) (same_account_row accounts done base.movements) in
     let securities = sorted_map security_symbol_key security_key security_row security_row base.securities (λ s. refl) (λ s. refl) (λ s. refl) in
     let last_trades = sorted_map security_symbol_key last_trade_key last_trade_row last_trade_row base.securities (λ s. refl) (λ s. refl) (λ s. refl) in
     let summaries = same_summaries base done books.owners books.symbols in
@@ -196,7 +205,16 @@ sorted_tables base books =
       bands = twice band_key base.bands i;
       tax_rates = twice tax_rate_key base.tax_rates i;
       customer_taxes = twice customer_tax_key base.customer_taxes i;
-      requests = rows_sorted_by_key request_key (map (λ t. record { trade = t.id; kind = t.kind; symbol = t.symbol; qty = t.qty; bid = t.bid; broker = option_map_or (λ a. a.broker) (found accounts t.account i) 0 }) (pending_trades base.trades));
+      requests = rows_sorted_by_key request_key
+          (map (λ t. record {
+            trade = t.id;
+            kind = t.kind;
+            symbol = t.symbol;
+            qty = t.qty;
+            bid = t.bid;
+            broker =
+                option_map_or (λ a. a.broker) (found accounts t.account i) 0;
+          }) (pending_trades base.trades));
       summaries = summaries i;
       settlements = rows_sorted_by_key settlement_key (map (λ t. record (settlement_row accounts base.rule t) { amount = same_amount accounts t i }) done);
       moves = rows_sorted_by_key cash_move_key (numbered_move_rows 1 (postings_sorted_by_stamp (same_postings accounts done base.movements i)));

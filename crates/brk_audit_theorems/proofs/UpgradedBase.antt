@@ -39,7 +39,9 @@ cash_at : (schema : Schema) (base : Base) (b : Bool) → schema.has_cash_move_ta
 unfolding tables_sorted_by_key tables_of_base_in_schema
 cash_at schema base b e = ap (λ c. rows_sorted_by_key cash_transaction_key (cond c [] (map (cash_transaction_row base.accounts) (cash_trades (completed_trades base))))) e
 
-moves_at : (schema : Schema) (base : Base) (b : Bool) → schema.has_cash_move_table ≡ b → (sheets_in_schema schema base).moves ≡ rows_sorted_by_key cash_move_key (cond b (numbered_move_rows 1 (postings_sorted_by_stamp (postings_of_base base))) [])
+moves_at : (schema : Schema) (base : Base) (b : Bool) → schema.has_cash_move_table ≡ b
+    → (sheets_in_schema schema base).moves
+    ≡ rows_sorted_by_key cash_move_key (cond b (numbered_move_rows 1 (postings_sorted_by_stamp (postings_of_base base))) [])
 unfolding tables_sorted_by_key tables_of_base_in_schema
 moves_at schema base b e = ap (λ c. rows_sorted_by_key cash_move_key (cond c (numbered_move_rows 1 (postings_sorted_by_stamp (postings_of_base base))) [])) e
 
@@ -54,11 +56,14 @@ no_rows before = refl
 -- where they are numbered
 posted_in_moves : (schema : Schema) (base : Base) → schema.has_cash_move_table ≡ true → postings_of_tables (sheets_in_schema schema base) ≡ postings_sorted_by_stamp (postings_of_base base)
 posted_in_moves schema base e =
-    (λ i. map (posting_of_cash_transaction_row (sheets_in_schema schema base)) ((cash_at schema base true e ∙ no_rows (is_row_key_less cash_transaction_key)) i) ++ map posting_of_cash_move_row ((moves_at schema base true e ∙ numbered_stay 1 (postings_sorted_by_stamp (postings_of_base base))) i))
+    (λ i. map (posting_of_cash_transaction_row (sheets_in_schema schema base)) ((cash_at schema base true e ∙ no_rows (is_row_key_less cash_transaction_key)) i)
+    ++ map posting_of_cash_move_row ((moves_at schema base true e ∙ numbered_stay 1 (postings_sorted_by_stamp (postings_of_base base))) i))
     ∙ postings_back 1 (postings_sorted_by_stamp (postings_of_base base))
 
 -- where they stand by their trades
-cash_in_order : (base : Base) → BooksInvariant base → rows_sorted_by_key cash_transaction_key (map (cash_transaction_row base.accounts) (cash_trades (completed_trades base))) ≡ map (cash_transaction_row base.accounts) (cash_trades (completed_trades base))
+cash_in_order : (base : Base) → BooksInvariant base
+    → rows_sorted_by_key cash_transaction_key (map (cash_transaction_row base.accounts) (cash_trades (completed_trades base)))
+    ≡ map (cash_transaction_row base.accounts) (cash_trades (completed_trades base))
 cash_in_order base books =
     by_key-map (λ t. number t.id ∷ []) cash_transaction_key (cash_transaction_row base.accounts) (cash_trades (completed_trades base)) (λ t. refl)
     ∙ ap (map (cash_transaction_row base.accounts)) (sort_sorted (is_row_key_less (λ t. number t.id ∷ [])) (cash_trades (completed_trades base))
@@ -75,7 +80,8 @@ posted_by_trades : (schema : Schema) (base : Base) → BooksInvariant base → s
 posted_by_trades schema base books e =
     let rows : Tables = sheets_in_schema schema base in
     let C : List Trade = cash_trades (completed_trades base) in
-    (λ i. map (posting_of_cash_transaction_row rows) ((cash_at schema base false e ∙ cash_in_order base books) i) ++ map posting_of_cash_move_row ((moves_at schema base false e ∙ no_rows (is_row_key_less cash_move_key)) i))
+    (λ i. map (posting_of_cash_transaction_row rows) ((cash_at schema base false e ∙ cash_in_order base books) i)
+    ++ map posting_of_cash_move_row ((moves_at schema base false e ∙ no_rows (is_row_key_less cash_move_key)) i))
     ∙ append_nil (map (posting_of_cash_transaction_row rows) (map (cash_transaction_row base.accounts) C)) ∙ map-map (posting_of_cash_transaction_row rows) (cash_transaction_row base.accounts) C
     ∙ map-same (λ t. posting_of_cash_transaction_row rows (cash_transaction_row base.accounts t)) (posting_of_trade base.accounts) C
     (All-map C (λ t k. λ i. record (posting_of_trade base.accounts t) {
@@ -149,7 +155,9 @@ posted_once base id books =
     own = filter (is_posting_of_trade id) (map (posting_of_trade base.accounts) C)
 
     short : IsShort own
-    short = posted_alone base.accounts C id (one_of_id C id (rise_apart C (rise_filter (λ t. t.is_cash) (completed_trades base) (rise_filter is_completed base.trades (numbered_rise 1 base.trades books.numbered)))))
+    short = posted_alone base.accounts C id
+        (one_of_id C id (rise_apart C
+        (rise_filter (λ t. t.is_cash) (completed_trades base) (rise_filter is_completed base.trades (numbered_rise 1 base.trades books.numbered)))))
 
     no_trade : (ms : List Movement) → filter (is_posting_of_trade id) (map posting_of_movement ms) ≡ []
     no_trade [] = refl
@@ -162,7 +170,9 @@ posted_once base id books =
 
 -- rows of a trade are as many as what it posts
 pub short_rows : (id n : ℕ) (ps : List Posting) → IsShort (filter (is_posting_of_trade id) ps) → IsShort (filter (is_cash_row_of_trade id) (numbered_move_rows n ps))
-short_rows id n ps h = of_postings (filter (is_cash_row_of_trade id) (numbered_move_rows n ps)) (subst IsShort (sym (as_postings (numbered_move_rows n ps) ∙ ap (filter (is_posting_of_trade id)) (postings_back n ps))) h)
+short_rows id n ps h =
+    of_postings (filter (is_cash_row_of_trade id) (numbered_move_rows n ps))
+    (subst IsShort (sym (as_postings (numbered_move_rows n ps) ∙ ap (filter (is_posting_of_trade id)) (postings_back n ps))) h)
   where
     of_postings : (rows : List MoveRow) → IsShort (map posting_of_cash_move_row rows) → IsShort rows
     of_postings [] h = tt
@@ -183,12 +193,14 @@ unseen : (r : MoveRow) (id : ℕ) (qs : List MoveRow) → IsShort (r ∷ filter 
 unseen r id [] k = refl
 unseen r id (q ∷ qs) k = by_own (is_cash_row_of_trade id q) refl k (unseen r id qs)
   where
-    by_other : (o : Option ℕ) → option_map_or (λ n. n == id) o false ≡ false → contains_number id (trade_ids_of_cash_rows qs) ≡ false → contains_number id (option_to_list o ++ trade_ids_of_cash_rows qs) ≡ false
+    by_other : (o : Option ℕ) → option_map_or (λ n. n == id) o false ≡ false → contains_number id (trade_ids_of_cash_rows qs) ≡ false
+        → contains_number id (option_to_list o ++ trade_ids_of_cash_rows qs) ≡ false
     by_other None g h = h
     by_other (Some n) g h = λ i. g i || h i
 
     by_own : (b : Bool) → is_cash_row_of_trade id q ≡ b → IsShort (r ∷ cond b (q ∷ filter (is_cash_row_of_trade id) qs) (filter (is_cash_row_of_trade id) qs))
-        → (IsShort (r ∷ filter (is_cash_row_of_trade id) qs) → contains_number id (trade_ids_of_cash_rows qs) ≡ false) → contains_number id (option_to_list q.trade ++ trade_ids_of_cash_rows qs) ≡ false
+        → (IsShort (r ∷ filter (is_cash_row_of_trade id) qs) → contains_number id (trade_ids_of_cash_rows qs) ≡ false)
+        → contains_number id (option_to_list q.trade ++ trade_ids_of_cash_rows qs) ≡ false
     by_own true f k ih = absurd k
     by_own false f k ih = by_other q.trade f (ih k)
 
@@ -210,7 +222,9 @@ rows_own (r ∷ rows) h = by_trade r.trade refl (rows_own rows (λ id. shorter (
 
 -- so it is of the cash rows of a base
 pub moves_own : (base : Base) → BooksInvariant base → all_distinct (trade_ids_of_cash_rows (numbered_move_rows 1 (postings_sorted_by_stamp (postings_of_base base)))) ≡ true
-moves_own base books = rows_own (numbered_move_rows 1 (postings_sorted_by_stamp (postings_of_base base))) (λ id. short_rows id 1 (postings_sorted_by_stamp (postings_of_base base)) (posted_once base id books))
+moves_own base books =
+    rows_own (numbered_move_rows 1 (postings_sorted_by_stamp (postings_of_base base)))
+    (λ id. short_rows id 1 (postings_sorted_by_stamp (postings_of_base base)) (posted_once base id books))
 
 -- ---- upgraded rows
 
@@ -294,6 +308,7 @@ base_upgraded schema t e p = λ i. record (base_of_tables t) {
   movements = movements i;
 }
   where
-    movements : map movement_of_row (filter (λ r. is_none r.trade) (numbered_move_rows 1 (postings_sorted_by_stamp (postings_of_tables t)))) ≡ map movement_of_row (filter (λ r. is_none r.trade) t.moves)
+    movements : map movement_of_row (filter (λ r. is_none r.trade) (numbered_move_rows 1 (postings_sorted_by_stamp (postings_of_tables t))))
+        ≡ map movement_of_row (filter (λ r. is_none r.trade) t.moves)
     movements =
         ap (λ u. map movement_of_row (filter (λ r. is_none r.trade) u.moves)) (upgraded_tables schema t e p) ∙ movements_back (base_of_tables t) ∙ p.risen

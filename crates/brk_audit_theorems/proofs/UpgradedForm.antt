@@ -17,7 +17,11 @@ use Rattle.brk_model.specs.Joins.{trade_row_with_id}
 use Rattle.brk_model.specs.Keys.{number, is_key_less, cash_transaction_key, cash_move_key}
 use Rattle.brk_model.specs.Adopted.{base_of_tables, movement_of_row, posting_of_cash_transaction_row, posting_of_cash_move_row, postings_of_tables, trade_of_row}
 use Rattle.brk_model.specs.Lists.{all_distinct}
-use Rattle.brk_model.specs.Form.{is_well_formed_band_row, is_well_formed_cash_transaction_row, has_account, has_broker, satisfies_form_condition, has_tables_sorted_by_unique_key, has_security, has_trade, is_cash_row_name_of_trade, has_cash_row_name_of_trade, is_id, is_cash_row_number, is_movement_name_and_amount, is_price, is_quantity_in_schema, is_at_most_last_stamp, is_tier, is_well_formed_cash_move_row, has_price_matching_completion, is_well_formed_request_row, is_sorted_by_unique_key, is_well_formed_summary_row, is_well_formed_trade_row, trade_ids_of_cash_rows}
+use Rattle.brk_model.specs.Form.{is_well_formed_band_row, is_well_formed_cash_transaction_row, has_account, has_broker, satisfies_form_condition}
+use Rattle.brk_model.specs.Form.{has_tables_sorted_by_unique_key, has_security, has_trade, is_cash_row_name_of_trade, has_cash_row_name_of_trade, is_id}
+use Rattle.brk_model.specs.Form.{is_cash_row_number, is_movement_name_and_amount, is_price, is_quantity_in_schema, is_at_most_last_stamp, is_tier}
+use Rattle.brk_model.specs.Form.{is_well_formed_cash_move_row, has_price_matching_completion, is_well_formed_request_row, is_sorted_by_unique_key}
+use Rattle.brk_model.specs.Form.{is_well_formed_summary_row, is_well_formed_trade_row, trade_ids_of_cash_rows}
 use Rattle.brk_model.specs.Forms.{is_exchange}
 use Rattle.brk_model.specs.Upgraded.{tables_with_merged_cash_rows}
 use Rattle.brk_model.specs.Names.{TradesAreNumberedFrom}
@@ -50,7 +54,8 @@ qty_wider schema w n e =
 
 band_wider : (schema : Schema) → HasLimitsWithinThirdSchema schema → (b : Band) → is_well_formed_band_row schema b ≡ true → is_well_formed_band_row third_schema b ≡ true
 band_wider schema w b e =
-    let k = parts6 (is_tier b.tier) (is_exchange b.exchange) (is_quantity_in_schema schema b.from_qty) (is_quantity_in_schema schema b.to_qty) (nat_le b.from_qty b.to_qty) (nat_le b.rate greatest_commission_rate) e in
+    let k = parts6 (is_tier b.tier) (is_exchange b.exchange) (is_quantity_in_schema schema b.from_qty) (is_quantity_in_schema schema b.to_qty)
+    (nat_le b.from_qty b.to_qty) (nat_le b.rate greatest_commission_rate) e in
     and_from _ _ (and_from _ _ (and_from _ _ (and_from _ _ (and_from _ _ k.0 k.1) (qty_wider schema w b.from_qty k.2)) (qty_wider schema w b.to_qty k.3)) k.4) k.5
 
 trade_wider : (schema : Schema) (t : Tables) → HasLimitsWithinThirdSchema schema → (r : TradeRow) → is_well_formed_trade_row schema t r ≡ true → is_well_formed_trade_row third_schema t r ≡ true
@@ -60,12 +65,14 @@ trade_wider schema t w r e =
     and_from _ _ (and_from _ _ (and_from _ _ (and_from _ _ (and_from _ _ (and_from _ _ (and_from _ _ (and_from _ _ (and_from _ _ k.0
     (qty_wider schema w r.qty k.1)) k.2) k.3) k.4) k.5) k.6) k.7) k.8) k.9
 
-request_wider : (schema : Schema) (t : Tables) → HasLimitsWithinThirdSchema schema → (r : RequestRow) → is_well_formed_request_row schema t r ≡ true → is_well_formed_request_row third_schema t r ≡ true
+request_wider : (schema : Schema) (t : Tables) → HasLimitsWithinThirdSchema schema → (r : RequestRow) → is_well_formed_request_row schema t r ≡ true
+    → is_well_formed_request_row third_schema t r ≡ true
 request_wider schema t w r e =
     let k = parts5 (has_trade t r.trade) (has_security t r.symbol) (is_quantity_in_schema schema r.qty) (is_price r.bid) (has_broker t r.broker) e in
     and_from _ _ (and_from _ _ (and_from _ _ (and_from _ _ k.0 k.1) (qty_wider schema w r.qty k.2)) k.3) k.4
 
-summary_wider : (schema : Schema) (t : Tables) → HasLimitsWithinThirdSchema schema → (s : SummaryRow) → is_well_formed_summary_row schema t s ≡ true → is_well_formed_summary_row third_schema t s ≡ true
+summary_wider : (schema : Schema) (t : Tables) → HasLimitsWithinThirdSchema schema → (s : SummaryRow) → is_well_formed_summary_row schema t s ≡ true
+    → is_well_formed_summary_row third_schema t s ≡ true
 summary_wider schema t w s e =
     let k = parts3 (has_account t s.account) (has_security t s.symbol) (nat_le (nat_abs s.qty) schema.greatest_summary) e in
     and_from _ _ (and_from _ _ k.0 k.1) (wider (nat_abs s.qty) schema.greatest_summary third_schema.greatest_summary w.summary k.2)
@@ -81,10 +88,13 @@ pub record HasForm (t : Tables) (p : Posting) : Type 0 where
 
 pub move_posted : (t : Tables) (r : MoveRow) → is_well_formed_cash_move_row t r ≡ true → HasForm t (posting_of_cash_move_row r)
 move_posted t r e =
-    let k = parts5 (is_cash_row_number r.id) (has_account t r.account) (option_map_or (has_cash_row_name_of_trade t r) r.trade (is_movement_name_and_amount r.name r.amount)) (is_at_most_last_stamp t r.stamp) (is_within_amount_limit r.amount) e in
+    let k = parts5 (is_cash_row_number r.id) (has_account t r.account)
+    (option_map_or (has_cash_row_name_of_trade t r) r.trade (is_movement_name_and_amount r.name r.amount)) (is_at_most_last_stamp t r.stamp)
+    (is_within_amount_limit r.amount) e in
     record { account = k.1; name = k.2; stamp = k.3; amount = k.4 }
 
-cash_posted : (schema : Schema) (t : Tables) → AllByRecursion (λ r. is_well_formed_trade_row schema t r ≡ true) t.trades → (c : CashRow) → is_well_formed_cash_transaction_row t c ≡ true → HasForm t (posting_of_cash_transaction_row t c)
+cash_posted : (schema : Schema) (t : Tables) → AllByRecursion (λ r. is_well_formed_trade_row schema t r ≡ true) t.trades → (c : CashRow)
+    → is_well_formed_cash_transaction_row t c ≡ true → HasForm t (posting_of_cash_transaction_row t c)
 cash_posted schema t h c e =
     let k = parts3 (option_map_or (is_cash_row_name_of_trade t c.name) (trade_row_with_id t c.trade) false) (is_at_most_last_stamp t c.stamp) (is_within_amount_limit c.amount) e in
     record { account = by_trade (trade_row_with_id t c.trade) refl k.0; name = k.0; stamp = k.1; amount = k.2 }
@@ -94,7 +104,8 @@ cash_posted schema t h c e =
         (parts10 (is_id r.id) (is_quantity_in_schema schema r.qty) (is_price r.bid) (nat_le r.charge greatest_charge) (nat_le r.commission greatest_amount) (nat_le r.tax greatest_amount)
         (is_at_most_last_stamp t r.stamp) (has_security t r.symbol) (has_account t r.account) (has_price_matching_completion t r) f).8
 
-    by_trade : (o : Option TradeRow) → trade_row_with_id t c.trade ≡ o → option_map_or (is_cash_row_name_of_trade t c.name) o false ≡ true → has_account t (option_map_or (λ r. r.account) (trade_row_with_id t c.trade) 0) ≡ true
+    by_trade : (o : Option TradeRow) → trade_row_with_id t c.trade ≡ o → option_map_or (is_cash_row_name_of_trade t c.name) o false ≡ true
+        → has_account t (option_map_or (λ r. r.account) (trade_row_with_id t c.trade) 0) ≡ true
     by_trade None f g = absurd (cc)
     by_trade (Some r) f g =
         ap (λ o. has_account t (option_map_or (λ r. r.account) o 0)) f ∙ account_of r (find-All (λ r. is_well_formed_trade_row schema t r ≡ true) (λ r. r.id == c.trade) t.trades r h f)
@@ -106,7 +117,8 @@ all_posted schema t p =
     (All-map t.cash (cash_posted schema t (list_all_true (is_well_formed_trade_row schema t) t.trades p.trades)) (list_all_true (is_well_formed_cash_transaction_row t) t.cash p.cash)))
     (All-mapped (HasForm t) posting_of_cash_move_row t.moves (All-map t.moves (move_posted t) (list_all_true (is_well_formed_cash_move_row t) t.moves p.moves)))
 
-pub numbered_form : (t : Tables) (n : ℕ) (ps : List Posting) → 1 ≤ n → n + length ps ≤ greatest_cash_row_number + 1 → AllByRecursion (HasForm t) ps → AllByRecursion (λ r. is_well_formed_cash_move_row t r ≡ true) (numbered_move_rows n ps)
+pub numbered_form : (t : Tables) (n : ℕ) (ps : List Posting) → 1 ≤ n → n + length ps ≤ greatest_cash_row_number + 1 → AllByRecursion (HasForm t) ps
+    → AllByRecursion (λ r. is_well_formed_cash_move_row t r ≡ true) (numbered_move_rows n ps)
 numbered_form t n [] l h f = tt
 numbered_form t n (p ∷ ps) l h f = (
   and_from _ _ (and_from _ _ (and_from _ _ (and_from _ _ (and_from _ _ (le-leb 1 n l) (le-leb n greatest_cash_row_number (omega (arith, h)))) f.0.account) f.0.name) f.0.stamp) f.0.amount,
@@ -165,7 +177,8 @@ few_postings base numbers ids counted =
     few : (a b c d e f g h : ℕ) → a ≡ b → b ≡ c + g → c ≡ d → g ≡ h → d ≤ e → e ≤ f → 1 + f ≤ greatest_id + 1 → h ≤ greatest_id → 1 + a ≤ greatest_cash_row_number + 1
     few a b c d e f g h p q r s t u v w = omega (arith, p, q, r, s, t, u, v, w)
 
-few_rows : (schema : Schema) (t : Tables) → SatisfiesFormParts schema t → BooksInvariant (base_of_tables t) → IsPosted t → 1 + length (postings_sorted_by_stamp (postings_of_tables t)) ≤ greatest_cash_row_number + 1
+few_rows : (schema : Schema) (t : Tables) → SatisfiesFormParts schema t → BooksInvariant (base_of_tables t) → IsPosted t
+    → 1 + length (postings_sorted_by_stamp (postings_of_tables t)) ≤ greatest_cash_row_number + 1
 few_rows schema t p books posted =
     let counted = leb-true (length (filter (λ r. is_none r.trade) t.moves)) greatest_id p.counted in
     subst (λ ps. 1 + length ps ≤ greatest_cash_row_number + 1) (sym posted.turned)
@@ -187,7 +200,8 @@ unfolding has_tables_sorted_by_unique_key tables_with_merged_cash_rows
 keys_upgraded t h =
     let both = and_parts _ (is_sorted_by_unique_key cash_move_key t.moves) h in
     let rest = and_parts _ (is_sorted_by_unique_key cash_transaction_key t.cash) both.0 in
-    and_from _ (is_sorted_by_unique_key cash_move_key (numbered_move_rows 1 (postings_sorted_by_stamp (postings_of_tables t)))) (and_from _ (is_sorted_by_unique_key cash_transaction_key []) rest.0 refl) (numbered_rises 1 (postings_sorted_by_stamp (postings_of_tables t)))
+    and_from _ (is_sorted_by_unique_key cash_move_key (numbered_move_rows 1 (postings_sorted_by_stamp (postings_of_tables t))))
+    (and_from _ (is_sorted_by_unique_key cash_transaction_key []) rest.0 refl) (numbered_rises 1 (postings_sorted_by_stamp (postings_of_tables t)))
 
 -- ---- all of it
 
@@ -197,7 +211,8 @@ counted_upgraded t e h =
     ap (λ n. nat_le n greatest_id) (ap (λ u. length (filter (λ r. is_none r.trade) u.moves)) e ∙ moves_counted (base_of_tables t) ∙ movements_are t) ∙ h
 
 -- each part, of the same tables but for those of cash
-joined : (schema : Schema) (t : Tables) → HasLimitsWithinThirdSchema schema → SatisfiesFormParts schema t → list_all (is_well_formed_cash_move_row t) (numbered_move_rows 1 (postings_sorted_by_stamp (postings_of_tables t))) ≡ true
+joined : (schema : Schema) (t : Tables) → HasLimitsWithinThirdSchema schema → SatisfiesFormParts schema t
+    → list_all (is_well_formed_cash_move_row t) (numbered_move_rows 1 (postings_sorted_by_stamp (postings_of_tables t))) ≡ true
     → all_distinct (trade_ids_of_cash_rows (numbered_move_rows 1 (postings_sorted_by_stamp (postings_of_tables t)))) ≡ true
     → nat_le (length (filter (λ r. is_none r.trade) (tables_with_merged_cash_rows t).moves)) greatest_id ≡ true → SatisfiesFormParts third_schema (tables_with_merged_cash_rows t)
 unfolding tables_with_merged_cash_rows base_of_tables
@@ -234,7 +249,9 @@ joined schema t w p rows own counted = record {
   fits = refl;
 }
 
-pub upgraded_form : (schema : Schema) (t : Tables) → HasLimitsWithinThirdSchema schema → satisfies_form_condition schema t ≡ true → BooksInvariant (base_of_tables t) → IsPosted t → tables_with_merged_cash_rows t ≡ sheets (base_of_tables t) → satisfies_form_condition third_schema (tables_with_merged_cash_rows t) ≡ true
+pub upgraded_form : (schema : Schema) (t : Tables) → HasLimitsWithinThirdSchema schema → satisfies_form_condition schema t ≡ true
+    → BooksInvariant (base_of_tables t) → IsPosted t → tables_with_merged_cash_rows t ≡ sheets (base_of_tables t)
+    → satisfies_form_condition third_schema (tables_with_merged_cash_rows t) ≡ true
 upgraded_form schema t w f books posted e =
     let p : SatisfiesFormParts schema t = form_parts schema t f in
     let all : List Posting = postings_sorted_by_stamp (postings_of_tables t) in

@@ -32,14 +32,19 @@ stamps_of_base : (t : Tables) → movement_stamps t ≡ map (λ m. m.stamp) (bas
 unfolding base_of_tables
 stamps_of_base t = sym (map-map (λ m. m.stamp) movement_of_row (filter (λ r. is_none r.trade) t.moves))
 
-same_statuses : (t : Tables) → (list_all (has_valid_status_history (tables_with_merged_cash_rows t)) (tables_with_merged_cash_rows t).trades ≡ list_all (has_valid_status_history t) t.trades) × (completion_stamps (tables_with_merged_cash_rows t) ≡ completion_stamps t)
+same_statuses : (t : Tables)
+    → (list_all (has_valid_status_history (tables_with_merged_cash_rows t)) (tables_with_merged_cash_rows t).trades
+    ≡ list_all (has_valid_status_history t) t.trades) × (completion_stamps (tables_with_merged_cash_rows t) ≡ completion_stamps t)
 unfolding tables_with_merged_cash_rows
 same_statuses t = (refl, refl)
 
-status_upgraded : (t : Tables) → base_of_tables (tables_with_merged_cash_rows t) ≡ base_of_tables t → satisfies_status_condition t ≡ true → satisfies_status_condition (tables_with_merged_cash_rows t) ≡ true
+status_upgraded : (t : Tables) → base_of_tables (tables_with_merged_cash_rows t) ≡ base_of_tables t → satisfies_status_condition t ≡ true
+    → satisfies_status_condition (tables_with_merged_cash_rows t) ≡ true
 unfolding satisfies_status_condition
 status_upgraded t e h =
-    (λ i. (same_statuses t).0 i && all_distinct ((same_statuses t).1 i ++ (stamps_of_base (tables_with_merged_cash_rows t) ∙ ap (λ b. map (λ m. m.stamp) b.movements) e ∙ sym (stamps_of_base t)) i)) ∙ h
+    (λ i. (same_statuses t).0 i
+    && all_distinct ((same_statuses t).1 i
+    ++ (stamps_of_base (tables_with_merged_cash_rows t) ∙ ap (λ b. map (λ m. m.stamp) b.movements) e ∙ sym (stamps_of_base t)) i)) ∙ h
 
 form_and_status : (schema : Schema) (t : Tables) → PassesAudit schema t → ConditionHolds schema condition.Form t × ConditionHolds schema condition.Status t
 form_and_status schema t p = let h = all_hold schema t p in (h.form, h.status)
@@ -60,7 +65,8 @@ upgraded_rows schema t w p =
     }
 
 -- the same whatever schema they pass
-pub rows_upgraded_from : (schema : Schema) (t : Tables) → PassesAudit schema t → (tables_upgraded_from_schema schema t ≡ tables_with_merged_cash_rows t) × (tables_with_merged_cash_rows t ≡ sheets (base_of_tables t))
+pub rows_upgraded_from : (schema : Schema) (t : Tables) → PassesAudit schema t → (tables_upgraded_from_schema schema t ≡ tables_with_merged_cash_rows t)
+    × (tables_with_merged_cash_rows t ≡ sheets (base_of_tables t))
 unfolding ConditionHolds
 rows_upgraded_from schema t p =
     let h = form_and_status schema t p in

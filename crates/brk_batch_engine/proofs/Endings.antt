@@ -160,7 +160,8 @@ answer_failed form step gives rem start now later new text p f wrote asked may h
     inr (inl (stopped_of form step gives rem start now later new text p h, asked, may, refl, wrote))
 
 -- the clock was asked at most once for it
-pub failed_asked : {D S X C : Type 0} (meets_disk_assumption : D → Type 0) (represents : D → S → Type 0) (crash_exposes_only : D → S → S → Type 0) (acts : RowCallRelation D X) (step : RowStep S X) (gives : C → ℕ → C → Type 0)
+pub failed_asked : {D S X C : Type 0} (meets_disk_assumption : D → Type 0) (represents : D → S → Type 0) (crash_exposes_only : D → S → S → Type 0)
+    (acts : RowCallRelation D X) (step : RowStep S X) (gives : C → ℕ → C → Type 0)
     (read : ReadResult X) (batch : Text) (n : ℕ) (f : Fault) (old new : D) (clock later : C)
     → RowFailsWith meets_disk_assumption represents crash_exposes_only acts step gives read batch n f old new clock later → ReadsClockAtMostOnce gives clock later
 failed_asked meets_disk_assumption represents crash_exposes_only acts step gives read batch n f old new clock later (inl same) = inl same.1
@@ -168,7 +169,8 @@ failed_asked meets_disk_assumption represents crash_exposes_only acts step gives
 
 -- its call failed, after the record after it had been read
 abbrev pub failed_row : {S X C R : Type 0} (form : Fields → ReadResult X) (step : RowStep S X) (gives : C → ℕ → C → Type 0) (rem : R → Option Text)
-    (start : BatchStartWithBase S C R) (now : BatchPositionWithBase S C R) (later : C) (new : Option Text) (text : Option Text) (p : HasDecidedRows form step gives rem start now) (next : Fields) (reader : Reader R) (f : Fault)
+    (start : BatchStartWithBase S C R) (now : BatchPositionWithBase S C R) (later : C) (new : Option Text) (text : Option Text)
+    (p : HasDecidedRows form step gives rem start now) (next : Fields) (reader : Reader R) (f : Fault)
     (moment : ℕ) (command : X) → form now.row ≡ Ok command → gives now.later moment later → IsCallFault f → Appends start.old new (answer_lines_from 1 p.answers)
     → ((text : Option Text) (before : List Fields) → IsReaderAfterRecords rem text before now.reader → IsReaderAfterRecords rem text (before ++ (next ∷ [])) reader)
     → IsReaderAfterRecords rem text (batch_header start.name ∷ []) start.reader
@@ -192,8 +194,10 @@ failed_row form step gives rem start now later new text p next reader f moment c
 -- the states that a crash exposes then
 pub answer_left : {D S X C R : Type 0} (meets_disk_assumption : D → Type 0) (represents : D → S → Type 0) (crash_exposes_only : D → S → S → Type 0) (acts : RowCallRelation D X)
     (form : Fields → ReadResult X) (step : RowStep S X) (gives : C → ℕ → C → Type 0) (rem : R → Option Text)
-    (start : BatchStartWithBase S C R) (now : BatchPositionWithBase S C R) (later : C) (new : Option Text) (text : Option Text) (p : HasDecidedRows form step gives rem start now) (next : Fields) (reader : Reader R) (f : Fault) (desk last : D)
-    → RowFailsWith meets_disk_assumption represents crash_exposes_only acts step gives (form now.row) start.name (now.settled + 1) f desk last now.later later → IsCallFault f → Appends start.old new (answer_lines_from 1 p.answers)
+    (start : BatchStartWithBase S C R) (now : BatchPositionWithBase S C R) (later : C) (new : Option Text) (text : Option Text)
+    (p : HasDecidedRows form step gives rem start now) (next : Fields) (reader : Reader R) (f : Fault) (desk last : D)
+    → RowFailsWith meets_disk_assumption represents crash_exposes_only acts step gives (form now.row) start.name (now.settled + 1) f desk last now.later later
+    → IsCallFault f → Appends start.old new (answer_lines_from 1 p.answers)
     → ((text : Option Text) (before : List Fields) → IsReaderAfterRecords rem text before now.reader → IsReaderAfterRecords rem text (before ++ (next ∷ [])) reader)
     → IsReaderAfterRecords rem text (batch_header start.name ∷ []) start.reader → meets_disk_assumption last → represents desk now.after → crash_exposes_only desk now.after now.after
     → BoundsBatchCrashStates form step gives crash_exposes_only text (change_from_start start now later new) last (Err (record { rows = now.settled; kind = kinds.Desk f }))

@@ -4,7 +4,8 @@ use Rattle.std.specs.Prelude.{Bool, Ok, Err}
 use Rattle.std.proofs.lemmas.List.{append-nil, length-append, map-append}
 use Rattle.brk_money.specs.Spelling.{Text}
 use Rattle.brk_model.specs.Answers.{Fields, RowStep}
-use Rattle.brk_model_theorems.specs.RowCalls.{CallsHaveAnswers, RowCall, result_of_row_call, calls_of_rows, well_formed_rows_from, prepended_if_well_formed, answers_interleaved_with_refusals, answers_to_row_and_rest}
+use Rattle.brk_model_theorems.specs.RowCalls.{CallsHaveAnswers, RowCall, result_of_row_call, calls_of_rows, well_formed_rows_from, prepended_if_well_formed}
+use Rattle.brk_model_theorems.specs.RowCalls.{answers_interleaved_with_refusals, answers_to_row_and_rest}
 use Rattle.brk_model.specs.Commands.{Answer, Refused}
 use Rattle.brk_model.specs.Forms.{ReadResult}
 use Rattle.brk_model.specs.Lines.{answer_line, answer_lines_from}
@@ -65,7 +66,8 @@ pub woven_push : {X : Type 0} (form : Fields → ReadResult X) (n : ℕ) (rows :
 woven_push form n [] row [] extra e = refl
 woven_push form n [] row (a ∷ rs) extra e = absurd (omega arith)
 woven_push form n (x ∷ xs) row rs extra e =
-    woven_go (form x) n (well_formed_rows_from form (n + 1) xs) rs extra (answers_to_row_and_rest (form row) (λ _. []) extra) (answers_interleaved_with_refusals form xs) (answers_interleaved_with_refusals form (xs ++ (row ∷ []))) e
+    woven_go (form x) n (well_formed_rows_from form (n + 1) xs) rs extra (answers_to_row_and_rest (form row) (λ _. []) extra)
+    (answers_interleaved_with_refusals form xs) (answers_interleaved_with_refusals form (xs ++ (row ∷ []))) e
     (λ bs h. woven_push form (n + 1) xs row bs extra h)
 
 pub lines_push : (n : ℕ) (all : List Answer) (answer : Answer) → answer_lines_from n (all ++ (answer ∷ [])) ≡ answer_lines_from n all ++ answer_line (n + length all) answer
@@ -100,7 +102,8 @@ called_push acts first mid last calls replies call answer made acted =
 
 -- The rows have these answers, with one clock reading for each well-formed row, and the desk
 -- changed from `first` to `desk` only by their calls.
-pub record RowsHaveAnswers {D S X C : Type 0} (meets_disk_assumption : D → Type 0) (represents : Bool → D → S → Type 0) (acts : RowCallRelation D X) (form : Fields → ReadResult X) (step : RowStep S X) (gives : C → ℕ → C → Type 0)
+pub record RowsHaveAnswers {D S X C : Type 0} (meets_disk_assumption : D → Type 0) (represents : Bool → D → S → Type 0) (acts : RowCallRelation D X)
+    (form : Fields → ReadResult X) (step : RowStep S X) (gives : C → ℕ → C → Type 0)
     (batch : Text) (first : D) (clock : C) (rows : List Fields) (answers : List Answer) (desk : D) (later : C) : Type 0 where
   pub moments : List ℕ
   pub replies : List Answer
@@ -112,13 +115,15 @@ pub record RowsHaveAnswers {D S X C : Type 0} (meets_disk_assumption : D → Typ
   pub follows : (sure : Bool) → CallsRefineSteps meets_disk_assumption (represents sure) step first desk (calls_of_rows batch moments (well_formed_rows_from form 1 rows)) replies
 
 -- one more row, answered as its form says
-pub answered_push : {D S X C : Type 0} (meets_disk_assumption : D → Type 0) (represents : Bool → D → S → Type 0) (acts : RowCallRelation D X) (form : Fields → ReadResult X) (step : RowStep S X) (gives : C → ℕ → C → Type 0)
+pub answered_push : {D S X C : Type 0} (meets_disk_assumption : D → Type 0) (represents : Bool → D → S → Type 0) (acts : RowCallRelation D X)
+    (form : Fields → ReadResult X) (step : RowStep S X) (gives : C → ℕ → C → Type 0)
     (batch : Text) (first mid desk : D) (clock c later : C) (rows : List Fields) (answers : List Answer) (row : Fields) (answer : Answer)
     → RowsHaveAnswers meets_disk_assumption represents acts form step gives batch first clock rows answers mid c → (meets_disk_assumption desk → meets_disk_assumption mid)
     → (o : ReadResult X) → form row ≡ o → RowHasAnswer meets_disk_assumption represents acts step gives o batch (1 + length rows) answer mid desk c later
     → RowsHaveAnswers meets_disk_assumption represents acts form step gives batch first clock (rows ++ (row ∷ [])) (answers ++ (answer ∷ [])) desk later
 answered_push {X = X} meets_disk_assumption represents acts form step gives batch first mid desk clock c later rows answers row answer h earlier (Err k) e a =
-    let formed = formed_push form 1 rows row ∙ ap (λ (o : ReadResult X). well_formed_rows_from form 1 rows ++ prepended_if_well_formed o (1 + length rows) []) e ∙ append-nil (well_formed_rows_from form 1 rows) in
+    let formed = formed_push form 1 rows row ∙ ap (λ (o : ReadResult X). well_formed_rows_from form 1 rows ++ prepended_if_well_formed o (1 + length rows) []) e
+    ∙ append-nil (well_formed_rows_from form 1 rows) in
     let wove = rw (append-nil h.replies, e) at (woven_push form 1 rows row h.replies [] h.replied) in
     record {
       moments = h.moments;
@@ -163,7 +168,8 @@ recorded_turns [] (a ∷ rs) before e = absurd (omega arith)
 recorded_turns (c ∷ cs) [] before e = absurd (omega arith)
 recorded_turns {X} (c ∷ cs) (a ∷ rs) before e = (
   refl,
-  subst (λ (l : RowCalls X). CallsHaveAnswers recording_step (rs, before ++ (desk_call_of_row_call c ∷ [])) cs rs ([], l)) (append_assoc before (desk_call_of_row_call c ∷ []) (map desk_call_of_row_call cs))
+  subst (λ (l : RowCalls X). CallsHaveAnswers recording_step (rs, before ++ (desk_call_of_row_call c ∷ [])) cs rs ([], l))
+      (append_assoc before (desk_call_of_row_call c ∷ []) (map desk_call_of_row_call cs))
       (recorded_turns cs rs (before ++ (desk_call_of_row_call c ∷ [])) (omega arith)),
 )
 

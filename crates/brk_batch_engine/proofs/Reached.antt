@@ -48,7 +48,8 @@ pub record BatchPosition (C R : Type 0) : Type 0 where
 
 -- The rows before the position `place` are decided, and the desk changed from `first` to `desk`
 -- only by their calls.
-pub record HasReachedPosition {D S X C R : Type 0} (meets_disk_assumption : D → Type 0) (represents : Bool → D → S → Type 0) (acts : RowCallRelation D X) (form : Fields → ReadResult X) (step : RowStep S X) (gives : C → ℕ → C → Type 0)
+pub record HasReachedPosition {D S X C R : Type 0} (meets_disk_assumption : D → Type 0) (represents : Bool → D → S → Type 0) (acts : RowCallRelation D X)
+    (form : Fields → ReadResult X) (step : RowStep S X) (gives : C → ℕ → C → Type 0)
     (rem : R → Option Text) (first : D) (head : BatchStart C R) (desk : D) (place : BatchPosition C R) : Type 0 where
   pub rows : List Fields
   pub answers : List Answer
@@ -62,7 +63,8 @@ pub record HasReachedPosition {D S X C R : Type 0} (meets_disk_assumption : D �
       → IsReaderAfterRecords rem text (batch_header head.name ∷ (rows ++ (place.row ∷ []))) place.reader
 
 -- before the first row
-pub reached_start : {D S X C R : Type 0} (meets_disk_assumption : D → Type 0) (represents : Bool → D → S → Type 0) (acts : RowCallRelation D X) (form : Fields → ReadResult X) (step : RowStep S X) (gives : C → ℕ → C → Type 0)
+pub reached_start : {D S X C R : Type 0} (meets_disk_assumption : D → Type 0) (represents : Bool → D → S → Type 0) (acts : RowCallRelation D X)
+    (form : Fields → ReadResult X) (step : RowStep S X) (gives : C → ℕ → C → Type 0)
     (rem : R → Option Text) (first : D) (head : BatchStart C R) (row : Fields) (reader : Reader R) → IsBatchName head.name
     → ((text : Option Text) (before : List Fields) → IsReaderAfterRecords rem text before head.reader → IsReaderAfterRecords rem text (before ++ (row ∷ [])) reader)
     → (r : HasReachedPosition meets_disk_assumption represents acts form step gives rem first head first
@@ -96,9 +98,11 @@ abbrev pub position_after_row : {C R : Type 0} → BatchPosition C R → Counts 
 position_after_row place counts row later reader = record { settled = place.settled + 1; counts = counts; row = row; later = later; reader = reader }
 
 -- one row more was answered, after the record after it had been read
-pub reached_more : {D S X C R : Type 0} (meets_disk_assumption : D → Type 0) (represents : Bool → D → S → Type 0) (acts : RowCallRelation D X) (form : Fields → ReadResult X) (step : RowStep S X) (gives : C → ℕ → C → Type 0)
+pub reached_more : {D S X C R : Type 0} (meets_disk_assumption : D → Type 0) (represents : Bool → D → S → Type 0) (acts : RowCallRelation D X)
+    (form : Fields → ReadResult X) (step : RowStep S X) (gives : C → ℕ → C → Type 0)
     (rem : R → Option Text) (first : D) (head : BatchStart C R) (mid : D) (place : BatchPosition C R) (answer : Answer) (counts : Counts) (row : Fields) (desk : D) (later : C) (reader : Reader R)
-    → (r : HasReachedPosition meets_disk_assumption represents acts form step gives rem first head mid place) → ¬ (IsEndRecord place.row) → counts ≡ counts_with_answer place.counts answer → (meets_disk_assumption desk → meets_disk_assumption mid)
+    → (r : HasReachedPosition meets_disk_assumption represents acts form step gives rem first head mid place) → ¬ (IsEndRecord place.row)
+    → counts ≡ counts_with_answer place.counts answer → (meets_disk_assumption desk → meets_disk_assumption mid)
     → RowHasAnswer meets_disk_assumption represents acts step gives (form place.row) head.name (place.settled + 1) answer mid desk place.later later
     → ((text : Option Text) (before : List Fields) → IsReaderAfterRecords rem text before place.reader → IsReaderAfterRecords rem text (before ++ (row ∷ [])) reader)
     → (q : HasReachedPosition meets_disk_assumption represents acts form step gives rem first head desk (position_after_row place counts row later reader)) × (q.answers ≡ r.answers ++ (answer ∷ []))
@@ -128,8 +132,10 @@ abbrev pub position_with_base : {S C R : Type 0} → BatchPosition C R → S →
 position_with_base place after = record { settled = place.settled; counts = place.counts; row = place.row; after = after; later = place.later; reader = place.reader }
 
 -- the progress of a batch by some steps, over some base
-abbrev pub progress_of : {D S T X C R : Type 0} (meets_disk_assumption : D → Type 0) (represents : Bool → D → S → Type 0) (acts : RowCallRelation D X) (form : Fields → ReadResult X) (step : RowStep S X) (gives : C → ℕ → C → Type 0)
-    (rem : R → Option Text) (first : D) (head : BatchStart C R) (desk : D) (place : BatchPosition C R) (r : HasReachedPosition meets_disk_assumption represents acts form step gives rem first head desk place)
+abbrev pub progress_of : {D S T X C R : Type 0} (meets_disk_assumption : D → Type 0) (represents : Bool → D → S → Type 0) (acts : RowCallRelation D X)
+    (form : Fields → ReadResult X) (step : RowStep S X) (gives : C → ℕ → C → Type 0)
+    (rem : R → Option Text) (first : D) (head : BatchStart C R) (desk : D) (place : BatchPosition C R)
+    (r : HasReachedPosition meets_disk_assumption represents acts form step gives rem first head desk place)
     (other : RowStep T X) (base after : T) → CallsHaveAnswers other base (calls_of_rows head.name r.answered.moments (well_formed_rows_from form 1 r.rows)) r.answered.replies after
     → HasDecidedRows form other gives rem (start_with_base head base) (position_with_base place after)
 progress_of meets_disk_assumption represents acts form step gives rem first head desk place r other base after turns = record {
@@ -150,14 +156,17 @@ progress_of meets_disk_assumption represents acts form step gives rem first head
 }
 
 -- a crash exposes only the base after the batch
-pub alone_at : {D S X C : Type 0} (form : Fields → ReadResult X) (step : RowStep S X) (gives : C → ℕ → C → Type 0) (crash_exposes_only : D → S → S → Type 0) (text : Option Text) (span : EnvironmentChange S C) (last : D)
+pub alone_at : {D S X C : Type 0} (form : Fields → ReadResult X) (step : RowStep S X) (gives : C → ℕ → C → Type 0) (crash_exposes_only : D → S → S → Type 0)
+    (text : Option Text) (span : EnvironmentChange S C) (last : D)
     (result : Result Counts BatchFault) → crash_exposes_only last span.after span.after → BoundsBatchCrashStates form step gives crash_exposes_only text span last result
 alone_at form step gives crash_exposes_only text span last (Ok counts) alone = alone
 alone_at form step gives crash_exposes_only text span last (Err fault) alone = inl alone
 
 -- if each call was answered, the script has the calls and their answers
-pub tells_all : {D S X C R : Type 0} (meets_disk_assumption : D → Type 0) (represents : Bool → D → S → Type 0) (acts : RowCallRelation D X) (form : Fields → ReadResult X) (step : RowStep S X) (gives : C → ℕ → C → Type 0)
-    (rem : R → Option Text) (first : D) (head : BatchStart C R) (desk : D) (place : BatchPosition C R) (r : HasReachedPosition meets_disk_assumption represents acts form step gives rem first head desk place)
+pub tells_all : {D S X C R : Type 0} (meets_disk_assumption : D → Type 0) (represents : Bool → D → S → Type 0) (acts : RowCallRelation D X)
+    (form : Fields → ReadResult X) (step : RowStep S X) (gives : C → ℕ → C → Type 0)
+    (rem : R → Option Text) (first : D) (head : BatchStart C R) (desk : D) (place : BatchPosition C R)
+    (r : HasReachedPosition meets_disk_assumption represents acts form step gives rem first head desk place)
     (text : Option Text) (was now : Option Text) (result : Result Counts BatchFault) → IfErr result (λ fault. DeskFaultIsMemory fault.kind)
     → ((T : Type 0) (other : RowStep T X) (base after : T) → CallsHaveAnswers other base (calls_of_rows head.name r.answered.moments (well_formed_rows_from form 1 r.rows)) r.answered.replies after
     → IsBatchResult form other gives text (record { base = base; after = after; clock = head.clock; later = place.later; old = was; new = now }) result)
@@ -168,7 +177,8 @@ tells_all {X = X} meets_disk_assumption represents acts form step gives rem firs
       (map desk_call_of_row_call calls, map Did r.answered.replies),
       r.answered.made,
       (
-        subst (λ (ms : List ℕ). ClockReturnsInOrder gives head.clock ms place.later) (sym (calls_taken head.name r.answered.moments (well_formed_rows_from form 1 r.rows) r.answered.one_each)) r.answered.taken,
+        subst (λ (ms : List ℕ). ClockReturnsInOrder gives head.clock ms place.later)
+            (sym (calls_taken head.name r.answered.moments (well_formed_rows_from form 1 r.rows) r.answered.one_each)) r.answered.taken,
         inl (
           r.answered.replies,
           refl,
@@ -179,8 +189,10 @@ tells_all {X = X} meets_disk_assumption represents acts form step gives rem firs
     )
 
 -- the script has also a call that failed
-pub tells_failed : {D S X C R : Type 0} (meets_disk_assumption : D → Type 0) (represents : Bool → D → S → Type 0) (acts : RowCallRelation D X) (form : Fields → ReadResult X) (step : RowStep S X) (gives : C → ℕ → C → Type 0)
-    (rem : R → Option Text) (first : D) (head : BatchStart C R) (desk : D) (place : BatchPosition C R) (r : HasReachedPosition meets_disk_assumption represents acts form step gives rem first head desk place)
+pub tells_failed : {D S X C R : Type 0} (meets_disk_assumption : D → Type 0) (represents : Bool → D → S → Type 0) (acts : RowCallRelation D X)
+    (form : Fields → ReadResult X) (step : RowStep S X) (gives : C → ℕ → C → Type 0)
+    (rem : R → Option Text) (first : D) (head : BatchStart C R) (desk : D) (place : BatchPosition C R)
+    (r : HasReachedPosition meets_disk_assumption represents acts form step gives rem first head desk place)
     (text : Option Text) (new : Option Text) (later : C) (last : D) (next : Fields) (reader : Reader R) (f : Fault) (moment : ℕ) (command : X)
     → form place.row ≡ Ok command → gives place.later moment later → acts desk moment (command, record { batch = head.name; row = place.settled + 1 }) (Failed f) last
     → IsCallFault f → Appends head.old new (answer_lines_from 1 r.answers)
@@ -204,7 +216,8 @@ tells_failed {D = D} {X = X} meets_disk_assumption represents acts form step giv
           r.answered.replies,
           map desk_call_of_row_call calls,
           failed_row form recording_step gives rem (start_with_base head (r.answered.replies, [])) (position_with_base place ([], map desk_call_of_row_call calls)) later new text
-              (progress_of meets_disk_assumption represents acts form step gives rem first head desk place r recording_step (r.answered.replies, []) ([], map desk_call_of_row_call calls) turns) next reader f moment command
+              (progress_of meets_disk_assumption represents acts form step gives rem first head desk place r recording_step (r.answered.replies, [])
+              ([], map desk_call_of_row_call calls) turns) next reader f moment command
               formed given may wrote found h,
           refl,
           refl,
@@ -213,7 +226,8 @@ tells_failed {D = D} {X = X} meets_disk_assumption represents acts form step giv
     )
 
 -- whatever failed, the script has the calls
-pub tells_fault : {D S X C R : Type 0} (meets_disk_assumption : D → Type 0) (represents : D → S → Type 0) (crash_exposes_only : D → S → S → Type 0) (acts : RowCallRelation D X) (form : Fields → ReadResult X) (step : RowStep S X)
+pub tells_fault : {D S X C R : Type 0} (meets_disk_assumption : D → Type 0) (represents : D → S → Type 0) (crash_exposes_only : D → S → S → Type 0)
+    (acts : RowCallRelation D X) (form : Fields → ReadResult X) (step : RowStep S X)
     (gives : C → ℕ → C → Type 0) (rem : R → Option Text) (first : D) (head : BatchStart C R) (desk : D) (place : BatchPosition C R)
     (r : HasReachedPosition meets_disk_assumption (RepresentsDurably represents crash_exposes_only) acts form step gives rem first head desk place)
     (text : Option Text) (new : Option Text) (later : C) (last : D) (next : Fields) (reader : Reader R) (f : Fault)
@@ -222,23 +236,30 @@ pub tells_fault : {D S X C R : Type 0} (meets_disk_assumption : D → Type 0) (r
     → ((text : Option Text) (before : List Fields) → IsReaderAfterRecords rem text before place.reader → IsReaderAfterRecords rem text (before ++ (next ∷ [])) reader)
     → IsReaderAfterRecords rem text (batch_header head.name ∷ []) head.reader
     → ((T : Type 0) (other : RowStep T X) (base after : T) → CallsHaveAnswers other base (calls_of_rows head.name r.answered.moments (well_formed_rows_from form 1 r.rows)) r.answered.replies after
-    → IsBatchResult form other gives text (record { base = base; after = after; clock = head.clock; later = later; old = head.old; new = new }) (Err (record { rows = place.settled; kind = kinds.Desk f })))
+    → IsBatchResult form other gives text (record { base = base; after = after; clock = head.clock; later = later; old = head.old; new = new })
+    (Err (record { rows = place.settled; kind = kinds.Desk f })))
     → ChangesOnlyByRowCalls acts form gives text first last (record { clock = head.clock; later = later; old = head.old; new = new }) (Err (record { rows = place.settled; kind = kinds.Desk f }))
 tells_fault meets_disk_assumption represents crash_exposes_only acts form step gives rem first head desk place r text new later last next reader f (inl same) may wrote found h so =
-    rw (same.0, same.1) (tells_all meets_disk_assumption (RepresentsDurably represents crash_exposes_only) acts form step gives rem first head desk place r text head.old new (Err (record { rows = place.settled; kind = kinds.Desk f })) same.2 (rw same.1 at so))
+    rw (same.0, same.1) (tells_all meets_disk_assumption (RepresentsDurably represents crash_exposes_only) acts form step gives rem first head desk place r text
+    head.old new (Err (record { rows = place.settled; kind = kinds.Desk f })) same.2 (rw same.1 at so))
 tells_fault meets_disk_assumption represents crash_exposes_only acts form step gives rem first head desk place r text new later last next reader f (inr way) may wrote found h so =
-    tells_failed meets_disk_assumption (RepresentsDurably represents crash_exposes_only) acts form step gives rem first head desk place r text new later last next reader f way.0 way.1 way.2 way.3 way.4 may wrote found h
+    tells_failed meets_disk_assumption (RepresentsDurably represents crash_exposes_only) acts form step gives rem first head desk place r text new later last
+    next reader f way.0 way.1 way.2 way.3 way.4 may wrote found h
 
 -- what holds by all steps, over all bases that they lead from and to, is the postcondition of the
 -- batch
-pub comes : {D S X C R : Type 0} (meets_disk_assumption : D → Type 0) (represents : D → S → Type 0) (crash_exposes_only : D → S → S → Type 0) (acts : RowCallRelation D X) (form : Fields → ReadResult X) (step : RowStep S X)
+pub comes : {D S X C R : Type 0} (meets_disk_assumption : D → Type 0) (represents : D → S → Type 0) (crash_exposes_only : D → S → S → Type 0)
+    (acts : RowCallRelation D X) (form : Fields → ReadResult X) (step : RowStep S X)
     (gives : C → ℕ → C → Type 0) (rem : R → Option Text) (first : D) (head : BatchStart C R) (desk : D) (place : BatchPosition C R)
     (r : HasReachedPosition meets_disk_assumption (RepresentsDurably represents crash_exposes_only) acts form step gives rem first head desk place)
-    (last : D) (text : Option Text) (outside : ClockAndWriterChange C) (result : Result Counts BatchFault) → (meets_disk_assumption last → meets_disk_assumption desk) → PreservesRepresentedBases meets_disk_assumption represents desk last
+    (last : D) (text : Option Text) (outside : ClockAndWriterChange C) (result : Result Counts BatchFault)
+    → (meets_disk_assumption last → meets_disk_assumption desk) → PreservesRepresentedBases meets_disk_assumption represents desk last
     → ((T : Type 0) (other : RowStep T X) (base after : T) → CallsHaveAnswers other base (calls_of_rows head.name r.answered.moments (well_formed_rows_from form 1 r.rows)) r.answered.replies after
     → IsBatchResult form other gives text (environment_change_with_bases base after outside) result)
     → ChangesOnlyByRowCalls acts form gives text first last outside result
-    → (meets_disk_assumption last → (base after : S) → CallsHaveAnswers step base (calls_of_rows head.name r.answered.moments (well_formed_rows_from form 1 r.rows)) r.answered.replies after → represents desk after → crash_exposes_only desk after after
+    → (meets_disk_assumption last → (base after : S)
+    → CallsHaveAnswers step base (calls_of_rows head.name r.answered.moments (well_formed_rows_from form 1 r.rows)) r.answered.replies after
+    → represents desk after → crash_exposes_only desk after after
     → BoundsBatchCrashStates form step gives crash_exposes_only text (environment_change_with_bases base after outside) last result)
     → BatchPost meets_disk_assumption represents crash_exposes_only acts form step gives text first last outside result
 comes {S = S} meets_disk_assumption represents crash_exposes_only acts form step gives rem first head desk place r last text outside result earlier keeps so told stops = record {
@@ -252,7 +273,8 @@ comes {S = S} meets_disk_assumption represents crash_exposes_only acts form step
 }
 
 -- the postcondition, if each call was answered
-pub comes_answered : {D S X C R : Type 0} (meets_disk_assumption : D → Type 0) (represents : D → S → Type 0) (crash_exposes_only : D → S → S → Type 0) (acts : RowCallRelation D X) (form : Fields → ReadResult X) (step : RowStep S X)
+pub comes_answered : {D S X C R : Type 0} (meets_disk_assumption : D → Type 0) (represents : D → S → Type 0) (crash_exposes_only : D → S → S → Type 0)
+    (acts : RowCallRelation D X) (form : Fields → ReadResult X) (step : RowStep S X)
     (gives : C → ℕ → C → Type 0) (rem : R → Option Text) (first : D) (head : BatchStart C R) (desk : D) (place : BatchPosition C R)
     (r : HasReachedPosition meets_disk_assumption (RepresentsDurably represents crash_exposes_only) acts form step gives rem first head desk place)
     (text : Option Text) (was now : Option Text) (result : Result Counts BatchFault) → IfErr result (λ fault. DeskFaultIsMemory fault.kind)
@@ -260,13 +282,17 @@ pub comes_answered : {D S X C R : Type 0} (meets_disk_assumption : D → Type 0)
     → IsBatchResult form other gives text (record { base = base; after = after; clock = head.clock; later = place.later; old = was; new = now }) result)
     → BatchPost meets_disk_assumption represents crash_exposes_only acts form step gives text first desk (record { clock = head.clock; later = place.later; old = was; new = now }) result
 comes_answered meets_disk_assumption represents crash_exposes_only acts form step gives rem first head desk place r text was now result memory so =
-    comes meets_disk_assumption represents crash_exposes_only acts form step gives rem first head desk place r desk text (record { clock = head.clock; later = place.later; old = was; new = now }) result
-    (λ good. good) (λ good base stood. stood) so (tells_all meets_disk_assumption (RepresentsDurably represents crash_exposes_only) acts form step gives rem first head desk place r text was now result memory so)
+    comes meets_disk_assumption represents crash_exposes_only acts form step gives rem first head desk place r desk text
+    (record { clock = head.clock; later = place.later; old = was; new = now }) result
+    (λ good. good) (λ good base stood. stood) so
+    (tells_all meets_disk_assumption (RepresentsDurably represents crash_exposes_only) acts form step gives rem first head desk place r text was now result
+    memory so)
     (λ good base after turns stood alone.
     alone_at form step gives crash_exposes_only text (record { base = base; after = after; clock = head.clock; later = place.later; old = was; new = now }) desk result alone)
 
 -- the postcondition, if the desk was not called
-pub comes_at_once : {D S X C : Type 0} (meets_disk_assumption : D → Type 0) (represents : D → S → Type 0) (crash_exposes_only : D → S → S → Type 0) (acts : RowCallRelation D X) (form : Fields → ReadResult X) (step : RowStep S X)
+pub comes_at_once : {D S X C : Type 0} (meets_disk_assumption : D → Type 0) (represents : D → S → Type 0) (crash_exposes_only : D → S → S → Type 0)
+    (acts : RowCallRelation D X) (form : Fields → ReadResult X) (step : RowStep S X)
     (gives : C → ℕ → C → Type 0) (desk : D) (text : Option Text) (clock : C) (was now : Option Text) (result : Result Counts BatchFault) → IfErr result (λ fault. DeskFaultIsMemory fault.kind)
     → ((T : Type 0) (other : RowStep T X) (base : T) → IsBatchResult form other gives text (record { base = base; after = base; clock = clock; later = clock; old = was; new = now }) result)
     → BatchPost meets_disk_assumption represents crash_exposes_only acts form step gives text desk desk (record { clock = clock; later = clock; old = was; new = now }) result

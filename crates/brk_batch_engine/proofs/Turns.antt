@@ -77,7 +77,8 @@ next_leaves cfg s fields field (c ∷ rest) q e =
     go (is_end (step cfg s c).1) refl e (next_leaves cfg (step cfg s c).0 (fields_after (step cfg s c).1 fields field) (field_after (step cfg s c).1 c field) rest q)
   where
     go : (b : Bool) → is_end (step cfg s c).1 ≡ b
-        → cond b (Some (fields_after (step cfg s c).1 fields field, (step cfg s c).0, rest)) (next_record cfg (step cfg s c).0 (fields_after (step cfg s c).1 fields field) (field_after (step cfg s c).1 c field) rest) ≡ Some q
+        → cond b (Some (fields_after (step cfg s c).1 fields field, (step cfg s c).0, rest))
+        (next_record cfg (step cfg s c).0 (fields_after (step cfg s c).1 fields field) (field_after (step cfg s c).1 c field) rest) ≡ Some q
         → (next_record cfg (step cfg s c).0 (fields_after (step cfg s c).1 fields field) (field_after (step cfg s c).1 c field) rest ≡ Some q → LeavesReaderBetweenRecords rest q)
         → LeavesReaderBetweenRecords (c ∷ rest) q
     go true t e more =
@@ -96,7 +97,8 @@ takes_one cfg s (c ∷ rest) q h e =
     go (is_end (step cfg s c).1) refl e (next_leaves cfg (step cfg s c).0 (fields_after (step cfg s c).1 [] []) (field_after (step cfg s c).1 c []) rest q)
   where
     go : (b : Bool) → is_end (step cfg s c).1 ≡ b
-        → cond b (Some (fields_after (step cfg s c).1 [] [], (step cfg s c).0, rest)) (next_record cfg (step cfg s c).0 (fields_after (step cfg s c).1 [] []) (field_after (step cfg s c).1 c []) rest) ≡ Some q
+        → cond b (Some (fields_after (step cfg s c).1 [] [], (step cfg s c).0, rest))
+        (next_record cfg (step cfg s c).0 (fields_after (step cfg s c).1 [] []) (field_after (step cfg s c).1 c []) rest) ≡ Some q
         → (next_record cfg (step cfg s c).0 (fields_after (step cfg s c).1 [] []) (field_after (step cfg s c).1 c []) rest ≡ Some q → LeavesReaderBetweenRecords rest q)
         → IsBetweenRecords q.1 × (length q.2 + 1 ≤ length (c ∷ rest))
     go true t e more =

@@ -1,5 +1,6 @@
 -- The sums that the tables of a base in order hold are those of their rows.
-use Rattle.std.proofs.Common.{◌≡◌, ◌≢◌, ℕ, ◌+◌, ◌==◌, zero, suc, Bool, true, false, not, cond, List, [], ◌∷◌, refl, sym, ◌∙◌, ap, subst, length, map, filter, arith, ℤ, pos, negsuc, neg_ℤ, ◌+ℤ◌, Some, None}
+use Rattle.std.proofs.Common.{◌≡◌, ◌≢◌, ℕ, ◌+◌, ◌==◌, zero, suc, Bool, true, false, not, cond, List, [], ◌∷◌, refl, sym, ◌∙◌, ap, subst, length, map, filter}
+use Rattle.std.proofs.Common.{arith, ℤ, pos, negsuc, neg_ℤ, ◌+ℤ◌, Some, None}
 use Rattle.std.specs.Prelude.{bytes_eq, find, flat_map, is_some, sum_by}
 use Rattle.std.specs.Option.{option_map_or}
 use Rattle.std.specs.List.{AllByRecursion}
@@ -20,7 +21,8 @@ use Rattle.brk_model.specs.Records.{Account, Broker}
 use Rattle.brk_model.specs.Sheets.{sheets, tables_sorted_by_key}
 use Rattle.brk_model.specs.Tables.{AccountRow, BrokerRow, HoldingRow, SummaryRow, account_row, broker_row, holding_row, summary_rows, tables_of_base_in_schema, trade_row}
 use Rattle.brk_book_theorems.specs.Books.{HasDistinctAccountIds, BooksInvariant}
-use Rattle.brk_book_theorems.specs.Sums.{TableSumsMatchTheirRows, BalanceMatchesCashRows, BrokerTotalsMatchTrades, SummaryMatchesLots, LotHasSummary, lot_row_quantity_sum_of_position, is_lot_of_position}
+use Rattle.brk_book_theorems.specs.Sums.{TableSumsMatchTheirRows, BalanceMatchesCashRows, BrokerTotalsMatchTrades, SummaryMatchesLots, LotHasSummary}
+use Rattle.brk_book_theorems.specs.Sums.{lot_row_quantity_sum_of_position, is_lot_of_position}
 use Rattle.brk_book_theorems.specs.TradeReads.{holding_rows_of_position, lots_of_position, lot_of_row}
 use Rattle.brk_book_theorems.proofs.Bools.{numbers_back}
 use Rattle.brk_book_theorems.proofs.Holding.{total_is}
@@ -93,7 +95,8 @@ lots_held base account symbol =
     total-map (λ l. l.qty) lot_of_row (holding_rows_of_position (sheets base) account symbol)
     ∙ total-sorted (λ r. number r.stamp ∷ number r.trade ∷ []) (λ h. h.qty) own
 
-pub held_is : (base : Base) (account : ℕ) (symbol : Text) → BooksInvariant base → lot_row_quantity_sum_of_position (sheets base) account symbol ≡ holding_summary_quantity (completed_trades base) account symbol
+pub held_is : (base : Base) (account : ℕ) (symbol : Text) → BooksInvariant base
+    → lot_row_quantity_sum_of_position (sheets base) account symbol ≡ holding_summary_quantity (completed_trades base) account symbol
 held_is base account symbol books =
     sym (lots_held base account symbol) ∙ total_is base account symbol books
 
@@ -212,7 +215,8 @@ lots_known base books =
     (All-filter (λ t. AccountOfTradeExists base t × SecurityOfTradeExists base t) is_completed base.trades
     (All-both (AccountOfTradeExists base) (SecurityOfTradeExists base) base.trades books.accounts books.securities))))
 
-nothing_held : (base : Base) (account : ℕ) (symbol : Text) → BooksInvariant base → lot_row_quantity_sum_of_position (sheets base) account symbol ≡ pos 0 → filter (is_lot_of_position account symbol) (sheets base).holdings ≡ []
+nothing_held : (base : Base) (account : ℕ) (symbol : Text) → BooksInvariant base → lot_row_quantity_sum_of_position (sheets base) account symbol ≡ pos 0
+    → filter (is_lot_of_position account symbol) (sheets base).holdings ≡ []
 nothing_held base account symbol books e =
     let position : lots_of_position (sheets base) account symbol ≡ [] =
     no_lots (lots_of_position (sheets base) account symbol) (position_read base account symbol books) (lots_held base account symbol ∙ e) in
@@ -232,7 +236,9 @@ lot_summed base books h k = by_test (is_zero (holding_summary_quantity (complete
         (held_is base h.account h.symbol books ∙ zero_is (holding_summary_quantity (completed_trades base) h.account h.symbol) e)))
     by_test false e =
         ap is_some (reads_summary_row base h.account h.symbol books k.0.0 k.0.1)
-        ∙ ap (λ b. is_some (cond b None (Some (let row : SummaryRow = record { account = h.account; symbol = h.symbol; qty = holding_summary_quantity (completed_trades base) h.account h.symbol } in row)))) e
+        ∙ ap (λ b. is_some (cond b None
+        (Some (let row : SummaryRow =
+        record { account = h.account; symbol = h.symbol; qty = holding_summary_quantity (completed_trades base) h.account h.symbol } in row)))) e
 
 all_summed : (base : Base) → BooksInvariant base → AllByRecursion (LotHasSummary (sheets base)) (sheets base).holdings
 all_summed base books =

@@ -55,7 +55,8 @@ find-only {Row = Row} key p (x ∷ xs) h = by_test (find-only key p xs h.1) (p x
   where
     by_test : find p (rows_sorted_by_key key xs) ≡ find p xs → (b : Bool) → p x ≡ b → find p (insert_by (is_row_key_less key) x (rows_sorted_by_key key xs)) ≡ find p (x ∷ xs)
     by_test ih true e =
-        find-first (is_row_key_less key) p x (rows_sorted_by_key key xs) e (any-none p (rows_sorted_by_key key xs) (any-sorted key p xs ∙ none-any p xs (h.0 e))) ∙ sym (ap (λ b. cond b (Some x) (find p xs)) e)
+        find-first (is_row_key_less key) p x (rows_sorted_by_key key xs) e
+        (any-none p (rows_sorted_by_key key xs) (any-sorted key p xs ∙ none-any p xs (h.0 e))) ∙ sym (ap (λ b. cond b (Some x) (find p xs)) e)
     by_test ih false e = find-past (is_row_key_less key) p x (rows_sorted_by_key key xs) e ∙ ih ∙ sym (ap (λ b. cond b (Some x) (find p xs)) e)
 
 find-filter : {X : Type 0} (q p : X → Bool) (xs : List X) → find p (filter q xs) ≡ find (λ x. q x && p x) xs
@@ -114,7 +115,8 @@ only_band tier kind exchange qty (b ∷ bs) h = (
     other c apart e false g = g
     other c apart e true g = absurd (not_both (bands_overlap b c) (both_meet tier kind exchange qty b c e g) apart)
 
-pub reads_band : (base : Base) (tier : ℕ) (kind : TradeType) (exchange : Text) (qty : ℕ) → BooksInvariant base → commission_band_of_quantity (sheets base) tier kind exchange qty ≡ commission_band_for_quantity base tier kind exchange qty
+pub reads_band : (base : Base) (tier : ℕ) (kind : TradeType) (exchange : Text) (qty : ℕ) → BooksInvariant base
+    → commission_band_of_quantity (sheets base) tier kind exchange qty ≡ commission_band_for_quantity base tier kind exchange qty
 unfolding tables_of_base_in_schema tables_sorted_by_key
 reads_band base tier kind exchange qty books =
     find-filter (λ r. (r.tier == tier) && is_same_trade_type r.kind kind && bytes_eq r.exchange exchange) (λ r. nat_le r.from_qty qty && nat_le qty r.to_qty) (rows_sorted_by_key band_key base.bands)

@@ -28,11 +28,13 @@ early_then : (last : Option ℕ) (now : ℕ) (t : Trade) → TradeStampIsAtMostL
 early_then None now t e = absurd e
 early_then (Some l) now t e = omega arith
 
-pub later : (base : Base) (now : ℕ) → AllByRecursion (TradeStampIsAtMostLastStamp base.last) (completed_trades base) → AllByRecursion (TradeStampIsAtMostLastStamp (Some (stamp_of_next_command base now))) (completed_trades base)
+pub later : (base : Base) (now : ℕ) → AllByRecursion (TradeStampIsAtMostLastStamp base.last) (completed_trades base)
+    → AllByRecursion (TradeStampIsAtMostLastStamp (Some (stamp_of_next_command base now))) (completed_trades base)
 later base now h = All-map (completed_trades base) (λ t e. early_then base.last now t e) h
 
 -- moments stay in order where a stamp comes and no completion
-pub later_times : (base : Base) (now : ℕ) → stamp_of_next_command base now ≤ greatest_stamp → CompletionBooksInvariant base.last (completed_trades base) → CompletionBooksInvariant (Some (stamp_of_next_command base now)) (completed_trades base)
+pub later_times : (base : Base) (now : ℕ) → stamp_of_next_command base now ≤ greatest_stamp → CompletionBooksInvariant base.last (completed_trades base)
+    → CompletionBooksInvariant (Some (stamp_of_next_command base now)) (completed_trades base)
 later_times base now h k = record { early = later base now k.early; moments = k.moments; clock = h }
 
 -- ---- trades that came to another status, and were not completed before or after

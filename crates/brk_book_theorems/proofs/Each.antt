@@ -104,6 +104,8 @@ by_key-parts {Row = Row} key p (x ∷ xs) h = ap (insert_row_by_key key x) (by_k
     others e [] k = tt
     others e (y ∷ ys) k = ((λ s. rows_commute key x y s (h x y e k.0)), others e ys k.1)
 
-    by_test : (b : Bool) → p x ≡ b → insert_row_by_key key x (each (insert_row_by_key key) P (rows_sorted_by_key key N)) ≡ each (insert_row_by_key key) (cond b (x ∷ P) P) (rows_sorted_by_key key (cond (not b) (x ∷ N) N))
+    by_test : (b : Bool) → p x ≡ b
+        → insert_row_by_key key x (each (insert_row_by_key key) P (rows_sorted_by_key key N))
+        ≡ each (insert_row_by_key key) (cond b (x ∷ P) P) (rows_sorted_by_key key (cond (not b) (x ∷ N) N))
     by_test true e = refl
     by_test false e = past_all (insert_row_by_key key) x P (rows_sorted_by_key key N) (others e P (all_pass p xs))

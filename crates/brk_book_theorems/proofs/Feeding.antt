@@ -19,7 +19,8 @@ use Rattle.brk_model.specs.Feed.{is_triggered_by_tick, is_triggering_price, secu
 use Rattle.brk_changes.specs.Changes.{tables_with_last_trade_replaced}
 use Rattle.brk_model.specs.Names.{TradesAreNumberedFrom}
 use Rattle.brk_book_theorems.specs.Books.{HasOneStatusChangeIfPending, HasOneStatusChange, HasDistinctSymbols}
-use Rattle.brk_book_theorems.specs.Trading.{tables_after_cancel, tables_with_trades_submitted, last_trade_row_after_tick, tables_with_last_trade_after_tick, tables_after_tick, tables_after_feed, trade_ids_triggered_by_feed}
+use Rattle.brk_book_theorems.specs.Trading.{tables_after_cancel, tables_with_trades_submitted, last_trade_row_after_tick, tables_with_last_trade_after_tick}
+use Rattle.brk_book_theorems.specs.Trading.{tables_after_tick, tables_after_feed, trade_ids_triggered_by_feed}
 use Rattle.brk_book_theorems.proofs.Order.{by_key-map}
 use Rattle.brk_book_theorems.proofs.Same.{NonePass, find-All, All-map, All-mapped, All-of, flat_map-same}
 use Rattle.brk_book_theorems.proofs.Places.{FoundAt, find-at, some_of, map-append, update_where-one, All-updated, is_some-unseen, map-unseen, flat_map-unseen}
@@ -88,7 +89,8 @@ set_rows base stamp tick s d e =
     ap (update_where p (security_after_tick stamp tick)) f.stands ∙ update_where-one p (security_after_tick stamp tick) f.before s f.after f.others f.passes after in
     let lasts =
     ap (λ ss. rows_sorted_by_key last_trade_key (map last_trade_row ss)) moved ∙ priced_last stamp tick f.before s f.after before behind
-    ∙ ap (λ ss. update_where (λ r. bytes_eq r.symbol s.symbol) (set_last (last_trade_row_after_tick stamp tick (last_trade_row s))) (rows_sorted_by_key last_trade_key (map last_trade_row ss))) (sym f.stands) in
+    ∙ ap (λ ss. update_where (λ r. bytes_eq r.symbol s.symbol) (set_last (last_trade_row_after_tick stamp tick (last_trade_row s)))
+    (rows_sorted_by_key last_trade_key (map last_trade_row ss))) (sym f.stands) in
     let rows = map-unseen p (security_after_tick stamp tick) security_row base.securities (λ s. refl) in
     let sums = flat_map-same (λ a. flat_map (λ s. summary_rows (completed_trades base) a.id s.symbol) (update_where p (security_after_tick stamp tick) base.securities))
     (λ a. flat_map (λ s. summary_rows (completed_trades base) a.id s.symbol) base.securities) base.accounts
@@ -103,7 +105,8 @@ priced_rows : (base : Base) (stamp : ℕ) (tick : Tick) (s : Security) → HasDi
     → sheets (base_with_security_after_tick stamp tick base) ≡ tables_with_last_trade_after_tick stamp tick (sheets base)
 priced_rows base stamp tick s d e =
     set_rows base stamp tick s d e
-    ∙ sym (ap (λ o. option_map_or (λ l. tables_with_last_trade_replaced (last_trade_row_after_tick stamp tick l) (sheets base)) o (sheets base)) (reads_last_trade base tick.symbol ∙ ap (option_map last_trade_row) e))
+    ∙ sym (ap (λ o. option_map_or (λ l. tables_with_last_trade_replaced (last_trade_row_after_tick stamp tick l) (sheets base)) o (sheets base))
+    (reads_last_trade base tick.symbol ∙ ap (option_map last_trade_row) e))
 
 -- ---- a tick, and ticks one after another
 
@@ -127,7 +130,11 @@ ticked_rows base stamp tick s r e =
 
 symbols_kept : (tick : Tick) (stamp : ℕ) (ss : List Security) → HasDistinctSymbols ss → HasDistinctSymbols (update_where (λ s. bytes_eq s.symbol tick.symbol) (security_after_tick stamp tick) ss)
 symbols_kept tick stamp [] d = tt
-symbols_kept tick stamp (s ∷ ss) d = (others (bytes_eq s.symbol tick.symbol) (All-updated (λ u. bytes_eq u.symbol s.symbol ≡ false) (λ s. bytes_eq s.symbol tick.symbol) (security_after_tick stamp tick) ss (λ u h. h) d.0), symbols_kept tick stamp ss d.1)
+symbols_kept tick stamp (s ∷ ss) d = (
+  others (bytes_eq s.symbol tick.symbol)
+      (All-updated (λ u. bytes_eq u.symbol s.symbol ≡ false) (λ s. bytes_eq s.symbol tick.symbol) (security_after_tick stamp tick) ss (λ u h. h) d.0),
+  symbols_kept tick stamp ss d.1,
+)
   where
     U : List Security
     U = update_where (λ s. bytes_eq s.symbol tick.symbol) (security_after_tick stamp tick) ss
@@ -147,7 +154,8 @@ ready_tick base stamp tick r = record {
 abbrev pub KnowsTicks : Base → List Tick → Type 0
 KnowsTicks base ticks = AllByRecursion (λ tick. is_some (security_with_symbol base tick.symbol) ≡ true) ticks
 
-pub known_after : (base : Base) (stamp : ℕ) (tick : Tick) (symbol : Text) → is_some (security_with_symbol base symbol) ≡ true → is_some (security_with_symbol (base_after_tick stamp base tick) symbol) ≡ true
+pub known_after : (base : Base) (stamp : ℕ) (tick : Tick) (symbol : Text) → is_some (security_with_symbol base symbol) ≡ true
+    → is_some (security_with_symbol (base_after_tick stamp base tick) symbol) ≡ true
 known_after base stamp tick symbol h =
     is_some-unseen (λ s. bytes_eq s.symbol tick.symbol) (security_after_tick stamp tick) (λ s. bytes_eq s.symbol symbol) base.securities (λ s. refl) ∙ h
 

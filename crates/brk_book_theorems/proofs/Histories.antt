@@ -11,7 +11,8 @@ use Rattle.brk_model.specs.Records.{Trade}
 use Rattle.brk_model.specs.Base.{Base, completed_trades}
 use Rattle.brk_model.specs.Derived.{deal_of_trade, deals_of_position, trades_of_position, shares_of_position}
 use Rattle.brk_model.specs.Shares as model
-use Rattle.brk_model.specs.Shares.{Deal, Share, Touch, closed_share_count_of_deal, changes_lot_quantity, lot_quantity, lots_of_shares, opened_shares, shares_after_deal, signed_by_side, touches_of_existing_lots}
+use Rattle.brk_model.specs.Shares.{Deal, Share, Touch, closed_share_count_of_deal, changes_lot_quantity, lot_quantity, lots_of_shares, opened_shares}
+use Rattle.brk_model.specs.Shares.{shares_after_deal, signed_by_side, touches_of_existing_lots}
 use Rattle.brk_model.specs.Keys.{number, rows_sorted_by_key, holding_history_key, insert_row_by_key}
 use Rattle.brk_model.specs.Tables.{HoldingHistoryRow}
 use Rattle.brk_lots.specs.HistoryRows.{has_quantity_change, changing_rows_of_lot, lot_history_rows_per_deal}
@@ -38,10 +39,18 @@ row_at base t v = holding_history_row_of_touch t.id (touch_at base t v)
 
 rows_last : (lot : ℕ) (shares : List Share) (deals : List Deal) (d : Deal)
     → lot_history_rows_per_deal lot shares (deals ++ d ∷ [])
-    ≡ lot_history_rows_per_deal lot shares deals ++ record { lot = lot; trade = d.trade; before = lot_quantity (fold shares_after_deal shares deals) lot; after = lot_quantity (shares_after_deal (fold shares_after_deal shares deals) d) lot } ∷ []
+    ≡ lot_history_rows_per_deal lot shares deals
+    ++ record {
+      lot = lot;
+      trade = d.trade;
+      before = lot_quantity (fold shares_after_deal shares deals) lot;
+      after =
+          lot_quantity (shares_after_deal (fold shares_after_deal shares deals) d) lot;
+    } ∷ []
 rows_last lot shares [] d = refl
 rows_last lot shares (e ∷ deals) d =
-    ap (λ rows. record { lot = lot; trade = e.trade; before = lot_quantity shares lot; after = lot_quantity (shares_after_deal shares e) lot } ∷ rows) (rows_last lot (shares_after_deal shares e) deals d)
+    ap (λ rows. record { lot = lot; trade = e.trade; before = lot_quantity shares lot; after = lot_quantity (shares_after_deal shares e) lot } ∷ rows)
+    (rows_last lot (shares_after_deal shares e) deals d)
 
 -- none of the deals is of a trade
 abbrev pub Others : ℕ → List Deal → Type 0
@@ -58,16 +67,20 @@ no_rows id shares (d ∷ deals) w h =
     let next : Without id (shares_after_deal shares d) = all_after (λ s. (s.trade == id) ≡ false) d shares h.0 w in
     let row : HoldingHistoryRow = record { lot = id; trade = d.trade; before = lot_quantity shares id; after = lot_quantity (shares_after_deal shares d) id } in
     let still : has_quantity_change row ≡ false = λ i. not (is_zero (lot_without id shares w i -ℤ lot_without id (shares_after_deal shares d) next i)) in
-    ap (λ b. cond b (row ∷ filter has_quantity_change (lot_history_rows_per_deal id (shares_after_deal shares d) deals)) (filter has_quantity_change (lot_history_rows_per_deal id (shares_after_deal shares d) deals))) still
+    ap (λ b. cond b (row ∷ filter has_quantity_change (lot_history_rows_per_deal id (shares_after_deal shares d) deals))
+    (filter has_quantity_change (lot_history_rows_per_deal id (shares_after_deal shares d) deals))) still
     ∙ no_rows id (shares_after_deal shares d) deals next h.1
 
-others_of : (base : Base) (xs : List Trade) (t : Trade) (ys : List Trade) → Completes base xs t ys → (account : ℕ) (symbol : Text) → Others t.id (deals_of_position (completed_trades base) account symbol)
+others_of : (base : Base) (xs : List Trade) (t : Trade) (ys : List Trade) → Completes base xs t ys → (account : ℕ) (symbol : Text)
+    → Others t.id (deals_of_position (completed_trades base) account symbol)
 others_of base xs t ys c account symbol =
     All-mapped (λ d. (d.trade == t.id) ≡ false) deal_of_trade (trades_held base account symbol) (of_held (λ u. (u.id == t.id) ≡ false) base account symbol c.fresh)
 
 -- the rows of a lot of the position, with that of the trade
 own_rows : (base : Base) (xs : List Trade) (t : Trade) (ys : List Trade) → Completes base xs t ys → (v : Trade) → is_here t v ≡ true
-    → changing_rows_of_lot (xs ++ t ∷ ys) v ≡ filter has_quantity_change (lot_history_rows_per_deal v.id [] (deals_of_position (completed_trades base) t.account t.symbol)) ++ filter has_quantity_change (row_at base t v ∷ [])
+    → changing_rows_of_lot (xs ++ t ∷ ys) v
+    ≡ filter has_quantity_change (lot_history_rows_per_deal v.id [] (deals_of_position (completed_trades base) t.account t.symbol))
+    ++ filter has_quantity_change (row_at base t v ∷ [])
 unfolding shares_of_position
 own_rows base xs t ys c v e =
     let D : List Deal = deals_of_position (completed_trades base) t.account t.symbol in
@@ -106,7 +119,9 @@ its_rows base xs t ys c v true e =
     let old : List HoldingHistoryRow = filter has_quantity_change (lot_history_rows_per_deal v.id [] D) in
     let new : List HoldingHistoryRow = filter has_quantity_change (row_at base t v ∷ []) in
     ap (filter (is_of t.id)) (own_rows base xs t ys c v e) ∙ filter-append (is_of t.id) old new
-    ∙ (λ i. filter-none (is_of t.id) old (All-filter (λ r. (r.trade == t.id) ≡ false) has_quantity_change (lot_history_rows_per_deal v.id [] D) (rows_of_others t.id v.id [] D (others_of base xs t ys c t.account t.symbol))) i
+    ∙ (λ i. filter-none (is_of t.id) old
+    (All-filter (λ r. (r.trade == t.id) ≡ false) has_quantity_change (lot_history_rows_per_deal v.id [] D)
+    (rows_of_others t.id v.id [] D (others_of base xs t ys c t.account t.symbol))) i
     ++ one_row (is_of t.id) has_quantity_change (row_at base t v) (eq-eqb t.id t.id refl) i)
     ∙ sym (ap (λ b. cond b new []) e)
 its_rows base xs t ys c v false e =
@@ -117,11 +132,15 @@ its_rows base xs t ys c v false e =
     ∙ sym (ap (λ b. cond b (filter has_quantity_change (row_at base t v ∷ [])) []) e)
 
 kept_all : (base : Base) (xs : List Trade) (t : Trade) (ys : List Trade) → Completes base xs t ys → (lot account : ℕ) (symbol : Text)
-    → filter (λ r. not (r.trade == t.id)) (filter has_quantity_change (lot_history_rows_per_deal lot [] (deals_of_position (completed_trades base) account symbol))) ≡ filter has_quantity_change (lot_history_rows_per_deal lot [] (deals_of_position (completed_trades base) account symbol))
+    → filter (λ r. not (r.trade == t.id))
+    (filter has_quantity_change (lot_history_rows_per_deal lot [] (deals_of_position (completed_trades base) account symbol)))
+    ≡ filter has_quantity_change (lot_history_rows_per_deal lot [] (deals_of_position (completed_trades base) account symbol))
 kept_all base xs t ys c lot account symbol =
     let D : List Deal = deals_of_position (completed_trades base) account symbol in
     filter-all (λ r. not (r.trade == t.id)) (filter has_quantity_change (lot_history_rows_per_deal lot [] D))
-    (All-map (filter has_quantity_change (lot_history_rows_per_deal lot [] D)) (λ r k. ap not k) (All-filter (λ r. (r.trade == t.id) ≡ false) has_quantity_change (lot_history_rows_per_deal lot [] D) (rows_of_others t.id lot [] D (others_of base xs t ys c account symbol))))
+    (All-map (filter has_quantity_change (lot_history_rows_per_deal lot [] D)) (λ r k. ap not k)
+    (All-filter (λ r. (r.trade == t.id) ≡ false) has_quantity_change (lot_history_rows_per_deal lot [] D)
+    (rows_of_others t.id lot [] D (others_of base xs t ys c account symbol))))
 
 other_rows : (base : Base) (xs : List Trade) (t : Trade) (ys : List Trade) → Completes base xs t ys → (v : Trade) (b : Bool) → is_here t v ≡ b
     → filter (λ r. not (r.trade == t.id)) (changing_rows_of_lot (xs ++ t ∷ ys) v) ≡ changing_rows_of_lot (completed_trades base) v
@@ -238,7 +257,8 @@ put_changes id touched rows = fold (λ rows touch. insert_row_by_key holding_his
 
 -- as the deal touches them, from its end
 touched_put : (base : Base) (xs : List Trade) (t : Trade) (ys : List Trade) → Completes base xs t ys → (rows : List HoldingHistoryRow)
-    → each (put_at base t) (filter (is_here t) (completed_trades base)) rows ≡ put_changes t.id (list_reversed_if_lifo t.is_lifo (touches_of_existing_lots (deal_of_trade t) (shares_before base t))) rows
+    → each (put_at base t) (filter (is_here t) (completed_trades base)) rows
+    ≡ put_changes t.id (list_reversed_if_lifo t.is_lifo (touches_of_existing_lots (deal_of_trade t) (shares_before base t))) rows
 touched_put base xs t ys c rows =
     let P : List Trade = trades_of_position (completed_trades base) t.account t.symbol in
     let H : List Trade = trades_held base t.account t.symbol in
@@ -306,7 +326,8 @@ apart_keys id x y e f k = let j : x.trade ≡ y.trade = trade_of x.lot x.trade y
 pub histories_after : (base : Base) (xs : List Trade) (t : Trade) (ys : List Trade) → Completes base xs t ys
     → rows_sorted_by_key holding_history_key (flat_map (changing_rows_of_lot (xs ++ t ∷ ys)) (xs ++ t ∷ ys))
     ≡ put_openings (lots_of_shares (opened_shares (deal_of_trade t) (shares_before base t)))
-    (put_changes t.id (list_reversed_if_lifo t.is_lifo (touches_of_existing_lots (deal_of_trade t) (shares_before base t))) (rows_sorted_by_key holding_history_key (flat_map (changing_rows_of_lot (completed_trades base)) (completed_trades base))))
+    (put_changes t.id (list_reversed_if_lifo t.is_lifo (touches_of_existing_lots (deal_of_trade t) (shares_before base t)))
+    (rows_sorted_by_key holding_history_key (flat_map (changing_rows_of_lot (completed_trades base)) (completed_trades base))))
 histories_after base xs t ys c =
     let K = holding_history_key in
     let old : List HoldingHistoryRow = rows_sorted_by_key K (flat_map (changing_rows_of_lot (completed_trades base)) (completed_trades base)) in

@@ -43,12 +43,14 @@ deals_summed done account symbol =
     total-map (λ d. signed_by_side d.side d.qty) deal_of_trade (sort_by_key last_status_stamp_of_trade (trades_of_position done account symbol))
     ∙ total-sort (λ t. signed_by_side (side_of_trade_type t.kind) t.qty) _ (trades_of_position done account symbol)
 
-shares_spelled : (base : Base) (account : ℕ) (symbol : Text) → BooksInvariant base → shares_of_lots (lots_of_position (sheets base) account symbol) ≡ replay (deals_of_position (completed_trades base) account symbol)
+shares_spelled : (base : Base) (account : ℕ) (symbol : Text) → BooksInvariant base
+    → shares_of_lots (lots_of_position (sheets base) account symbol) ≡ replay (deals_of_position (completed_trades base) account symbol)
 unfolding shares_of_position
 shares_spelled base account symbol books = shares_read base account symbol books
 
 -- the lots add up to the trades
-pub total_is : (base : Base) (account : ℕ) (symbol : Text) → BooksInvariant base → lot_quantity_sum (lots_of_position (sheets base) account symbol) ≡ holding_summary_quantity (completed_trades base) account symbol
+pub total_is : (base : Base) (account : ℕ) (symbol : Text) → BooksInvariant base
+    → lot_quantity_sum (lots_of_position (sheets base) account symbol) ≡ holding_summary_quantity (completed_trades base) account symbol
 total_is base account symbol books =
     quantities_add_up (deals_of_position (completed_trades base) account symbol) (lots_of_position (sheets base) account symbol) (shares_spelled base account symbol books)
     ∙ deals_summed (completed_trades base) account symbol

@@ -11,7 +11,8 @@ use Rattle.brk_model.specs.Records.{Trade}
 use Rattle.brk_model.specs.Base.{Base, completed_trades, is_completed}
 use Rattle.brk_model.specs.Derived.{deal_of_trade, trades_of_position, shares_of_position}
 use Rattle.brk_model.specs.Shares as model
-use Rattle.brk_model.specs.Shares.{Deal, Touch, closed_share_count_of_deal, changes_lot_quantity, lot_quantity, lots_of_shares, opened_share, opened_shares, signed_by_side, touches_of_existing_lots, touch_of_lot}
+use Rattle.brk_model.specs.Shares.{Deal, Touch, closed_share_count_of_deal, changes_lot_quantity, lot_quantity, lots_of_shares, opened_share, opened_shares}
+use Rattle.brk_model.specs.Shares.{signed_by_side, touches_of_existing_lots, touch_of_lot}
 use Rattle.brk_model.specs.Keys.{number, rows_sorted_by_key, holding_key, insert_row_by_key, is_row_key_less}
 use Rattle.brk_model.specs.Sheets.{sheets}
 use Rattle.brk_model.specs.Tables.{HoldingRow, holding_row, trade_row}
@@ -32,7 +33,8 @@ use Rattle.brk_book_theorems.proofs.TradeReading.{trades_stand}
 use Rattle.brk_book_theorems.proofs.LotReading.{All-sort, IdsApart, holdings_in_order, is_left, numbered_rise, rise_apart, rise_filter}
 use Rattle.brk_book_theorems.proofs.LotOrder.{both_hold, new_read, of_held, of_its_account, of_its_symbol, shares_read, trades_held}
 use Rattle.brk_book_theorems.proofs.Touching.{touches_read, zero_unchanged}
-use Rattle.brk_book_theorems.proofs.Completing.{All-passing, All-unfilter, All-unsort, Completes, here_itself, here_shares, is_here, of_here, one_of_id, shares_before, shares_elsewhere, shares_here, shares_then}
+use Rattle.brk_book_theorems.proofs.Completing.{All-passing, All-unfilter, All-unsort, Completes, here_itself, here_shares, is_here, of_here, one_of_id}
+use Rattle.brk_book_theorems.proofs.Completing.{shares_before, shares_elsewhere, shares_here, shares_then}
 use Rattle.brk_book_theorems.proofs.LotSetting.{Between, Fits, Settled, Untouched, all_set, row_with, rows_with, set_lots}
 
 -- ---- the touches of a result
@@ -79,7 +81,8 @@ touch_fits base xs t ys c =
     (All-passing F changes_lot_quantity (map (touch_at base t) H) (All-mapped (λ touch. changes_lot_quantity touch ≡ true → F touch) (touch_at base t) H
     (fit H one (both_hold (λ w. is_here t w ≡ true) (λ w. (t.id == w.id) ≡ false) H (here_held base t) (fresh_held base xs t ys c)))))
   where
-    there : (w : Trade) → is_here t w ≡ true → (t.id == w.id) ≡ false → changes_lot_quantity (touch_at base t w) ≡ true → (b : Bool) → is_zero (qty_before base w) ≡ b → is_zero (qty_before base w) ≡ false
+    there : (w : Trade) → is_here t w ≡ true → (t.id == w.id) ≡ false → changes_lot_quantity (touch_at base t w) ≡ true → (b : Bool)
+        → is_zero (qty_before base w) ≡ b → is_zero (qty_before base w) ≡ false
     there w here other changes false e = e
     there w here other changes true e =
         let z : is_zero (lot_quantity (shares_before base t) w.id) ≡ true = ap (λ shares. is_zero (lot_quantity shares w.id)) (sym (here_shares (completed_trades base) t w here)) ∙ e in
@@ -97,12 +100,15 @@ touch_fits base xs t ys c =
         → AllByRecursion (λ w. changes_lot_quantity (touch_at base t w) ≡ true → Fits (qty_before base) (qty_after (xs ++ t ∷ ys)) (completed_trades base) (touch_at base t w)) ws
     fit [] one h = tt
     fit (w ∷ ws) one h = (
-      (λ changes. All-map (completed_trades base) (λ v same e. subst (λ u. ((touch_at base t w).after ≡ qty_after (xs ++ t ∷ ys) u) × (is_zero (qty_before base u) ≡ false)) (sym (same e)) (fits_itself w h.0.0 h.0.1 changes)) one.0),
+      (λ changes. All-map (completed_trades base)
+          (λ v same e. subst (λ u. ((touch_at base t w).after ≡ qty_after (xs ++ t ∷ ys) u) × (is_zero (qty_before base u) ≡ false)) (sym (same e))
+          (fits_itself w h.0.0 h.0.1 changes)) one.0),
       fit ws one.1 h.1,
     )
 
 -- a lot that is not touched stays as it was
-stays : (base : Base) (t : Trade) (ws : List Trade) → AllByRecursion (λ w. Untouched (filter changes_lot_quantity (map (touch_at base t) ws)) w.id → changes_lot_quantity (touch_at base t w) ≡ false) ws
+stays : (base : Base) (t : Trade) (ws : List Trade)
+    → AllByRecursion (λ w. Untouched (filter changes_lot_quantity (map (touch_at base t) ws)) w.id → changes_lot_quantity (touch_at base t w) ≡ false) ws
 stays base t [] = tt
 stays base t (w ∷ ws) = by_test (changes_lot_quantity (touch_at base t w)) refl (stays base t ws)
   where
@@ -136,10 +142,14 @@ settled_first base xs t ys c =
     let Q : Trade → Type 0 = λ v. Untouched T v.id → changes_lot_quantity (touch_at base t v) ≡ false in
     let held : AllByRecursion Q H = subst (λ ts. AllByRecursion (λ v. Untouched ts v.id → changes_lot_quantity (touch_at base t v) ≡ false) H) (sym (touched_are base xs t ys c)) (stays base t H) in
     let here : AllByRecursion (λ v. is_here t v ≡ true → Q v) (completed_trades base) =
-    All-unfilter Q (is_here t) (completed_trades base) (subst (AllByRecursion Q) (sym (of_here t (completed_trades base))) (All-unsort Q _ (trades_of_position (completed_trades base) t.account t.symbol) held)) in
+    All-unfilter Q (is_here t) (completed_trades base)
+    (subst (AllByRecursion Q) (sym (of_here t (completed_trades base)))
+    (All-unsort Q _ (trades_of_position (completed_trades base) t.account t.symbol) held)) in
     All-map (completed_trades base) (λ v q w. same v (is_here t v) refl q (all_back (λ touch. (v.id == touch.lot) ≡ false) t.is_lifo T w)) here
   where
-    same : (v : Trade) (b : Bool) → is_here t v ≡ b → (is_here t v ≡ true → Untouched (touches_of_existing_lots (deal_of_trade t) (shares_before base t)) v.id → changes_lot_quantity (touch_at base t v) ≡ false)
+    same : (v : Trade) (b : Bool) → is_here t v ≡ b
+        → (is_here t v ≡ true → Untouched (touches_of_existing_lots (deal_of_trade t) (shares_before base t)) v.id
+        → changes_lot_quantity (touch_at base t v) ≡ false)
         → Untouched (touches_of_existing_lots (deal_of_trade t) (shares_before base t)) v.id → qty_before base v ≡ qty_after (xs ++ t ∷ ys) v
     same v true e q w =
         ap (λ shares. lot_quantity shares v.id) (here_shares (completed_trades base) t v e) ∙ sym (same_qty base t v (q e w))
@@ -151,7 +161,8 @@ between_first before after [] = tt
 between_first before after (v ∷ ts) = (inl refl, between_first before after ts)
 
 pub touched_set : (base : Base) (xs : List Trade) (t : Trade) (ys : List Trade) → Completes base xs t ys
-    → set_lots (list_reversed_if_lifo t.is_lifo (touches_of_existing_lots (deal_of_trade t) (shares_before base t))) (sheets base).holdings ≡ rows_with (qty_after (xs ++ t ∷ ys)) (completed_trades base)
+    → set_lots (list_reversed_if_lifo t.is_lifo (touches_of_existing_lots (deal_of_trade t) (shares_before base t))) (sheets base).holdings
+    ≡ rows_with (qty_after (xs ++ t ∷ ys)) (completed_trades base)
 touched_set base xs t ys c =
     let ends : List Touch = list_reversed_if_lifo t.is_lifo (touches_of_existing_lots (deal_of_trade t) (shares_before base t)) in
     ap (set_lots ends) (holdings_in_order base c.books.numbered)
@@ -181,8 +192,12 @@ signed_none Buy = refl
 signed_none Sell = refl
 
 -- one lot or none, by the number of shares that it opens
-pub opened_lots : (d : Deal) (n : ℕ) → lots_of_shares (replicate n (opened_share d)) ≡ cond (is_zero (signed_by_side d.side n)) [] (record { trade = d.trade; price = d.price; stamp = d.stamp; qty = signed_by_side d.side n } ∷ [])
-opened_lots d zero = lots_alike 0 (opened_share d) ∙ sym (ap (λ q. cond (is_zero q) [] (record { trade = d.trade; price = d.price; stamp = d.stamp; qty = signed_by_side d.side 0 } ∷ [])) (signed_none d.side))
+pub opened_lots : (d : Deal) (n : ℕ)
+    → lots_of_shares (replicate n (opened_share d))
+    ≡ cond (is_zero (signed_by_side d.side n)) [] (record { trade = d.trade; price = d.price; stamp = d.stamp; qty = signed_by_side d.side n } ∷ [])
+opened_lots d zero = lots_alike 0 (opened_share d)
+    ∙ sym (ap (λ q. cond (is_zero q) [] (record { trade = d.trade; price = d.price; stamp = d.stamp; qty = signed_by_side d.side 0 } ∷ []))
+    (signed_none d.side))
 opened_lots d (suc n) =
     lots_some (suc n) (opened_share d) (omega arith)
     ∙ sym (ap (λ b. cond {A = List model.Lot} b [] (record { trade = d.trade; price = d.price; stamp = d.stamp; qty = signed_by_side d.side (suc n) } ∷ [])) (signed_some d.side n))
@@ -203,7 +218,9 @@ open_lots t opened rows = fold (λ rows lot. insert_row_by_key holding_key (hold
 
 -- one row more, or none
 with_own : (g : Trade → ℤ) (xs : List Trade) (t : Trade) (ys : List Trade) → NonePass (λ u. u.id == t.id) xs → (b : Bool) → is_zero (g t) ≡ b
-    → rows_sorted_by_key holding_key (rows_with g (xs ++ t ∷ ys)) ≡ cond b (rows_sorted_by_key holding_key (rows_with g (xs ++ ys))) (insert_row_by_key holding_key (row_with g t) (rows_sorted_by_key holding_key (rows_with g (xs ++ ys))))
+    → rows_sorted_by_key holding_key (rows_with g (xs ++ t ∷ ys))
+    ≡ cond b (rows_sorted_by_key holding_key (rows_with g (xs ++ ys)))
+    (insert_row_by_key holding_key (row_with g t) (rows_sorted_by_key holding_key (rows_with g (xs ++ ys))))
 with_own g xs t ys h b e = ap (rows_sorted_by_key holding_key) (parts b e) ∙ by_test b
   where
     R : List Trade → List HoldingRow
@@ -221,7 +238,8 @@ with_own g xs t ys h b e = ap (rows_sorted_by_key holding_key) (parts b e) ∙ b
         number_of : (m n : ℕ) → number m ∷ [] ≡ number n ∷ [] → m ≡ n
         number_of m n e = cc
 
-    by_test : (b : Bool) → rows_sorted_by_key holding_key (R xs ++ cond (not b) (row_with g t ∷ R ys) (R ys)) ≡ cond b (rows_sorted_by_key holding_key (R (xs ++ ys))) (insert_row_by_key holding_key (row_with g t) (rows_sorted_by_key holding_key (R (xs ++ ys))))
+    by_test : (b : Bool) → rows_sorted_by_key holding_key (R xs ++ cond (not b) (row_with g t ∷ R ys) (R ys))
+        ≡ cond b (rows_sorted_by_key holding_key (R (xs ++ ys))) (insert_row_by_key holding_key (row_with g t) (rows_sorted_by_key holding_key (R (xs ++ ys))))
     by_test true = ap (rows_sorted_by_key holding_key) (sym (append xs ys))
     by_test false =
         by_key-middle holding_key (R xs) (row_with g t) (R ys) (All-filter _ is_left (map (row_with g) xs) (other_key xs h))
@@ -229,7 +247,8 @@ with_own g xs t ys h b e = ap (rows_sorted_by_key holding_key) (parts b e) ∙ b
 
 pub holdings_after : (base : Base) (xs : List Trade) (t : Trade) (ys : List Trade) → Completes base xs t ys
     → rows_sorted_by_key holding_key (filter is_left (map (holding_row (xs ++ t ∷ ys)) (xs ++ t ∷ ys)))
-    ≡ open_lots t (lots_of_shares (opened_shares (deal_of_trade t) (shares_before base t))) (set_lots (list_reversed_if_lifo t.is_lifo (touches_of_existing_lots (deal_of_trade t) (shares_before base t))) (sheets base).holdings)
+    ≡ open_lots t (lots_of_shares (opened_shares (deal_of_trade t) (shares_before base t)))
+    (set_lots (list_reversed_if_lifo t.is_lifo (touches_of_existing_lots (deal_of_trade t) (shares_before base t))) (sheets base).holdings)
 holdings_after base xs t ys c =
     with_own g xs t ys (All-front (λ u. (u.id == t.id) ≡ false) xs ys (subst (NonePass (λ u. u.id == t.id)) c.split c.fresh)) (is_zero (g t)) refl
     ∙ (λ i. cond (is_zero (own i)) (others i) (insert_row_by_key holding_key (record (row_with g t) { qty = own i }) (others i)))

@@ -72,7 +72,8 @@ books_customer_tax base now x k e =
 
 -- ---- permissions
 
-permissions_more : (ps : List Permission) (p : Permission) → NonePass (λ q. (q.account == p.account) && bytes_eq q.tax_id p.tax_id) ps → HasDistinctPermissions ps → HasDistinctPermissions (ps ++ p ∷ [])
+permissions_more : (ps : List Permission) (p : Permission) → NonePass (λ q. (q.account == p.account) && bytes_eq q.tax_id p.tax_id) ps
+    → HasDistinctPermissions ps → HasDistinctPermissions (ps ++ p ∷ [])
 permissions_more [] p h d = (tt, tt)
 permissions_more (q ∷ ps) p h d = (
   All-append (λ r. ((r.account == q.account) && bytes_eq r.tax_id q.tax_id) ≡ false) ps (p ∷ []) d.0

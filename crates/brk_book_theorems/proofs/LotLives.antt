@@ -108,7 +108,8 @@ zero_left a b e f = let d : a -ℤ b ≡ pos 0 = zero_is (a -ℤ b) (is_true (is
     is_true false f = absurd (cc)
 
 -- the first deal that changes the lot of a trade is that trade's
-opened_first : (id : ℕ) (side : Side) (shares : List Share) (deals : List Deal) → OneSide side shares → Without id shares → AreDistinctAscendingDeals deals → BeginsWithTradeOfLot id (filter has_quantity_change (lot_history_rows_per_deal id shares deals))
+opened_first : (id : ℕ) (side : Side) (shares : List Share) (deals : List Deal) → OneSide side shares → Without id shares → AreDistinctAscendingDeals deals
+    → BeginsWithTradeOfLot id (filter has_quantity_change (lot_history_rows_per_deal id shares deals))
 opened_first id side shares [] one w a = tt
 opened_first id side shares (d ∷ deals) one w a = by_trade (d.trade == id) refl (opened_first id next.0 after deals next.1)
   where
@@ -133,7 +134,8 @@ opened_first id side shares (d ∷ deals) one w a = by_trade (d.trade == id) ref
         let none : Without id after = without_of next.0 id after next.1 (zero_left (lot_quantity shares id) (lot_quantity after id) (lot_without id shares w) e) in
         subst (BeginsWithTradeOfLot id) (sym (no_rows id after deals none (others own))) tt
 
-    by_trade : (b : Bool) → (d.trade == id) ≡ b → (Without id after → AreDistinctAscendingDeals deals → BeginsWithTradeOfLot id rest) → BeginsWithTradeOfLot id (cond (has_quantity_change row) (row ∷ rest) rest)
+    by_trade : (b : Bool) → (d.trade == id) ≡ b → (Without id after → AreDistinctAscendingDeals deals → BeginsWithTradeOfLot id rest)
+        → BeginsWithTradeOfLot id (cond (has_quantity_change row) (row ∷ rest) rest)
     by_trade true e again = by_own (has_quantity_change row) refl (eqb-true d.trade id e)
     by_trade false e again =
         subst (λ c. BeginsWithTradeOfLot id (cond c (row ∷ rest) rest)) (sym (unchanged id d shares e w)) (again (all_after (λ s. (s.trade == id) ≡ false) d shares e w) a.1)
@@ -183,7 +185,8 @@ abbrev of_lot : ℕ → HoldingHistoryRow → Bool
 of_lot lot h = h.lot == lot
 
 own_lots : (done : List Trade) (t : Trade) → AllByRecursion (λ r. r.lot ≡ t.id) (changing_rows_of_lot done t)
-own_lots done t = All-filter (λ r. r.lot ≡ t.id) has_quantity_change (lot_history_rows_per_deal t.id [] (deals_of_position done t.account t.symbol)) (lots_same t.id [] (deals_of_position done t.account t.symbol))
+own_lots done t = All-filter (λ r. r.lot ≡ t.id) has_quantity_change (lot_history_rows_per_deal t.id [] (deals_of_position done t.account t.symbol))
+    (lots_same t.id [] (deals_of_position done t.account t.symbol))
 
 none_other : (done : List Trade) (lot : ℕ) (ts : List Trade) → NonePass (λ u. u.id == lot) ts → flat_map (λ u. filter (of_lot lot) (changing_rows_of_lot done u)) ts ≡ []
 none_other done lot ts h =
@@ -211,7 +214,8 @@ changes_of : (base : Base) (lot : ℕ) (rows : List HoldingHistoryRow) → filte
 changes_of base lot rows e r =
     let S : HoldingHistoryRow → HoldingHistoryRow → Bool = by (stamp_of_touching_trade (sheets base)) in
     ap (λ rs. sort_by S (filter (of_lot lot) rs)) (history_is base)
-    ∙ ap (sort_by S) (sym (by_key-filter holding_history_key (of_lot lot) (flat_map (changing_rows_of_lot (completed_trades base)) (completed_trades base))) ∙ ap (rows_sorted_by_key holding_history_key) e)
+    ∙ ap (sort_by S) (sym (by_key-filter holding_history_key (of_lot lot) (flat_map (changing_rows_of_lot (completed_trades base)) (completed_trades base)))
+    ∙ ap (rows_sorted_by_key holding_history_key) e)
     ∙ sort_any (stamp_of_touching_trade (sheets base)) (is_row_key_less holding_history_key) rows r
 
 -- ---- what is left
@@ -242,7 +246,8 @@ left_or row (negsuc n) e = e
 abbrev opened : ℕ → HoldingRow → Bool
 opened lot h = h.trade == lot
 
-left_is : (base : Base) (lot : ℕ) (t : Trade) → BooksInvariant base → (f : FoundAt Trade (λ u. u.id == lot) t (completed_trades base)) → remaining_lot_quantity (sheets base) lot ≡ (holding_row (completed_trades base) t).qty
+left_is : (base : Base) (lot : ℕ) (t : Trade) → BooksInvariant base → (f : FoundAt Trade (λ u. u.id == lot) t (completed_trades base))
+    → remaining_lot_quantity (sheets base) lot ≡ (holding_row (completed_trades base) t).qty
 left_is base lot t books f =
     let done : List Trade = completed_trades base in
     let row : Trade → HoldingRow = holding_row done in
@@ -268,7 +273,9 @@ of_done base lot t books e =
     changes_of base lot (changing_rows_of_lot (completed_trades base) t) (own_changes (completed_trades base) lot t (done_apart base books) f) (history_rises base t books) in
     let rows : map touch_of_row (lot_changes_by_stamp (sheets base) lot) ≡ changes_of_lot t.id deals [] = ap (map touch_of_row) changes in
     record {
-      opened = subst (BeginsWithTradeOfLot lot) (sym changes) (subst (λ (n : ℕ). BeginsWithTradeOfLot n (changing_rows_of_lot (completed_trades base) t)) same (opened_first t.id Buy [] deals tt tt (deals_are base t.account t.symbol books)));
+      opened = subst (BeginsWithTradeOfLot lot) (sym changes)
+          (subst (λ (n : ℕ). BeginsWithTradeOfLot n (changing_rows_of_lot (completed_trades base) t)) same
+          (opened_first t.id Buy [] deals tt tt (deals_are base t.account t.symbol books)));
       life = subst (λ rs. IsLotHistory rs (remaining_lot_quantity (sheets base) lot)) (sym rows)
           (subst (λ q. IsLotHistory (changes_of_lot t.id deals []) q) (sym (left_is base lot t books f)) (lot_lives base t.account t.symbol t.id books));
     }
@@ -277,7 +284,9 @@ of_none : (base : Base) (lot : ℕ) → BooksInvariant base → find (λ u. u.id
 of_none base lot books e =
     let none : NonePass (λ u. u.id == lot) (completed_trades base) = find-none (λ u. u.id == lot) (completed_trades base) (ap is_some e) in
     let rows : lot_changes_by_stamp (sheets base) lot ≡ [] =
-    changes_of base lot [] (filter-flat_map (of_lot lot) (changing_rows_of_lot (completed_trades base)) (completed_trades base) ∙ none_other (completed_trades base) lot (completed_trades base) none) tt in
+    changes_of base lot []
+    (filter-flat_map (of_lot lot) (changing_rows_of_lot (completed_trades base)) (completed_trades base)
+    ∙ none_other (completed_trades base) lot (completed_trades base) none) tt in
     let left : remaining_lot_quantity (sheets base) lot ≡ pos 0 =
     ap (λ o. option_map_or (λ h. h.qty) o (pos 0))
     (ap (find (opened lot)) (holdings_in_order base books.numbered)

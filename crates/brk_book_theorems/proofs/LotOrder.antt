@@ -185,7 +185,8 @@ lots_read base account symbol books =
     ap (map lot_of_row) (lots_are base account symbol books.numbered)
     ∙ rows_left done (shares_of_position done account symbol) (trades_held base account symbol)
     (All-map (trades_held base account symbol) (λ t h. qty_here done account symbol t h.0 h.1)
-    (both_hold (λ t. (t.account == account) ≡ true) (λ t. bytes_eq t.symbol symbol ≡ true) (trades_held base account symbol) (All-sort (λ t. (t.account == account) ≡ true) earlier P (of_its_account done account symbol))
+    (both_hold (λ t. (t.account == account) ≡ true) (λ t. bytes_eq t.symbol symbol ≡ true) (trades_held base account symbol)
+    (All-sort (λ t. (t.account == account) ≡ true) earlier P (of_its_account done account symbol))
     (All-sort (λ t. bytes_eq t.symbol symbol ≡ true) earlier P (of_its_symbol done account symbol))))
 
 -- their shares are those of the account in the symbol
@@ -193,7 +194,8 @@ shares_held : (rows : List HoldingRow) → shares_of_lots (map lot_of_row rows) 
 shares_held [] = refl
 shares_held (r ∷ rows) = ap (λ shares. shares_of_lot_row r ++ shares) (shares_held rows)
 
-pub shares_read : (base : Base) (account : ℕ) (symbol : Text) → BooksInvariant base → shares_of_lots (lots_of_position (sheets base) account symbol) ≡ shares_of_position (completed_trades base) account symbol
+pub shares_read : (base : Base) (account : ℕ) (symbol : Text) → BooksInvariant base
+    → shares_of_lots (lots_of_position (sheets base) account symbol) ≡ shares_of_position (completed_trades base) account symbol
 shares_read base account symbol books = shares_held (holding_rows_of_position (sheets base) account symbol) ∙ reads_lots base account symbol books
 
 pub position_read : (base : Base) (account : ℕ) (symbol : Text) → BooksInvariant base → IsPosition (lots_of_position (sheets base) account symbol)
@@ -210,7 +212,8 @@ left_all P shares (t ∷ ts) h =
     elim (is_some_left (lot_upon shares t)) as (λ b. AllByRecursion P (cond b (lot_upon shares t ∷ lots_left shares ts) (lots_left shares ts)))
     [ true ↦ (h.0, left_all P shares ts h.1) | false ↦ left_all P shares ts h.1 ]
 
-pub new_read : (base : Base) (account : ℕ) (symbol : Text) (id : ℕ) → BooksInvariant base → NonePass (λ t. t.id == id) (completed_trades base) → AreOpenedByOtherTrades id (lots_of_position (sheets base) account symbol)
+pub new_read : (base : Base) (account : ℕ) (symbol : Text) (id : ℕ) → BooksInvariant base → NonePass (λ t. t.id == id) (completed_trades base)
+    → AreOpenedByOtherTrades id (lots_of_position (sheets base) account symbol)
 new_read base account symbol id books h =
     let S : List Share = shares_of_position (completed_trades base) account symbol in
     let ts : List Trade = trades_held base account symbol in

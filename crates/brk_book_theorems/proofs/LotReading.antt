@@ -87,7 +87,8 @@ unfolding sort_by
 sort_same [] r = refl
 sort_same (t ∷ ts) r =
     insert_same (is_row_key_less age_of) (λ u v. nat_lt (last_status_stamp_of_trade u) (last_status_stamp_of_trade v)) t (rows_sorted_by_key age_of ts)
-    (All-map (rows_sorted_by_key age_of ts) (λ u h. age_before (last_status_stamp_of_trade u) (last_status_stamp_of_trade t) u.id t.id h) (All-sort (λ u. nat_lt t.id u.id ≡ true) (is_row_key_less age_of) ts r.0))
+    (All-map (rows_sorted_by_key age_of ts) (λ u h. age_before (last_status_stamp_of_trade u) (last_status_stamp_of_trade t) u.id t.id h)
+    (All-sort (λ u. nat_lt t.id u.id ≡ true) (is_row_key_less age_of) ts r.0))
     ∙ ap (insert_by (λ u v. nat_lt (last_status_stamp_of_trade u) (last_status_stamp_of_trade v)) t) (sort_same ts r.1)
 
 -- ---- the shares of rows
@@ -107,13 +108,15 @@ rows_told whole [] shares d r h = sym r
 rows_told whole (t ∷ ts) shares d r h =
     let none : lot_quantity r.1 t.id ≡ pos 0 = no_lot t.id (map deal_of_trade ts) r.1 (opened_by_deals t.id ts d.0) r.3 in
     let qty : lot_quantity whole t.id ≡ signed_by_side (side_of_trade_type t.kind) r.0 =
-    h.0 ∙ ap (λ xs. lot_quantity xs t.id) r.2 ∙ lot_own (opened_share (deal_of_trade t)) r.0 r.1 ∙ ap (λ z. signed_by_side (side_of_trade_type t.kind) r.0 +ℤ z) none ∙ +ℤ_idr (signed_by_side (side_of_trade_type t.kind) r.0) in
+    h.0 ∙ ap (λ xs. lot_quantity xs t.id) r.2 ∙ lot_own (opened_share (deal_of_trade t)) r.0 r.1
+    ∙ ap (λ z. signed_by_side (side_of_trade_type t.kind) r.0 +ℤ z) none ∙ +ℤ_idr (signed_by_side (side_of_trade_type t.kind) r.0) in
     let run : shares_of_lot_row (row_upon whole t) ≡ replicate r.0 (opened_share (deal_of_trade t)) =
     ap (λ q. shares_of_lot_row (record (row_upon whole t) { qty = q })) qty ∙ run_told (side_of_trade_type t.kind) r.0 t.id (completion_price t) (last_status_stamp_of_trade t) in
     let others : AllByRecursion (λ u. lot_quantity whole u.id ≡ lot_quantity r.1 u.id) ts = left ts h.1 d.0 in
     (λ i. run i ++ rows_told whole ts r.1 d.1 r.3 others i) ∙ sym r.2
   where
-    left : (us : List Trade) → AllByRecursion (λ u. lot_quantity whole u.id ≡ lot_quantity shares u.id) us → NonePass (λ u. u.id == t.id) us → AllByRecursion (λ u. lot_quantity whole u.id ≡ lot_quantity r.1 u.id) us
+    left : (us : List Trade) → AllByRecursion (λ u. lot_quantity whole u.id ≡ lot_quantity shares u.id) us → NonePass (λ u. u.id == t.id) us
+        → AllByRecursion (λ u. lot_quantity whole u.id ≡ lot_quantity r.1 u.id) us
     left [] h n = tt
     left (u ∷ us) h n = (h.0 ∙ ap (λ xs. lot_quantity xs u.id) r.2 ∙ lot_other u.id (opened_share (deal_of_trade t)) r.0 r.1 (numbers_back t.id u.id ∙ n.0), left us h.1 n.1)
 
@@ -182,7 +185,9 @@ position_rise base account symbol n =
     (rise_filter (λ t. t.account == account) (completed_trades base) (rise_filter is_completed base.trades (numbered_rise 1 base.trades n)))
 
 pub lots_are : (base : Base) (account : ℕ) (symbol : Text) → TradesAreNumberedFrom 1 base.trades
-    → holding_rows_of_position (sheets base) account symbol ≡ filter is_left (map (holding_row (completed_trades base)) (sort_by_key last_status_stamp_of_trade (trades_of_position (completed_trades base) account symbol)))
+    → holding_rows_of_position (sheets base) account symbol
+    ≡ filter is_left (map (holding_row (completed_trades base))
+    (sort_by_key last_status_stamp_of_trade (trades_of_position (completed_trades base) account symbol)))
 lots_are base account symbol n =
     let done : List Trade = completed_trades base in
     let row : Trade → HoldingRow = holding_row done in
@@ -219,7 +224,8 @@ rows_upon done account symbol (t ∷ ts) g h =
     let s : t.symbol ≡ symbol = same_text t.symbol symbol h.0 in
     λ i. shares_of_lot_row (record (holding_row done t) { qty = lot_quantity (shares_of_position done (a i) (s i)) t.id }) ++ rows_upon done account symbol ts g.1 h.1 i
 
-pub reads_lots : (base : Base) (account : ℕ) (symbol : Text) → BooksInvariant base → flat_map shares_of_lot_row (holding_rows_of_position (sheets base) account symbol) ≡ shares_of_position (completed_trades base) account symbol
+pub reads_lots : (base : Base) (account : ℕ) (symbol : Text) → BooksInvariant base
+    → flat_map shares_of_lot_row (holding_rows_of_position (sheets base) account symbol) ≡ shares_of_position (completed_trades base) account symbol
 unfolding shares_of_position
 reads_lots base account symbol books =
     let done : List Trade = completed_trades base in
@@ -227,7 +233,9 @@ reads_lots base account symbol books =
     let before : Trade → Trade → Bool = λ t u. nat_lt (last_status_stamp_of_trade t) (last_status_stamp_of_trade u) in
     let ts : List Trade = sort_by before P in
     let accounts : AllByRecursion (λ t. (t.account == account) ≡ true) ts =
-    All-sort (λ t. (t.account == account) ≡ true) before P (All-filter (λ t. (t.account == account) ≡ true) (λ t. bytes_eq t.symbol symbol) (trades_of_account done account) (all_pass (λ t. t.account == account) done)) in
+    All-sort (λ t. (t.account == account) ≡ true) before P
+    (All-filter (λ t. (t.account == account) ≡ true) (λ t. bytes_eq t.symbol symbol) (trades_of_account done account)
+    (all_pass (λ t. t.account == account) done)) in
     let symbols : AllByRecursion (λ t. bytes_eq t.symbol symbol ≡ true) ts =
     All-sort (λ t. bytes_eq t.symbol symbol ≡ true) before P (all_pass (λ t. bytes_eq t.symbol symbol) (trades_of_account done account)) in
     let apart : IdsApart ts = apart_sort before P (rise_apart P (position_rise base account symbol books.numbered)) in
@@ -236,6 +244,8 @@ reads_lots base account symbol books =
     ∙ rows_upon done account symbol ts accounts symbols
     ∙ rows_told (shares_of_position done account symbol) ts (shares_of_position done account symbol) apart (runs_of (map deal_of_trade ts)) (same ts)
   where
-    same : (us : List Trade) → AllByRecursion (λ t. lot_quantity (shares_of_position (completed_trades base) account symbol) t.id ≡ lot_quantity (shares_of_position (completed_trades base) account symbol) t.id) us
+    same : (us : List Trade)
+        → AllByRecursion (λ t. lot_quantity (shares_of_position (completed_trades base) account symbol) t.id
+        ≡ lot_quantity (shares_of_position (completed_trades base) account symbol) t.id) us
     same [] = tt
     same (u ∷ us) = (refl, same us)

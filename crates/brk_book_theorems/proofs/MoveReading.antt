@@ -120,5 +120,6 @@ from_none m n e = omega (arith, e)
 pub reads_last_move : (base : Base) → last_cash_row_number_or_zero (sheets base) ≡ length (postings_of_base base)
 unfolding tables_of_base_in_schema tables_sorted_by_key
 reads_last_move base =
-    ap (λ rows. unwrap_or (option_map (λ r. r.id) (slice_get (reverse rows) 0)) 0) (numbered_stay 1 (postings_sorted_by_stamp (postings_of_base base))) ∙ number_last 0 (postings_sorted_by_stamp (postings_of_base base))
+    ap (λ rows. unwrap_or (option_map (λ r. r.id) (slice_get (reverse rows) 0)) 0) (numbered_stay 1 (postings_sorted_by_stamp (postings_of_base base)))
+    ∙ number_last 0 (postings_sorted_by_stamp (postings_of_base base))
     ∙ from_none (length (postings_sorted_by_stamp (postings_of_base base))) (length (postings_of_base base)) (length_sort (λ a b. nat_lt a.stamp b.stamp) (postings_of_base base))

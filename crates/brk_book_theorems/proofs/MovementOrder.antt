@@ -56,18 +56,21 @@ apart_completion : (xs : List Trade) (t : Trade) (ys : List Trade) (ms : List Mo
     → HasDistinctMovementStamps (xs ++ t ∷ ys) ms
 apart_completion xs t ys [] h k = tt
 apart_completion xs t ys (m ∷ ms) h k = (
-  All-append (HasLastStatusAtOtherStamp m.stamp) xs (t ∷ ys) (All-front (HasLastStatusAtOtherStamp m.stamp) xs ys k.0) (otherwhen m.stamp (last_status_stamp_of_trade t) h.0, All-back (HasLastStatusAtOtherStamp m.stamp) xs ys k.0),
+  All-append (HasLastStatusAtOtherStamp m.stamp) xs (t ∷ ys) (All-front (HasLastStatusAtOtherStamp m.stamp) xs ys k.0)
+      (otherwhen m.stamp (last_status_stamp_of_trade t) h.0, All-back (HasLastStatusAtOtherStamp m.stamp) xs ys k.0),
   k.1,
   apart_completion xs t ys ms h.1 k.2,
 )
 
-pub movements_completion : {accounts : List Account} {last : Option ℕ} (xs : List Trade) (t : Trade) (ys : List Trade) (ms : List Movement) → AllByRecursion (λ m. m.stamp < last_status_stamp_of_trade t) ms
+pub movements_completion : {accounts : List Account} {last : Option ℕ} (xs : List Trade) (t : Trade) (ys : List Trade) (ms : List Movement)
+    → AllByRecursion (λ m. m.stamp < last_status_stamp_of_trade t) ms
     → MovementBooksInvariant accounts last (xs ++ ys) ms → MovementBooksInvariant accounts last (xs ++ t ∷ ys) ms
 movements_completion xs t ys ms h k = record { holders = k.holders; early = k.early; apart = apart_completion xs t ys ms h k.apart }
 
 -- ---- with a movement more, after all others and all completions
 
-apart_movement : (done : List Trade) (ms : List Movement) (m : Movement) → AllByRecursion (λ t. last_status_stamp_of_trade t < m.stamp) done → AllByRecursion (λ n. n.stamp < m.stamp) ms → HasDistinctMovementStamps done ms
+apart_movement : (done : List Trade) (ms : List Movement) (m : Movement) → AllByRecursion (λ t. last_status_stamp_of_trade t < m.stamp) done
+    → AllByRecursion (λ n. n.stamp < m.stamp) ms → HasDistinctMovementStamps done ms
     → HasDistinctMovementStamps done (ms ++ m ∷ [])
 apart_movement done [] m g h k = (All-map done (λ t e. before_it (last_status_stamp_of_trade t) m.stamp e) g, tt, tt)
 apart_movement done (n ∷ ms) m g h k = (

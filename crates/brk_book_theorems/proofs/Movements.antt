@@ -11,7 +11,8 @@ use Rattle.brk_model.specs.Lists.{total_by}
 use Rattle.brk_model.specs.Records.{Account, Movement, SettleRule, Trade}
 use Rattle.brk_model.specs.Base.{Base, account_with_id, completed_trades, last_status_stamp_of_trade, opening_balance_in_accounts}
 use Rattle.brk_model.specs.Commands.{Command, DepositCash, WithdrawCash, SetOneDay}
-use Rattle.brk_model.specs.Derived.{balance_of_account, due_day, postings_sorted_by_stamp, postings_to_account, posting_of_movement, postings, postings_of_base, days_to_settlement, shares_of_position, holding_summary_quantity, trade_count_of_broker, commission_total_of_broker}
+use Rattle.brk_model.specs.Derived.{balance_of_account, due_day, postings_sorted_by_stamp, postings_to_account, posting_of_movement, postings, postings_of_base}
+use Rattle.brk_model.specs.Derived.{days_to_settlement, shares_of_position, holding_summary_quantity, trade_count_of_broker, commission_total_of_broker}
 use Rattle.brk_model.specs.Keys.{account_key, rows_sorted_by_key, cash_move_key, settlement_key}
 use Rattle.brk_model.specs.Movements.{deposit_movement, withdrawal_movement, base_after_movement, base_with_settlement_day}
 use Rattle.brk_model.specs.Sheets.{sheets, tables_sorted_by_key}
@@ -66,18 +67,21 @@ accounts_stand base m =
     accounts_posted base.accounts base.accounts (postings_of_base base) (postings_of_base (base_after_movement base m)) m.account (others_stay base m)
 
 movement_sheets : (base : Base) (now : ℕ) (m : Movement) → BooksInvariant base → m.stamp ≡ stamp_of_next_command base now
-    → sheets (record (base_after_movement base m) { last = Some (stamp_of_next_command base now) }) ≡ tables_with_last_stamp (stamp_of_next_command base now) (tables_after_movement base m (sheets base))
+    → sheets (record (base_after_movement base m) { last = Some (stamp_of_next_command base now) })
+    ≡ tables_with_last_stamp (stamp_of_next_command base now) (tables_after_movement base m (sheets base))
 unfolding tables_of_base_in_schema tables_sorted_by_key
 movement_sheets base now m books e = λ i. record (tables_with_last_stamp (stamp_of_next_command base now) (sheets base)) {
   accounts = accounts_stand base m i;
   moves = row_stands base now m books e i;
 }
 
-pub step_deposit : (base : Base) (now account amount : ℕ) → HasTableEffect base now (DepositCash account amount) (tables_after_movement base (deposit_movement (stamp_of_next_command base now) account amount))
+pub step_deposit : (base : Base) (now account amount : ℕ)
+    → HasTableEffect base now (DepositCash account amount) (tables_after_movement base (deposit_movement (stamp_of_next_command base now) account amount))
 unfolding base_after_command_unstamped
 step_deposit base now account amount books e = movement_sheets base now (deposit_movement (stamp_of_next_command base now) account amount) books refl
 
-pub step_withdrawal : (base : Base) (now account amount : ℕ) → HasTableEffect base now (WithdrawCash account amount) (tables_after_movement base (withdrawal_movement (stamp_of_next_command base now) account amount))
+pub step_withdrawal : (base : Base) (now account amount : ℕ)
+    → HasTableEffect base now (WithdrawCash account amount) (tables_after_movement base (withdrawal_movement (stamp_of_next_command base now) account amount))
 unfolding base_after_command_unstamped
 step_withdrawal base now account amount books e = movement_sheets base now (withdrawal_movement (stamp_of_next_command base now) account amount) books refl
 
@@ -90,9 +94,12 @@ too_late : (day n k : ℕ) → nat_le day n ≡ false → k ≤ n → nat_le day
 too_late day n k h l = grind (arith, nat_tests)
 
 -- a completion before the day that is set keeps its due day
-due_day_stays : (base : Base) (now day : ℕ) (t : Trade) → last_status_stamp_of_trade t < stamp_of_next_command base now → nat_le day (day_of (stamp_of_next_command base now)) ≡ false → due_day (Some day) t ≡ due_day None t
+due_day_stays : (base : Base) (now day : ℕ) (t : Trade) → last_status_stamp_of_trade t < stamp_of_next_command base now
+    → nat_le day (day_of (stamp_of_next_command base now)) ≡ false → due_day (Some day) t ≡ due_day None t
 due_day_stays base now day t h e =
-    ap (λ b. day_of (last_status_stamp_of_trade t) + cond b 1 2) (too_late day (day_of (stamp_of_next_command base now)) (day_of (last_status_stamp_of_trade t)) e (same_day (last_status_stamp_of_trade t) (stamp_of_next_command base now) (omega (arith, h))))
+    ap (λ b. day_of (last_status_stamp_of_trade t) + cond b 1 2)
+    (too_late day (day_of (stamp_of_next_command base now)) (day_of (last_status_stamp_of_trade t)) e
+    (same_day (last_status_stamp_of_trade t) (stamp_of_next_command base now) (omega (arith, h))))
 
 pub unset : (rule : SettleRule) → is_some rule ≡ false → rule ≡ None
 unset None e = refl
@@ -103,7 +110,9 @@ pub due_days_stay : (base : Base) (now day : ℕ) → BooksInvariant base → re
 unfolding checks_of_command
 due_days_stay base now day books e =
     let none : base.rule ≡ None = unset base.rule (passed base now (SetOneDay day) e).0 in
-    All-map (completed_trades base) (λ t h. due_day_stays base now day t h (not_too_early base now (SetOneDay day) e) ∙ ap (λ (rule : SettleRule). due_day rule t) (sym none)) (all_before base now books)
+    All-map (completed_trades base)
+    (λ t h. due_day_stays base now day t h (not_too_early base now (SetOneDay day) e) ∙ ap (λ (rule : SettleRule). due_day rule t) (sym none))
+    (all_before base now books)
 
 pub step_one_day : (base : Base) (now day : ℕ) → HasTableEffect base now (SetOneDay day) (tables_with_settlement_day day)
 unfolding base_after_command_unstamped tables_of_base_in_schema tables_sorted_by_key

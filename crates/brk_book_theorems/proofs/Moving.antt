@@ -78,7 +78,8 @@ history_of_others row (t ∷ ts) h =
     number_of m n j k e = cc
 
 -- so have the rows of a trade's one mark
-own_history : (stamp : ℕ) (status : Status) (t : Trade) (marks : List StatusChange) → t.marks ≡ marks → HasOneStatusChange marks → has_last_status Pending t ≡ true → is_same_trade_status status Pending ≡ false
+own_history : (stamp : ℕ) (status : Status) (t : Trade) (marks : List StatusChange) → t.marks ≡ marks → HasOneStatusChange marks
+    → has_last_status Pending t ≡ true → is_same_trade_status status Pending ≡ false
     → NewKey history_key (history_row_of_status t.id status stamp) (history_rows t)
 own_history stamp status t [] e one p s = absurd one
 own_history stamp status t (m ∷ n ∷ marks) e one p s = absurd one
@@ -121,7 +122,9 @@ moved_requests accounts stamp status xs t ys g h p s =
     filter-not_one (has_last_status Pending) xs (trade_with_status_change stamp status t) ys (status_of_marked stamp status Pending t ∙ s) in
     let before : pending_trades (xs ++ t ∷ ys) ≡ pending_trades xs ++ t ∷ pending_trades ys = filter-one (has_last_status Pending) xs t ys p in
     let left : (ts : List Trade) → ids_other t.id ts → filter other (R (pending_trades ts)) ≡ R (pending_trades ts) = λ ts k.
-    filter-all other (R (pending_trades ts)) (All-mapped _ (request_row accounts) (pending_trades ts) (All-map (pending_trades ts) (λ u e. ap not e) (All-filter (λ u. (u.id == t.id) ≡ false) (has_last_status Pending) ts k))) in
+    filter-all other (R (pending_trades ts))
+    (All-mapped _ (request_row accounts) (pending_trades ts)
+    (All-map (pending_trades ts) (λ u e. ap not e) (All-filter (λ u. (u.id == t.id) ≡ false) (has_last_status Pending) ts k))) in
     let own : other (request_row accounts t) ≡ false = ap not (eq-eqb t.id t.id refl) in
     let rows : R (pending_trades (xs ++ trade_with_status_change stamp status t ∷ ys)) ≡ filter other (R (pending_trades (xs ++ t ∷ ys))) =
     ap R after ∙ map-append (request_row accounts) (pending_trades xs) (pending_trades ys)

@@ -301,7 +301,8 @@ filter_insert before p x (y ∷ ys) s h = by_test (filter_insert before p x ys s
         ap (λ b. cond b (x ∷ filter p (y ∷ ys)) (filter p (y ∷ ys))) i ∙ sym k ∙ sym (ap (λ b. cond b (insert_by before x (filter p (y ∷ ys))) (filter p (y ∷ ys))) i)
     here false i e = ap (λ b. cond b (x ∷ filter p (y ∷ ys)) (filter p (y ∷ ys))) i ∙ sym (ap (λ b. cond b (insert_by before x (filter p (y ∷ ys))) (filter p (y ∷ ys))) i)
 
-    by_test : filter p (insert_by before x ys) ≡ cond (p x) (insert_by before x (filter p ys)) (filter p ys) → (b : Bool) → before y x ≡ b → filter p (insert_by before x (y ∷ ys)) ≡ cond (p x) (insert_by before x (filter p (y ∷ ys))) (filter p (y ∷ ys))
+    by_test : filter p (insert_by before x ys) ≡ cond (p x) (insert_by before x (filter p ys)) (filter p ys) → (b : Bool) → before y x ≡ b
+        → filter p (insert_by before x (y ∷ ys)) ≡ cond (p x) (insert_by before x (filter p (y ∷ ys))) (filter p (y ∷ ys))
     by_test ih true e = ap (filter p) (insert_past before x y ys e) ∙ past ih (p x) (p y) refl refl e
     by_test ih false e = ap (filter p) (insert_here before x y ys e) ∙ here (p x) refl e
 
@@ -311,7 +312,8 @@ unfolding sort_by
 sort_filter before p [] s o = refl
 sort_filter before p (x ∷ xs) s o = put (sort_filter before p xs s o) (p x) refl ∙ sym (filter_insert before p x (sort_by before xs) s (sorted_sort before xs s o))
   where
-    put : sort_by before (filter p xs) ≡ filter p (sort_by before xs) → (b : Bool) → p x ≡ b → sort_by before (filter p (x ∷ xs)) ≡ cond (p x) (insert_by before x (filter p (sort_by before xs))) (filter p (sort_by before xs))
+    put : sort_by before (filter p xs) ≡ filter p (sort_by before xs) → (b : Bool) → p x ≡ b
+        → sort_by before (filter p (x ∷ xs)) ≡ cond (p x) (insert_by before x (filter p (sort_by before xs))) (filter p (sort_by before xs))
     put ih true e = rw e (ap (insert_by before x) ih)
     put ih false e = rw e ih
 

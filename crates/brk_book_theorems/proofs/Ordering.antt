@@ -37,9 +37,12 @@ rows_ordered base stamp o waits = tables_after_order (trade_row (trade_of_order 
 
 -- an order completes nothing
 pub ordered_done : (base : Base) (stamp : ℕ) (o : Order) → completed_trades (base_after_order base stamp o) ≡ completed_trades base
-ordered_done base stamp o = filter-not_one is_completed base.trades (trade_of_order base stamp o) [] (first_not_completed (trade_type_of_order_type o.order_type)) ∙ append_nil (filter is_completed base.trades)
+ordered_done base stamp o =
+    filter-not_one is_completed base.trades (trade_of_order base stamp o) [] (first_not_completed (trade_type_of_order_type o.order_type))
+    ∙ append_nil (filter is_completed base.trades)
 
-pub ordered_rows : (base : Base) (stamp : ℕ) (o : Order) → TradesAreNumberedFrom 1 base.trades → sheets (base_after_order base stamp o) ≡ rows_ordered base stamp o (not (is_market_type (trade_type_of_order_type o.order_type)))
+pub ordered_rows : (base : Base) (stamp : ℕ) (o : Order) → TradesAreNumberedFrom 1 base.trades
+    → sheets (base_after_order base stamp o) ≡ rows_ordered base stamp o (not (is_market_type (trade_type_of_order_type o.order_type)))
 unfolding tables_of_base_in_schema tables_sorted_by_key shares_of_position holding_summary_quantity balance_of_account trade_count_of_broker commission_total_of_broker
 ordered_rows base stamp o n = by_market (is_market_type (trade_type_of_order_type o.order_type)) refl
   where

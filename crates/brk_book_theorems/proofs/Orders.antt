@@ -93,7 +93,11 @@ one_order {X = X} n same d (x ∷ xs) (y ∷ ys) c a h =
     let none_below : sum_by (below n (n x)) (x ∷ xs) ≡ 0 =
     sum_none (below n (n x)) (x ∷ xs) (ap (λ b. cond b 1 0) (le-ltb (n x) (n x) (omega arith)), All-map xs (λ l p. ap (λ b. cond b 1 0) (le-ltb (n l) (n x) (omega (arith, p)))) c.0) in
     let none_beside : sum_by (beside n same x) (x ∷ xs) ≡ 0 =
-    sum_none (beside n same x) (x ∷ xs) (rw (eq-eqb (n x) (n x) refl, (d x x).1 refl) refl, All-map xs (λ l p. ap (λ b. cond b (cond (same l x) 0 1) 0) (ne_eqb (n l) (n x) (λ e. absurd (omega (arith, p, e))))) c.0) in
+    sum_none (beside n same x) (x ∷ xs) (
+      rw (eq-eqb (n x) (n x) refl, (d x x).1 refl) refl,
+      All-map xs
+          (λ l p. ap (λ b. cond b (cond (same l x) 0 1) 0) (ne_eqb (n l) (n x) (λ e. absurd (omega (arith, p, e))))) c.0,
+    ) in
     let low : n x ≤ n y = elim (cases_Bool (ltb (n y) (n x))) [
       | inl e ↦
           let one : below n (n x) y ≡ 1 = ap (λ b. cond b 1 0) e in

@@ -52,7 +52,8 @@ position_both xs ys account symbol =
     ap (filter (λ t. bytes_eq t.symbol symbol)) (filter-append (λ t. t.account == account) xs ys)
     ∙ filter-append (λ t. bytes_eq t.symbol symbol) (trades_of_account xs account) (trades_of_account ys account)
 
-pub position_own : (xs : List Trade) (t : Trade) (ys : List Trade) → trades_of_position (xs ++ t ∷ ys) t.account t.symbol ≡ trades_of_position xs t.account t.symbol ++ t ∷ trades_of_position ys t.account t.symbol
+pub position_own : (xs : List Trade) (t : Trade) (ys : List Trade)
+    → trades_of_position (xs ++ t ∷ ys) t.account t.symbol ≡ trades_of_position xs t.account t.symbol ++ t ∷ trades_of_position ys t.account t.symbol
 position_own xs t ys =
     ap (filter (λ u. bytes_eq u.symbol t.symbol)) (filter-one (λ u. u.account == t.account) xs t ys (eq-eqb t.account t.account refl))
     ∙ filter-one (λ u. bytes_eq u.symbol t.symbol) (trades_of_account xs t.account) t (trades_of_account ys t.account) (same_bytes t.symbol)
@@ -121,7 +122,9 @@ shares_other xs t ys account symbol e = ap (fold shares_after_deal []) (deals_ot
 
 -- ---- its summary
 
-pub summary_own : (xs : List Trade) (t : Trade) (ys : List Trade) → holding_summary_quantity (xs ++ t ∷ ys) t.account t.symbol ≡ holding_summary_quantity (xs ++ ys) t.account t.symbol +ℤ signed_by_side (side_of_trade_type t.kind) t.qty
+pub summary_own : (xs : List Trade) (t : Trade) (ys : List Trade)
+    → holding_summary_quantity (xs ++ t ∷ ys) t.account t.symbol ≡ holding_summary_quantity (xs ++ ys) t.account t.symbol +ℤ signed_by_side
+    (side_of_trade_type t.kind) t.qty
 unfolding holding_summary_quantity total_by
 summary_own xs t ys =
     let f = λ (u : Trade). signed_by_side (side_of_trade_type u.kind) u.qty in

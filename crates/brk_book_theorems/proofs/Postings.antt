@@ -146,45 +146,55 @@ new_last n ps p = All-map (numbered_move_rows n ps) (λ r h e. let k : r.id ≡ 
 pub is_before : ℕ → Posting → Type 0
 is_before stamp p = p.stamp < stamp
 
-pub turn_last : (xs : List Posting) (p : Posting) (ys : List Posting) → AllByRecursion (λ q. q.stamp < p.stamp) (xs ++ ys) → postings_sorted_by_stamp (xs ++ p ∷ ys) ≡ postings_sorted_by_stamp (xs ++ ys) ++ p ∷ []
+pub turn_last : (xs : List Posting) (p : Posting) (ys : List Posting) → AllByRecursion (λ q. q.stamp < p.stamp) (xs ++ ys)
+    → postings_sorted_by_stamp (xs ++ p ∷ ys) ≡ postings_sorted_by_stamp (xs ++ ys) ++ p ∷ []
 turn_last xs p ys h =
     sort_last (λ a b. nat_lt a.stamp b.stamp) xs p ys
     (All-map xs (λ q k. grind (arith, nat_tests)) (All-front (λ q. q.stamp < p.stamp) xs ys h))
     (All-map ys (λ q k. grind (arith, nat_tests)) (All-back (λ q. q.stamp < p.stamp) xs ys h))
 
 pub rows_last : (xs : List Posting) (p : Posting) (ys : List Posting) → AllByRecursion (λ q. q.stamp < p.stamp) (xs ++ ys)
-    → rows_sorted_by_key cash_move_key (numbered_move_rows 1 (postings_sorted_by_stamp (xs ++ p ∷ ys))) ≡ insert_row_by_key cash_move_key (cash_move_row (length (xs ++ ys) + 1) p) (rows_sorted_by_key cash_move_key (numbered_move_rows 1 (postings_sorted_by_stamp (xs ++ ys))))
+    → rows_sorted_by_key cash_move_key (numbered_move_rows 1 (postings_sorted_by_stamp (xs ++ p ∷ ys)))
+    ≡ insert_row_by_key cash_move_key (cash_move_row (length (xs ++ ys) + 1) p)
+    (rows_sorted_by_key cash_move_key (numbered_move_rows 1 (postings_sorted_by_stamp (xs ++ ys))))
 rows_last xs p ys h =
     let turned : List Posting = postings_sorted_by_stamp (xs ++ ys) in
     ap (λ ps. rows_sorted_by_key cash_move_key (numbered_move_rows 1 ps)) (turn_last xs p ys h) ∙ ap (rows_sorted_by_key cash_move_key) (numbered_last 1 turned p)
     ∙ by_key-append cash_move_key (numbered_move_rows 1 turned) (cash_move_row (1 + length turned) p) (new_last 1 turned p)
-    ∙ ap (λ n. insert_row_by_key cash_move_key (cash_move_row n p) (rows_sorted_by_key cash_move_key (numbered_move_rows 1 turned))) (number_is (length turned) (length (xs ++ ys)) (length_sort (λ a b. nat_lt a.stamp b.stamp) (xs ++ ys)))
+    ∙ ap (λ n. insert_row_by_key cash_move_key (cash_move_row n p) (rows_sorted_by_key cash_move_key (numbered_move_rows 1 turned)))
+    (number_is (length turned) (length (xs ++ ys)) (length_sort (λ a b. nat_lt a.stamp b.stamp) (xs ++ ys)))
   where
     number_is : (m n : ℕ) → m ≡ n → 1 + m ≡ n + 1
     number_is m n e = omega (arith, e)
 
 pub rows_end : (ps : List Posting) (p : Posting) → AllByRecursion (λ q. q.stamp < p.stamp) ps
-    → rows_sorted_by_key cash_move_key (numbered_move_rows 1 (postings_sorted_by_stamp (ps ++ p ∷ []))) ≡ insert_row_by_key cash_move_key (cash_move_row (length ps + 1) p) (rows_sorted_by_key cash_move_key (numbered_move_rows 1 (postings_sorted_by_stamp ps)))
+    → rows_sorted_by_key cash_move_key (numbered_move_rows 1 (postings_sorted_by_stamp (ps ++ p ∷ [])))
+    ≡ insert_row_by_key cash_move_key (cash_move_row (length ps + 1) p)
+    (rows_sorted_by_key cash_move_key (numbered_move_rows 1 (postings_sorted_by_stamp ps)))
 rows_end ps p h =
     rows_last ps p [] (subst (AllByRecursion (λ q. q.stamp < p.stamp)) (sym (append_nil ps)) h)
     ∙ ap (λ qs. insert_row_by_key cash_move_key (cash_move_row (length qs + 1) p) (rows_sorted_by_key cash_move_key (numbered_move_rows 1 (postings_sorted_by_stamp qs)))) (append_nil ps)
 
 -- ---- what rows move
 
-total_numbered : (n account : ℕ) (ps : List Posting) → total_by (λ r. r.amount) (filter (λ r. r.account == account) (numbered_move_rows n ps)) ≡ total_by (λ p. p.amount) (filter (λ p. p.account == account) ps)
+total_numbered : (n account : ℕ) (ps : List Posting)
+    → total_by (λ r. r.amount) (filter (λ r. r.account == account) (numbered_move_rows n ps)) ≡ total_by (λ p. p.amount) (filter (λ p. p.account == account) ps)
 unfolding total_by
 total_numbered n account [] = refl
 total_numbered n account (p ∷ ps) = by_test (p.account == account) (total_numbered (n + 1) account ps)
   where
     by_test : (b : Bool)
         → total_by (λ r. r.amount) (filter (λ r. r.account == account) (numbered_move_rows (n + 1) ps)) ≡ total_by (λ p. p.amount) (filter (λ p. p.account == account) ps)
-        → total_by (λ r. r.amount) (cond b (cash_move_row n p ∷ filter (λ r. r.account == account) (numbered_move_rows (n + 1) ps)) (filter (λ r. r.account == account) (numbered_move_rows (n + 1) ps)))
+        → total_by (λ r. r.amount)
+        (cond b (cash_move_row n p ∷ filter (λ r. r.account == account) (numbered_move_rows (n + 1) ps))
+        (filter (λ r. r.account == account) (numbered_move_rows (n + 1) ps)))
         ≡ total_by (λ p. p.amount) (cond b (p ∷ filter (λ p. p.account == account) ps) (filter (λ p. p.account == account) ps))
     by_test true ih = ap (λ n. p.amount +ℤ n) ih
     by_test false ih = ih
 
 pub rows_total : (account : ℕ) (ps : List Posting)
-    → total_by (λ r. r.amount) (filter (λ r. r.account == account) (rows_sorted_by_key cash_move_key (numbered_move_rows 1 (postings_sorted_by_stamp ps)))) ≡ total_by (λ p. p.amount) (filter (λ p. p.account == account) ps)
+    → total_by (λ r. r.amount) (filter (λ r. r.account == account) (rows_sorted_by_key cash_move_key (numbered_move_rows 1 (postings_sorted_by_stamp ps))))
+    ≡ total_by (λ p. p.amount) (filter (λ p. p.account == account) ps)
 rows_total account ps =
     ap (λ rows. total_by (λ r. r.amount) (filter (λ r. r.account == account) rows)) (numbered_stay 1 (postings_sorted_by_stamp ps))
     ∙ total_numbered 1 account (postings_sorted_by_stamp ps) ∙ total_sort (λ p. p.amount) (λ p. p.account == account) (λ a b. nat_lt a.stamp b.stamp) ps
@@ -211,7 +221,9 @@ posted_trades accounts (t ∷ ts) account = by_test (t.account == account) (post
 -- its opening, its trades' amounts, and what else moved
 pub balance_parts : (accounts : List Account) (done : List Trade) (ms : List Movement) (account : ℕ)
     → balance_of_account accounts (postings accounts done ms) account
-    ≡ opening_balance_in_accounts accounts account +ℤ (total_by (settlement_amount accounts) (filter (λ t. t.account == account) (cash_trades done)) +ℤ total_by (λ p. p.amount) (postings_to_account (map posting_of_movement ms) account))
+    ≡ opening_balance_in_accounts accounts account +ℤ
+    (total_by (settlement_amount accounts) (filter (λ t. t.account == account) (cash_trades done)) +ℤ total_by (λ p. p.amount)
+    (postings_to_account (map posting_of_movement ms) account))
 unfolding balance_of_account
 balance_parts accounts done ms account =
     ap (λ n. opening_balance_in_accounts accounts account +ℤ n)

@@ -10,7 +10,9 @@ use Rattle.brk_money.specs.declared.status.Status.TheVariants.{Pending}
 use Rattle.brk_model.specs.Lists.{total_by}
 use Rattle.brk_model.specs.Records.{Broker, Customer, Account, Trade}
 use Rattle.brk_model.specs.Base.{Base, account_with_id_in_list, account_with_id, broker_with_id, broker_id_in_accounts, completed_trades, is_completed, has_last_status, last_status_stamp_of_trade}
-use Rattle.brk_model.specs.Derived.{trades_of_account, trades_of_position, trades_of_broker, shares_of_position, holding_summary_quantity, settlement_amount, due_day, posting_of_trade, posting_of_movement, postings, postings_to_account, postings_sorted_by_stamp, balance_of_account, trade_count_of_broker, commission_total_of_broker, cash_trades, pending_trades}
+use Rattle.brk_model.specs.Derived.{trades_of_account, trades_of_position, trades_of_broker, shares_of_position, holding_summary_quantity, settlement_amount}
+use Rattle.brk_model.specs.Derived.{due_day, posting_of_trade, posting_of_movement, postings, postings_to_account, postings_sorted_by_stamp, balance_of_account}
+use Rattle.brk_model.specs.Derived.{trade_count_of_broker, commission_total_of_broker, cash_trades, pending_trades}
 use Rattle.brk_model.specs.Tables.{BrokerRow, AccountRow, tables_of_base_in_schema, broker_row, account_row, request_row, summary_rows, settlement_row, numbered_move_rows}
 use Rattle.brk_model.specs.Keys.{KeyPart, number, rows_sorted_by_key, insert_row_by_key, broker_key, customer_key, account_key, request_key, summary_key, settlement_key, cash_move_key}
 use Rattle.brk_model.specs.Sheets.{sheets, tables_sorted_by_key}
@@ -20,7 +22,8 @@ use Rattle.brk_changes.specs.Changes.{tables_with_broker, tables_with_customer, 
 use Rattle.brk_model.specs.Names.{AccountOfTradeExists, BrokerOfAccountExists}
 use Rattle.brk_book_theorems.specs.Books.{BooksInvariant}
 use Rattle.brk_book_theorems.proofs.Order.{NewKey, by_key-append}
-use Rattle.brk_book_theorems.proofs.Same.{NonePass, All-append, All-map, All-of, All-mapped, All-filter, map-same, map-last, filter-same, filter-none, total_by-same, flat_map-append, flat_map-empty, find-more, find-new, find-none, find-each, find-All}
+use Rattle.brk_book_theorems.proofs.Same.{NonePass, All-append, All-map, All-of, All-mapped, All-filter, map-same, map-last, filter-same, filter-none}
+use Rattle.brk_book_theorems.proofs.Same.{total_by-same, flat_map-append, flat_map-empty, find-more, find-new, find-none, find-each, find-All}
 
 -- ---- rows whose key is new
 
@@ -122,13 +125,15 @@ postings_as_before base a books =
     (All-filter (AccountOfTradeExists base) (λ t. t.is_cash) (completed_trades base) (known_completed base books))))
 
 pub balance_as_before : (base : Base) (a : Account) (id : ℕ) → BooksInvariant base → is_some (account_with_id base id) ≡ true
-    → balance_of_account (more base a) (postings (more base a) (completed_trades base) base.movements) id ≡ balance_of_account base.accounts (postings base.accounts (completed_trades base) base.movements) id
+    → balance_of_account (more base a) (postings (more base a) (completed_trades base) base.movements) id
+    ≡ balance_of_account base.accounts (postings base.accounts (completed_trades base) base.movements) id
 unfolding balance_of_account
 balance_as_before base a id books h =
     λ i. option_map_or (λ a. a.opening) (as_before base a id h i) (pos 0) +ℤ total_by (λ p. p.amount) (postings_to_account (postings_as_before base a books i) id)
 
 -- nothing is posted to an account that is not there
-pub nothing_posted : (base : Base) (id : ℕ) → BooksInvariant base → is_some (account_with_id base id) ≡ false → postings_to_account (postings base.accounts (completed_trades base) base.movements) id ≡ []
+pub nothing_posted : (base : Base) (id : ℕ) → BooksInvariant base → is_some (account_with_id base id) ≡ false
+    → postings_to_account (postings base.accounts (completed_trades base) base.movements) id ≡ []
 nothing_posted base id books h =
     filter-none (λ p. p.account == id) (postings base.accounts (completed_trades base) base.movements)
     (All-append (λ p. (p.account == id) ≡ false) (map (posting_of_trade base.accounts) (cash_trades (completed_trades base))) (map posting_of_movement base.movements)

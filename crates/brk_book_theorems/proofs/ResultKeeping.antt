@@ -46,7 +46,9 @@ pub new_of_waiting : (base : Base) (id account : ℕ) (symbol : Text) (t : Trade
 new_of_waiting base id account symbol t books e w =
     let f : FoundAt Trade (λ u. u.id == id) t base.trades = find-at (λ u. u.id == id) base.trades t e in
     let same : t.id ≡ id = eqb-true t.id id f.passes in
-    let behind : NonePass (λ u. u.id == id) f.after = subst (λ (m : ℕ). NonePass (λ u. u.id == m) f.after) same (numbered_after 1 f.before t f.after (subst (TradesAreNumberedFrom 1) f.stands books.numbered)) in
+    let behind : NonePass (λ u. u.id == id) f.after =
+    subst (λ (m : ℕ). NonePass (λ u. u.id == m) f.after) same
+    (numbered_after 1 f.before t f.after (subst (TradesAreNumberedFrom 1) f.stands books.numbered)) in
     let done : completed_trades base ≡ filter is_completed f.before ++ filter is_completed f.after = ap (filter is_completed) f.stands ∙ filter-not_one is_completed f.before t f.after w in
     new_read base account symbol id books
     (subst (NonePass (λ u. u.id == id)) (sym done)
@@ -58,7 +60,9 @@ pub result_passed : (base : Base) (now id price : ℕ) (t : Trade) → trade_wit
     → AllByRecursion (λ test. test.0 ≡ false) (checks_of_result base (base_after_result base (stamp_of_next_command base now) price t) (stamp_of_next_command base now) t)
 unfolding checks_of_command
 result_passed base now id price t e accepted =
-    subst (λ o. AllByRecursion (λ test. test.0 ≡ false) (option_map_or (λ t. checks_of_result base (base_after_result base (stamp_of_next_command base now) price t) (stamp_of_next_command base now) t) o ((true, NoTrade) ∷ []))) e
+    subst (λ o. AllByRecursion (λ test. test.0 ≡ false)
+    (option_map_or (λ t. checks_of_result base (base_after_result base (stamp_of_next_command base now) price t) (stamp_of_next_command base now) t) o
+    ((true, NoTrade) ∷ []))) e
     (passed base now (CompleteTrade id price) accepted)
 
 -- it names a trade
@@ -69,7 +73,9 @@ result_named base now id price accepted = by_trade (trade_with_id base id) refl
     by_trade : (o : Option Trade) → trade_with_id base id ≡ o → (t : Trade) × (trade_with_id base id ≡ Some t)
     by_trade (Some t) e = (t, e)
     by_trade None e =
-        let k = subst (λ o. AllByRecursion (λ test. test.0 ≡ false) (option_map_or (λ t. checks_of_result base (base_after_result base (stamp_of_next_command base now) price t) (stamp_of_next_command base now) t) o ((true, NoTrade) ∷ []))) e
+        let k = subst (λ o. AllByRecursion (λ test. test.0 ≡ false)
+        (option_map_or (λ t. checks_of_result base (base_after_result base (stamp_of_next_command base now) price t) (stamp_of_next_command base now) t) o
+        ((true, NoTrade) ∷ []))) e
         (passed base now (CompleteTrade id price) accepted) in
         let h : true ≡ false = k.0 in absurd (cc)
 
@@ -82,7 +88,12 @@ pub record Found (base : Base) (now price : ℕ) (t : Trade) : Type 0 where
 pub found_at : (base : Base) (now id price : ℕ) (t : Trade) → BooksInvariant base → trade_with_id base id ≡ Some t → has_last_status Submitted t ≡ true → Found base now price t
 found_at base now id price t books e s =
     let f : FoundAt Trade (λ u. u.id == id) t base.trades = find-at (λ u. u.id == id) base.trades t e in
-    record { front = f.before; back = f.after; result = record { books = books; stands = f.stands; submitted = s; later = all_before base now books; moved = movements_before base now books.movements } }
+    record {
+      front = f.before;
+      back = f.after;
+      result =
+          record { books = books; stands = f.stands; submitted = s; later = all_before base now books; moved = movements_before base now books.movements };
+    }
 
 pub submitted : (base : Base) (now id price : ℕ) (t : Trade) → trade_with_id base id ≡ Some t → refusal_of_command base now (CompleteTrade id price) ≡ None → has_last_status Submitted t ≡ true
 submitted base now id price t e accepted = not_not (has_last_status Submitted t) (result_passed base now id price t e accepted).0
@@ -96,8 +107,12 @@ step_result base now id price t e books accepted =
     let stamp : ℕ = stamp_of_next_command base now in
     let s : has_last_status Submitted t ≡ true = submitted base now id price t e accepted in
     let f : Found base now price t = found_at base now id price t books e s in
-    let a : (a : Account) × (account_with_id base t.account ≡ Some a) = some_of (account_with_id base t.account) (find-All (AccountOfTradeExists base) (λ u. u.id == id) base.trades t books.accounts e) in
-    let y : (y : Security) × (security_with_symbol base t.symbol ≡ Some y) = some_of (security_with_symbol base t.symbol) (find-All (SecurityOfTradeExists base) (λ u. u.id == id) base.trades t books.securities e) in
+    let a : (a : Account)
+    × (account_with_id base t.account ≡ Some a) =
+    some_of (account_with_id base t.account) (find-All (AccountOfTradeExists base) (λ u. u.id == id) base.trades t books.accounts e) in
+    let y : (y : Security)
+    × (security_with_symbol base t.symbol ≡ Some y) =
+    some_of (security_with_symbol base t.symbol) (find-All (SecurityOfTradeExists base) (λ u. u.id == id) base.trades t books.securities e) in
     let marks : AllByRecursion IsNotCompletion t.marks = find-All HasNoCompletionIfSubmitted (λ u. u.id == id) base.trades t books.completions e s in
     whole (base_after_result_by_id base stamp id price) stamp _
     (ap (λ o. sheets (option_map_or (base_after_result base stamp price) o base)) e
@@ -111,10 +126,12 @@ other_moment m n h = grind (arith, nat_tests)
 same_moment : (m n : ℕ) → m < n → (m == n) ≡ false
 same_moment m n h = grind (arith, nat_tests)
 
-moments_more : (xs : List Trade) (t : Trade) (ys : List Trade) → AllByRecursion (λ u. last_status_stamp_of_trade u < last_status_stamp_of_trade t) (xs ++ ys) → HasDistinctLastStatusStamps (xs ++ ys) → HasDistinctLastStatusStamps (xs ++ t ∷ ys)
+moments_more : (xs : List Trade) (t : Trade) (ys : List Trade) → AllByRecursion (λ u. last_status_stamp_of_trade u < last_status_stamp_of_trade t) (xs ++ ys)
+    → HasDistinctLastStatusStamps (xs ++ ys) → HasDistinctLastStatusStamps (xs ++ t ∷ ys)
 moments_more [] t ys h m = (All-map ys (λ u k. same_moment (last_status_stamp_of_trade u) (last_status_stamp_of_trade t) k) h, m)
 moments_more (x ∷ xs) t ys h m = (
-  All-append (λ u. (last_status_stamp_of_trade u == last_status_stamp_of_trade x) ≡ false) xs (t ∷ ys) (All-front (λ u. (last_status_stamp_of_trade u == last_status_stamp_of_trade x) ≡ false) xs ys m.0)
+  All-append (λ u. (last_status_stamp_of_trade u == last_status_stamp_of_trade x) ≡ false) xs (t ∷ ys)
+      (All-front (λ u. (last_status_stamp_of_trade u == last_status_stamp_of_trade x) ≡ false) xs ys m.0)
       (other_moment (last_status_stamp_of_trade x) (last_status_stamp_of_trade t) h.0, All-back (λ u. (last_status_stamp_of_trade u == last_status_stamp_of_trade x) ≡ false) xs ys m.0),
   moments_more xs t ys h.1 m.1,
 )
@@ -166,7 +183,8 @@ books_then base now id price t k e accepted =
       };
       times = record {
         early = subst (AllByRecursion (TradeStampIsAtMostLastStamp (Some stamp))) (sym after)
-            (All-append (TradeStampIsAtMostLastStamp (Some stamp)) A (u ∷ Z) (All-front (TradeStampIsAtMostLastStamp (Some stamp)) A Z early) (no_later (last_status_stamp_of_trade u) stamp moment, All-back (TradeStampIsAtMostLastStamp (Some stamp)) A Z early));
+            (All-append (TradeStampIsAtMostLastStamp (Some stamp)) A (u ∷ Z) (All-front (TradeStampIsAtMostLastStamp (Some stamp)) A Z early)
+            (no_later (last_status_stamp_of_trade u) stamp moment, All-back (TradeStampIsAtMostLastStamp (Some stamp)) A Z early));
         moments = subst HasDistinctLastStatusStamps (sym after) (moments_more A u Z last (subst HasDistinctLastStatusStamps done k.moments));
         clock = in_time base now (CompleteTrade id price) accepted;
       };

@@ -10,18 +10,23 @@ use Rattle.brk_money.specs.declared.status.Status.TheVariants.{Completed, Active
 use Rattle.brk_model.specs.Lists.{is_zero, update_where}
 use Rattle.brk_model.specs.Records.{Account, StatusChange, Security, Trade}
 use Rattle.brk_model.specs.Base.{Base, account_with_id, broker_id_in_accounts, completed_trades, has_last_status, is_completed, last_status_change, last_status_stamp_of_trade, security_with_symbol}
-use Rattle.brk_model.specs.Derived.{Posting, balance_of_account, commission_total_of_broker, deal_of_trade, postings_sorted_by_stamp, pending_trades, posting_of_trade, postings, postings_of_base, trade_count_of_broker}
+use Rattle.brk_model.specs.Derived.{Posting, balance_of_account, commission_total_of_broker, deal_of_trade, postings_sorted_by_stamp, pending_trades}
+use Rattle.brk_model.specs.Derived.{posting_of_trade, postings, postings_of_base, trade_count_of_broker}
 use Rattle.brk_model.specs.Results.{completed_trade, deal_of_result, base_after_result}
 use Rattle.brk_model.specs.Shares as model
 use Rattle.brk_model.specs.Shares.{Touch}
-use Rattle.brk_model.specs.Tables.{BrokerRow, HistoryRow, MoveRow, SummaryRow, Tables, TradeRow, account_row, broker_row, history_rows, holding_row, cash_move_row as numbered_row, numbered_move_rows, request_row, settlement_row, tables_of_base_in_schema, trade_row}
+use Rattle.brk_model.specs.Tables.{BrokerRow, HistoryRow, MoveRow, SummaryRow, Tables, TradeRow, account_row, broker_row, history_rows, holding_row}
+use Rattle.brk_model.specs.Tables.{cash_move_row as numbered_row, numbered_move_rows, request_row, settlement_row, tables_of_base_in_schema, trade_row}
 use Rattle.brk_lots.proofs.HistoryRows.{rows_of_lots_are}
 use Rattle.brk_lots.specs.HistoryRows.{changing_rows_of_lot}
-use Rattle.brk_model.specs.Keys.{number, word, account_key, broker_key, rows_sorted_by_key, history_key, holding_history_key, holding_key, insert_row_by_key, cash_move_key, request_key, settlement_key, summary_key, trade_key}
+use Rattle.brk_model.specs.Keys.{number, word, account_key, broker_key, rows_sorted_by_key, history_key, holding_history_key, holding_key, insert_row_by_key}
+use Rattle.brk_model.specs.Keys.{cash_move_key, request_key, settlement_key, summary_key, trade_key}
 use Rattle.brk_model.specs.Sheets.{sheets, tables_sorted_by_key}
 use Rattle.brk_model.specs.Names.{TradesAreNumberedFrom}
 use Rattle.brk_book_theorems.specs.Books.{BooksInvariant, IsNotCompletion}
-use Rattle.brk_book_theorems.specs.Results.{ResultRows, tables_with_cash_row_if_cash_trade, holding_history_row_of_touch, tables_with_trade_completed_and_history, tables_with_touched_holding, tables_with_lots_opened, tables_after_result, result_rows_of_trade, result_rows_of_deal, tables_with_summary_changed, tables_with_lots_touched}
+use Rattle.brk_book_theorems.specs.Results.{ResultRows, tables_with_cash_row_if_cash_trade, holding_history_row_of_touch}
+use Rattle.brk_book_theorems.specs.Results.{tables_with_trade_completed_and_history, tables_with_touched_holding, tables_with_lots_opened, tables_after_result}
+use Rattle.brk_book_theorems.specs.Results.{result_rows_of_trade, result_rows_of_deal, tables_with_summary_changed, tables_with_lots_touched}
 use Rattle.brk_changes.specs.Changes.{tables_with_broker_totals, tables_with_lot_change, tables_with_settlement}
 use Rattle.brk_book_theorems.specs.Trading.{history_row_of_status}
 use Rattle.brk_book_theorems.proofs.Order.{NewKey, by_key-map, by_key-middle}
@@ -145,12 +150,14 @@ left_is : (touch : Touch) (t : Tables) → tables_with_touched_holding touch t �
 left_is touch t = by_test (is_zero touch.after)
   where
     by_test : (b : Bool)
-        → cond b (record t { holdings = filter (λ r. not (r.trade == touch.lot)) t.holdings }) (record t { holdings = update_where (λ r. r.trade == touch.lot) (λ r. record r { qty = touch.after }) t.holdings })
+        → cond b (record t { holdings = filter (λ r. not (r.trade == touch.lot)) t.holdings })
+        (record t { holdings = update_where (λ r. r.trade == touch.lot) (λ r. record r { qty = touch.after }) t.holdings })
         ≡ record t { holdings = cond b (filter (λ r. not (r.trade == touch.lot)) t.holdings) (update_where (λ r. r.trade == touch.lot) (λ r. record r { qty = touch.after }) t.holdings) }
     by_test true = refl
     by_test false = refl
 
-touched_are : (id : ℕ) (touched : List Touch) (t : Tables) → tables_with_lots_touched id touched t ≡ record t { holdings = set_lots touched t.holdings; holding_history = put_changes id touched t.holding_history }
+touched_are : (id : ℕ) (touched : List Touch) (t : Tables)
+    → tables_with_lots_touched id touched t ≡ record t { holdings = set_lots touched t.holdings; holding_history = put_changes id touched t.holding_history }
 touched_are id [] t = refl
 touched_are id (touch ∷ touched) t =
     ap (λ t. tables_with_lots_touched id touched (tables_with_lot_change (holding_history_row_of_touch id touch) t)) (left_is touch t)
@@ -335,11 +342,14 @@ sheets_then base stamp price t xs ys k a s ea es marks =
     accounts : (b : Bool) → t.is_cash ≡ b → rows_sorted_by_key account_key (map (account_row base.accounts (postings_of_base after)) base.accounts)
         ≡ cond t.is_cash (map (with_other_balance u.account (balance_of_account base.accounts posted u.account)) (sheets base).accounts) (sheets base).accounts
     accounts true e =
-        ap (λ ts. rows_sorted_by_key account_key (map (account_row base.accounts (postings base.accounts ts base.movements)) base.accounts)) then ∙ accounts_after base.accounts base.accounts A u Z base.movements
-        ∙ ap (λ ts. map (with_other_balance u.account (balance_of_account base.accounts posted u.account)) (rows_sorted_by_key account_key (map (account_row base.accounts (postings base.accounts ts base.movements)) base.accounts))) (sym now)
+        ap (λ ts. rows_sorted_by_key account_key (map (account_row base.accounts (postings base.accounts ts base.movements)) base.accounts)) then
+        ∙ accounts_after base.accounts base.accounts A u Z base.movements
+        ∙ ap (λ ts. map (with_other_balance u.account (balance_of_account base.accounts posted u.account))
+        (rows_sorted_by_key account_key (map (account_row base.accounts (postings base.accounts ts base.movements)) base.accounts))) (sym now)
         ∙ sym (ap (λ b. cond b (map (with_other_balance u.account (balance_of_account base.accounts posted u.account)) (sheets base).accounts) (sheets base).accounts) e)
     accounts false e =
-        ap (λ ts. rows_sorted_by_key account_key (map (account_row base.accounts (postings base.accounts ts base.movements)) base.accounts)) then ∙ margin_accounts base.accounts base.accounts A u Z base.movements e
+        ap (λ ts. rows_sorted_by_key account_key (map (account_row base.accounts (postings base.accounts ts base.movements)) base.accounts)) then
+        ∙ margin_accounts base.accounts base.accounts A u Z base.movements e
         ∙ ap (λ ts. rows_sorted_by_key account_key (map (account_row base.accounts (postings base.accounts ts base.movements)) base.accounts)) (sym now)
         ∙ sym (ap (λ b. cond b (map (with_other_balance u.account (balance_of_account base.accounts posted u.account)) (sheets base).accounts) (sheets base).accounts) e)
 
@@ -348,7 +358,8 @@ sheets_then base stamp price t xs ys k a s ea es marks =
         ap (λ ts. rows_sorted_by_key trade_key (map trade_row ts)) all ∙ trades_after base stamp price xs t ys front (numbered_after 1 xs t ys n)
         ∙ ap (λ ts. update_where (λ r. r.id == u.id) (completed_row (trade_row u)) (rows_sorted_by_key trade_key (map trade_row ts))) (sym k.stands)
 
-    history : rows_sorted_by_key history_key (flat_map history_rows after.trades) ≡ insert_row_by_key history_key (history_row_of_status u.id Completed (last_status_stamp_of_trade u)) (sheets base).history
+    history : rows_sorted_by_key history_key (flat_map history_rows after.trades)
+        ≡ insert_row_by_key history_key (history_row_of_status u.id Completed (last_status_stamp_of_trade u)) (sheets base).history
     history =
         ap (λ ts. rows_sorted_by_key history_key (flat_map history_rows ts)) all ∙ history_after base stamp price xs t ys front marks
         ∙ (λ i. insert_row_by_key history_key (history_row_of_status u.id Completed (sym (moment_then base stamp price t) i)) (rows_sorted_by_key history_key (flat_map history_rows (sym k.stands i))))
@@ -360,7 +371,8 @@ sheets_then base stamp price t xs ys k a s ea es marks =
         (filter-not_one (has_last_status Pending) xs u ys (status_then base stamp price t Pending) ∙ sym (filter-not_one (has_last_status Pending) xs t ys (submitted_not_pending t k.submitted))
         ∙ ap pending_trades (sym k.stands))
 
-    settlements : rows_sorted_by_key settlement_key (map (settlement_row base.accounts base.rule) (completed_trades after)) ≡ insert_row_by_key settlement_key (settlement_row base.accounts base.rule u) (sheets base).settlements
+    settlements : rows_sorted_by_key settlement_key (map (settlement_row base.accounts base.rule) (completed_trades after))
+        ≡ insert_row_by_key settlement_key (settlement_row base.accounts base.rule u) (sheets base).settlements
     settlements =
         ap (λ ts. rows_sorted_by_key settlement_key (map (settlement_row base.accounts base.rule) ts)) then ∙ settlements_after base.accounts base.rule A u Z others
         ∙ ap (λ ts. insert_row_by_key settlement_key (settlement_row base.accounts base.rule u) (rows_sorted_by_key settlement_key (map (settlement_row base.accounts base.rule) ts))) (sym now)
@@ -379,8 +391,10 @@ sheets_then base stamp price t xs ys k a s ea es marks =
 
     cash : (b : Bool) → t.is_cash ≡ b → rows_sorted_by_key cash_move_key (numbered_move_rows 1 (postings_sorted_by_stamp (postings_of_base after))) ≡ M (sheets base)
     cash true e =
-        ap (λ ts. rows_sorted_by_key cash_move_key (numbered_move_rows 1 (postings_sorted_by_stamp (postings base.accounts ts base.movements)))) then ∙ cash_after base.accounts A u Z base.movements e before
-        ∙ ap (λ ts. insert_row_by_key cash_move_key (row_of ts) (rows_sorted_by_key cash_move_key (numbered_move_rows 1 (postings_sorted_by_stamp (postings base.accounts ts base.movements))))) (sym now)
+        ap (λ ts. rows_sorted_by_key cash_move_key (numbered_move_rows 1 (postings_sorted_by_stamp (postings base.accounts ts base.movements)))) then
+        ∙ cash_after base.accounts A u Z base.movements e before
+        ∙ ap (λ ts. insert_row_by_key cash_move_key (row_of ts)
+        (rows_sorted_by_key cash_move_key (numbered_move_rows 1 (postings_sorted_by_stamp (postings base.accounts ts base.movements))))) (sym now)
         ∙ sym (ap (λ b. cond b (insert_row_by_key cash_move_key (row_of (completed_trades base)) (sheets base).moves) (sheets base).moves) e)
     cash false e =
         ap (λ ts. rows_sorted_by_key cash_move_key (numbered_move_rows 1 (postings_sorted_by_stamp (postings base.accounts ts base.movements)))) then ∙ margin_cash base.accounts A u Z base.movements e

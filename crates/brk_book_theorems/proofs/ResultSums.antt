@@ -8,7 +8,8 @@ use Rattle.brk_money.specs.Kinds.{side_of_trade_type}
 use Rattle.brk_model.specs.Lists.{total_by}
 use Rattle.brk_model.specs.Records.{Account, Movement, Trade}
 use Rattle.brk_model.specs.Base.{Base, broker_id_in_accounts, broker_id_of_account, completed_trades, is_completed, opening_balance_in_accounts}
-use Rattle.brk_model.specs.Derived.{Posting, settlement_amount, balance_of_account, cash_trades, commission_total_of_broker, trades_of_broker, posting_of_movement, posting_of_trade, postings, postings_of_base, holding_summary_quantity, trade_count_of_broker}
+use Rattle.brk_model.specs.Derived.{Posting, settlement_amount, balance_of_account, cash_trades, commission_total_of_broker, trades_of_broker}
+use Rattle.brk_model.specs.Derived.{posting_of_movement, posting_of_trade, postings, postings_of_base, holding_summary_quantity, trade_count_of_broker}
 use Rattle.brk_model.specs.Results.{completed_trade, base_after_result}
 use Rattle.brk_model.specs.Shares.{signed_by_side}
 use Rattle.brk_book_theorems.proofs.Places.{filter-append, filter-one}
@@ -29,8 +30,11 @@ sum_one f xs x ys =
 -- ---- brokers
 
 own_broker : (accounts : List Account) (xs : List Trade) (t : Trade) (ys : List Trade)
-    → trades_of_broker accounts (xs ++ t ∷ ys) (broker_id_in_accounts accounts t.account) ≡ trades_of_broker accounts xs (broker_id_in_accounts accounts t.account) ++ t ∷ trades_of_broker accounts ys (broker_id_in_accounts accounts t.account)
-own_broker accounts xs t ys = filter-one (λ u. broker_id_in_accounts accounts u.account == broker_id_in_accounts accounts t.account) xs t ys (eq-eqb (broker_id_in_accounts accounts t.account) (broker_id_in_accounts accounts t.account) refl)
+    → trades_of_broker accounts (xs ++ t ∷ ys) (broker_id_in_accounts accounts t.account)
+    ≡ trades_of_broker accounts xs (broker_id_in_accounts accounts t.account) ++ t ∷ trades_of_broker accounts ys (broker_id_in_accounts accounts t.account)
+own_broker accounts xs t ys =
+    filter-one (λ u. broker_id_in_accounts accounts u.account == broker_id_in_accounts accounts t.account) xs t ys
+    (eq-eqb (broker_id_in_accounts accounts t.account) (broker_id_in_accounts accounts t.account) refl)
 
 both_brokers : (accounts : List Account) (xs ys : List Trade) (id : ℕ) → trades_of_broker accounts (xs ++ ys) id ≡ trades_of_broker accounts xs id ++ trades_of_broker accounts ys id
 both_brokers accounts xs ys id = filter-append (λ u. broker_id_in_accounts accounts u.account == id) xs ys
@@ -44,7 +48,8 @@ count_one accounts xs t ys =
     ∙ ap (λ ts. length ts + 1) (sym (both_brokers accounts xs ys b))
 
 commissions_one : (accounts : List Account) (xs : List Trade) (t : Trade) (ys : List Trade)
-    → commission_total_of_broker accounts (xs ++ t ∷ ys) (broker_id_in_accounts accounts t.account) ≡ commission_total_of_broker accounts (xs ++ ys) (broker_id_in_accounts accounts t.account) + t.commission
+    → commission_total_of_broker accounts (xs ++ t ∷ ys) (broker_id_in_accounts accounts t.account)
+    ≡ commission_total_of_broker accounts (xs ++ ys) (broker_id_in_accounts accounts t.account) + t.commission
 unfolding commission_total_of_broker
 commissions_one accounts xs t ys =
     let b : ℕ = broker_id_in_accounts accounts t.account in
@@ -76,7 +81,8 @@ cash_one accounts xs t ys ms e =
 -- ---- of a result
 
 pub summary_grows : (base : Base) (stamp price : ℕ) (t : Trade) (xs ys : List Trade) → IsResult base stamp price t xs ys
-    → holding_summary_quantity (completed_trades (base_after_result base stamp price t)) t.account t.symbol ≡ holding_summary_quantity (completed_trades base) t.account t.symbol +ℤ signed_by_side (side_of_trade_type t.kind) t.qty
+    → holding_summary_quantity (completed_trades (base_after_result base stamp price t)) t.account t.symbol
+    ≡ holding_summary_quantity (completed_trades base) t.account t.symbol +ℤ signed_by_side (side_of_trade_type t.kind) t.qty
 unfolding completed_trade
 summary_grows base stamp price t xs ys k =
     ap (λ ts. holding_summary_quantity ts t.account t.symbol) (done_then base stamp price t xs ys k)
@@ -84,7 +90,8 @@ summary_grows base stamp price t xs ys k =
     ∙ ap (λ ts. holding_summary_quantity ts t.account t.symbol +ℤ signed_by_side (side_of_trade_type t.kind) t.qty) (sym (done_now base stamp price t xs ys k))
 
 pub count_grows : (base : Base) (stamp price : ℕ) (t : Trade) (xs ys : List Trade) → IsResult base stamp price t xs ys
-    → trade_count_of_broker base.accounts (completed_trades (base_after_result base stamp price t)) (broker_id_of_account base t.account) ≡ trade_count_of_broker base.accounts (completed_trades base) (broker_id_of_account base t.account) + 1
+    → trade_count_of_broker base.accounts (completed_trades (base_after_result base stamp price t)) (broker_id_of_account base t.account)
+    ≡ trade_count_of_broker base.accounts (completed_trades base) (broker_id_of_account base t.account) + 1
 unfolding completed_trade
 count_grows base stamp price t xs ys k =
     ap (λ ts. trade_count_of_broker base.accounts ts (broker_id_of_account base t.account)) (done_then base stamp price t xs ys k)
@@ -107,7 +114,8 @@ unfolding completed_trade
 balance_grows base stamp price t xs ys k e =
     ap (λ ts. balance_of_account base.accounts (postings base.accounts ts base.movements) t.account) (done_then base stamp price t xs ys k)
     ∙ cash_one base.accounts (filter is_completed xs) (completed_trade base stamp price t) (filter is_completed ys) base.movements e
-    ∙ ap (λ ts. balance_of_account base.accounts (postings base.accounts ts base.movements) t.account +ℤ settlement_amount base.accounts (completed_trade base stamp price t)) (sym (done_now base stamp price t xs ys k))
+    ∙ ap (λ ts. balance_of_account base.accounts (postings base.accounts ts base.movements) t.account +ℤ settlement_amount base.accounts
+    (completed_trade base stamp price t)) (sym (done_now base stamp price t xs ys k))
 
 -- a trade on margin leaves the balance
 pub balance_stays : (base : Base) (stamp price : ℕ) (t : Trade) (xs ys : List Trade) → IsResult base stamp price t xs ys → t.is_cash ≡ false

@@ -9,7 +9,9 @@ use Rattle.brk_money.specs.declared.refusal.Refusal.{Refusal}
 use Rattle.brk_money.specs.declared.status.Status.{Status}
 use Rattle.brk_money.specs.declared.status.Status.TheVariants.{Completed}
 use Rattle.brk_model.specs.Base.{Base, has_last_status, is_completed, last_status_stamp_of_trade, base_with_updated_trades}
-use Rattle.brk_model.specs.Commands.{AddAccount, AddBand, AddBroker, AddCharge, AddCustomer, AddCustomerTax, AddPermission, AddSecurity, AddTaxRate, Answer, CancelTrade, ChangeCashNames, ChangeCashTypes, ChangeExecutors, Command, CompleteTrade, FeedTicks, PlaceOrder, Reply, DepositCash, WithdrawCash, SetOneDay}
+use Rattle.brk_model.specs.Commands.{AddAccount, AddBand, AddBroker, AddCharge, AddCustomer, AddCustomerTax, AddPermission, AddSecurity, AddTaxRate, Answer}
+use Rattle.brk_model.specs.Commands.{CancelTrade, ChangeCashNames, ChangeCashTypes, ChangeExecutors, Command, CompleteTrade, FeedTicks, PlaceOrder, Reply}
+use Rattle.brk_model.specs.Commands.{DepositCash, WithdrawCash, SetOneDay}
 use Rattle.brk_model.specs.Keyed.{answer_and_base_of_step, base_with_stored_reply, stored_row_with_optional_key, answer_and_base_by_stored_row, keyed_step}
 use Rattle.brk_model.specs.Lists.{contains_number, update_where}
 use Rattle.brk_model.specs.Queries.{Query, View}
@@ -19,7 +21,8 @@ use Rattle.brk_model.specs.Step.{base_after_accepted_command, base_after_command
 use Rattle.brk_model.specs.Tests.{stamp_of_next_command, refusal_of_command}
 use Rattle.brk_model.specs.Updates.{updated_cash_row_name, updated_cash_type, updated_executor_name, selected_trade_ids_of_account, selected_trade_ids_of_symbol}
 use Rattle.brk_model.specs.Names.{AccountOfTradeExists, SecurityOfTradeExists}
-use Rattle.brk_book_theorems.specs.Books.{HasNoCompletionIfSubmitted, BooksInvariant, TradeStampIsAtMostLastStamp, HasLastStatusAtOtherStamp, HasDistinctLastStatusStamps, HasDistinctMovementStamps, HasOneStatusChangeIfPending}
+use Rattle.brk_book_theorems.specs.Books.{HasNoCompletionIfSubmitted, BooksInvariant, TradeStampIsAtMostLastStamp, HasLastStatusAtOtherStamp}
+use Rattle.brk_book_theorems.specs.Books.{HasDistinctLastStatusStamps, HasDistinctMovementStamps, HasOneStatusChangeIfPending}
 use Rattle.brk_book_theorems.specs.Steps.{PreservesBooksInvariant, base_after_command}
 use Rattle.brk_book_theorems.proofs.MovementOrder.{movements_later}
 use Rattle.brk_book_theorems.proofs.Completions.{later}
@@ -63,7 +66,8 @@ done_changed : (P : Trade → Type 0) (p : Trade → Bool) (f : Trade → Trade)
 done_changed P p f [] s c h = tt
 done_changed P p f (t ∷ ts) s c h =
     let k : IsSame t (cond (p t) (f t) t) = changed_or p f s t in
-    subst (λ b. AllByRecursion P (cond b (cond (p t) (f t) t ∷ filter is_completed (update_where p f ts)) (filter is_completed (update_where p f ts)))) (sym (same_status_of Completed t (cond (p t) (f t) t) k))
+    subst (λ b. AllByRecursion P (cond b (cond (p t) (f t) t ∷ filter is_completed (update_where p f ts)) (filter is_completed (update_where p f ts))))
+    (sym (same_status_of Completed t (cond (p t) (f t) t) k))
     (by_test (is_completed t) k h (done_changed P p f ts s c))
   where
     by_test : (b : Bool) → IsSame t (cond (p t) (f t) t) → AllByRecursion P (cond b (t ∷ filter is_completed ts) (filter is_completed ts))
@@ -81,7 +85,9 @@ moments_changed : (p : Trade → Bool) (f : Trade → Trade) (ts : List Trade) �
 moments_changed p f [] s m = tt
 moments_changed p f (t ∷ ts) s m =
     let k : IsSame t (cond (p t) (f t) t) = changed_or p f s t in
-    subst (λ b. HasDistinctLastStatusStamps (cond b (cond (p t) (f t) t ∷ filter is_completed (update_where p f ts)) (filter is_completed (update_where p f ts)))) (sym (same_status_of Completed t (cond (p t) (f t) t) k))
+    subst (λ b. HasDistinctLastStatusStamps
+    (cond b (cond (p t) (f t) t ∷ filter is_completed (update_where p f ts)) (filter is_completed (update_where p f ts))))
+    (sym (same_status_of Completed t (cond (p t) (f t) t) k))
     (by_test (is_completed t) k m (moments_changed p f ts s))
   where
     by_test : (b : Bool) → IsSame t (cond (p t) (f t) t) → HasDistinctLastStatusStamps (cond b (t ∷ filter is_completed ts) (filter is_completed ts))
@@ -142,12 +148,14 @@ books_executors base now ids k e =
 books_cash_types : (base : Base) (now account first last : ℕ) → PreservesBooksInvariant base now (ChangeCashTypes account first last)
 unfolding base_after_command_unstamped
 books_cash_types base now account first last k e =
-    books_changed base now (ChangeCashTypes account first last) (λ t. contains_number t.id (selected_trade_ids_of_account base account first last)) (λ t. record t { cash_type = updated_cash_type t }) cash_type_same k e
+    books_changed base now (ChangeCashTypes account first last) (λ t. contains_number t.id (selected_trade_ids_of_account base account first last))
+    (λ t. record t { cash_type = updated_cash_type t }) cash_type_same k e
 
 books_cash_names : (base : Base) (now : ℕ) (symbol : Text) (first last : ℕ) → PreservesBooksInvariant base now (ChangeCashNames symbol first last)
 unfolding base_after_command_unstamped
 books_cash_names base now symbol first last k e =
-    books_changed base now (ChangeCashNames symbol first last) (λ t. contains_number t.id (selected_trade_ids_of_symbol base symbol first last)) (λ t. record t { cash_name = updated_cash_row_name base t }) (cash_name_same base) k e
+    books_changed base now (ChangeCashNames symbol first last) (λ t. contains_number t.id (selected_trade_ids_of_symbol base symbol first last))
+    (λ t. record t { cash_name = updated_cash_row_name base t }) (cash_name_same base) k e
 
 -- ---- every command
 
@@ -182,12 +190,20 @@ unfolding step
 acted_keeps P base now command key kept h after = by_refusal (refusal_of_command base now command) refl
   where
     by_refusal : (o : Option Refusal) → refusal_of_command base now command ≡ o
-        → P (answer_and_base_of_step base key command (value_unless_refused (refusal_of_command base now command) (reply_to_command base (stamp_of_next_command base now) command, base_after_accepted_command base (stamp_of_next_command base now) command))).1
+        → P (answer_and_base_of_step base key command
+        (value_unless_refused (refusal_of_command base now command)
+        (reply_to_command base (stamp_of_next_command base now) command, base_after_accepted_command base (stamp_of_next_command base now) command))).1
     by_refusal None e =
-        subst (λ o. P (answer_and_base_of_step base key command (value_unless_refused o (reply_to_command base (stamp_of_next_command base now) command, base_after_accepted_command base (stamp_of_next_command base now) command))).1) (sym e)
+        subst (λ o. P (answer_and_base_of_step base key command
+        (value_unless_refused o
+        (reply_to_command base (stamp_of_next_command base now) command, base_after_accepted_command base (stamp_of_next_command base now) command))).1)
+        (sym e)
         (kept (base_after_command base now command) (reply_to_command base (stamp_of_next_command base now) command) (after e))
     by_refusal (Some refusal) e =
-        subst (λ o. P (answer_and_base_of_step base key command (value_unless_refused o (reply_to_command base (stamp_of_next_command base now) command, base_after_accepted_command base (stamp_of_next_command base now) command))).1) (sym e) h
+        subst (λ o. P (answer_and_base_of_step base key command
+        (value_unless_refused o
+        (reply_to_command base (stamp_of_next_command base now) command, base_after_accepted_command base (stamp_of_next_command base now) command))).1)
+        (sym e) h
 
 pub call_keeps : (P : Base → Type 0) → ((base : Base) (key : Option Key) (command : Command) (reply : Reply) → P base → P (base_with_stored_reply key command reply base))
     → ((base : Base) (now : ℕ) (command : Command) → P base → refusal_of_command base now command ≡ None → P (base_after_command base now command))

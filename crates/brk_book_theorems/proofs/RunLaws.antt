@@ -15,7 +15,9 @@ use Rattle.brk_lots.proofs.Plain.{lots_walk}
 use Rattle.brk_money.specs.Spelling.{Text}
 use Rattle.brk_money.specs.declared.status.Status.TheVariants.{Canceled, Completed, Submitted}
 use Rattle.brk_model.specs.Base.{Base, completed_trades, is_completed, trade_with_status_change, trade_with_id}
-use Rattle.brk_model.specs.Commands.{AddAccount, AddBand, AddBroker, AddCharge, AddCustomer, AddCustomerTax, AddPermission, AddSecurity, AddTaxRate, CancelTrade, ChangeCashNames, ChangeCashTypes, ChangeExecutors, Command, CompleteTrade, FeedTicks, PlaceOrder, Reply, Tick, DepositCash, WithdrawCash, SetOneDay}
+use Rattle.brk_model.specs.Commands.{AddAccount, AddBand, AddBroker, AddCharge, AddCustomer, AddCustomerTax, AddPermission, AddSecurity, AddTaxRate}
+use Rattle.brk_model.specs.Commands.{CancelTrade, ChangeCashNames, ChangeCashTypes, ChangeExecutors, Command, CompleteTrade, FeedTicks, PlaceOrder, Reply, Tick}
+use Rattle.brk_model.specs.Commands.{DepositCash, WithdrawCash, SetOneDay}
 use Rattle.brk_model.specs.Derived.{deal_of_trade, deals_of_position, shares_of_position}
 use Rattle.brk_model.specs.Feed.{is_triggered_by_tick, base_after_tick, base_after_ticks}
 use Rattle.brk_model.specs.Keyed.{base_with_stored_reply}
@@ -58,20 +60,26 @@ deals_of (t ∷ ts) o = (
 pub deals_are : (base : Base) (account : ℕ) (symbol : Text) → BooksInvariant base → AreDistinctAscendingDeals (deals_of_position (completed_trades base) account symbol)
 deals_are base account symbol books = deals_of _ (held_in_order base account symbol books)
 
-pub shares_spelled : (base : Base) (account : ℕ) (symbol : Text) → BooksInvariant base → shares_of_lots (lots_of_position (sheets base) account symbol) ≡ replay (deals_of_position (completed_trades base) account symbol)
+pub shares_spelled : (base : Base) (account : ℕ) (symbol : Text) → BooksInvariant base
+    → shares_of_lots (lots_of_position (sheets base) account symbol) ≡ replay (deals_of_position (completed_trades base) account symbol)
 unfolding shares_of_position
 shares_spelled base account symbol books = shares_read base account symbol books
 
-pub lots_spelled : (base : Base) (account : ℕ) (symbol : Text) → BooksInvariant base → map abstract_lot (lots_of_position (sheets base) account symbol) ≡ lots_of_shares (shares_of_position (completed_trades base) account symbol)
+pub lots_spelled : (base : Base) (account : ℕ) (symbol : Text) → BooksInvariant base
+    → map abstract_lot (lots_of_position (sheets base) account symbol) ≡ lots_of_shares (shares_of_position (completed_trades base) account symbol)
 lots_spelled base account symbol books =
     sym (lots_walk (lots_of_position (sheets base) account symbol) (walk_of (lots_of_position (sheets base) account symbol) (position_read base account symbol books)))
     ∙ ap lots_of_shares (shares_read base account symbol books)
 
-pub quantities_sum : (base : Base) (account : ℕ) (symbol : Text) → BooksInvariant base → lot_quantity_sum (lots_of_position (sheets base) account symbol) ≡ deal_quantity_sum (deals_of_position (completed_trades base) account symbol)
-quantities_sum base account symbol books = quantities_add_up (deals_of_position (completed_trades base) account symbol) (lots_of_position (sheets base) account symbol) (shares_spelled base account symbol books)
+pub quantities_sum : (base : Base) (account : ℕ) (symbol : Text) → BooksInvariant base
+    → lot_quantity_sum (lots_of_position (sheets base) account symbol) ≡ deal_quantity_sum (deals_of_position (completed_trades base) account symbol)
+quantities_sum base account symbol books =
+    quantities_add_up (deals_of_position (completed_trades base) account symbol) (lots_of_position (sheets base) account symbol)
+    (shares_spelled base account symbol books)
 
 pub costs_sum : (base : Base) (account : ℕ) (symbol : Text) → BooksInvariant base
-    → lot_cost_basis (lots_of_position (sheets base) account symbol) ≡ realised_gain_sum (deals_of_position (completed_trades base) account symbol) [] +ℤ purchase_value_minus_sale_value (deals_of_position (completed_trades base) account symbol)
+    → lot_cost_basis (lots_of_position (sheets base) account symbol) ≡ realised_gain_sum (deals_of_position (completed_trades base) account symbol) [] +ℤ
+    purchase_value_minus_sale_value (deals_of_position (completed_trades base) account symbol)
 costs_sum base account symbol books = costs_add_up (deals_of_position (completed_trades base) account symbol) (lots_of_position (sheets base) account symbol) (shares_spelled base account symbol books)
 
 pub lot_lives : (base : Base) (account : ℕ) (symbol : Text) (lot : ℕ) → BooksInvariant base
@@ -163,7 +171,8 @@ same_id : (base : Base) (stamp price : ℕ) (t : Trade) → (completed_trade bas
 unfolding completed_trade
 same_id base stamp price t = refl
 
-taxed_result : (base : Base) (now id tax other price : ℕ) → BooksInvariant base → refusal_of_command base now (CompleteTrade other price) ≡ None → CompletedTradeHasTax id tax base → CompletedTradeHasTax id tax (base_after_command base now (CompleteTrade other price))
+taxed_result : (base : Base) (now id tax other price : ℕ) → BooksInvariant base → refusal_of_command base now (CompleteTrade other price) ≡ None
+    → CompletedTradeHasTax id tax base → CompletedTradeHasTax id tax (base_after_command base now (CompleteTrade other price))
 unfolding base_after_command_unstamped
 taxed_result base now id tax other price books e k =
     let stamp : ℕ = stamp_of_next_command base now in
@@ -174,7 +183,8 @@ taxed_result base now id tax other price books e k =
     (ap (λ o. (option_map_or (base_after_result base stamp price) o base).trades) t.1)
     (subst (λ (m : ℕ). AllByRecursion (λ u. (u.id == m) ≡ true → is_completed u ≡ false) base.trades) (sym same) (named_open base other t.0 books.numbered t.1 waits)) k
 
-taxed_cancel : (base : Base) (now id tax other : ℕ) → BooksInvariant base → refusal_of_command base now (CancelTrade other) ≡ None → CompletedTradeHasTax id tax base → CompletedTradeHasTax id tax (base_after_command base now (CancelTrade other))
+taxed_cancel : (base : Base) (now id tax other : ℕ) → BooksInvariant base → refusal_of_command base now (CancelTrade other) ≡ None
+    → CompletedTradeHasTax id tax base → CompletedTradeHasTax id tax (base_after_command base now (CancelTrade other))
 unfolding base_after_command_unstamped checks_of_command
 taxed_cancel base now id tax other books e k =
     passed_by base (base_after_command base now (CancelTrade other)) id tax (λ u. u.id == other) (trade_with_status_change (stamp_of_next_command base now) Canceled) (λ t. refl) refl
@@ -183,10 +193,12 @@ taxed_cancel base now id tax other books e k =
 taxed_feed : (base : Base) (now id tax : ℕ) (ticks : List Tick) → CompletedTradeHasTax id tax base → CompletedTradeHasTax id tax (base_after_command base now (FeedTicks ticks))
 unfolding base_after_command_unstamped
 taxed_feed base now id tax ticks k =
-    same_trades (base_after_ticks (stamp_of_next_command base now) base ticks) (base_after_command base now (FeedTicks ticks)) id tax refl (taxed_ticks base id tax (stamp_of_next_command base now) ticks k)
+    same_trades (base_after_ticks (stamp_of_next_command base now) base ticks) (base_after_command base now (FeedTicks ticks)) id tax refl
+    (taxed_ticks base id tax (stamp_of_next_command base now) ticks k)
 
 -- every accepted command leaves it as it is
-taxed_command : (base : Base) (now id tax : ℕ) (command : Command) → BooksInvariant base → refusal_of_command base now command ≡ None → CompletedTradeHasTax id tax base → CompletedTradeHasTax id tax (base_after_command base now command)
+taxed_command : (base : Base) (now id tax : ℕ) (command : Command) → BooksInvariant base → refusal_of_command base now command ≡ None
+    → CompletedTradeHasTax id tax base → CompletedTradeHasTax id tax (base_after_command base now command)
 unfolding base_after_command_unstamped
 taxed_command base now id tax (AddBroker b) books e k = same_trades base (base_after_command base now (AddBroker b)) id tax refl k
 taxed_command base now id tax (AddCustomer c) books e k = same_trades base (base_after_command base now (AddCustomer c)) id tax refl k
@@ -204,18 +216,24 @@ taxed_command base now id tax (CompleteTrade other price) books e k = taxed_resu
 taxed_command base now id tax (ChangeExecutors ids) books e k =
     words_changed base (base_after_command base now (ChangeExecutors ids)) id tax (λ t. contains_number t.id ids) (λ t. record t { executor = updated_executor_name t.executor }) executor_same refl k
 taxed_command base now id tax (ChangeCashTypes account first last) books e k =
-    words_changed base (base_after_command base now (ChangeCashTypes account first last)) id tax (λ t. contains_number t.id (selected_trade_ids_of_account base account first last)) (λ t. record t { cash_type = updated_cash_type t }) cash_type_same refl k
+    words_changed base (base_after_command base now (ChangeCashTypes account first last)) id tax
+    (λ t. contains_number t.id (selected_trade_ids_of_account base account first last)) (λ t. record t { cash_type = updated_cash_type t }) cash_type_same
+    refl k
 taxed_command base now id tax (ChangeCashNames symbol first last) books e k =
-    words_changed base (base_after_command base now (ChangeCashNames symbol first last)) id tax (λ t. contains_number t.id (selected_trade_ids_of_symbol base symbol first last)) (λ t. record t { cash_name = updated_cash_row_name base t }) (cash_name_same base) refl k
+    words_changed base (base_after_command base now (ChangeCashNames symbol first last)) id tax
+    (λ t. contains_number t.id (selected_trade_ids_of_symbol base symbol first last)) (λ t. record t { cash_name = updated_cash_row_name base t })
+    (cash_name_same base) refl k
 taxed_command base now id tax (DepositCash account amount) books e k = same_trades base (base_after_command base now (DepositCash account amount)) id tax refl k
 taxed_command base now id tax (WithdrawCash account amount) books e k = same_trades base (base_after_command base now (WithdrawCash account amount)) id tax refl k
 taxed_command base now id tax (SetOneDay day) books e k = same_trades base (base_after_command base now (SetOneDay day)) id tax refl k
 
-pub taxed_kept : (base : Base) (key : Option Key) (command : Command) (reply : Reply) (id tax : ℕ) → CompletedTradeHasTax id tax base → CompletedTradeHasTax id tax (base_with_stored_reply key command reply base)
+pub taxed_kept : (base : Base) (key : Option Key) (command : Command) (reply : Reply) (id tax : ℕ) → CompletedTradeHasTax id tax base
+    → CompletedTradeHasTax id tax (base_with_stored_reply key command reply base)
 taxed_kept base None command reply id tax k = k
 taxed_kept base (Some key) command reply id tax k = same_trades base (base_with_stored_reply (Some key) command reply base) id tax refl k
 
-pub run_taxes : (base : Base) (calls : List (ℕ × Call)) (outcomes : List Outcome) (after : Base) (id tax : ℕ) → BooksInvariant base → Run base calls outcomes after → CompletedTradeHasTax id tax base → CompletedTradeHasTax id tax after
+pub run_taxes : (base : Base) (calls : List (ℕ × Call)) (outcomes : List Outcome) (after : Base) (id tax : ℕ) → BooksInvariant base
+    → Run base calls outcomes after → CompletedTradeHasTax id tax base → CompletedTradeHasTax id tax after
 run_taxes base calls outcomes after id tax books r k =
     let both : BooksInvariant after × CompletedTradeHasTax id tax after =
     run_keeps (λ b. BooksInvariant b × CompletedTradeHasTax id tax b) (λ b key command reply h. (books_kept b key command reply h.0, taxed_kept b key command reply id tax h.1))
@@ -223,7 +241,9 @@ run_taxes base calls outcomes after id tax books r k =
     both.1
 
 -- a result is taxed once, by the shares that it closes and the rates of its moment
-tax_is : (base : Base) (stamp price : ℕ) (t : Trade) → (completed_trade base stamp price t).tax ≡ tax_on_deal base t.account (deal_of_result stamp price t) (shares_of_position (completed_trades base) t.account t.symbol)
+tax_is : (base : Base) (stamp price : ℕ) (t : Trade)
+    → (completed_trade base stamp price t).tax
+    ≡ tax_on_deal base t.account (deal_of_result stamp price t) (shares_of_position (completed_trades base) t.account t.symbol)
 unfolding completed_trade
 tax_is base stamp price t = refl
 

@@ -35,7 +35,10 @@ is_again true line base after reply e = let k : Again line ≡ Done reply = ap (
 is_again false line base after reply e = let k : Refused KeyReused ≡ Done reply = ap (λ p. p.0) e in absurd (cc)
 
 by_refusal : (base : Base) (now : ℕ) (command : Command) (key : Option Key) (reply : Reply) (after : Base) (o : Option Refusal) → refusal_of_command base now command ≡ o
-    → answer_and_base_of_step base key command (value_unless_refused o (reply_to_command base (stamp_of_next_command base now) command, base_after_accepted_command base (stamp_of_next_command base now) command)) ≡ (Done reply, after)
+    → answer_and_base_of_step base key command
+    (value_unless_refused o
+    (reply_to_command base (stamp_of_next_command base now) command, base_after_accepted_command base (stamp_of_next_command base now) command))
+    ≡ (Done reply, after)
     → IsAccepted base now command key after
 by_refusal base now command key reply after None e k = record { reply = reply_to_command base (stamp_of_next_command base now) command; passed = e; moved = sym (ap (λ p. p.1) k) }
 by_refusal base now command key reply after (Some refusal) e k = let j : Refused refusal ≡ Done reply = ap (λ p. p.0) k in absurd (cc)
@@ -87,7 +90,8 @@ taxes_stand base (call ∷ calls) (outcome ∷ outcomes) after books r =
 
 -- ---- all of it
 
-pub run_adds_up : (base : Base) (calls : List (ℕ × Call)) (outcomes : List Outcome) (after : Base) → BooksInvariant base → Run base calls outcomes after → IsRunWithSumsAndTaxes base calls outcomes after
+pub run_adds_up : (base : Base) (calls : List (ℕ × Call)) (outcomes : List Outcome) (after : Base) → BooksInvariant base → Run base calls outcomes after
+    → IsRunWithSumsAndTaxes base calls outcomes after
 run_adds_up base calls outcomes after books r =
     let order : BooksInvariant after = run_books base calls outcomes after books r in
     record { run = r; order = order; sums = sums_add_up after order; taxes = taxes_stand base calls outcomes after books r }

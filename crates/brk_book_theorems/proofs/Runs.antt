@@ -10,7 +10,8 @@ use lib.IntN.{+ℤ_assoc, +ℤ_idl}
 use Rattle.brk_money.specs.declared.side.Side.{Side}
 use Rattle.brk_money.specs.declared.side.Side.TheVariants.{Buy, Sell}
 use Rattle.brk_model.specs.Lists.{total_by}
-use Rattle.brk_model.specs.Shares.{Share, Deal, closed_share_count_of_deal, remaining_shares, lot_quantity, net_share_count, shares_opened_by_trade, opened_share, replay, shares_after_deal, signed_by_side}
+use Rattle.brk_model.specs.Shares.{Share, Deal, closed_share_count_of_deal, remaining_shares, lot_quantity, net_share_count, shares_opened_by_trade}
+use Rattle.brk_model.specs.Shares.{opened_share, replay, shares_after_deal, signed_by_side}
 use Rattle.brk_lots.specs.Lots.{side_of_qty}
 use Rattle.brk_book_theorems.proofs.References.{append_nil}
 use Rattle.brk_book_theorems.proofs.Places.{append_assoc}
@@ -85,7 +86,8 @@ runs_of ds = runs_after [] [] ds refl
 -- ---- the lot of a run
 
 -- a share more, of the trade or of another
-lot_more : (id : ℕ) (s : Share) (shares : List Share) (b : Bool) → (s.trade == id) ≡ b → lot_quantity (s ∷ shares) id ≡ cond b (signed_by_side s.side 1 +ℤ lot_quantity shares id) (lot_quantity shares id)
+lot_more : (id : ℕ) (s : Share) (shares : List Share) (b : Bool) → (s.trade == id) ≡ b
+    → lot_quantity (s ∷ shares) id ≡ cond b (signed_by_side s.side 1 +ℤ lot_quantity shares id) (lot_quantity shares id)
 unfolding total_by
 lot_more id s shares true e = ap (λ b. net_share_count (cond b (s ∷ shares_opened_by_trade id shares) (shares_opened_by_trade id shares))) e
 lot_more id s shares false e = ap (λ b. net_share_count (cond b (s ∷ shares_opened_by_trade id shares) (shares_opened_by_trade id shares))) e

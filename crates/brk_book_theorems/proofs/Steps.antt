@@ -12,7 +12,8 @@ use Rattle.brk_model.specs.Lists.{sort_by}
 use Rattle.brk_model.specs.Derived.{shares_of_position, holding_summary_quantity, balance_of_account, trade_count_of_broker, commission_total_of_broker}
 use Rattle.brk_model.specs.Tables.{tables_of_base_in_schema, tables_without_rows}
 use Rattle.brk_model.specs.Sheets.{sheets, tables_sorted_by_key}
-use Rattle.brk_changes.specs.Changes.{tables_with_broker, tables_with_customer, tables_with_account, tables_with_permission, tables_with_charge, tables_with_band, tables_with_tax_rate, tables_with_customer_tax}
+use Rattle.brk_changes.specs.Changes.{tables_with_broker, tables_with_customer, tables_with_account, tables_with_permission, tables_with_charge}
+use Rattle.brk_changes.specs.Changes.{tables_with_band, tables_with_tax_rate, tables_with_customer_tax}
 use Rattle.brk_book_theorems.specs.Books.{BooksInvariant}
 use Rattle.brk_book_theorems.specs.Steps.{HasTableEffect, tables_with_listing}
 use Rattle.brk_book_theorems.proofs.Same.{any-none, find-none}

@@ -53,18 +53,21 @@ broker_or accounts posted (Some a) = refl
 broker_told : (base : Base) (account : ℕ) → option_map_or (λ r. r.broker) (account_row_with_id (sheets base) account) 0 ≡ broker_id_in_accounts base.accounts account
 broker_told base account = ap (λ o. option_map_or (λ r. r.broker) o 0) (reads_account base account) ∙ broker_or base.accounts (postings_of_base base) (account_with_id base account)
 
-pub broker_trades : (base : Base) (broker : ℕ) → BooksInvariant base → completed_trade_rows_of_broker (sheets base) broker ≡ map trade_row (trades_of_broker base.accounts (completed_trades base) broker)
+pub broker_trades : (base : Base) (broker : ℕ) → BooksInvariant base
+    → completed_trade_rows_of_broker (sheets base) broker ≡ map trade_row (trades_of_broker base.accounts (completed_trades base) broker)
 broker_trades base broker books =
     ap (filter (is_completed_trade_of_broker (sheets base) broker)) (trades_in_order base books.numbered)
     ∙ filter-map (is_completed_trade_of_broker (sheets base) broker) trade_row base.trades
-    ∙ ap (map trade_row) (filter-same (λ t. is_completed_trade_of_broker (sheets base) broker (trade_row t)) (λ t. is_completed t && (broker_id_in_accounts base.accounts t.account == broker)) base.trades (every base.trades)
+    ∙ ap (map trade_row) (filter-same (λ t. is_completed_trade_of_broker (sheets base) broker (trade_row t))
+    (λ t. is_completed t && (broker_id_in_accounts base.accounts t.account == broker)) base.trades (every base.trades)
     ∙ filter-both is_completed (λ t. broker_id_in_accounts base.accounts t.account == broker) base.trades)
   where
     every : (ts : List Trade) → AllByRecursion (λ t. is_completed_trade_of_broker (sheets base) broker (trade_row t) ≡ is_completed t && (broker_id_in_accounts base.accounts t.account == broker)) ts
     every [] = tt
     every (t ∷ ts) = ((λ i. done_told (last_status_change t) i && (broker_told base t.account i == broker)), every ts)
 
-row_of : (base : Base) (id : ℕ) (r : BrokerRow) → find (λ r. r.id == id) (sheets base).brokers ≡ Some r → (b : Broker) × (broker_with_id base id ≡ Some b) × (r ≡ broker_row base.accounts (completed_trades base) b)
+row_of : (base : Base) (id : ℕ) (r : BrokerRow) → find (λ r. r.id == id) (sheets base).brokers ≡ Some r → (b : Broker) × (broker_with_id base id ≡ Some b)
+    × (r ≡ broker_row base.accounts (completed_trades base) b)
 row_of base id r e = by_broker (broker_with_id base id) refl
   where
     by_broker : (o : Option Broker) → broker_with_id base id ≡ o → (b : Broker) × (broker_with_id base id ≡ Some b) × (r ≡ broker_row base.accounts (completed_trades base) b)
@@ -76,7 +79,8 @@ row_of base id r e = by_broker (broker_with_id base id) refl
 broker_id : (base : Base) (id : ℕ) (b : Broker) → broker_with_id base id ≡ Some b → b.id ≡ id
 broker_id base id b e = let f : FoundAt Broker (λ b. b.id == id) b base.brokers = find-at (λ b. b.id == id) base.brokers b e in eqb-true b.id id f.passes
 
-pub broker_counts : (base : Base) (id : ℕ) (r : BrokerRow) → BooksInvariant base → find (λ r. r.id == id) (sheets base).brokers ≡ Some r → r.trades ≡ pos (length (completed_trade_rows_of_broker (sheets base) id))
+pub broker_counts : (base : Base) (id : ℕ) (r : BrokerRow) → BooksInvariant base → find (λ r. r.id == id) (sheets base).brokers ≡ Some r
+    → r.trades ≡ pos (length (completed_trade_rows_of_broker (sheets base) id))
 unfolding trade_count_of_broker
 broker_counts base id r books e =
     let k = row_of base id r e in
@@ -110,7 +114,8 @@ pub cash_moves : (base : Base) (account : ℕ) → total_by (λ r. r.amount) (mo
 unfolding tables_of_base_in_schema tables_sorted_by_key
 cash_moves base account = rows_total account (postings_of_base base)
 
-account_of_row : (base : Base) (id : ℕ) (r : AccountRow) → account_row_with_id (sheets base) id ≡ Some r → (a : Account) × (account_with_id base id ≡ Some a) × (r ≡ account_row base.accounts (postings_of_base base) a)
+account_of_row : (base : Base) (id : ℕ) (r : AccountRow) → account_row_with_id (sheets base) id ≡ Some r → (a : Account) × (account_with_id base id ≡ Some a)
+    × (r ≡ account_row base.accounts (postings_of_base base) a)
 account_of_row base id r e = by_account (account_with_id base id) refl
   where
     by_account : (o : Option Account) → account_with_id base id ≡ o → (a : Account) × (account_with_id base id ≡ Some a) × (r ≡ account_row base.accounts (postings_of_base base) a)

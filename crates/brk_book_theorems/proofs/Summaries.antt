@@ -59,7 +59,8 @@ symbol_alone : (done : List Trade) (account : ℕ) (symbol : Text) (ss : List Se
 symbol_alone done account symbol ss s d e =
     let f : FoundAt Security (λ s. bytes_eq s.symbol symbol) s ss = find-at (λ s. bytes_eq s.symbol symbol) ss s e in
     let same : s.symbol ≡ symbol = same_text s.symbol symbol f.passes in
-    let after : NonePass (λ u. bytes_eq u.symbol symbol) f.after = subst (λ m. NonePass (λ u. bytes_eq u.symbol m) f.after) same (symbols_after f.before s f.after (subst HasDistinctSymbols f.stands d)) in
+    let after : NonePass (λ u. bytes_eq u.symbol symbol) f.after =
+    subst (λ m. NonePass (λ u. bytes_eq u.symbol m) f.after) same (symbols_after f.before s f.after (subst HasDistinctSymbols f.stands d)) in
     let F : Security → List SummaryRow = λ s. filter (λ r. bytes_eq r.symbol symbol) (summary_rows done account s.symbol) in
     let none : (xs : List Security) → NonePass (λ u. bytes_eq u.symbol symbol) xs → flat_map F xs ≡ [] = λ xs h.
     flat_map-empty F xs (All-map xs (λ u k. of_symbol done account u.symbol symbol false k) h) in
@@ -116,7 +117,8 @@ find_one q account symbol = by_test (is_zero q)
 
 pub reads_summary : (base : Base) (account : ℕ) (symbol : Text) (a : Account) (s : Security) → BooksInvariant base → account_with_id base account ≡ Some a → security_with_symbol base symbol ≡ Some s
     → find (is_of account symbol) (sheets base).summaries
-    ≡ cond (is_zero (holding_summary_quantity (completed_trades base) account symbol)) None (Some (record { account = account; symbol = symbol; qty = holding_summary_quantity (completed_trades base) account symbol }))
+    ≡ cond (is_zero (holding_summary_quantity (completed_trades base) account symbol)) None
+    (Some (record { account = account; symbol = symbol; qty = holding_summary_quantity (completed_trades base) account symbol }))
 unfolding tables_of_base_in_schema tables_sorted_by_key
 reads_summary base account symbol a s books e f =
     let rows : List SummaryRow = all_summaries base (completed_trades base) in
@@ -145,7 +147,8 @@ reads_held base account symbol books e f =
 
 -- ---- after a result
 
-other_of : (done after : List Trade) (account id : ℕ) (symbol wanted : Text) → ((account == id) && bytes_eq symbol wanted ≡ false → holding_summary_quantity after account symbol ≡ holding_summary_quantity done account symbol)
+other_of : (done after : List Trade) (account id : ℕ) (symbol wanted : Text)
+    → ((account == id) && bytes_eq symbol wanted ≡ false → holding_summary_quantity after account symbol ≡ holding_summary_quantity done account symbol)
     → filter (λ r. not (is_of id wanted r)) (summary_rows after account symbol) ≡ filter (λ r. not (is_of id wanted r)) (summary_rows done account symbol)
 other_of done after account id symbol wanted h = by_test ((account == id) && bytes_eq symbol wanted) refl
   where
@@ -159,8 +162,11 @@ other_of done after account id symbol wanted h = by_test ((account == id) && byt
     none e q true = refl
     none e q false = ap (λ b. cond (not b) (row q ∷ []) []) e
 
-    by_test : (b : Bool) → (account == id) && bytes_eq symbol wanted ≡ b → filter N (row_of account symbol (holding_summary_quantity after account symbol)) ≡ filter N (row_of account symbol (holding_summary_quantity done account symbol))
-    by_test true e = none e (holding_summary_quantity after account symbol) (is_zero (holding_summary_quantity after account symbol)) ∙ sym (none e (holding_summary_quantity done account symbol) (is_zero (holding_summary_quantity done account symbol)))
+    by_test : (b : Bool) → (account == id) && bytes_eq symbol wanted ≡ b
+        → filter N (row_of account symbol (holding_summary_quantity after account symbol))
+        ≡ filter N (row_of account symbol (holding_summary_quantity done account symbol))
+    by_test true e = none e (holding_summary_quantity after account symbol) (is_zero (holding_summary_quantity after account symbol))
+        ∙ sym (none e (holding_summary_quantity done account symbol) (is_zero (holding_summary_quantity done account symbol)))
     by_test false e = ap (λ q. filter N (row_of account symbol q)) (h e)
 
 others_same : (base : Base) (done after : List Trade) (id : ℕ) (wanted : Text)
@@ -251,7 +257,8 @@ apart_keys account symbol x y e f k =
     parts : (m n : ℕ) (s t : Text) → number m ∷ word s ∷ [] ≡ number n ∷ word t ∷ [] → (m ≡ n) × (s ≡ t)
     parts m n s t e = (cc, cc)
 
-none_of : (account : ℕ) (symbol : Text) (rows : List SummaryRow) → AllByRecursion (λ r. is_of account symbol r ≡ false) (rows_sorted_by_key summary_key (filter (λ r. not (is_of account symbol r)) rows))
+none_of : (account : ℕ) (symbol : Text) (rows : List SummaryRow)
+    → AllByRecursion (λ r. is_of account symbol r ≡ false) (rows_sorted_by_key summary_key (filter (λ r. not (is_of account symbol r)) rows))
 none_of account symbol rows =
     All-sort (λ r. is_of account symbol r ≡ false) (is_row_key_less summary_key) (filter (λ r. not (is_of account symbol r)) rows)
     (All-map (filter (λ r. not (is_of account symbol r)) rows) (λ r e. not_true (is_of account symbol r) e) (all_pass (λ r. not (is_of account symbol r)) rows))

@@ -6,7 +6,8 @@ use Rattle.std.proofs.lemmas.Bool.{eqb-false, eqb-true}
 use Rattle.brk_model.specs.Lists.{total_by}
 use Rattle.brk_model.specs.Records.{Account, Broker, Movement, SettleRule, Trade}
 use Rattle.brk_model.specs.Base.{broker_id_in_accounts, last_status_stamp_of_trade, opening_balance_in_accounts}
-use Rattle.brk_model.specs.Derived.{Posting, balance_of_account, cash_trades, commission_total_of_broker, postings_sorted_by_stamp, trades_of_broker, postings_to_account, posting_of_movement, posting_of_trade, postings, trade_count_of_broker}
+use Rattle.brk_model.specs.Derived.{Posting, balance_of_account, cash_trades, commission_total_of_broker, postings_sorted_by_stamp, trades_of_broker}
+use Rattle.brk_model.specs.Derived.{postings_to_account, posting_of_movement, posting_of_trade, postings, trade_count_of_broker}
 use Rattle.brk_model.specs.Keys.{KeyPart, number, account_key, broker_key, rows_sorted_by_key, insert_row_by_key, cash_move_key, settlement_key}
 use Rattle.brk_model.specs.Tables.{AccountRow, BrokerRow, account_row, broker_row, cash_move_row, numbered_move_rows, settlement_row}
 use Rattle.brk_book_theorems.proofs.Bools.{numbers_back}
@@ -33,7 +34,8 @@ other_broker accounts xs t ys id e =
 
 broker_after : (accounts : List Account) (xs : List Trade) (t : Trade) (ys : List Trade) (b : Broker)
     → broker_row accounts (xs ++ t ∷ ys) b
-    ≡ with_numbers (broker_id_in_accounts accounts t.account) (pos (trade_count_of_broker accounts (xs ++ t ∷ ys) (broker_id_in_accounts accounts t.account))) (commission_total_of_broker accounts (xs ++ t ∷ ys) (broker_id_in_accounts accounts t.account))
+    ≡ with_numbers (broker_id_in_accounts accounts t.account) (pos (trade_count_of_broker accounts (xs ++ t ∷ ys) (broker_id_in_accounts accounts t.account)))
+    (commission_total_of_broker accounts (xs ++ t ∷ ys) (broker_id_in_accounts accounts t.account))
     (broker_row accounts (xs ++ ys) b)
 unfolding trade_count_of_broker commission_total_of_broker
 broker_after accounts xs t ys b = by_test (b.id == id) refl
@@ -58,11 +60,14 @@ broker_after accounts xs t ys b = by_test (b.id == id) refl
 
 pub brokers_after : (accounts : List Account) (brokers : List Broker) (xs : List Trade) (t : Trade) (ys : List Trade)
     → rows_sorted_by_key broker_key (map (broker_row accounts (xs ++ t ∷ ys)) brokers)
-    ≡ map (with_numbers (broker_id_in_accounts accounts t.account) (pos (trade_count_of_broker accounts (xs ++ t ∷ ys) (broker_id_in_accounts accounts t.account))) (commission_total_of_broker accounts (xs ++ t ∷ ys) (broker_id_in_accounts accounts t.account)))
+    ≡ map (with_numbers (broker_id_in_accounts accounts t.account)
+    (pos (trade_count_of_broker accounts (xs ++ t ∷ ys) (broker_id_in_accounts accounts t.account)))
+    (commission_total_of_broker accounts (xs ++ t ∷ ys) (broker_id_in_accounts accounts t.account)))
     (rows_sorted_by_key broker_key (map (broker_row accounts (xs ++ ys)) brokers))
 brokers_after accounts brokers xs t ys =
     let f : BrokerRow → BrokerRow =
-    with_numbers (broker_id_in_accounts accounts t.account) (pos (trade_count_of_broker accounts (xs ++ t ∷ ys) (broker_id_in_accounts accounts t.account))) (commission_total_of_broker accounts (xs ++ t ∷ ys) (broker_id_in_accounts accounts t.account)) in
+    with_numbers (broker_id_in_accounts accounts t.account) (pos (trade_count_of_broker accounts (xs ++ t ∷ ys) (broker_id_in_accounts accounts t.account)))
+    (commission_total_of_broker accounts (xs ++ t ∷ ys) (broker_id_in_accounts accounts t.account)) in
     ap (rows_sorted_by_key broker_key) (map-same (broker_row accounts (xs ++ t ∷ ys)) (λ b. f (broker_row accounts (xs ++ ys) b)) brokers (every brokers)
     ∙ sym (map-twice f (broker_row accounts (xs ++ ys)) brokers))
     ∙ by_key-map broker_key broker_key f (map (broker_row accounts (xs ++ ys)) brokers) (λ r. same_key r (r.id == broker_id_in_accounts accounts t.account) _ _)
@@ -72,7 +77,9 @@ brokers_after accounts brokers xs t ys =
     same_key r false m n = refl
 
     every : (bs : List Broker) → AllByRecursion (λ b. broker_row accounts (xs ++ t ∷ ys) b
-        ≡ with_numbers (broker_id_in_accounts accounts t.account) (pos (trade_count_of_broker accounts (xs ++ t ∷ ys) (broker_id_in_accounts accounts t.account))) (commission_total_of_broker accounts (xs ++ t ∷ ys) (broker_id_in_accounts accounts t.account))
+        ≡ with_numbers (broker_id_in_accounts accounts t.account)
+        (pos (trade_count_of_broker accounts (xs ++ t ∷ ys) (broker_id_in_accounts accounts t.account)))
+        (commission_total_of_broker accounts (xs ++ t ∷ ys) (broker_id_in_accounts accounts t.account))
         (broker_row accounts (xs ++ ys) b)) bs
     every [] = tt
     every (b ∷ bs) = (broker_after accounts xs t ys b, every bs)
@@ -104,8 +111,10 @@ other_account accounts xs t ys ms id e = by_test t.is_cash refl
     by_test b c = ap (λ ps. opening_balance_in_accounts accounts id +ℤ total_by (λ p. p.amount) ps) (of_it b c)
 
 -- where the balances of all other accounts stay
-pub accounts_posted : (all accounts : List Account) (before then : List Posting) (account : ℕ) → ((id : ℕ) → (id == account) ≡ false → balance_of_account all then id ≡ balance_of_account all before id)
-    → rows_sorted_by_key account_key (map (account_row all then) accounts) ≡ map (with_other_balance account (balance_of_account all then account)) (rows_sorted_by_key account_key (map (account_row all before) accounts))
+pub accounts_posted : (all accounts : List Account) (before then : List Posting) (account : ℕ)
+    → ((id : ℕ) → (id == account) ≡ false → balance_of_account all then id ≡ balance_of_account all before id)
+    → rows_sorted_by_key account_key (map (account_row all then) accounts) ≡ map (with_other_balance account (balance_of_account all then account))
+    (rows_sorted_by_key account_key (map (account_row all before) accounts))
 accounts_posted all accounts before then account others =
     let f : AccountRow → AccountRow = with_other_balance account (balance_of_account all then account) in
     ap (rows_sorted_by_key account_key) (map-same (account_row all then) (λ a. f (account_row all before a)) accounts (every accounts) ∙ sym (map-twice f (account_row all before) accounts))
@@ -129,7 +138,8 @@ accounts_posted all accounts before then account others =
 
 pub accounts_after : (all accounts : List Account) (xs : List Trade) (t : Trade) (ys : List Trade) (ms : List Movement)
     → rows_sorted_by_key account_key (map (account_row all (postings all (xs ++ t ∷ ys) ms)) accounts)
-    ≡ map (with_other_balance t.account (balance_of_account all (postings all (xs ++ t ∷ ys) ms) t.account)) (rows_sorted_by_key account_key (map (account_row all (postings all (xs ++ ys) ms)) accounts))
+    ≡ map (with_other_balance t.account (balance_of_account all (postings all (xs ++ t ∷ ys) ms) t.account))
+    (rows_sorted_by_key account_key (map (account_row all (postings all (xs ++ ys) ms)) accounts))
 accounts_after all accounts xs t ys ms =
     accounts_posted all accounts (postings all (xs ++ ys) ms) (postings all (xs ++ t ∷ ys) ms) t.account (λ id e. other_account all xs t ys ms id e)
 
@@ -140,7 +150,9 @@ margin_balance accounts xs t ys ms id e = ap (λ ps. balance_of_account accounts
 
 pub margin_accounts : (all accounts : List Account) (xs : List Trade) (t : Trade) (ys : List Trade) (ms : List Movement) → t.is_cash ≡ false
     → rows_sorted_by_key account_key (map (account_row all (postings all (xs ++ t ∷ ys) ms)) accounts) ≡ rows_sorted_by_key account_key (map (account_row all (postings all (xs ++ ys) ms)) accounts)
-margin_accounts all accounts xs t ys ms e = ap (rows_sorted_by_key account_key) (map-same (account_row all (postings all (xs ++ t ∷ ys) ms)) (account_row all (postings all (xs ++ ys) ms)) accounts (every accounts))
+margin_accounts all accounts xs t ys ms e =
+    ap (rows_sorted_by_key account_key)
+    (map-same (account_row all (postings all (xs ++ t ∷ ys) ms)) (account_row all (postings all (xs ++ ys) ms)) accounts (every accounts))
   where
     every : (bs : List Account) → AllByRecursion (λ a. account_row all (postings all (xs ++ t ∷ ys) ms) a ≡ account_row all (postings all (xs ++ ys) ms) a) bs
     every [] = tt
@@ -162,11 +174,13 @@ row_among key row xs t ys k h =
     number_of m n e = cc
 
 pub settlements_after : (accounts : List Account) (rule : SettleRule) (xs : List Trade) (t : Trade) (ys : List Trade) → NonePass (λ u. u.id == t.id) xs
-    → rows_sorted_by_key settlement_key (map (settlement_row accounts rule) (xs ++ t ∷ ys)) ≡ insert_row_by_key settlement_key (settlement_row accounts rule t) (rows_sorted_by_key settlement_key (map (settlement_row accounts rule) (xs ++ ys)))
+    → rows_sorted_by_key settlement_key (map (settlement_row accounts rule) (xs ++ t ∷ ys))
+    ≡ insert_row_by_key settlement_key (settlement_row accounts rule t) (rows_sorted_by_key settlement_key (map (settlement_row accounts rule) (xs ++ ys)))
 settlements_after accounts rule xs t ys h = row_among settlement_key (settlement_row accounts rule) xs t ys (λ u. refl) h
 
 -- what was posted before a trade is completed: all at earlier stamps
-pub posted_before : (accounts : List Account) (ts : List Trade) (ms : List Movement) (stamp : ℕ) → AllByRecursion (λ t. last_status_stamp_of_trade t < stamp) ts → AllByRecursion (λ m. m.stamp < stamp) ms
+pub posted_before : (accounts : List Account) (ts : List Trade) (ms : List Movement) (stamp : ℕ) → AllByRecursion (λ t. last_status_stamp_of_trade t < stamp) ts
+    → AllByRecursion (λ m. m.stamp < stamp) ms
     → AllByRecursion (λ p. p.stamp < stamp) (postings accounts ts ms)
 posted_before accounts ts ms stamp h k =
     All-append (λ p. p.stamp < stamp) (map (posting_of_trade accounts) (cash_trades ts)) (map posting_of_movement ms)
@@ -177,15 +191,18 @@ posted_before accounts ts ms stamp h k =
 pub cash_after : (accounts : List Account) (xs : List Trade) (t : Trade) (ys : List Trade) (ms : List Movement) → t.is_cash ≡ true
     → AllByRecursion (λ p. p.stamp < last_status_stamp_of_trade t) (postings accounts (xs ++ ys) ms)
     → rows_sorted_by_key cash_move_key (numbered_move_rows 1 (postings_sorted_by_stamp (postings accounts (xs ++ t ∷ ys) ms)))
-    ≡ insert_row_by_key cash_move_key (cash_move_row (length (postings accounts (xs ++ ys) ms) + 1) (posting_of_trade accounts t)) (rows_sorted_by_key cash_move_key (numbered_move_rows 1 (postings_sorted_by_stamp (postings accounts (xs ++ ys) ms))))
+    ≡ insert_row_by_key cash_move_key (cash_move_row (length (postings accounts (xs ++ ys) ms) + 1) (posting_of_trade accounts t))
+    (rows_sorted_by_key cash_move_key (numbered_move_rows 1 (postings_sorted_by_stamp (postings accounts (xs ++ ys) ms))))
 cash_after accounts xs t ys ms e h =
     let X : List Posting = map (posting_of_trade accounts) (cash_trades xs) in
     let Y : List Posting = map (posting_of_trade accounts) (cash_trades ys) ++ map posting_of_movement ms in
     let both : postings accounts (xs ++ ys) ms ≡ X ++ Y = postings_both accounts xs ys ms in
     ap (λ ps. rows_sorted_by_key cash_move_key (numbered_move_rows 1 (postings_sorted_by_stamp ps))) (postings_one accounts xs t ys ms e)
     ∙ rows_last X (posting_of_trade accounts t) Y (subst (AllByRecursion (λ p. p.stamp < last_status_stamp_of_trade t)) both h)
-    ∙ ap (λ ps. insert_row_by_key cash_move_key (cash_move_row (length ps + 1) (posting_of_trade accounts t)) (rows_sorted_by_key cash_move_key (numbered_move_rows 1 (postings_sorted_by_stamp ps)))) (sym both)
+    ∙ ap (λ ps. insert_row_by_key cash_move_key (cash_move_row (length ps + 1) (posting_of_trade accounts t))
+    (rows_sorted_by_key cash_move_key (numbered_move_rows 1 (postings_sorted_by_stamp ps)))) (sym both)
 
 pub margin_cash : (accounts : List Account) (xs : List Trade) (t : Trade) (ys : List Trade) (ms : List Movement) → t.is_cash ≡ false
-    → rows_sorted_by_key cash_move_key (numbered_move_rows 1 (postings_sorted_by_stamp (postings accounts (xs ++ t ∷ ys) ms))) ≡ rows_sorted_by_key cash_move_key (numbered_move_rows 1 (postings_sorted_by_stamp (postings accounts (xs ++ ys) ms)))
+    → rows_sorted_by_key cash_move_key (numbered_move_rows 1 (postings_sorted_by_stamp (postings accounts (xs ++ t ∷ ys) ms)))
+    ≡ rows_sorted_by_key cash_move_key (numbered_move_rows 1 (postings_sorted_by_stamp (postings accounts (xs ++ ys) ms)))
 margin_cash accounts xs t ys ms e = ap (λ ps. rows_sorted_by_key cash_move_key (numbered_move_rows 1 (postings_sorted_by_stamp ps))) (postings_none accounts xs t ys ms e)

@@ -21,7 +21,8 @@ use Rattle.brk_model.specs.Tests.{bands_overlap}
 use Rattle.brk_ref.specs.Records.{abstract_tax_rate}
 use Rattle.brk_ref.specs.declared.tax.Tax.{Tax}
 use Rattle.brk_model.specs.Form.{has_security}
-use Rattle.brk_book_theorems.specs.Reads.{contains_permission, contains_charge, overlaps_some_band, tax_rate_with_id, rate_of_tax_rate_with_id, contains_tax_rate, contains_customer_tax, customer_tax_rate_sum}
+use Rattle.brk_book_theorems.specs.Reads.{contains_permission, contains_charge, overlaps_some_band, tax_rate_with_id, rate_of_tax_rate_with_id}
+use Rattle.brk_book_theorems.specs.Reads.{contains_tax_rate, contains_customer_tax, customer_tax_rate_sum}
 use Rattle.brk_book_theorems.proofs.Order.{by_key-filter}
 use Rattle.brk_book_theorems.proofs.Reading.{find-key, find-id, find-map, is_some-map, some-is-any, any-sorted}
 use Rattle.brk_book_theorems.proofs.NewKeys.{same_bytes, code_same, same_codes, both, and_both}

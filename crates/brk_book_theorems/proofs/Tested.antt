@@ -26,7 +26,8 @@ All-back P [] ys h = h
 All-back P (x ∷ xs) ys h = All-back P xs ys h.1
 
 -- none of its tests found anything wrong
-pub passed : (base : Base) (now : ℕ) (command : Command) → refusal_of_command base now command ≡ None → AllByRecursion (λ t. t.0 ≡ false) (checks_of_command base (stamp_of_next_command base now) command)
+pub passed : (base : Base) (now : ℕ) (command : Command) → refusal_of_command base now command ≡ None
+    → AllByRecursion (λ t. t.0 ≡ false) (checks_of_command base (stamp_of_next_command base now) command)
 unfolding refusal_of_command
 passed base now command e = All-front _ (checks_of_command base (stamp_of_next_command base now) command) _ (none_refuse _ e)
 

@@ -14,7 +14,8 @@ use Rattle.brk_model.specs.Tables.{Tables, LastTradeRow, RequestRow}
 use Rattle.brk_changes.specs.Changes.{tables_with_last_trade_replaced}
 use Rattle.brk_book_theorems.specs.Books.{BooksInvariant}
 use Rattle.brk_book_theorems.specs.TradeReads.{last_trade_row_of_symbol, requests_of_symbol}
-use Rattle.brk_book_theorems.specs.Trading.{trade_ids_triggered_by_tick, is_triggered_request, tables_after_change_from_pending, last_trade_row_after_tick, tables_with_trades_submitted, tables_after_tick, tables_with_last_trade_after_tick}
+use Rattle.brk_book_theorems.specs.Trading.{trade_ids_triggered_by_tick, is_triggered_request, tables_after_change_from_pending, last_trade_row_after_tick}
+use Rattle.brk_book_theorems.specs.Trading.{tables_with_trades_submitted, tables_after_tick, tables_with_last_trade_after_tick}
 use Rattle.brk_book_theorems.proofs.Bools.{numbers_back}
 use Rattle.brk_book_theorems.proofs.Same.{All-map, filter-same}
 use Rattle.brk_book_theorems.proofs.Places.{filter-all}
@@ -118,7 +119,8 @@ own_trades h (r ∷ rs) d =
     later true (q ∷ qs) g k = (ap (λ b. b || contains_number q.trade (trades_of (filter h rs))) (numbers_back r.trade q.trade ∙ g.0) ∙ k.0, later true qs g.1 k.1)
     later false qs g k = k
 
-requests_kept : (t : Tables) (stamp : ℕ) (tick : Tick) (o : Option LastTradeRow) → (option_map_or (λ l. tables_with_last_trade_replaced (last_trade_row_after_tick stamp tick l) t) o t).requests ≡ t.requests
+requests_kept : (t : Tables) (stamp : ℕ) (tick : Tick) (o : Option LastTradeRow)
+    → (option_map_or (λ l. tables_with_last_trade_replaced (last_trade_row_after_tick stamp tick l) t) o t).requests ≡ t.requests
 requests_kept t stamp tick None = refl
 requests_kept t stamp tick (Some l) = refl
 

@@ -14,7 +14,8 @@ use Rattle.brk_model.specs.Feed.{is_triggered_by_tick, base_after_tick, base_aft
 use Rattle.brk_model.specs.Tests.{checks_of_command, stamp_of_next_command}
 use Rattle.brk_model.specs.Step.{base_after_command_unstamped}
 use Rattle.brk_model.specs.Names.{AccountOfTradeExists, SecurityOfTradeExists}
-use Rattle.brk_book_theorems.specs.Books.{CompletionBooksInvariant, MovementBooksInvariant, AccountBooksInvariant, TradeBooksInvariant, HasDisjointBands, HasNoCompletionIfSubmitted, HasDistinctSymbols, HasOrderedBounds, HasVolumeWithinLimit, HasOneStatusChangeIfPending}
+use Rattle.brk_book_theorems.specs.Books.{CompletionBooksInvariant, MovementBooksInvariant, AccountBooksInvariant, TradeBooksInvariant, HasDisjointBands}
+use Rattle.brk_book_theorems.specs.Books.{HasNoCompletionIfSubmitted, HasDistinctSymbols, HasOrderedBounds, HasVolumeWithinLimit, HasOneStatusChangeIfPending}
 use Rattle.brk_book_theorems.specs.Steps.{PreservesBooksInvariant}
 use Rattle.brk_book_theorems.proofs.Same.{All-append, All-map, any-none}
 use Rattle.brk_book_theorems.proofs.Places.{All-updated}
@@ -43,9 +44,14 @@ books_order base now o k e =
         securities = All-append (SecurityOfTradeExists base) base.trades (t ∷ []) k.securities (not_not (is_some (security_with_symbol base o.symbol)) p.1.0, tt);
         numbered = numbered_more 1 base.trades t (next_number (length base.trades)) k.numbered;
         ways = All-append HasOneStatusChangeIfPending base.trades (t ∷ []) k.ways ((λ waits. tt), tt);
-        completions = All-append HasNoCompletionIfSubmitted base.trades (t ∷ []) k.completions (first_mark t (record { stamp = stamp_of_next_command base now; status = first_status (trade_type_of_order_type o.order_type) }) refl (first_not_completed (trade_type_of_order_type o.order_type)), tt);
+        completions = All-append HasNoCompletionIfSubmitted base.trades (t ∷ []) k.completions (
+          first_mark t (record { stamp = stamp_of_next_command base now; status = first_status (trade_type_of_order_type o.order_type) }) refl
+              (first_not_completed (trade_type_of_order_type o.order_type)),
+          tt,
+        );
       };
-      times = subst (CompletionBooksInvariant (Some (stamp_of_next_command base now))) (sym (ordered_done base (stamp_of_next_command base now) o)) (later_times base now (in_time base now (PlaceOrder o) e) k.times);
+      times = subst (CompletionBooksInvariant (Some (stamp_of_next_command base now))) (sym (ordered_done base (stamp_of_next_command base now) o))
+          (later_times base now (in_time base now (PlaceOrder o) e) k.times);
       movements = movements_beside (sym (ordered_done base (stamp_of_next_command base now) o)) (movements_later base now k.movements);
     }
 

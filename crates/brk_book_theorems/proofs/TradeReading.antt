@@ -86,7 +86,8 @@ hits accounts tick (t ∷ ts) = by_pending (has_last_status Pending t) refl (hit
         ap (λ b. map (λ r. r.trade) (filter (is_triggered_request tick) (map (request_row accounts) (cond b (t ∷ pending_trades ts) (pending_trades ts))))) f ∙ e
         ∙ ap (λ b. map (λ t. t.id) (cond (b && bytes_eq t.symbol tick.symbol && is_triggering_price t.kind t.bid tick.price) (t ∷ T) T)) (sym f)
 
-pub reads_triggered : (base : Base) (tick : Tick) → TradesAreNumberedFrom 1 base.trades → trade_ids_triggered_by_tick tick (sheets base) ≡ map (λ t. t.id) (filter (is_triggered_by_tick tick) base.trades)
+pub reads_triggered : (base : Base) (tick : Tick) → TradesAreNumberedFrom 1 base.trades
+    → trade_ids_triggered_by_tick tick (sheets base) ≡ map (λ t. t.id) (filter (is_triggered_by_tick tick) base.trades)
 reads_triggered base tick n = ap (λ rows. map (λ r. r.trade) (filter (is_triggered_request tick) rows)) (requests_in_order base n) ∙ hits base.accounts tick base.trades
 
 -- ---- the volume of a symbol
@@ -172,7 +173,8 @@ apart_from : (id : ℕ) (rows : List RequestRow) → AllByRecursion (λ r. (r.tr
 apart_from id [] h = refl
 apart_from id (r ∷ rows) h = ap (λ b. b || contains_number id (map (λ r. r.trade) rows)) h.0 ∙ apart_from id rows h.1
 
-filtered_apart : (accounts : List Account) (p : Trade → Bool) (n : ℕ) (ts : List Trade) → TradesAreNumberedFrom n ts → all_distinct (map (λ r. r.trade) (map (request_row accounts) (filter p ts))) ≡ true
+filtered_apart : (accounts : List Account) (p : Trade → Bool) (n : ℕ) (ts : List Trade) → TradesAreNumberedFrom n ts
+    → all_distinct (map (λ r. r.trade) (map (request_row accounts) (filter p ts))) ≡ true
 filtered_apart accounts p n [] k = refl
 filtered_apart accounts p n (t ∷ ts) k = by_test (p t) (filtered_apart accounts p (n + 1) ts k.1)
   where

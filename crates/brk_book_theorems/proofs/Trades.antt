@@ -36,7 +36,9 @@ pub whole : (after : Base) (stamp : ℕ) (t : Tables) → sheets after ≡ t →
 whole after stamp t e = last_set after stamp ∙ ap (tables_with_last_stamp stamp) e
 
 pub step_order : (base : Base) (now : ℕ) (o : Order)
-    → HasTableEffect base now (PlaceOrder o) (tables_after_order (trade_row (trade_of_order base (stamp_of_next_command base now) o)) (not (is_market_type (trade_type_of_order_type o.order_type))) (broker_id_of_account base o.account))
+    → HasTableEffect base now (PlaceOrder o)
+    (tables_after_order (trade_row (trade_of_order base (stamp_of_next_command base now) o)) (not (is_market_type (trade_type_of_order_type o.order_type)))
+    (broker_id_of_account base o.account))
 unfolding base_after_command_unstamped
 step_order base now o books e =
     whole (base_after_order base (stamp_of_next_command base now) o) (stamp_of_next_command base now) _ (ordered_rows base (stamp_of_next_command base now) o books.numbered)
@@ -69,7 +71,8 @@ known_ticks base now ticks e =
 pub step_feed : (base : Base) (now : ℕ) (ticks : List Tick) → HasTableEffect base now (FeedTicks ticks) (tables_after_feed (stamp_of_next_command base now) ticks)
 unfolding base_after_command_unstamped
 step_feed base now ticks books e =
-    whole (base_after_ticks (stamp_of_next_command base now) base ticks) (stamp_of_next_command base now) _ (fed_rows base (stamp_of_next_command base now) ticks (ready base books) (known_ticks base now ticks e))
+    whole (base_after_ticks (stamp_of_next_command base now) base ticks) (stamp_of_next_command base now) _
+    (fed_rows base (stamp_of_next_command base now) ticks (ready base books) (known_ticks base now ticks e))
 
 pub step_triggered : (base : Base) (now : ℕ) (ticks : List Tick) → BooksInvariant base → refusal_of_command base now (FeedTicks ticks) ≡ None
     → triggered_trade_ids (stamp_of_next_command base now) base ticks ≡ trade_ids_triggered_by_feed (stamp_of_next_command base now) ticks (sheets base)

@@ -65,7 +65,9 @@ any-found {X = X} r p (y ∷ xs) x e f = by_test (any-found r p xs x) (r y) refl
 -- ---- the volumes after ticks
 
 -- how much of a symbol a tick and those after it trade
-fed_next : (symbol : Text) (tick : Tick) (ticks : List Tick) (b : Bool) → bytes_eq tick.symbol symbol ≡ b → tick_quantity_sum_of_symbol symbol (tick ∷ ticks) ≡ cond b (tick.qty + tick_quantity_sum_of_symbol symbol ticks) (tick_quantity_sum_of_symbol symbol ticks)
+fed_next : (symbol : Text) (tick : Tick) (ticks : List Tick) (b : Bool) → bytes_eq tick.symbol symbol ≡ b
+    → tick_quantity_sum_of_symbol symbol (tick ∷ ticks)
+    ≡ cond b (tick.qty + tick_quantity_sum_of_symbol symbol ticks) (tick_quantity_sum_of_symbol symbol ticks)
 fed_next symbol tick ticks true e =
     ap (λ b. sum_by (λ u. u.qty) (cond b (tick ∷ filter (λ u. bytes_eq u.symbol symbol) ticks) (filter (λ u. bytes_eq u.symbol symbol) ticks))) e
     ∙ sum_by-cons (λ u. u.qty) tick (filter (λ u. bytes_eq u.symbol symbol) ticks)
@@ -152,7 +154,9 @@ reads_exceeds base stamp ticks books known =
 
     to_ticks : list_any E base.securities ≡ true → list_any (is_symbol_volume_above_limit (sheets base) ticks) ticks ≡ true
     to_ticks e =
-        let one = any-one _ E base.securities (All-both HasVolumeWithinLimit (λ s. security_with_symbol base s.symbol ≡ Some s) base.securities books.volumes (each_found base.securities books.symbols)) e in
+        let one = any-one _ E base.securities
+        (All-both HasVolumeWithinLimit (λ s. security_with_symbol base s.symbol ≡ Some s) base.securities books.volumes
+        (each_found base.securities books.symbols)) e in
         let s : Security = one.0 in
         let volume : volume_of_symbol (sheets base) s.symbol ≡ s.volume = volume_found base s one.1.0.1 in
         let exceeds : nat_lt greatest_amount (volume_of_symbol (sheets base) s.symbol + tick_quantity_sum_of_symbol s.symbol ticks) ≡ true =

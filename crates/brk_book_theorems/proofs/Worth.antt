@@ -133,7 +133,8 @@ worth_of base id [] h = refl
 worth_of base id (s ∷ ss) h =
     let row : SummaryRow = record { account = id; symbol = s.symbol; qty = holding_summary_quantity (completed_trades base) id s.symbol } in
     total-append (worth (sheets base)) (summary_rows (completed_trades base) id s.symbol) (summaries_in (completed_trades base) ss id)
-    ∙ (λ i. zero_worth (holding_summary_quantity (completed_trades base) id s.symbol) s.last_price (is_zero (holding_summary_quantity (completed_trades base) id s.symbol)) refl row refl (worth (sheets base))
+    ∙ (λ i. zero_worth (holding_summary_quantity (completed_trades base) id s.symbol) s.last_price
+    (is_zero (holding_summary_quantity (completed_trades base) id s.symbol)) refl row refl (worth (sheets base))
     (ap (λ n. holding_summary_quantity (completed_trades base) id s.symbol *ℤ pos n) (price_found base s h.0)) i +ℤ worth_of base id ss h.1 i)
 
 summaries_read : (base : Base) (id : ℕ) (a : Account) → BooksInvariant base → account_with_id base id ≡ Some a
@@ -147,7 +148,8 @@ summaries_read base id a books e =
     ∙ ap (total_by (worth (sheets base))) (of_all done base.securities base.accounts id ∙ of_account_alone done base.securities base.accounts id a books.owners e)
     ∙ worth_of base id base.securities (each_found base.securities books.symbols)
 
-pub reads_assets : (base : Base) (id : ℕ) (r : AccountRow) → BooksInvariant base → account_row_with_id (sheets base) id ≡ Some r → r.balance +ℤ market_value_of_account_row (sheets base) r ≡ assets_of_account base id
+pub reads_assets : (base : Base) (id : ℕ) (r : AccountRow) → BooksInvariant base → account_row_with_id (sheets base) id ≡ Some r
+    → r.balance +ℤ market_value_of_account_row (sheets base) r ≡ assets_of_account base id
 reads_assets base id r books e = by_account (account_with_id base id) refl
   where
     same_row : (x y : AccountRow) → Some x ≡ Some y → x ≡ y

@@ -18,7 +18,8 @@ joined separator first (field ∷ fields) = ap (λ (text : Text). first ++ separ
 -- fields after fields
 pub more_append : (separator : ℕ) (xs ys : List Text) → fields_after_separators separator (xs ++ ys) ≡ fields_after_separators separator xs ++ fields_after_separators separator ys
 more_append separator [] ys = refl
-more_append separator (x ∷ xs) ys = ap (λ (text : Text). separator ∷ x ++ text) (more_append separator xs ys) ∙ sym (append_assoc (separator ∷ x) (fields_after_separators separator xs) (fields_after_separators separator ys))
+more_append separator (x ∷ xs) ys = ap (λ (text : Text). separator ∷ x ++ text) (more_append separator xs ys)
+    ∙ sym (append_assoc (separator ∷ x) (fields_after_separators separator xs) (fields_after_separators separator ys))
 
 -- the fields of ticks, tick by tick
 pub tick_row : (ticks : List tick.Tick) → codes "feed" ++ flat_map (λ tick. fields_after_separators 31 (tick_fields (abstract_tick tick))) ticks ≡ row_text (FeedTicks (abstract_ticks ticks))
@@ -53,7 +54,8 @@ trades_row trades = ap (λ (text : Text). codes "upname" ++ text) (sym (each tra
 pub added : (separator : ℕ) (first : Text) (xs ys : List Text) (was now : Text) → was ≡ join_with_byte separator (first ∷ xs) → now ≡ was ++ fields_after_separators separator ys
     → now ≡ join_with_byte separator (first ∷ xs ++ ys)
 added separator first xs ys was now w n =
-    n ∙ ap (λ (text : Text). text ++ fields_after_separators separator ys) (w ∙ joined separator first xs) ∙ append_assoc first (fields_after_separators separator xs) (fields_after_separators separator ys)
+    n ∙ ap (λ (text : Text). text ++ fields_after_separators separator ys) (w ∙ joined separator first xs)
+    ∙ append_assoc first (fields_after_separators separator xs) (fields_after_separators separator ys)
     ∙ ap (λ (text : Text). first ++ text) (sym (more_append separator xs ys)) ∙ sym (joined separator first (xs ++ ys))
 
 -- one text more

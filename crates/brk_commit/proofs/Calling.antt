@@ -52,7 +52,8 @@ DecidesCommandOfNewKey now command key planned t = (None ≡ kept_row_under_key 
 pub known : {S E : Type 0} (g : Ghosts S) (old first mid : Held S) (now : ℕ) (command : Command) (key : Option Key) (planned : Result Plan Refusal) → ReadStoredReplyPost g old first key (Ok None)
     → ReadPost {E = E} g first mid (Ok planned) (DecidesCommand now command) → HoldsWithoutChange g old mid (DecidesCommandOfNewKey now command key planned)
 known g old first mid now command key planned sought decided =
-    seen_both g old first mid (λ t. None ≡ kept_row_under_key t key) (DecidesCommand now command planned) (sought_none g old first key sought) (seen g first mid planned (DecidesCommand now command) decided)
+    seen_both g old first mid (λ t. None ≡ kept_row_under_key t key) (DecidesCommand now command planned) (sought_none g old first key sought)
+    (seen g first mid planned (DecidesCommand now command) decided)
 
 pub same_fault : {V : Type 0} (fault other : Fault) (result : Result V Fault) → result ≡ Err fault → result ≡ Err other → fault ≡ other
 same_fault fault other result is was = cc
@@ -87,7 +88,8 @@ module _ {S : Type 0} (g : Ghosts S) (old mid : Held S) (now : ℕ) (command : C
   }
 
   -- its key is kept
-  pub repeats : (k : Kept) (answer : CommandAnswer) → ((base : Base) → answer_and_base_of_retry base command k ≡ (model_answer answer, base)) → HoldsWithoutChange g old mid (λ t. Some k ≡ kept_row_under_key t key)
+  pub repeats : (k : Kept) (answer : CommandAnswer) → ((base : Base) → answer_and_base_of_retry base command k ≡ (model_answer answer, base))
+      → HoldsWithoutChange g old mid (λ t. Some k ≡ kept_row_under_key t key)
       → CommandPost g old mid now command key (Ok answer)
   repeats k answer told seen = record {
     answered = λ clean base keeps. (
@@ -151,7 +153,8 @@ module _ {S : Type 0} (g : Ghosts S) (old mid : Held S) (now : ℕ) (command : C
           base_with_stored_reply key command told after,
           sym all,
           books_kept after key command told does.books_after,
-          steps_anew base now command key new ∙ ap (answer_and_base_of_step base key command) does.steps ∙ ap (λ reply. (model_answer (given.Done reply), base_with_stored_reply key command told after)) (sym reply),
+          steps_anew base now command key new ∙ ap (answer_and_base_of_step base key command) does.steps
+              ∙ ap (λ reply. (model_answer (given.Done reply), base_with_stored_reply key command told after)) (sym reply),
           ap has_utf8_texts (sym all) ∙ changes_keep_texts (sheets base) kept.changes.items keeps.texts,
         )
 
@@ -167,7 +170,8 @@ module _ {S : Type 0} (g : Ghosts S) (old mid : Held S) (now : ℕ) (command : C
         let l = lands clean base keeps in
         ap (λ (x : Answer × Base). has_utf8_texts (sheets x.1)) l.3 ∙ l.4
 
-    come : {r : Result (Unit {0}) Fault} → (applied : ApplyPost g mid end r (tables_after_changes kept.changes.items)) → Survives (state g old) (state g end) (IsDiskContentAfterCommand g old now command key)
+    come : {r : Result (Unit {0}) Fault} → (applied : ApplyPost g mid end r (tables_after_changes kept.changes.items))
+        → Survives (state g old) (state g end) (IsDiskContentAfterCommand g old now command key)
     come applied =
         none_then (state g old) (state g mid) (state g end) (IsDiskContentAfterCommand g old now command key) seen.survives
         (survives_weaker (state g mid) (state g end) _ _ (λ clean trees may.
@@ -199,8 +203,15 @@ module _ {S : Type 0} (g : Ghosts S) (old mid : Held S) (now : ℕ) (command : C
         let clean_mid = clean_before (state g mid) (state g end) _ applied.survives in
         record {
           answered = λ clean base keeps.
-              let l = lands (clean_mid clean) base keeps in
-              (l.0, record { rows = subst (HoldsRows g end) (sym l.1) (applied.applied (sheets base) (seen.kept (sheets base) keeps.rows)); consistent = record { books = l.2; sound = sound_after base keeps l.0 (model_answer (given.Done kept.reply)) l.3; texts = l.4 } }, l.3);
+              let l = lands (clean_mid clean) base keeps in (
+                l.0,
+                record {
+                  rows = subst (HoldsRows g end) (sym l.1) (applied.applied (sheets base) (seen.kept (sheets base) keeps.rows));
+                  consistent =
+                      record { books = l.2; sound = sound_after base keeps l.0 (model_answer (given.Done kept.reply)) l.3; texts = l.4 };
+                },
+                l.3,
+              );
           same_bases_at_error = tt;
           fault = tt;
           survives = come applied;

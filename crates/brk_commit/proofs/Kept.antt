@@ -29,7 +29,8 @@ steps_again base now command (Some key) k told e r = ap (answer_and_base_by_stor
 
 -- the tables after a command that is kept under its key
 pub rows_with_key : (base : Base) (stamp : ℕ) (command : Command) (key : Option Key) (reply : Reply) → None ≡ kept_row_under_key (sheets base) key
-    → sheets (base_with_stored_reply key command reply (base_after_accepted_command base stamp command)) ≡ tables_with_stored_command key command reply (sheets (base_after_accepted_command base stamp command))
+    → sheets (base_with_stored_reply key command reply (base_after_accepted_command base stamp command))
+    ≡ tables_with_stored_command key command reply (sheets (base_after_accepted_command base stamp command))
 rows_with_key base stamp command None reply e = refl
 rows_with_key base stamp command (Some key) reply e =
     let after = base_after_accepted_command base stamp command in

@@ -12,7 +12,11 @@ use Rattle.brk_model.specs.Tables.{CashRow, MoveRow, Tables, TradeRow, tables_wi
 use Rattle.brk_changes.specs.Changes.{tables_after_change, tables_after_changes}
 use Rattle.brk_changes.specs.Rows.{abstract_move_row, abstract_trade_row}
 use Rattle.brk_changes.specs.declared.change.Change.{Change}
-use Rattle.brk_changes.specs.declared.change.Change.TheVariants.{AddBroker, AddCustomer, AddAccount, AddPermission, AddSecurity, AddLastTrade, AddCharge, AddBand, AddTaxRate, AddCustomerTax, AddTrade, SetStatus, AddHistory, AddRequest, RemoveRequest, SetLastTrade, CompleteTrade, AddLot, SetLot, RemoveLot, AddLotChange, AddSummary, SetSummary, RemoveSummary, AddSettlement, AddMove, SetBalance, SetBrokerTotals, SetExecutor, SetCashType, SetCashName, SetSettlementDay, AddStoredReply, SetLastStamp}
+use Rattle.brk_changes.specs.declared.change.Change.TheVariants.{AddBroker, AddCustomer, AddAccount, AddPermission, AddSecurity, AddLastTrade, AddCharge}
+use Rattle.brk_changes.specs.declared.change.Change.TheVariants.{AddBand, AddTaxRate, AddCustomerTax, AddTrade, SetStatus, AddHistory, AddRequest}
+use Rattle.brk_changes.specs.declared.change.Change.TheVariants.{RemoveRequest, SetLastTrade, CompleteTrade, AddLot, SetLot, RemoveLot, AddLotChange}
+use Rattle.brk_changes.specs.declared.change.Change.TheVariants.{AddSummary, SetSummary, RemoveSummary, AddSettlement, AddMove, SetBalance, SetBrokerTotals}
+use Rattle.brk_changes.specs.declared.change.Change.TheVariants.{SetExecutor, SetCashType, SetCashName, SetSettlementDay, AddStoredReply, SetLastStamp}
 use Rattle.brk_money.specs.declared.status.Status.TheVariants.{Completed}
 use Rattle.brk_ref.specs.Records.{abstract_kept_row}
 use Rattle.brk_book_theorems.proofs.Order.{All-insert}
@@ -62,7 +66,15 @@ changed t (AddCharge charge) h = record { kept = h.kept; names = h.names; cash =
 changed t (AddBand band) h = record { kept = h.kept; names = h.names; cash = h.cash; moves = h.moves }
 changed t (AddTaxRate tax) h = record { kept = h.kept; names = h.names; cash = h.cash; moves = h.moves }
 changed t (AddCustomerTax pays) h = record { kept = h.kept; names = h.names; cash = h.cash; moves = h.moves }
-changed t (AddTrade row) h = record { kept = h.kept; names = All-insert HasUtf8Executor (is_row_key_less trade_key) (abstract_trade_row row) t.trades (text_is_utf8 row.executor) h.names; cash = h.cash; moves = h.moves }
+changed t (AddTrade row) h =
+    record {
+      kept = h.kept;
+      names =
+          All-insert HasUtf8Executor (is_row_key_less trade_key) (abstract_trade_row row) t.trades (text_is_utf8 row.executor) h.names;
+      cash = h.cash;
+      moves =
+          h.moves;
+    }
 changed t (SetStatus trade status stamp) h = record {
   kept = h.kept;
   names = All-updated HasUtf8Executor (λ r. r.id == trade) (λ r. record r { status = status; stamp = stamp }) t.trades (λ r e. e) h.names;

@@ -37,7 +37,14 @@ module _ {S : Type 0} (g : Ghosts S) where
 
   pub seen : {V E : Type 0} (old new : Held S) (v : V) (P : V → Tables → Type 0) → ReadPost {E = E} g old new (Ok v) P → HoldsWithoutChange old new (P v)
   seen old new v P read =
-      record { told = read.answered; kept = read.same_rows; unchanged_if_open = read.unchanged_if_open; clean = clean_before (state g old) (state g new) (λ _. ⊥) read.survives; survives = read.survives }
+      record {
+        told = read.answered;
+        kept = read.same_rows;
+        unchanged_if_open = read.unchanged_if_open;
+        clean =
+            clean_before (state g old) (state g new) (λ _. ⊥) read.survives;
+        survives = read.survives;
+      }
 
   pub seen_both : (old mid new : Held S) (P Q : Tables → Type 0) → HoldsWithoutChange old mid P → HoldsWithoutChange mid new Q → HoldsWithoutChange old new (λ t. P t × Q t)
   seen_both old mid new P Q first second = record {
@@ -50,7 +57,14 @@ module _ {S : Type 0} (g : Ghosts S) where
 
   seen_still : (store : Held S) (P : Tables → Type 0) → ((t : Tables) → P t) → HoldsWithoutChange store store P
   seen_still store P all =
-      record { told = λ clean t holds. all t; kept = λ t holds. holds; unchanged_if_open = λ clean o. record { was_open = o; now = refl; committed = refl }; clean = λ clean. clean; survives = still (state g store) }
+      record {
+        told = λ clean t holds. all t;
+        kept = λ t holds. holds;
+        unchanged_if_open =
+            λ clean o. record { was_open = o; now = refl; committed = refl };
+        clean = λ clean. clean;
+        survives = still (state g store);
+      }
 
   -- nothing is kept under the key
   pub sought_none : (old new : Held S) (key : Option Key) → ReadStoredReplyPost g old new key (Ok None) → HoldsWithoutChange old new (λ t. None ≡ kept_row_under_key t key)
@@ -58,6 +72,7 @@ module _ {S : Type 0} (g : Ghosts S) where
   sought_none old new (Some key) s = seen old new None (λ kept t. option_map abstract_kept_row kept ≡ kept_row_under_key t (Some key)) s
 
   -- this row is
-  pub sought_some : (old new : Held S) (key : Option Key) (k : row.Kept) → ReadStoredReplyPost g old new key (Ok (Some k)) → HoldsWithoutChange old new (λ t. Some (abstract_kept_row k) ≡ kept_row_under_key t key)
+  pub sought_some : (old new : Held S) (key : Option Key) (k : row.Kept) → ReadStoredReplyPost g old new key (Ok (Some k))
+      → HoldsWithoutChange old new (λ t. Some (abstract_kept_row k) ≡ kept_row_under_key t key)
   sought_some old new None k s = let other = s.1 in absurd (cc)
   sought_some old new (Some key) k s = seen old new (Some k) (λ kept t. option_map abstract_kept_row kept ≡ kept_row_under_key t (Some key)) s

@@ -30,9 +30,11 @@ TradeStatusAndLastStampMatch id found last t = (last ≡ t.last) × (found ≡ o
 
 -- they are known after two reads
 pub last_and_status : {S E F : Type 0} (g : Ghosts S) (old mid end : Held S) (id : ℕ) (found : Option Status) (last : Option ℕ) → ReadPost {E = E} g old mid (Ok last) (λ last t. last ≡ t.last)
-    → ReadPost {E = F} g mid end (Ok found) (λ found t. found ≡ option_map (λ r. r.status) (trade_row_with_id t id)) → ReadPost {E = Fault} g old end (Ok found) (λ f. TradeStatusAndLastStampMatch id f last)
+    → ReadPost {E = F} g mid end (Ok found) (λ found t. found ≡ option_map (λ r. r.status) (trade_row_with_id t id))
+    → ReadPost {E = Fault} g old end (Ok found) (λ f. TradeStatusAndLastStampMatch id f last)
 last_and_status g old mid end id found last at_last at_found =
-    read_with g old mid end {H = Fault} last found found (λ last t. last ≡ t.last) (λ found t. found ≡ option_map (λ r. r.status) (trade_row_with_id t id)) (λ f. TradeStatusAndLastStampMatch id f last) (λ t e f. (e, f)) at_last at_found
+    read_with g old mid end {H = Fault} last found found (λ last t. last ≡ t.last) (λ found t. found ≡ option_map (λ r. r.status) (trade_row_with_id t id))
+    (λ f. TradeStatusAndLastStampMatch id f last) (λ t e f. (e, f)) at_last at_found
 
 -- a cancel's plan does it, and its refusal is that of the command
 module _ (id : ℕ) (found : Option Status) (last : Option ℕ) (now : ℕ) (moment : now ≤ greatest_stamp) where

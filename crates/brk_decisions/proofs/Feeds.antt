@@ -36,7 +36,8 @@ use Rattle.brk_trade_theorems.specs.Plans.{DecidesCommand}
 -- `quote` has the last trade of the tick's symbol and the requests that a price of the ticks `all`
 -- may trigger. It is `None` if the symbol has no last trade.
 abbrev pub IsQuoteOfTickOrNone : List Tick → Tick → Option Quote → Tables → Type 0
-IsQuoteOfTickOrNone all tick quote t = (option_map (λ q. abstract_last_trade_row q.last) quote ≡ last_trade_row_of_symbol t tick.symbol) × IfSome quote (λ q. IsQuoteOfTick t tick all (state_of_quote q))
+IsQuoteOfTickOrNone all tick quote t = (option_map (λ q. abstract_last_trade_row q.last) quote ≡ last_trade_row_of_symbol t tick.symbol)
+    × IfSome quote (λ q. IsQuoteOfTick t tick all (state_of_quote q))
 
 -- `last` is the last stamp of the tables, and `quotes` are the quotes of the symbols of `ticks`,
 -- for the prices of the ticks `all`.
@@ -44,7 +45,8 @@ abbrev pub QuotesAndLastStampMatch : (all ticks : List Tick) → List SymbolStat
 QuotesAndLastStampMatch all ticks quotes last t = (last ≡ t.last) × AreQuotesOfTicks t all ticks quotes
 
 -- what the selections of a tick's symbol brought, merged, is its quote
-pub selected_quote : (t : Tables) (tick : Tick) (ticks : List Tick) (span : Span) (last : LastTrade) (losses sells buys : List request.RequestRow) (quote : Quote) → span ≡ price_span_of_first_symbol tick ticks
+pub selected_quote : (t : Tables) (tick : Tick) (ticks : List Tick) (span : Span) (last : LastTrade) (losses sells buys : List request.RequestRow)
+    (quote : Quote) → span ≡ price_span_of_first_symbol tick ticks
     → Some (abstract_last_trade_row last) ≡ last_trade_row_of_symbol t tick.symbol
     → map abstract_request_row losses ≡ stop_losses t tick.symbol span
     → map abstract_request_row sells ≡ limit_sells t tick.symbol span
@@ -61,18 +63,22 @@ selected_quote t tick ticks span last losses sells buys quote is l e f g same p 
     IsPermutation-trans (filter (may span) (requests_of_symbol t tick.symbol)) ((stop_losses t tick.symbol span ++ limit_sells t tick.symbol span) ++ limit_buys t tick.symbol span)
     (map abstract_request_row quote.requests.items) (selected t tick.symbol span) moved in (
       listed,
-      read_quote t ticks tick (state_of_quote quote) (sym listed) (subst (λ s. IsPermutation (filter (may s) (requests_of_symbol t tick.symbol)) (map abstract_request_row quote.requests.items)) is all) o,
+      read_quote t ticks tick (state_of_quote quote) (sym listed)
+          (subst (λ s. IsPermutation (filter (may s) (requests_of_symbol t tick.symbol)) (map abstract_request_row quote.requests.items)) is all) o,
     )
 
 -- with each tick they are known of one tick more
 module _ (all ticks : List Tick) (tick : Tick) (quotes : List Quote) (last : Option ℕ) where
-  pub one_quoted : has_no_state_of_symbol (states_of_quotes quotes) tick ≡ false → (t : Tables) → QuotesAndLastStampMatch all ticks (states_of_quotes quotes) last t → QuotesAndLastStampMatch all (ticks ++ tick ∷ []) (states_of_quotes quotes) last t
+  pub one_quoted : has_no_state_of_symbol (states_of_quotes quotes) tick ≡ false → (t : Tables)
+      → QuotesAndLastStampMatch all ticks (states_of_quotes quotes) last t → QuotesAndLastStampMatch all (ticks ++ tick ∷ []) (states_of_quotes quotes) last t
   one_quoted e t k = (k.0, quoted_before t all ticks tick quotes k.1 (not_not (list_any (is_state_of_symbol tick.symbol) (states_of_quotes quotes)) e))
 
-  pub one_not_listed : (t : Tables) → QuotesAndLastStampMatch all ticks (states_of_quotes quotes) last t → IsQuoteOfTickOrNone all tick None t → QuotesAndLastStampMatch all (ticks ++ tick ∷ []) (states_of_quotes quotes) last t
+  pub one_not_listed : (t : Tables) → QuotesAndLastStampMatch all ticks (states_of_quotes quotes) last t → IsQuoteOfTickOrNone all tick None t
+      → QuotesAndLastStampMatch all (ticks ++ tick ∷ []) (states_of_quotes quotes) last t
   one_not_listed t k l = (k.0, not_listed t all ticks tick quotes k.1 (sym l.0))
 
-  pub one_read : (quote : Quote) → Contains all tick → has_no_state_of_symbol (states_of_quotes quotes) tick ≡ true → (t : Tables) → QuotesAndLastStampMatch all ticks (states_of_quotes quotes) last t → IsQuoteOfTickOrNone all tick (Some quote) t
+  pub one_read : (quote : Quote) → Contains all tick → has_no_state_of_symbol (states_of_quotes quotes) tick ≡ true → (t : Tables)
+      → QuotesAndLastStampMatch all ticks (states_of_quotes quotes) last t → IsQuoteOfTickOrNone all tick (Some quote) t
       → QuotesAndLastStampMatch all (ticks ++ tick ∷ []) (states_of_quotes (quotes ++ quote ∷ [])) last t
   one_read quote m e t k l = (k.0, quote_read t all ticks tick quotes quote k.1 (is_false (list_any (is_state_of_symbol tick.symbol) (states_of_quotes quotes)) e) m l.1)
     where
@@ -91,7 +97,8 @@ module _ (ticks : List Tick) (quotes : List SymbolState) (last : Option ℕ) (no
   }
 
   pub feed_decided : (result : Result (Result Plan Refusal) Fault)
-      → IfOk result (λ planned. MatchResult planned (IsFeedPlan ticks quotes last now) (λ refusal. (stamp : ℕ) → first_refusal (feed_checks stamp ticks quotes ++ later_stamp_check last now ∷ []) ≡ Some refusal))
+      → IfOk result (λ planned. MatchResult planned (IsFeedPlan ticks quotes last now)
+      (λ refusal. (stamp : ℕ) → first_refusal (feed_checks stamp ticks quotes ++ later_stamp_check last now ∷ []) ≡ Some refusal))
       → IfOk result (λ planned. (t : Tables) → QuotesAndLastStampMatch ticks ticks quotes last t → DecidesCommand now (FeedTicks (abstract_ticks ticks)) planned t)
   feed_decided (Ok (Ok plan)) p = λ t known base books e. feed_plan_does base ticks quotes last now plan (looked_up t known base books e) p
   feed_decided (Ok (Err refusal)) p = λ t known base books e. feed_refused base 0 ticks quotes last now refusal (looked_up t known base books e) (p 0)

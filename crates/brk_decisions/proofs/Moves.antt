@@ -39,10 +39,12 @@ abbrev pub MovementFactsAndLastStampMatch : Movement → MovementPlanFacts → O
 MovementFactsAndLastStampMatch m found last t = (last ≡ t.last) × MovementFactsMatchTables t m found
 
 -- they are known after two reads
-pub last_and_found : {S E F : Type 0} (g : Ghosts S) (old mid end : Held S) (m : Movement) (found : MovementPlanFacts) (last : Option ℕ) → ReadPost {E = E} g old mid (Ok last) (λ last t. last ≡ t.last)
+pub last_and_found : {S E F : Type 0} (g : Ghosts S) (old mid end : Held S) (m : Movement) (found : MovementPlanFacts) (last : Option ℕ)
+    → ReadPost {E = E} g old mid (Ok last) (λ last t. last ≡ t.last)
     → ReadPost {E = F} g mid end (Ok found) (λ found t. MovementFactsMatchTables t m found) → ReadPost {E = Fault} g old end (Ok found) (λ f. MovementFactsAndLastStampMatch m f last)
 last_and_found g old mid end m found last at_last at_found =
-    read_with g old mid end {H = Fault} last found found (λ last t. last ≡ t.last) (λ found t. MovementFactsMatchTables t m found) (λ f. MovementFactsAndLastStampMatch m f last) (λ t e f. (e, f)) at_last at_found
+    read_with g old mid end {H = Fault} last found found (λ last t. last ≡ t.last) (λ found t. MovementFactsMatchTables t m found)
+    (λ f. MovementFactsAndLastStampMatch m f last) (λ t e f. (e, f)) at_last at_found
 
 -- a movement's plan does it, and its refusal is that of the command
 module _ (m : Movement) (found : MovementPlanFacts) (last : Option ℕ) (now : ℕ) (moment : now ≤ greatest_stamp) where

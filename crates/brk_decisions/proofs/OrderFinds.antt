@@ -1,5 +1,6 @@
 -- What was found of an account's order is what is found for its estimate.
-use Rattle.std.proofs.Common.{◌≡◌, ℕ, ◌==◌, ◌+ℤ◌, ℤ, pos, Bool, true, false, cond, List, [], ◌∷◌, ◌++◌, Option, Some, None, refl, sym, subst, ap, ◌∙◌, arith, filter, find, map, option_map, ◌+◌, ◌<◌, get_or, length, take}
+use Rattle.std.proofs.Common.{◌≡◌, ℕ, ◌==◌, ◌+ℤ◌, ℤ, pos, Bool, true, false, cond, List, [], ◌∷◌, ◌++◌, Option, Some, None, refl, sym, subst, ap, ◌∙◌, arith}
+use Rattle.std.proofs.Common.{filter, find, map, option_map, ◌+◌, ◌<◌, get_or, length, take}
 use Rattle.std.proofs.lemmas.Bool.{eqb-true}
 use Rattle.std.proofs.lemmas.List.{map-append, take_more}
 use Rattle.std.proofs.lemmas.Int.{ints}
@@ -24,7 +25,8 @@ use Rattle.brk_book_theorems.specs.OrderReads.{CustomerOfAccountSatisfies, charg
 use Rattle.brk_trade_theorems.specs.OrderPlans.{EstimateFactsMatchTables, order_account_of_row}
 use Rattle.brk_book_theorems.specs.Reads.{customer_tax_rate_sum}
 use Rattle.brk_book_theorems.specs.TradeReads.{commission_band_of_quantity, permission_list_for_tax_id, summary_row_of_position}
-use Rattle.brk_decisions.specs.OrderFactReads.{EstimateAmountsMatchTables, CustomerOrderFactsMatchTables, IsCustomerWithId, EstimateFactsMatchIfAccountOfOrder, order_facts_with_account, order_facts_without_account}
+use Rattle.brk_decisions.specs.OrderFactReads.{EstimateAmountsMatchTables, CustomerOrderFactsMatchTables, IsCustomerWithId, EstimateFactsMatchIfAccountOfOrder}
+use Rattle.brk_decisions.specs.OrderFactReads.{order_facts_with_account, order_facts_without_account}
 use Rattle.brk_store.specs.Valuation.{market_value_of_summary}
 use Rattle.brk_decisions.specs.declared.tested.OrderCheckFacts.{OrderCheckFacts}
 use Rattle.brk_decisions.specs.declared.amounts.Amounts.{Amounts}
@@ -69,7 +71,9 @@ all_found t order a c tested amounts k x y there = record {
       (λ c. tested.is_permitted ≡ is_customer_or_has_permission c (permission_list_for_tax_id t order.account order.executor.tax_id) (abstract_executor order.executor)) x.is_permitted;
   charge = λ p. if_customer t order.account a c there k (λ c. tested.charge ≡ charge_of_type_and_tier t (trade_type_of_order_type order.order_type) c.tier) x.charge;
   rate = λ p. if_customer t order.account a c there k
-      (λ c. IfSome (security_row_with_symbol t order.symbol) (λ s. tested.rate ≡ option_map (λ b. b.rate) (commission_band_of_quantity t c.tier (trade_type_of_order_type order.order_type) s.exchange order.qty))) x.rate;
+      (λ c. IfSome (security_row_with_symbol t order.symbol)
+      (λ s. tested.rate ≡ option_map (λ b. b.rate) (commission_band_of_quantity t c.tier (trade_type_of_order_type order.order_type) s.exchange order.qty)))
+      x.rate;
   rates = λ p. if_account t order.account a c there k (λ a. amounts.rates ≡ customer_tax_rate_sum t a.customer) y.rates;
   assets = λ p. if_account t order.account a c there k (λ a. amounts.assets ≡ a.balance +ℤ market_value_of_account_row t a) y.held.assets_total;
   summary = λ p. y.held.shares_held
@@ -78,7 +82,8 @@ all_found t order a c tested amounts k x y there = record {
 }
 
 -- the last trade is no part of an estimate
-pub with_last_trade : (t : Tables) (order : Order) (found : OrderPlanFacts) (last : Option ℕ) → EstimateFactsMatchTables t order found → EstimateFactsMatchTables t order (record found { last_trade = last })
+pub with_last_trade : (t : Tables) (order : Order) (found : OrderPlanFacts) (last : Option ℕ) → EstimateFactsMatchTables t order found
+    → EstimateFactsMatchTables t order (record found { last_trade = last })
 with_last_trade t order found last k = record {
   account = k.account;
   last_price = k.last_price;

@@ -51,7 +51,8 @@ module _ (order : Order) (found : OrderPlanFacts) (last : Option ℕ) (now : ℕ
   }
 
   planned : (result : Result Plan Refusal)
-      → MatchResult result (IsOrderPlan order found given last now) (λ refusal. first_refusal (order_checks found ++ free_trade_id_check found.last_trade ∷ later_stamp_check last now ∷ []) ≡ Some refusal)
+      → MatchResult result (IsOrderPlan order found given last now)
+      (λ refusal. first_refusal (order_checks found ++ free_trade_id_check found.last_trade ∷ later_stamp_check last now ∷ []) ≡ Some refusal)
       → (t : Tables) → OrderLotsSatisfy t order given → OrderFactsAndLastStampMatch order last found t → DecidesCommand now (PlaceOrder (abstract_order order)) result t
   planned (Ok plan) p t lots known base books s =
       plan_order_does base order found given last now plan (looked_up t known base books s) (subst (λ x. OrderLotsSatisfy x order given) s lots) p

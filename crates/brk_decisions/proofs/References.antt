@@ -31,7 +31,8 @@ ReferenceFactsAndLastStampMatch r found last t = (last ≡ t.last) × ReferenceF
 pub last_and_found : {S E F : Type 0} (g : Ghosts S) (old mid end : Held S) (r : Reference) (found : ReferenceFacts) (last : Option ℕ) → ReadPost {E = E} g old mid (Ok last) (λ last t. last ≡ t.last)
     → ReadPost {E = F} g mid end (Ok found) (λ found t. ReferenceFactsMatchTables t r found) → ReadPost {E = Fault} g old end (Ok found) (λ f. ReferenceFactsAndLastStampMatch r f last)
 last_and_found g old mid end r found last at_last at_found =
-    read_with g old mid end {H = Fault} last found found (λ last t. last ≡ t.last) (λ found t. ReferenceFactsMatchTables t r found) (λ f. ReferenceFactsAndLastStampMatch r f last) (λ t e f. (e, f)) at_last at_found
+    read_with g old mid end {H = Fault} last found found (λ last t. last ≡ t.last) (λ found t. ReferenceFactsMatchTables t r found)
+    (λ f. ReferenceFactsAndLastStampMatch r f last) (λ t e f. (e, f)) at_last at_found
 
 -- a record's plan does its command, and its refusal is that of the command
 module _ (r : Reference) (found : ReferenceFacts) (last : Option ℕ) (now : ℕ) (moment : now ≤ greatest_stamp) where
@@ -43,7 +44,9 @@ module _ (r : Reference) (found : ReferenceFacts) (last : Option ℕ) (now : ℕ
     moment = moment;
   }
 
-  record_decided : (planned : Result Plan Refusal) → MatchResult planned (IsReferencePlan r found last now) (λ refusal. first_refusal (reference_checks r found ++ later_stamp_check last now ∷ []) ≡ Some refusal)
+  record_decided : (planned : Result Plan Refusal)
+      → MatchResult planned (IsReferencePlan r found last now)
+      (λ refusal. first_refusal (reference_checks r found ++ later_stamp_check last now ∷ []) ≡ Some refusal)
       → (t : Tables) → ReferenceFactsAndLastStampMatch r found last t → DecidesCommand now (command_adding_record r) planned t
   record_decided (Ok plan) p t known base books e = plan_does base r found last now plan (looked_up t known base books e) p
   record_decided (Err refusal) p t known base books e = refusal_does base r found last now refusal (looked_up t known base books e) p

@@ -38,7 +38,8 @@ parties_of_rows row customer rates broker = record {
 }
 
 pub parties_known : (t : Tables) (row : ref.AccountRow) (customer : customer.Customer) (rates : ℕ) (broker : BrokerTotals) → IsCustomerWithId t row.account.customer customer
-    → rates ≡ customer_tax_rate_sum t row.account.customer → AreTotalsOfBroker t row.account.broker broker → PartyFactsMatchTables t (abstract_account_row row) (parties_of_rows row customer rates broker)
+    → rates ≡ customer_tax_rate_sum t row.account.customer → AreTotalsOfBroker t row.account.broker broker
+    → PartyFactsMatchTables t (abstract_account_row row) (parties_of_rows row customer rates broker)
 parties_known t row customer rates broker k e n = record {
   account = refl;
   tier = subst (λ x. IfSome x (λ (c : Customer). customer.tier ≡ c.tier)) (sym k) refl;
@@ -74,7 +75,8 @@ module _ (t : Tables) (trade : TradeRow) (parties : PartyFacts) (listed : Securi
   of_owner : PartyFactsMatchIfAccountExists → (Q : AccountRow → Type 0) → ((a : AccountRow) → PartyFactsMatchTables t a parties → Q a) → IfSome (account_row_with_id t trade.account) Q
   of_owner k Q f = if_there (account_row_with_id t trade.account) (λ a. PartyFactsMatchTables t a parties) Q f k
 
-  of_security : SecurityFactsMatchIfSecurityExists → (Q : SecurityRow → Type 0) → ((s : SecurityRow) → SecurityFactsMatchTables t trade parties.tier s listed → Q s) → IfSome (security_row_with_symbol t trade.symbol) Q
+  of_security : SecurityFactsMatchIfSecurityExists → (Q : SecurityRow → Type 0)
+      → ((s : SecurityRow) → SecurityFactsMatchTables t trade parties.tier s listed → Q s) → IfSome (security_row_with_symbol t trade.symbol) Q
   of_security k Q f = if_there (security_row_with_symbol t trade.symbol) (λ s. SecurityFactsMatchTables t trade parties.tier s listed) Q f k
 
   -- If the security of the trade exists, its rate is that of the band for the customer's tier.
@@ -92,7 +94,8 @@ module _ (t : Tables) (trade : TradeRow) (parties : PartyFacts) (listed : Securi
   abbrev pub SharesMatchSummary : Type 0
   SharesMatchSummary = held ≡ option_map (λ r. r.qty) (summary_row_of_position t trade.account trade.symbol)
 
-  pub found_known : (posting : Posting) → PartyFactsMatchIfAccountExists → SecurityFactsMatchIfSecurityExists → SharesMatchSummary → PostingFactsMatchTables t posting → AreResultFactsOfTrade t trade (result_facts_with trade parties listed held posting)
+  pub found_known : (posting : Posting) → PartyFactsMatchIfAccountExists → SecurityFactsMatchIfSecurityExists → SharesMatchSummary
+      → PostingFactsMatchTables t posting → AreResultFactsOfTrade t trade (result_facts_with trade parties listed held posting)
   found_known posting owner security summary posted = record {
     own = refl;
     read = record {
@@ -114,7 +117,8 @@ number_in None = refl
 number_in (Some r) = refl
 
 -- of a trade that was found with its row
-pub there : (t : Tables) (id : ℕ) (row : TradeRow) (found : ResultPlanFacts) → Some (abstract_trade_row row) ≡ trade_row_with_id t id → AreResultFactsOfTrade t row found → AreResultFactsOfTradeWithId t id (Some found)
+pub there : (t : Tables) (id : ℕ) (row : TradeRow) (found : ResultPlanFacts) → Some (abstract_trade_row row) ≡ trade_row_with_id t id
+    → AreResultFactsOfTrade t row found → AreResultFactsOfTradeWithId t id (Some found)
 there t id row found e k = record {
   trade = sym e ∙ ap (λ r. Some (abstract_trade_row r)) (sym k.own);
   read = subst (λ r. AreResultFactsOfTrade t r found) (sym k.own) k;

@@ -28,7 +28,8 @@ use Rattle.brk_store.proofs.Sequences.{read_with}
 
 -- what is planned over lots is planned over those of them that are known to be given
 planned_over : (found : Option ResultPlanFacts) (price : ℕ) (given known : List Lot → Type 0) (last : Option ℕ) (now : ℕ) → ((ls : List Lot) → known ls → given ls) → (result : Result Plan Refusal)
-    → MatchResult result (CompletesExistingTrade found price given last now) (IsResultRefusal found price given last now) → MatchResult result (CompletesExistingTrade found price known last now) (IsResultRefusal found price known last now)
+    → MatchResult result (CompletesExistingTrade found price given last now) (IsResultRefusal found price given last now)
+    → MatchResult result (CompletesExistingTrade found price known last now) (IsResultRefusal found price known last now)
 planned_over None price given known last now is_given (Ok plan) p = p
 planned_over None price given known last now is_given (Err refusal) p = p
 planned_over (Some found) price given known last now is_given (Ok plan) p = record {
@@ -49,7 +50,9 @@ planned_over (Some found) price given known last now is_given (Err refusal) p = 
 pub result_over : (found : Option ResultPlanFacts) (price : ℕ) (given : List Lot → Type 0) (last : Option ℕ) (now : ℕ) (Held : Tables → Type 0)
     → ((t : Tables) → Held t → (ls : List Lot) → AreLotsOfTradedPosition t found ls → given ls) → (result : Result (Result Plan Refusal) Fault)
     → IfOk result (λ planned. MatchResult planned (CompletesExistingTrade found price given last now) (IsResultRefusal found price given last now))
-    → IfOk result (λ planned. (t : Tables) → Held t → MatchResult planned (CompletesExistingTrade found price (AreLotsOfTradedPosition t found) last now) (IsResultRefusal found price (AreLotsOfTradedPosition t found) last now))
+    → IfOk result (λ planned. (t : Tables) → Held t
+    → MatchResult planned (CompletesExistingTrade found price (AreLotsOfTradedPosition t found) last now)
+    (IsResultRefusal found price (AreLotsOfTradedPosition t found) last now))
 result_over found price given last now Held is_given (Ok result) p = λ t held. planned_over found price given (AreLotsOfTradedPosition t found) last now (is_given t held) result p
 result_over found price given last now Held is_given (Err fault) p = tt
 
@@ -67,9 +70,11 @@ ResultFactsAndLastStampMatch id last found t = (last ≡ t.last) × AreResultFac
 
 -- they are known after two reads
 pub last_and_found : {S E F : Type 0} (g : Ghosts S) (old mid end : Held S) (id : ℕ) (last : Option ℕ) (found : Option ResultPlanFacts)
-    → ReadPost {E = E} g old mid (Ok last) (λ last t. last ≡ t.last) → ReadPost {E = F} g mid end (Ok found) (λ found t. AreResultFactsOfTradeWithId t id found) → ReadPost {E = Fault} g old end (Ok found) (ResultFactsAndLastStampMatch id last)
+    → ReadPost {E = E} g old mid (Ok last) (λ last t. last ≡ t.last) → ReadPost {E = F} g mid end (Ok found) (λ found t. AreResultFactsOfTradeWithId t id found)
+    → ReadPost {E = Fault} g old end (Ok found) (ResultFactsAndLastStampMatch id last)
 last_and_found g old mid end id last found at_last at_found =
-    read_with g old mid end {H = Fault} last found found (λ last t. last ≡ t.last) (λ found t. AreResultFactsOfTradeWithId t id found) (ResultFactsAndLastStampMatch id last) (λ t e f. (e, f)) at_last at_found
+    read_with g old mid end {H = Fault} last found found (λ last t. last ≡ t.last) (λ found t. AreResultFactsOfTradeWithId t id found)
+    (ResultFactsAndLastStampMatch id last) (λ t e f. (e, f)) at_last at_found
 
 -- If a trade was found, its quantity is above 0. Vacuous if none was found.
 abbrev pub FoundTradeHasShares : Option ResultPlanFacts → Type 0
@@ -99,7 +104,8 @@ module _ (id price : ℕ) (last : Option ℕ) (now : ℕ) (moment : now ≤ grea
   }
 
   planned : (found : Option ResultPlanFacts) → FoundTradeHasShares found → (t : Tables) → ResultFactsAndLastStampMatch id last found t → (result : Result Plan Refusal)
-      → MatchResult result (CompletesExistingTrade found price (AreLotsOfTradedPosition t found) last now) (IsResultRefusal found price (AreLotsOfTradedPosition t found) last now) → DecidesCommand now (CompleteTrade id price) result t
+      → MatchResult result (CompletesExistingTrade found price (AreLotsOfTradedPosition t found) last now)
+      (IsResultRefusal found price (AreLotsOfTradedPosition t found) last now) → DecidesCommand now (CompleteTrade id price) result t
   planned found shares t known (Ok plan) p base books e =
       result_plan_does base id price found (AreLotsOfTradedPosition (sheets base) found) last now plan (looked_up found shares t known base books e)
       (subst (λ x. CompletesExistingTrade found price (AreLotsOfTradedPosition x found) last now plan) e p)
@@ -108,7 +114,9 @@ module _ (id price : ℕ) (last : Option ℕ) (now : ℕ) (moment : now ≤ grea
       (subst (λ x. IsResultRefusal found price (AreLotsOfTradedPosition x found) last now refusal) e p)
 
   pub result_decided : (found : Option ResultPlanFacts) → FoundTradeHasShares found → (Held : Tables → Type 0) → (result : Result (Result Plan Refusal) Fault)
-      → IfOk result (λ planned. (t : Tables) → Held t → MatchResult planned (CompletesExistingTrade found price (AreLotsOfTradedPosition t found) last now) (IsResultRefusal found price (AreLotsOfTradedPosition t found) last now))
+      → IfOk result (λ planned. (t : Tables) → Held t
+      → MatchResult planned (CompletesExistingTrade found price (AreLotsOfTradedPosition t found) last now)
+      (IsResultRefusal found price (AreLotsOfTradedPosition t found) last now))
       → IfOk result (λ planned. (t : Tables) → Held t → ResultFactsAndLastStampMatch id last found t → DecidesCommand now (CompleteTrade id price) planned t)
   result_decided found shares Held (Ok result) p = λ t held known. planned found shares t known result (p t held)
   result_decided found shares Held (Err fault) p = tt

@@ -28,19 +28,22 @@ made_keeps g store holds = record {
 }
 
 -- the rows of whichever schema that passed, upgraded to the third
-pub upgraded_keeps : {S : Type 0} (g : Ghosts S) (store : Held S) (schema : known.Schema) (rows : Tables) → HoldsRows g store (tables_upgraded_from_schema (abstract_schema schema) rows) → IsTrue (has_utf8_texts rows)
+pub upgraded_keeps : {S : Type 0} (g : Ghosts S) (store : Held S) (schema : known.Schema) (rows : Tables)
+    → HoldsRows g store (tables_upgraded_from_schema (abstract_schema schema) rows) → IsTrue (has_utf8_texts rows)
     → PassesAudit (abstract_schema schema) rows → Represents g store (base_of_tables rows)
 upgraded_keeps g store schema rows holds texts passes =
     let k = are_upgraded schema rows passes texts in
     record { rows = subst (HoldsRows g store) k.tables holds; consistent = record { books = k.books; sound = k.sound; texts = k.texts } }
 
 -- the calls before one of them, and it
-up_to : (earlier : List (ℕ × Call)) (call : ℕ × Call) (later : List (ℕ × Call)) → AllByRecursion CallMeetsAuditFormats (earlier ++ call ∷ later) → AllByRecursion CallMeetsAuditFormats earlier × CallMeetsAuditFormats call
+up_to : (earlier : List (ℕ × Call)) (call : ℕ × Call) (later : List (ℕ × Call)) → AllByRecursion CallMeetsAuditFormats (earlier ++ call ∷ later)
+    → AllByRecursion CallMeetsAuditFormats earlier × CallMeetsAuditFormats call
 up_to [] call later all = (tt, all.0)
 up_to (c ∷ cs) call later all = let rest = up_to cs call later all.1 in ((all.0, rest.0), rest.1)
 
 -- whatever may stand is in order and sound
-pub stands : (base : Base) (calls : List (ℕ × Call)) (outcomes : List Outcome) (after : Base) → AllByRecursion CallMeetsAuditFormats calls → Both base → CrashMayExposeBase base calls outcomes after → Both after
+pub stands : (base : Base) (calls : List (ℕ × Call)) (outcomes : List Outcome) (after : Base) → AllByRecursion CallMeetsAuditFormats calls → Both base
+    → CrashMayExposeBase base calls outcomes after → Both after
 stands base calls outcomes after formed both (inl ran) = run_both base calls outcomes after formed ran both
 stands base calls outcomes after formed both (inr way) =
     let parts = up_to way.earlier (way.now, Do way.command way.key) way.later (subst (AllByRecursion CallMeetsAuditFormats) way.calls_are formed) in

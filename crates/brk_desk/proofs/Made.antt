@@ -18,7 +18,8 @@ module _ {S : Type 0} (g : Ghosts S) where
   OutcomeOfCall old now call outcome new = OutcomePost g old new now call outcome
 
   -- some calls more
-  runs_on : (a b c : Held S) (calls others : List (ℕ × Call)) (outcomes more : List Outcome) → RunPost g a b calls outcomes → IsCallSequence OutcomeOfCall b others more c → RunPost g a c (calls ++ others) (outcomes ++ more)
+  runs_on : (a b c : Held S) (calls others : List (ℕ × Call)) (outcomes more : List Outcome) → RunPost g a b calls outcomes
+      → IsCallSequence OutcomeOfCall b others more c → RunPost g a c (calls ++ others) (outcomes ++ more)
   runs_on a b c calls [] outcomes [] ran same =
       subst₂ (λ cs os. RunPost g a c cs os) (sym (append-nil calls)) (sym (append-nil outcomes)) (subst (λ d. RunPost g a d calls outcomes) (sym same) ran)
   runs_on a b c calls (x ∷ xs) outcomes (o ∷ os) ran (mid, is, made) =
@@ -41,7 +42,8 @@ module _ {S : Type 0} (g : Ghosts S) where
   -- two runs, one after the other
   pub runs_joined : (first mid last : Held S) (calls others : List (ℕ × Call)) (outcomes more : List Outcome) → IsRunWithOutcomes g first mid calls outcomes → IsRunWithOutcomes g mid last others more
       → IsRunWithOutcomes g first last (calls ++ others) (outcomes ++ more)
-  runs_joined first mid last calls others outcomes more one two = run_of first last (calls ++ others) (outcomes ++ more) (made_then OutcomeOfCall first mid last calls others outcomes more one.executed two.executed)
+  runs_joined first mid last calls others outcomes more one two =
+      run_of first last (calls ++ others) (outcomes ++ more) (made_then OutcomeOfCall first mid last calls others outcomes more one.executed two.executed)
 
   pub run_then : (first mid last : Held S) → IsSomeDeskRun g first mid → IsSomeDeskRun g mid last → IsSomeDeskRun g first last
   run_then first mid last one two = record {

@@ -119,7 +119,8 @@ module _ {S : Type 0} (g : Ghosts S) (settled : RecoversOnlyLastCommit g) where
     call_taken_over now command key answer called =
         elim (called.survives.crash clean again.0 again.1) [
           | inl was ↦ taken_over again.0 conn store result again.2 adopted after base (kept_can_be g first base at.represented) (at.crash_exposes_only_base again.0 was) May (inl refl)
-          | inr come ↦ taken_over again.0 conn store result again.2 adopted after (base_after_keyed_command base now command key) (booked_can_be g first left base now command key answer again.0 called at.represented come)
+          | inr come ↦ taken_over again.0 conn store result again.2 adopted after (base_after_keyed_command base now command key)
+              (booked_can_be g first left base now command key answer again.0 called at.represented come)
               (come.1 base at.represented) May (inr refl)
         ]
       where
@@ -132,4 +133,5 @@ module _ {S : Type 0} (g : Ghosts S) (settled : RecoversOnlyLastCommit g) where
     run_taken_over calls outcomes run =
         let l = run.stays_durable clean base at.represented at.crash_exposes_only_base again.0 again.1 in
         let both = stands base (map model_call calls) (map model_outcome outcomes) l.0 run.well_formed (at.represented.books, at.represented.sound) l.1 in
-        taken_over again.0 conn store result again.2 adopted after l.0 (record { books = both.0; sound = both.1; texts = l.3 }) l.2 (CrashMayExposeBase base (map model_call calls) (map model_outcome outcomes)) l.1
+        taken_over again.0 conn store result again.2 adopted after l.0 (record { books = both.0; sound = both.1; texts = l.3 }) l.2
+        (CrashMayExposeBase base (map model_call calls) (map model_outcome outcomes)) l.1

@@ -79,7 +79,8 @@ survives_by : (a b : State) (P Q : Trees → Type 0) → Survives a b P → (Has
 survives_by a b P Q s only =
     record { clean = s.clean; shield = s.shield; counts = s.counts; limit = s.limit; closes = s.closes; crash = λ clean trees may. inr (only clean trees may) }
 
-mapped : (base after : Base) (calls : List (ℕ × Call)) (outcomes : List Outcome) (x : ℕ × Call) (o : Outcome) → CrashMayExposeBase base (map model_call calls ++ model_call x ∷ []) (map model_outcome outcomes ++ model_outcome o ∷ []) after
+mapped : (base after : Base) (calls : List (ℕ × Call)) (outcomes : List Outcome) (x : ℕ × Call) (o : Outcome)
+    → CrashMayExposeBase base (map model_call calls ++ model_call x ∷ []) (map model_outcome outcomes ++ model_outcome o ∷ []) after
     → CrashMayExposeBase base (map model_call (calls ++ x ∷ [])) (map model_outcome (outcomes ++ o ∷ [])) after
 mapped base after calls outcomes x o h = subst₂ (λ cs os. CrashMayExposeBase base cs os after) (sym (map-append model_call calls (x ∷ []))) (sym (map-append model_outcome outcomes (o ∷ []))) h
 
@@ -112,19 +113,29 @@ module _ {S : Type 0} (g : Ghosts S) where
 
   module _ (a b c : Held S) (calls : List (ℕ × Call)) (outcomes : List Outcome) (run : RunPost g a b calls outcomes) (now : ℕ) where
     -- one call more that acknowledges nothing leaves recoverable trees so
-    left_still : (made : Call) (o : Outcome) (base mid : Base) → Run base (map model_call calls) (map model_outcome outcomes) mid → IsOutcomeOfCall mid (model_call (now, made)).0 (model_call (now, made)).1 (model_outcome o) mid → AcknowledgesNothing (model_outcome o)
+    left_still : (made : Call) (o : Outcome) (base mid : Base) → Run base (map model_call calls) (map model_outcome outcomes) mid
+        → IsOutcomeOfCall mid (model_call (now, made)).0 (model_call (now, made)).1 (model_outcome o) mid → AcknowledgesNothing (model_outcome o)
         → (trees : Trees) → HasAcknowledgedCommands base calls outcomes trees → HasAcknowledgedCommands base (calls ++ (now, made) ∷ []) (outcomes ++ o ∷ []) trees
-    left_still made o base mid ran told quiet trees l =
-        (l.0, mapped base l.0 calls outcomes (now, made) o (stands_still base mid (map model_call calls) (map model_outcome outcomes) (model_call (now, made)) (model_outcome o) ran told quiet l.0 l.1), l.2, l.3)
+    left_still made o base mid ran told quiet trees l = (
+      l.0,
+      mapped base l.0 calls outcomes (now, made) o
+          (stands_still base mid (map model_call calls) (map model_outcome outcomes) (model_call (now, made)) (model_outcome o) ran told quiet l.0 l.1),
+      l.2,
+      l.3,
+    )
 
     -- one call more that acknowledges nothing, and may have committed trees of `Comes`
     module _ (made : Call) (o : Outcome) (quiet : AcknowledgesNothing (model_outcome o)) (known : FailsOnlyWithMemoryOrStore o) (formed : CallMeetsAuditFormats (model_call (now, made))) (clean : HasCleanDisk (state g c) → HasCleanDisk (state g b))
         (same : HasCleanDisk (state g c) → IsTrue (state g c).is_open → WasOpenAndIsUnchanged (state g b) (state g c))
-        (told : HasCleanDisk (state g c) → (mid : Base) → Represents g b mid → Represents g c mid × IsOutcomeOfCall mid (model_call (now, made)).0 (model_call (now, made)).1 (model_outcome o) mid) (Comes : Trees → Type 0)
+        (told : HasCleanDisk (state g c) → (mid : Base) → Represents g b mid → Represents g c mid
+        × IsOutcomeOfCall mid (model_call (now, made)).0 (model_call (now, made)).1 (model_outcome o) mid) (Comes : Trees → Type 0)
         (come : HasCleanDisk (state g c) → (trees : Trees) → Comes trees
-        → IsTrue (state g b).is_open × ((mid : Base) → Represents g b mid → (base : Base) → Run base (map model_call calls) (map model_outcome outcomes) mid → HasAcknowledgedCommands base (calls ++ (now, made) ∷ []) (outcomes ++ o ∷ []) trees))
+        → IsTrue (state g b).is_open
+        × ((mid : Base) → Represents g b mid → (base : Base) → Run base (map model_call calls) (map model_outcome outcomes) mid
+        → HasAcknowledgedCommands base (calls ++ (now, made) ∷ []) (outcomes ++ o ∷ []) trees))
         (survives : Survives (state g b) (state g c) Comes) where
-      found : HasCleanDisk (state g c) → (base : Base) → Represents g a base → CrashStatesSatisfy g b (HasAcknowledgedCommands base calls outcomes) → CrashStatesSatisfy g c (HasAcknowledgedCommands base (calls ++ (now, made) ∷ []) (outcomes ++ o ∷ []))
+      found : HasCleanDisk (state g c) → (base : Base) → Represents g a base → CrashStatesSatisfy g b (HasAcknowledgedCommands base calls outcomes)
+          → CrashStatesSatisfy g c (HasAcknowledgedCommands base (calls ++ (now, made) ∷ []) (outcomes ++ o ∷ []))
       found k base keeps before trees may =
           let r = run.refines_model (clean k) base keeps in
           elim (survives.crash k trees may) [
@@ -142,7 +153,8 @@ module _ {S : Type 0} (g : Ghosts S) where
         fault = all_more FailsOnlyWithMemoryOrStore outcomes o run.fault known;
         unchanged_if_open = λ k up all. let s = same k up in same_then (state g a) (state g b) (state g c) (run.unchanged_if_open (clean k) s.was_open (quiet_before outcomes o all).0) s;
         was_open = λ k up. run.was_open (clean k) (same k up).was_open;
-        survives = survives_then (state g a) (state g b) (state g c) (CrashMayExposeDiskContent g a calls outcomes) Comes (CrashMayExposeDiskContent g a (calls ++ (now, made) ∷ []) (outcomes ++ o ∷ []))
+        survives = survives_then (state g a) (state g b) (state g c) (CrashMayExposeDiskContent g a calls outcomes) Comes
+            (CrashMayExposeDiskContent g a (calls ++ (now, made) ∷ []) (outcomes ++ o ∷ []))
             (λ k trees before. (before.0, λ base keeps. let r = run.refines_model (clean k) base keeps in left_still made o base r.0 r.2 (told k r.0 r.1).1 quiet trees (before.1 base keeps)))
             (λ k trees comes.
             let at = come k trees comes in
@@ -155,7 +167,8 @@ module _ {S : Type 0} (g : Ghosts S) where
       }
 
     -- one command more that is booked
-    done_found : (command : _) (key : _) (reply : _) → CommandPost g b c now (abstract_command command) (optional_model_key key) (Ok (given.Done reply)) → HasCleanDisk (state g c) → (base : Base) → Represents g a base
+    done_found : (command : _) (key : _) (reply : _) → CommandPost g b c now (abstract_command command) (optional_model_key key) (Ok (given.Done reply))
+        → HasCleanDisk (state g c) → (base : Base) → Represents g a base
         → CrashStatesSatisfy g c (HasAcknowledgedCommands base (calls ++ (now, call.Do command key) ∷ []) (outcomes ++ outcome_of_command (Ok (given.Done reply)) ∷ []))
     done_found command key reply called k base keeps trees may =
         let r = run.refines_model (called.clean k) base keeps in
@@ -177,8 +190,11 @@ module _ {S : Type 0} (g : Ghosts S) where
       fault = all_more FailsOnlyWithMemoryOrStore outcomes (outcome_of_command (Ok (given.Done reply))) run.fault tt;
       unchanged_if_open = λ k up all. absurd (quiet_before outcomes (outcome_of_command (Ok (given.Done reply))) all).1;
       was_open = λ k up. run.was_open (called.clean k) (called.open_and_committed k tt).0;
-      survives = survives_by (state g a) (state g c) (λ _. Unit {0}) (CrashMayExposeDiskContent g a (calls ++ (now, call.Do command key) ∷ []) (outcomes ++ outcome_of_command (Ok (given.Done reply)) ∷ []))
-          (survives_then (state g a) (state g b) (state g c) (CrashMayExposeDiskContent g a calls outcomes) (IsDiskContentAfterCommand g b now (abstract_command command) (optional_model_key key)) (λ _. Unit {0}) (λ _ db may. tt) (λ _ db may. tt) run.survives called.survives)
+      survives = survives_by (state g a) (state g c) (λ _. Unit {0})
+          (CrashMayExposeDiskContent g a (calls ++ (now, call.Do command key) ∷ []) (outcomes ++ outcome_of_command (Ok (given.Done reply)) ∷ []))
+          (survives_then (state g a) (state g b) (state g c) (CrashMayExposeDiskContent g a calls outcomes)
+          (IsDiskContentAfterCommand g b now (abstract_command command) (optional_model_key key)) (λ _. Unit {0}) (λ _ db may. tt) (λ _ db may. tt)
+          run.survives called.survives)
           (λ k trees may. (run.was_open (called.clean k) (called.open_and_committed k tt).0, λ base keeps. done_found command key reply called k base keeps trees may));
       durable = λ k base keeps loud. done_found command key reply called k base keeps;
       stays_durable = λ k base keeps only. done_found command key reply called k base keeps;
@@ -187,29 +203,40 @@ module _ {S : Type 0} (g : Ghosts S) where
     }
 
     -- one command more that is answered without a change
-    quiet_told : (command : _) (key : _) (answer : CommandAnswer) → AcknowledgesNothing (model_outcome (outcome_of_command (Ok answer))) → CommandPost g b c now (abstract_command command) (optional_model_key key) (Ok answer) → HasCleanDisk (state g c)
+    quiet_told : (command : _) (key : _) (answer : CommandAnswer) → AcknowledgesNothing (model_outcome (outcome_of_command (Ok answer)))
+        → CommandPost g b c now (abstract_command command) (optional_model_key key) (Ok answer) → HasCleanDisk (state g c)
         → (mid : Base) → Represents g b mid → Represents g c mid × (keyed_step mid now (abstract_command command) (optional_model_key key) ≡ (model_answer answer, mid))
     quiet_told command key answer quiet called k mid keeps =
         let s = called.answered k mid keeps in
         let same : s.0 ≡ mid = quiet_leaves mid now (abstract_command command) (optional_model_key key) (model_answer answer) s.0 s.2 quiet in
         (subst (Represents g c) same s.1, subst (λ x. keyed_step mid now (abstract_command command) (optional_model_key key) ≡ (model_answer answer, x)) same s.2)
 
-    by_quiet : (command : _) (key : _) (answer : CommandAnswer) → AcknowledgesNothing (model_outcome (outcome_of_command (Ok answer))) → IsNotDoneResult (Ok answer) → CommandPost g b c now (abstract_command command) (optional_model_key key) (Ok answer)
+    by_quiet : (command : _) (key : _) (answer : CommandAnswer) → AcknowledgesNothing (model_outcome (outcome_of_command (Ok answer)))
+        → IsNotDoneResult (Ok answer) → CommandPost g b c now (abstract_command command) (optional_model_key key) (Ok answer)
         → RunPost g a c (calls ++ (now, call.Do command key) ∷ []) (outcomes ++ outcome_of_command (Ok answer) ∷ [])
     by_quiet command key answer quiet booked called =
-        quiet_step (call.Do command key) (outcome_of_command (Ok answer)) quiet tt called.well_formed called.clean (λ k up. called.unchanged_if_open k up booked) (quiet_told command key answer quiet called) (IsDiskContentAfterCommand g b now (abstract_command command) (optional_model_key key))
+        quiet_step (call.Do command key) (outcome_of_command (Ok answer)) quiet tt called.well_formed called.clean
+        (λ k up. called.unchanged_if_open k up booked) (quiet_told command key answer quiet called)
+        (IsDiskContentAfterCommand g b now (abstract_command command) (optional_model_key key))
         (λ k trees p. (
           p.0,
           λ mid keeps base ran.
-              let e = (quiet_told command key answer quiet called k mid keeps).1 in
-              (mid, inl (run_more base mid mid calls outcomes (now, call.Do command key) (outcome_of_command (Ok answer)) ran e), subst (λ x. IsDiskContentOfRows (sheets x) trees) (ap (λ (x : model_commands.Answer × Base). x.1) e) (p.1 mid keeps), keeps.texts),
+              let e = (quiet_told command key answer quiet called k mid keeps).1 in (
+                mid,
+                inl (run_more base mid mid calls outcomes (now, call.Do command key) (outcome_of_command (Ok answer)) ran e),
+                subst
+                    (λ x. IsDiskContentOfRows (sheets x) trees) (ap (λ (x : model_commands.Answer × Base). x.1) e) (p.1 mid keeps),
+                keeps.texts,
+              ),
         ))
         called.survives
 
     -- one command more that failed
-    by_fault : (command : _) (key : _) (fault : Fault) → CommandPost g b c now (abstract_command command) (optional_model_key key) (Err fault) → RunPost g a c (calls ++ (now, call.Do command key) ∷ []) (outcomes ++ outcome_of_command (Err fault) ∷ [])
+    by_fault : (command : _) (key : _) (fault : Fault) → CommandPost g b c now (abstract_command command) (optional_model_key key) (Err fault)
+        → RunPost g a c (calls ++ (now, call.Do command key) ∷ []) (outcomes ++ outcome_of_command (Err fault) ∷ [])
     by_fault command key fault called =
-        quiet_step (call.Do command key) (outcome_of_command (Err fault)) tt called.fault called.well_formed called.clean (λ k up. called.unchanged_if_open k up tt) (λ k mid keeps. (called.same_bases_at_error mid keeps, (called.fault, refl)))
+        quiet_step (call.Do command key) (outcome_of_command (Err fault)) tt called.fault called.well_formed called.clean
+        (λ k up. called.unchanged_if_open k up tt) (λ k mid keeps. (called.same_bases_at_error mid keeps, (called.fault, refl)))
         (IsDiskContentAfterCommand g b now (abstract_command command) (optional_model_key key))
         (λ k trees p. (
           p.0,
@@ -233,7 +260,8 @@ module _ {S : Type 0} (g : Ghosts S) where
     by_view : (query : _) (result : Result (Result View Refusal) Fault) → AskPost g b c (abstract_query query) result
         → RunPost g a c (calls ++ (now, call.Ask query) ∷ []) (outcomes ++ outcome_of_query result ∷ [])
     by_view query result asked =
-        quiet_step (call.Ask query) (outcome_of_query result) (quiet_view result) (known_view result asked.fault) tt asked.clean asked.unchanged_if_open (λ k mid keeps. (asked.same_bases mid keeps, by_answer b c (abstract_query query) result now mid asked k keeps)) (λ _. ⊥)
+        quiet_step (call.Ask query) (outcome_of_query result) (quiet_view result) (known_view result asked.fault) tt asked.clean asked.unchanged_if_open
+        (λ k mid keeps. (asked.same_bases mid keeps, by_answer b c (abstract_query query) result now mid asked k keeps)) (λ _. ⊥)
         (λ k trees none. absurd none) asked.survives
 
     pub runs_more : (made : Call) (outcome : Outcome) → OutcomePost g b c now made outcome → RunPost g a c (calls ++ (now, made) ∷ []) (outcomes ++ outcome ∷ [])

@@ -43,20 +43,24 @@ run_once base [] (o ∷ os) a b p q = absurd p
 run_once base (c ∷ cs) [] a b p q = absurd p
 
 -- a command that books nothing leaves the base
-acted_quiet : (base : Base) (key : Option Key) (command : Command) (r : Result (Reply × Base) Refusal) (answer : Answer) (after : Base) → answer_and_base_of_step base key command r ≡ (answer, after) → AcknowledgesNothing (Did answer) → after ≡ base
+acted_quiet : (base : Base) (key : Option Key) (command : Command) (r : Result (Reply × Base) Refusal) (answer : Answer) (after : Base)
+    → answer_and_base_of_step base key command r ≡ (answer, after) → AcknowledgesNothing (Did answer) → after ≡ base
 acted_quiet base key command (Ok booked) answer after e quiet = absurd (subst (λ (x : Answer × Base). AcknowledgesNothing (Did x.0)) (sym e) quiet)
 acted_quiet base key command (Err refusal) answer after e quiet = ap (λ (x : Answer × Base). x.1) (sym e)
 
-keyed_quiet : (base : Base) (now : ℕ) (command : Command) (key : Option Key) (k : Option Kept) (answer : Answer) (after : Base) → answer_and_base_by_stored_row base now command key k ≡ (answer, after) → AcknowledgesNothing (Did answer) → after ≡ base
+keyed_quiet : (base : Base) (now : ℕ) (command : Command) (key : Option Key) (k : Option Kept) (answer : Answer) (after : Base)
+    → answer_and_base_by_stored_row base now command key k ≡ (answer, after) → AcknowledgesNothing (Did answer) → after ≡ base
 keyed_quiet base now command key (Some k) answer after e quiet = ap (λ (x : Answer × Base). x.1) (sym e)
 keyed_quiet base now command key None answer after e quiet = acted_quiet base key command (step base now command) answer after e quiet
 
-pub quiet_leaves : (base : Base) (now : ℕ) (command : Command) (key : Option Key) (answer : Answer) (after : Base) → keyed_step base now command key ≡ (answer, after) → AcknowledgesNothing (Did answer) → after ≡ base
+pub quiet_leaves : (base : Base) (now : ℕ) (command : Command) (key : Option Key) (answer : Answer) (after : Base)
+    → keyed_step base now command key ≡ (answer, after) → AcknowledgesNothing (Did answer) → after ≡ base
 unfolding keyed_step
 quiet_leaves base now command key answer after e quiet = keyed_quiet base now command key (stored_row_with_optional_key base key) answer after e quiet
 
 -- after a run to a base, a call that acknowledges nothing leaves what may stand
-pub stands_still : (base mid : Base) (calls : List (ℕ × Call)) (outcomes : List Outcome) (x : ℕ × Call) (o : Outcome) → Run base calls outcomes mid → IsOutcomeOfCall mid x.0 x.1 o mid → AcknowledgesNothing o
+pub stands_still : (base mid : Base) (calls : List (ℕ × Call)) (outcomes : List Outcome) (x : ℕ × Call) (o : Outcome) → Run base calls outcomes mid
+    → IsOutcomeOfCall mid x.0 x.1 o mid → AcknowledgesNothing o
     → (after : Base) → CrashMayExposeBase base calls outcomes after → CrashMayExposeBase base (calls ++ x ∷ []) (outcomes ++ o ∷ []) after
 stands_still base mid calls outcomes x o ran told quiet after (inl other) =
     inl (subst (Run base (calls ++ x ∷ []) (outcomes ++ o ∷ [])) (run_once base calls outcomes mid after ran other) (run_then base mid mid calls outcomes x o ran told))

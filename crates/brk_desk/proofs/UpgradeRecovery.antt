@@ -66,7 +66,8 @@ module _ {S : Type 0} (g : Ghosts S) (settled : RecoversOnlyLastCommit g) where
         (rows_can_be Third rows (state g conn).now a) ((state g conn).now, there, sym (opened.over.same before))
 
     -- of rows that were upgraded, which are committed
-    moved_stands : (schema : known.Schema) (rows : Tables) → StoresRowsWithAuditResult (abstract_schema schema) rows (state g conn).now None → IsTrue (state g store).is_open → RepresentsDurableBase g store (base_of_tables rows)
+    moved_stands : (schema : known.Schema) (rows : Tables) → StoresRowsWithAuditResult (abstract_schema schema) rows (state g conn).now None
+        → IsTrue (state g store).is_open → RepresentsDurableBase g store (base_of_tables rows)
     moved_stands schema rows a on =
         let m = adopted.upgraded clean on defined in
         let same : rows ≡ m.0.1 = (one_schema schema m.0.0 rows m.0.1 (state g conn).now a.0 m.0.2.0).1 in
@@ -92,7 +93,8 @@ module _ {S : Type 0} (g : Ghosts S) (settled : RecoversOnlyLastCommit g) where
   -- ---- a stop within an adoption
 
   module _ (trees : Trees) (first left conn store : Held S) (stopped result : Result (Unit {0}) Fault) (opened : IsNewConnectionToDiskContent g trees first) (schema : known.Schema) (rows : Tables)
-      (answered : StoresRowsWithAuditResult (abstract_schema schema) rows (state g first).now None) (adopted : AdoptPost g first left stopped) (clean : HasCleanDisk (state g left)) (again : IsNewConnectionAfterCrash g left conn)
+      (answered : StoresRowsWithAuditResult (abstract_schema schema) rows (state g first).now None) (adopted : AdoptPost g first left stopped)
+      (clean : HasCleanDisk (state g left)) (again : IsNewConnectionAfterCrash g left conn)
       (adopts : AdoptPost g conn store result) (after : HasCleanDisk (state g store)) where
     was_clean : HasCleanDisk (state g first)
     was_clean = clean_before (state g first) (state g left) _ (adopted.survives (λ _ _. defined_whole (abstract_schema schema) rows (state g first).now answered.0)) clean
@@ -121,7 +123,8 @@ module _ {S : Type 0} (g : Ghosts S) (settled : RecoversOnlyLastCommit g) where
 
       upgraded_again : AdoptsBaseWithoutDamage g store result (base_of_tables rows)
       upgraded_again = record {
-        undamaged = each_answer result (IsDatabaseAuditResult (state g conn).now) (λ answer. answer ≡ None) (λ answer told. one_answer (state g conn).now answer None told (schema, (rows, there))) (adopts.answered after defined);
+        undamaged = each_answer result (IsDatabaseAuditResult (state g conn).now) (λ answer. answer ≡ None)
+            (λ answer told. one_answer (state g conn).now answer None told (schema, (rows, there))) (adopts.answered after defined);
         represented = stands_after result refl;
       }
 
@@ -129,7 +132,8 @@ module _ {S : Type 0} (g : Ghosts S) (settled : RecoversOnlyLastCommit g) where
     upgraded_already : (base : Base) → base ≡ base_of_tables rows → IsDiskContentOfRows (sheets base) again.0 → AdoptsBaseWithoutDamage g store result (base_of_tables rows)
     upgraded_already base same are =
         let t : FindsBaseWithoutDamage g store result (λ b. b ≡ base_of_tables rows) =
-        taken_over g settled again.0 conn store result again.2 adopts after (base_of_tables rows) (rows_can_be schema rows (state g first).now answered) (subst (λ b. IsDiskContentOfRows (sheets b) again.0) same are) (λ b. b ≡ base_of_tables rows) refl in
+        taken_over g settled again.0 conn store result again.2 adopts after (base_of_tables rows) (rows_can_be schema rows (state g first).now answered)
+        (subst (λ b. IsDiskContentOfRows (sheets b) again.0) same are) (λ b. b ≡ base_of_tables rows) refl in
         record { undamaged = t.undamaged; represented = whichever result (subst (RepresentsDurableBase g store) t.may t.represented) }
       where
         whichever : (r : Result (Unit {0}) Fault) → RepresentsDurableBase g store (base_of_tables rows) → OnOk r (RepresentsDurableBase g store (base_of_tables rows))

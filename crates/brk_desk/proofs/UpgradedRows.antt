@@ -42,8 +42,11 @@ upgraded_read t e =
     let three = and_parts (kept && trades) cash all.0 in
     let posted : AllByRecursion HasUtf8Name (postings_of_tables t) =
     All-append HasUtf8Name (map (posting_of_cash_transaction_row t) t.cash) (map posting_of_cash_move_row t.moves)
-    (All-mapped HasUtf8Name (posting_of_cash_transaction_row t) t.cash (list_all_true (λ r. is_utf8 r.name) t.cash three.1)) (All-mapped HasUtf8Name posting_of_cash_move_row t.moves (list_all_true (λ r. is_utf8 r.name) t.moves all.1)) in
-    and_from _ _ (and_from _ _ three.0 refl) (all_list (λ (r : MoveRow). is_utf8 r.name) (numbered_move_rows 1 (postings_sorted_by_stamp (postings_of_tables t))) (numbered_read 1 (postings_sorted_by_stamp (postings_of_tables t)) (All-sort HasUtf8Name _ (postings_of_tables t) posted)))
+    (All-mapped HasUtf8Name (posting_of_cash_transaction_row t) t.cash (list_all_true (λ r. is_utf8 r.name) t.cash three.1))
+    (All-mapped HasUtf8Name posting_of_cash_move_row t.moves (list_all_true (λ r. is_utf8 r.name) t.moves all.1)) in
+    and_from _ _ (and_from _ _ three.0 refl)
+    (all_list (λ (r : MoveRow). is_utf8 r.name) (numbered_move_rows 1 (postings_sorted_by_stamp (postings_of_tables t)))
+    (numbered_read 1 (postings_sorted_by_stamp (postings_of_tables t)) (All-sort HasUtf8Name _ (postings_of_tables t) posted)))
   where
     kept : Bool
     kept = list_all (λ k. is_utf8 k.row_text && is_utf8 k.line) t.kept

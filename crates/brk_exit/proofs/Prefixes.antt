@@ -17,11 +17,13 @@ pub prefix_after : (a b c : Option (List ℕ)) (part rest : List ℕ) → Append
 prefix_after a b c part rest whole h = (part ++ h.0, h.1, Appends-trans a b c part h.0 whole h.2, ap (λ (l : List ℕ). part ++ l) h.3 ∙ sym (append_assoc part h.0 h.1))
 
 -- Who fails within a part fails within the part with a rest.
-pub fails_before : {S : Type 0} (contents : S → Option (List ℕ)) (fails : S → S → Type 0) (a b : S) (part rest : List ℕ) → SinkFailsWithinText contents fails a b part → SinkFailsWithinText contents fails a b (part ++ rest)
+pub fails_before : {S : Type 0} (contents : S → Option (List ℕ)) (fails : S → S → Type 0) (a b : S) (part rest : List ℕ)
+    → SinkFailsWithinText contents fails a b part → SinkFailsWithinText contents fails a b (part ++ rest)
 fails_before contents fails a b part rest h = (h.0, h.1, prefix_before _ _ part rest h.2)
 
 -- Who received a part and then fails within the rest fails within both.
-pub fails_after : {S : Type 0} (contents : S → Option (List ℕ)) (fails : S → S → Type 0) (a b c : S) (part rest : List ℕ) → Appends (contents a) (contents b) part → SinkFailsWithinText contents fails b c rest
+pub fails_after : {S : Type 0} (contents : S → Option (List ℕ)) (fails : S → S → Type 0) (a b c : S) (part rest : List ℕ)
+    → Appends (contents a) (contents b) part → SinkFailsWithinText contents fails b c rest
     → SinkFailsWithinText contents fails a c (part ++ rest)
 fails_after contents fails a b c part rest whole h = (h.0, h.1, prefix_after _ _ _ part rest whole h.2)
 

@@ -9,7 +9,8 @@ total_after f from [] = from
 total_after f from (m ∷ ms) = total_after f (from +ℤ f m) ms
 
 -- rows behind rows
-pub rows_parts : {M : Type 0} (f : M → ℤ) (line : M → ℤ → Text) (from : ℤ) (xs ys : List M) → lines_with_running_total f line from (xs ++ ys) ≡ lines_with_running_total f line from xs ++ lines_with_running_total f line (total_after f from xs) ys
+pub rows_parts : {M : Type 0} (f : M → ℤ) (line : M → ℤ → Text) (from : ℤ) (xs ys : List M)
+    → lines_with_running_total f line from (xs ++ ys) ≡ lines_with_running_total f line from xs ++ lines_with_running_total f line (total_after f from xs) ys
 rows_parts f line from [] ys = refl
 rows_parts f line from (x ∷ xs) ys = ap (λ (l : List Text). line x (from +ℤ f x) ∷ l) (rows_parts f line (from +ℤ f x) xs ys)
 

@@ -61,9 +61,12 @@ turned false b false = refl
 
 -- their ids, as a statement gives them
 abbrev pub held_ids : Tables → ℕ → Text → List ℕ
-held_ids t account symbol = map (λ (r : TradeRow). r.id) (trade_rows_oldest_first (filter (λ r. (r.account == account) && (bytes_eq r.symbol symbol && is_same_trade_status r.status Completed)) t.trades))
+held_ids t account symbol =
+    map (λ (r : TradeRow). r.id)
+    (trade_rows_oldest_first (filter (λ r. (r.account == account) && (bytes_eq r.symbol symbol && is_same_trade_status r.status Completed)) t.trades))
 
-held_ids_are : (t : Tables) (account : ℕ) (symbol : Text) → IsStrictlyAscendingBy (λ r. r.id) t.trades → held_ids t account symbol ≡ map (λ (r : TradeRow). r.id) (completed_trades_in_symbol t account symbol)
+held_ids_are : (t : Tables) (account : ℕ) (symbol : Text) → IsStrictlyAscendingBy (λ r. r.id) t.trades
+    → held_ids t account symbol ≡ map (λ (r : TradeRow). r.id) (completed_trades_in_symbol t account symbol)
 held_ids_are t account symbol climb =
     let given = λ (r : TradeRow). (r.account == account) && (bytes_eq r.symbol symbol && is_same_trade_status r.status Completed) in
     let mine = λ (u : TradeRow). has_completed_status u && (u.account == account) && bytes_eq u.symbol symbol in
@@ -96,12 +99,14 @@ module _ (t : Tables) (db : Database) (has : HasDeskTables t db) (account : ℕ)
   pub done_known : flat_map (λ id. option_to_list (trade_row_with_id t id)) (held_ids t account symbol) ≡ completed_trades_in_symbol t account symbol
   done_known =
       let climb = trades_climb t db has in
-      ap (flat_map (λ id. option_to_list (trade_row_with_id t id))) (held_ids_are t account symbol climb) ∙ rows_back t (completed_trades_in_symbol t account symbol) (done_found t account symbol climb)
+      ap (flat_map (λ id. option_to_list (trade_row_with_id t id))) (held_ids_are t account symbol climb)
+      ∙ rows_back t (completed_trades_in_symbol t account symbol) (done_found t account symbol climb)
 
   pub lots_known : flat_map (λ id. option_to_list (lot_opened_by_trade t id)) (held_ids t account symbol) ≡ lots_opened_in_symbol t account symbol
   lots_known =
       let climb = trades_climb t db has in
-      ap (flat_map (λ id. option_to_list (lot_opened_by_trade t id))) (held_ids_are t account symbol climb) ∙ lots_back t (completed_trades_in_symbol t account symbol) (done_found t account symbol climb)
+      ap (flat_map (λ id. option_to_list (lot_opened_by_trade t id))) (held_ids_are t account symbol climb)
+      ∙ lots_back t (completed_trades_in_symbol t account symbol) (done_found t account symbol climb)
 
 -- ---- one more
 

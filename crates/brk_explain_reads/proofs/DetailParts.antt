@@ -49,7 +49,8 @@ module _ (t : Tables) (order : OrderDetails) (price : ℕ) (lots : TradeLots) (t
   abbrev u : TradeRow
   u = abstract_trade_row order.trade
 
-  pub result_known : order.trade.price ≡ Some price → AreTradeLotsInClosingOrder t u lots → AreTaxRatesAndBand t order terms → IsSettlementAndCashOfTrade t u.id settled → IsCashSumBeforeStamp t u.account u.stamp cash
+  pub result_known : order.trade.price ≡ Some price → AreTradeLotsInClosingOrder t u lots → AreTaxRatesAndBand t order terms
+      → IsSettlementAndCashOfTrade t u.id settled → IsCashSumBeforeStamp t u.account u.stamp cash
       → IsOrderOfTrade order.trade order t → abstract_result_details (result_with price lots terms settled cash) ≡ result_details_of_trade t u
   result_known priced l k s c o =
       let customer : order.account.account.customer ≡ (order_details_of_trade t u).customer = ap (λ x. option_map_or (λ (a : AccountRow). a.customer) x 0) (sym o.account) in
@@ -84,4 +85,8 @@ details_completed t row order details k done come =
     let same : abstract_trade_row order.trade ≡ abstract_trade_row row = ap abstract_trade_row k.trade in
     let own : IsOrderOfTrade order.trade order t = subst (λ r. IsOrderOfTrade r order t) (sym k.trade) k in
     let results : Some (abstract_result_details details) ≡ Some (result_details_of_trade t (abstract_trade_row row)) = ap Some (come own ∙ ap (result_details_of_trade t) same) in
-    λ i. record { order = order_known t row order k i; result = (results ∙ ap (λ b. cond b (Some (result_details_of_trade t (abstract_trade_row row))) None) (sym (ap has_completed_status (sym same) ∙ done))) i }
+    λ i. record {
+      order = order_known t row order k i;
+      result =
+          (results ∙ ap (λ b. cond b (Some (result_details_of_trade t (abstract_trade_row row))) None) (sym (ap has_completed_status (sym same) ∙ done))) i;
+    }

@@ -41,7 +41,8 @@ module _ {S : Type 0} (g : Ghosts S) where
   }
 
   -- two reads change nothing
-  pub both_change_nothing : (old mid end : Held S) {V W E F : Type 0} (v : Result V E) (w : Result W F) (P : V → Tables → Type 0) (Q : W → Tables → Type 0) → ReadPost g old mid v P → ReadPost g mid end w Q
+  pub both_change_nothing : (old mid end : Held S) {V W E F : Type 0} (v : Result V E) (w : Result W F) (P : V → Tables → Type 0) (Q : W → Tables → Type 0)
+      → ReadPost g old mid v P → ReadPost g mid end w Q
       → IsUnchangedByReads g old end
   both_change_nothing old mid end v w P Q first second =
       joined_reads_change_nothing old mid end (single_read_changes_nothing old mid v P first) (single_read_changes_nothing mid end w Q second)

@@ -1,5 +1,6 @@
 -- A walk whose visitor passes some records on: those of a broker's accounts.
-use Rattle.std.proofs.Common.{◌≡◌, ◌∙◌, ◌==◌, ◌≤◌, ◌&&◌, ◌||◌, ◌++◌, ◌∷◌, [], ℕ, suc, Bool, true, false, cond, arith, IsTrue, List, Option, Some, Ok, Err, OnOk, IfErr, Result, ap, filter, find, length, map, refl, subst, sym}
+use Rattle.std.proofs.Common.{◌≡◌, ◌∙◌, ◌==◌, ◌≤◌, ◌&&◌, ◌||◌, ◌++◌, ◌∷◌, [], ℕ, suc, Bool, true, false, cond, arith, IsTrue, List, Option, Some, Ok, Err, OnOk}
+use Rattle.std.proofs.Common.{IfErr, Result, ap, filter, find, length, map, refl, subst, sym}
 use Rattle.std.specs.Prelude.{nat_lt}
 use Rattle.std.specs.List.{AllByRecursion, FoldsTo, list_any}
 use Rattle.std.specs.Option.{option_map_or}
@@ -133,7 +134,8 @@ module _ {S A X M V W E : Type 0} (g : Ghosts S) (old mid new : Held S) (of : X 
   abbrev pub StopsOn : W → X → E → W → Type 0
   StopsOn p x e q = (test (keep p) x ≡ true) × stops (inner p) x e (inner q)
 
-  one_on : (p j : W) (x : X) (rest : List X) (q : W) (b : Bool) → VisitorTakesRecordOnlyIf b takes (inner p) x (inner j) → FoldsTo takes (inner j) rest (inner q) → FoldsTo takes (inner p) (cond b (x ∷ rest) rest) (inner q)
+  one_on : (p j : W) (x : X) (rest : List X) (q : W) (b : Bool) → VisitorTakesRecordOnlyIf b takes (inner p) x (inner j)
+      → FoldsTo takes (inner j) rest (inner q) → FoldsTo takes (inner p) (cond b (x ∷ rest) rest) (inner q)
   one_on p j x rest q true h k = (inner j, h, k)
   one_on p j x rest q false h k = subst (λ v. FoldsTo takes v rest (inner q)) h k
 
@@ -160,10 +162,13 @@ module _ {S A X M V W E : Type 0} (g : Ghosts S) (old mid new : Held S) (of : X 
     first_on clean xs h t holds =
         let it = h t (first.same_rows t holds) in (
           filter (pick t) it.0,
-          ap (λ ms. ms ++ filter (pick t) it.0) (map_kept of (test (keep before)) (pick t) (passes_at clean t holds) xs) ∙ sym (filter-append (pick t) (map of xs) it.0) ∙ ap (filter (pick t)) it.1 ∙ picked t,
+          ap (λ ms. ms ++ filter (pick t) it.0) (map_kept of (test (keep before)) (pick t) (passes_at clean t holds) xs)
+              ∙ sym (filter-append (pick t) (map of xs) it.0) ∙ ap (filter (pick t)) it.1 ∙ picked t,
         )
 
-    done_on : (r : Result (Unit {0}) (WalkError E)) → HasCleanDisk (state g mid) → OnOk r (TakesListSatisfying (EqualsStoredList g mid all) of TakesOn before after) → OnOk r (TakesListSatisfying (EqualsStoredList g old list) of takes (inner before) (inner after))
+    done_on : (r : Result (Unit {0}) (WalkError E)) → HasCleanDisk (state g mid)
+        → OnOk r (TakesListSatisfying (EqualsStoredList g mid all) of TakesOn before after)
+        → OnOk r (TakesListSatisfying (EqualsStoredList g old list) of takes (inner before) (inner after))
     done_on (Ok u) clean h = (filter (test (keep before)) h.0, (folds_on before h.0 after h.1).1, all_on clean h.0 h.2)
     done_on (Err stop) clean h = tt
 

@@ -84,11 +84,13 @@ within : (start until stamp : ℕ) → start ≡ 0 → nat_lt stamp until ≡ tr
 within start until stamp none before = grind (arith, nat_tests)
 
 -- the rows of a walk up to the stamp
-pub earlier_told : (t : Tables) (account start until : ℕ) (p q : EarlierCashSum) (taken : List move.MoveRow) → start ≡ 0 → p.until ≡ until → p.sum.rows ≡ 0 → p.sum.total ≡ pos 0 → FoldsTo AddsEarlierCashRow p taken q
+pub earlier_told : (t : Tables) (account start until : ℕ) (p q : EarlierCashSum) (taken : List move.MoveRow) → start ≡ 0 → p.until ≡ until → p.sum.rows ≡ 0
+    → p.sum.total ≡ pos 0 → FoldsTo AddsEarlierCashRow p taken q
     → map abstract_move_row taken ≡ cash_rows_in_span account start until t → IsCashSumBeforeStamp t account until q.sum
 earlier_told t account start until p q taken none at count total folds all =
     let same : earlier_rows p.until (map abstract_move_row taken) ≡ cash_rows_before_stamp t account until =
     (λ i. earlier_rows (at i) (all i))
-    ∙ narrower (λ (r : MoveRow). nat_lt r.stamp until) (λ (r : MoveRow). nat_le start r.stamp && nat_le r.stamp until) (λ r before. within start until r.stamp none before) (sorted_cash_rows_of_account t account) in
+    ∙ narrower (λ (r : MoveRow). nat_lt r.stamp until) (λ (r : MoveRow). nat_le start r.stamp && nat_le r.stamp until)
+    (λ r before. within start until r.stamp none before) (sorted_cash_rows_of_account t account) in
     let c = all_added p taken q folds in
     (omega (arith, c.0, count, ap length same), c.1 ∙ (λ i. total i +ℤ cash_row_total (same i)) ∙ +ℤ_idl (cash_row_total (cash_rows_before_stamp t account until)))

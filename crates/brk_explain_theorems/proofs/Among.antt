@@ -25,16 +25,22 @@ pub ids_around : (xs : List Trade) (t : Trade) (ys : List Trade) → IdsApart (x
 ids_around [] t ys d = d.0
 ids_around (x ∷ xs) t ys d = ids_around xs t ys d.1
 
-moments_front : (xs : List Trade) (t : Trade) (ys : List Trade) → HasDistinctLastStatusStamps (xs ++ t ∷ ys) → AllByRecursion (λ u. (last_status_stamp_of_trade u == last_status_stamp_of_trade t) ≡ false) xs
+moments_front : (xs : List Trade) (t : Trade) (ys : List Trade) → HasDistinctLastStatusStamps (xs ++ t ∷ ys)
+    → AllByRecursion (λ u. (last_status_stamp_of_trade u == last_status_stamp_of_trade t) ≡ false) xs
 moments_front [] t ys m = tt
-moments_front (x ∷ xs) t ys m =
-    (numbers_back (last_status_stamp_of_trade x) (last_status_stamp_of_trade t) ∙ (All-back (λ u. (last_status_stamp_of_trade u == last_status_stamp_of_trade x) ≡ false) xs (t ∷ ys) m.0).0, moments_front xs t ys m.1)
+moments_front (x ∷ xs) t ys m = (
+  numbers_back (last_status_stamp_of_trade x) (last_status_stamp_of_trade t)
+      ∙ (All-back (λ u. (last_status_stamp_of_trade u == last_status_stamp_of_trade x) ≡ false) xs (t ∷ ys) m.0).0,
+  moments_front xs t ys m.1,
+)
 
-moments_back : (xs : List Trade) (t : Trade) (ys : List Trade) → HasDistinctLastStatusStamps (xs ++ t ∷ ys) → AllByRecursion (λ u. (last_status_stamp_of_trade u == last_status_stamp_of_trade t) ≡ false) ys
+moments_back : (xs : List Trade) (t : Trade) (ys : List Trade) → HasDistinctLastStatusStamps (xs ++ t ∷ ys)
+    → AllByRecursion (λ u. (last_status_stamp_of_trade u == last_status_stamp_of_trade t) ≡ false) ys
 moments_back [] t ys m = m.0
 moments_back (x ∷ xs) t ys m = moments_back xs t ys m.1
 
-moved_otherwhen : (xs : List Trade) (t : Trade) (ys : List Trade) (ms : List Movement) → HasDistinctMovementStamps (xs ++ t ∷ ys) ms → AllByRecursion (λ m. (m.stamp == last_status_stamp_of_trade t) ≡ false) ms
+moved_otherwhen : (xs : List Trade) (t : Trade) (ys : List Trade) (ms : List Movement) → HasDistinctMovementStamps (xs ++ t ∷ ys) ms
+    → AllByRecursion (λ m. (m.stamp == last_status_stamp_of_trade t) ≡ false) ms
 moved_otherwhen xs t ys [] h = tt
 moved_otherwhen xs t ys (m ∷ ms) h =
     (numbers_back m.stamp (last_status_stamp_of_trade t) ∙ (All-back (HasLastStatusAtOtherStamp m.stamp) xs (t ∷ ys) h.0).0, moved_otherwhen xs t ys ms h.2)

@@ -1,5 +1,6 @@
 -- The settlement of a trade, its tax and its commission, as they are printed.
-use Rattle.std.proofs.Common.{◌≡◌, ℕ, ◌+◌, ◌*◌, ◌==◌, ◌&&◌, Bool, true, false, cond, List, [], ◌∷◌, Option, Some, None, refl, sym, ◌∙◌, ap, map, filter, arith, ℤ, pos, neg_ℤ, ◌+ℤ◌, ◌-ℤ◌, sum_by, is_some}
+use Rattle.std.proofs.Common.{◌≡◌, ℕ, ◌+◌, ◌*◌, ◌==◌, ◌&&◌, Bool, true, false, cond, List, [], ◌∷◌, Option, Some, None, refl, sym, ◌∙◌, ap, map, filter, arith}
+use Rattle.std.proofs.Common.{ℤ, pos, neg_ℤ, ◌+ℤ◌, ◌-ℤ◌, sum_by, is_some}
 use Rattle.std.specs.Prelude.{bytes_eq, find, flat_map, nat_le, option_map, option_to_list, unwrap_or}
 use Rattle.std.specs.Option.{option_map_or}
 use Rattle.std.proofs.lemmas.Bool.{eq-eqb}
@@ -10,7 +11,9 @@ use Rattle.brk_money.specs.Kinds.{is_same_trade_type, side_of_trade_type}
 use Rattle.brk_money.specs.Spelling.{Text}
 use Rattle.brk_money.specs.declared.tax_status.TaxStatus.TheVariants.{Untaxed}
 use Rattle.brk_model.specs.Base as base_spec
-use Rattle.brk_model.specs.Base.{Base, account_with_id, commission_band_for_quantity, is_taxable_status, completed_trades, customer_id_of_account, customer_with_id, exchange_of_security, is_completed, completion_price, security_with_symbol, is_withholding_status, tax_status_in_accounts, tier_of_account, trade_with_id}
+use Rattle.brk_model.specs.Base.{Base, account_with_id, commission_band_for_quantity, is_taxable_status, completed_trades, customer_id_of_account}
+use Rattle.brk_model.specs.Base.{customer_with_id, exchange_of_security, is_completed, completion_price, security_with_symbol, is_withholding_status}
+use Rattle.brk_model.specs.Base.{tax_status_in_accounts, tier_of_account, trade_with_id}
 use Rattle.brk_model.specs.Derived.{settlement_amount, deal_of_trade, due_day, postings_of_base, signed_proceeds}
 use Rattle.brk_model.specs.Orders.{commission_by_band, tax_on_deal}
 use Rattle.brk_model.specs.Joins.{account_row_with_id, security_row_with_symbol}
@@ -18,7 +21,9 @@ use Rattle.brk_model.specs.Keys.{rows_sorted_by_key, settlement_key}
 use Rattle.brk_model.specs.Records.{Account, Band, Customer, CustomerTax, Security, SettleRule, TaxRate, Trade}
 use Rattle.brk_model.specs.Sheets.{sheets, tables_sorted_by_key}
 use Rattle.brk_model.specs.Tables.{AccountRow, SettlementRow, Tables, account_row, security_row, settlement_row, tables_of_base_in_schema, trade_row}
-use Rattle.brk_explain_model.specs.Trades.{band_for_customer_and_security, band_of_trade, band_for_tier_and_exchange, commission_in_current_band, zero_settlement_row, tax_rates_of_customer, sum_of_tax_rates, settlement_of_trade_or_zeros, tax_at_current_rates, signed_trade_value, withheld_tax_of_trade}
+use Rattle.brk_explain_model.specs.Trades.{band_for_customer_and_security, band_of_trade, band_for_tier_and_exchange, commission_in_current_band}
+use Rattle.brk_explain_model.specs.Trades.{zero_settlement_row, tax_rates_of_customer, sum_of_tax_rates, settlement_of_trade_or_zeros, tax_at_current_rates}
+use Rattle.brk_explain_model.specs.Trades.{signed_trade_value, withheld_tax_of_trade}
 use Rattle.brk_book_theorems.specs.Books.{BooksInvariant}
 use Rattle.brk_book_theorems.specs.Reads.{rate_of_tax_rate_with_id}
 use Rattle.brk_book_theorems.proofs.BandReading.{reads_band}
@@ -79,10 +84,12 @@ parts p a b c = omega (arith, ints)
 
 amount_parts : (base : Base) (t : Trade)
     → settlement_amount base.accounts t
-    ≡ ((signed_trade_value (order_details_in_base base t) (result_details_in_base base t) +ℤ neg_ℤ (pos t.charge)) +ℤ neg_ℤ (pos t.commission)) +ℤ neg_ℤ (pos (withheld_tax_of_trade (order_details_in_base base t)))
+    ≡ ((signed_trade_value (order_details_in_base base t) (result_details_in_base base t) +ℤ neg_ℤ (pos t.charge)) +ℤ neg_ℤ (pos t.commission)) +ℤ neg_ℤ
+    (pos (withheld_tax_of_trade (order_details_in_base base t)))
 amount_parts base t =
     parts (signed_proceeds (side_of_trade_type t.kind) (t.qty * completion_price t)) t.charge t.commission (cond (is_withholding_status (tax_status_in_accounts base.accounts t.account)) t.tax 0)
-    ∙ ap (λ s. ((signed_proceeds (side_of_trade_type t.kind) (t.qty * completion_price t) +ℤ neg_ℤ (pos t.charge)) +ℤ neg_ℤ (pos t.commission)) +ℤ neg_ℤ (pos (cond (is_withholding_status s) t.tax 0))) (sym (status_is base t))
+    ∙ ap (λ s. ((signed_proceeds (side_of_trade_type t.kind) (t.qty * completion_price t) +ℤ neg_ℤ (pos t.charge)) +ℤ neg_ℤ (pos t.commission)) +ℤ neg_ℤ
+    (pos (cond (is_withholding_status s) t.tax 0))) (sym (status_is base t))
 
 -- ---- the tax of now
 
@@ -103,9 +110,12 @@ rates_same T (x ∷ xs) =
 rates_are : (base : Base) (customer : ℕ) → sum_of_tax_rates (tax_rates_of_customer (sheets base) customer) ≡ base_spec.tax_rate_sum_of_customer base customer
 rates_are base customer = rates_same (sheets base) (filter (λ x. x.customer == customer) (sheets base).customer_taxes) ∙ reads_rates base customer
 
-tax_is : (base : Base) (t : Trade) → PrintedClosingsMatchDeal base t → tax_at_current_rates (order_details_in_base base t) (result_details_in_base base t) ≡ tax_on_deal base t.account (deal_of_trade t) (shares_before_trade base t)
+tax_is : (base : Base) (t : Trade) → PrintedClosingsMatchDeal base t
+    → tax_at_current_rates (order_details_in_base base t) (result_details_in_base base t)
+    ≡ tax_on_deal base t.account (deal_of_trade t) (shares_before_trade base t)
 tax_is base t k =
-    λ i. cond (is_taxable_status (status_is base t i)) (tax (k.gained i) ((rates_are base (order_details_in_base base t).customer ∙ ap (base_spec.tax_rate_sum_of_customer base) (customer_is base t)) i)) 0
+    λ i. cond (is_taxable_status (status_is base t i))
+    (tax (k.gained i) ((rates_are base (order_details_in_base base t).customer ∙ ap (base_spec.tax_rate_sum_of_customer base) (customer_is base t)) i)) 0
 
 -- ---- the commission of now
 
@@ -121,7 +131,8 @@ and_assoc : (a b c : Bool) → (a && b) && c ≡ a && (b && c)
 and_assoc true b c = refl
 and_assoc false b c = refl
 
-band_is : (base : Base) (t : Trade) (tier : ℕ) (exchange : Text) → BooksInvariant base → band_for_tier_and_exchange (sheets base) (trade_row t) tier exchange ≡ commission_band_for_quantity base tier t.kind exchange t.qty
+band_is : (base : Base) (t : Trade) (tier : ℕ) (exchange : Text) → BooksInvariant base
+    → band_for_tier_and_exchange (sheets base) (trade_row t) tier exchange ≡ commission_band_for_quantity base tier t.kind exchange t.qty
 band_is base t tier exchange books =
     find_both (λ (b : Band). nat_le b.from_qty t.qty && nat_le t.qty b.to_qty) (λ (b : Band). ((b.tier == tier) && is_same_trade_type b.kind t.kind) && bytes_eq b.exchange exchange)
     (λ (b : Band). ((((b.tier == tier) && is_same_trade_type b.kind t.kind) && bytes_eq b.exchange exchange) && nat_le b.from_qty t.qty) && nat_le t.qty b.to_qty) (sheets base).bands
@@ -129,7 +140,9 @@ band_is base t tier exchange books =
     ∙ reads_band base tier t.kind exchange t.qty books
 
 -- the customer and the security of a trade are there
-band_found : (base : Base) (t : Trade) → BooksInvariant base → trade_with_id base t.id ≡ Some t → band_of_trade (sheets base) (trade_row t) ≡ commission_band_for_quantity base (tier_of_account base t.account) t.kind (exchange_of_security base t.symbol) t.qty
+band_found : (base : Base) (t : Trade) → BooksInvariant base → trade_with_id base t.id ≡ Some t
+    → band_of_trade (sheets base) (trade_row t) ≡ commission_band_for_quantity base (tier_of_account base t.account) t.kind (exchange_of_security base t.symbol)
+    t.qty
 band_found base t books e =
     (λ i. band_for_customer_and_security T (trade_row t) (customer i) (security i)) ∙ band_is base t c.0.tier s.0.exchange books
     ∙ (λ i. commission_band_for_quantity base (option_map_or (λ (c : Customer). c.tier) (sym c.1 i) 0) t.kind (option_map_or (λ (s : Security). s.exchange) (sym s.1 i) []) t.qty)

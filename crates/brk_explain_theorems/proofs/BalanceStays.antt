@@ -5,11 +5,13 @@ use Rattle.std.specs.Option.{option_map_or}
 use Rattle.std.specs.List.{AllByRecursion}
 use Rattle.std.proofs.lemmas.Bool.Decides.{nat_tests}
 use Rattle.brk_money.specs.declared.status.Status.TheVariants.{Completed}
-use Rattle.brk_model.specs.Base.{Base, account_with_id, completed_trades, account_with_id_in_list, is_completed, last_status_stamp_of_trade, opening_balance_in_accounts, completion_price, is_withholding_status, trade_with_id}
+use Rattle.brk_model.specs.Base.{Base, account_with_id, completed_trades, account_with_id_in_list, is_completed, last_status_stamp_of_trade}
+use Rattle.brk_model.specs.Base.{opening_balance_in_accounts, completion_price, is_withholding_status, trade_with_id}
 use Rattle.brk_model.specs.Commands.{CompleteTrade}
 use Rattle.brk_money.specs.Kinds.{side_of_trade_type}
 use Rattle.brk_money.specs.declared.tax_status.TaxStatus.TheVariants.{Untaxed}
-use Rattle.brk_model.specs.Derived.{Posting, settlement_amount, balance_of_account, cash_trades, postings_to_account, posting_of_movement, posting_of_trade, postings, postings_of_base, signed_proceeds}
+use Rattle.brk_model.specs.Derived.{Posting, settlement_amount, balance_of_account, cash_trades, postings_to_account, posting_of_movement, posting_of_trade}
+use Rattle.brk_model.specs.Derived.{postings, postings_of_base, signed_proceeds}
 use Rattle.brk_model.specs.Lists.{total_by}
 use Rattle.brk_model.specs.Records.{Account, Movement, Trade}
 use Rattle.brk_model.specs.Results.{completed_trade}
@@ -63,20 +65,23 @@ pub same_amount : (accounts more : List Account) (t : Trade) → is_some (accoun
 same_amount accounts more t h = ap amount_by (same_account accounts more t.account h)
   where
     amount_by : Option Account → ℤ
-    amount_by o = signed_proceeds (side_of_trade_type t.kind) (t.qty * completion_price t) -ℤ pos (t.charge + t.commission + cond (is_withholding_status (option_map_or (λ a. a.tax_status) o Untaxed)) t.tax 0)
+    amount_by o = signed_proceeds (side_of_trade_type t.kind) (t.qty * completion_price t) -ℤ pos
+        (t.charge + t.commission + cond (is_withholding_status (option_map_or (λ a. a.tax_status) o Untaxed)) t.tax 0)
 
 with_more : (accounts more : List Account) (account : ℕ) (ts : List Trade) → AllByRecursion (λ t. is_some (account_with_id_in_list accounts t.account) ≡ true) ts
     → paid_to (accounts ++ more) account ts ≡ paid_to accounts account ts
 with_more accounts more account ts h =
     total_by-same (settlement_amount (accounts ++ more)) (settlement_amount accounts) (filter (λ t. t.account == account) (cash_trades ts))
     (All-map (filter (λ t. t.account == account) (cash_trades ts)) (λ t k. same_amount accounts more t k)
-    (All-filter (λ t. is_some (account_with_id_in_list accounts t.account) ≡ true) (λ t. t.account == account) (cash_trades ts) (All-filter (λ t. is_some (account_with_id_in_list accounts t.account) ≡ true) (λ t. t.is_cash) ts h)))
+    (All-filter (λ t. is_some (account_with_id_in_list accounts t.account) ≡ true) (λ t. t.account == account) (cash_trades ts)
+    (All-filter (λ t. is_some (account_with_id_in_list accounts t.account) ≡ true) (λ t. t.is_cash) ts h)))
 
 -- ---- the balance by a stamp
 
 balance_is : (base : Base) (s account : ℕ)
     → balance_at_stamp base s account
-    ≡ opening_balance_in_accounts base.accounts account +ℤ (paid_to base.accounts account (done_by base s) +ℤ total_by (λ p. p.amount) (postings_to_account (map posting_of_movement (moved_by base s)) account))
+    ≡ opening_balance_in_accounts base.accounts account +ℤ
+    (paid_to base.accounts account (done_by base s) +ℤ total_by (λ p. p.amount) (postings_to_account (map posting_of_movement (moved_by base s)) account))
 balance_is base s account =
     ap (λ ps. balance_of_account base.accounts ps account) (by_stamp s base.accounts (completed_trades base) base.movements)
     ∙ balance_parts base.accounts (filter (λ t. nat_le (last_status_stamp_of_trade t) s) (completed_trades base)) (moved_by base s) account
@@ -88,7 +93,8 @@ known_by base s books =
     All-mapped (λ t. is_some (account_with_id_in_list base.accounts t.account) ≡ true) core (filter (λ t. nat_le (last_status_stamp_of_trade t) s) (completed_trades base))
     (All-filter (λ t. is_some (account_with_id_in_list base.accounts t.account) ≡ true) (λ t. nat_le (last_status_stamp_of_trade t) s) (completed_trades base) (known_completed base books))
 
-pub balance_kept : (s : ℕ) (base later : Base) (account : ℕ) → BooksInvariant base → is_some (account_with_id base account) ≡ true → Keeps s base later → balance_at_stamp later s account ≡ balance_at_stamp base s account
+pub balance_kept : (s : ℕ) (base later : Base) (account : ℕ) → BooksInvariant base → is_some (account_with_id base account) ≡ true → Keeps s base later
+    → balance_at_stamp later s account ≡ balance_at_stamp base s account
 balance_kept s base later account books h k =
     balance_is later s account
     ∙ (λ i. option_map_or (λ a. a.opening) (opening i) (pos 0) +ℤ (paid i +ℤ total_by (λ p. p.amount) (postings_to_account (map posting_of_movement (k.moved i)) account)))
@@ -119,7 +125,8 @@ all_by base s account books e =
 
 -- ---- after the result
 
-pub stays_after : (base : Base) (now id price : ℕ) (t : Trade) → BooksInvariant base → trade_with_id base id ≡ Some t → refusal_of_command base now (CompleteTrade id price) ≡ None → RunsPreservePrintedBalanceAfterTrade base now id price
+pub stays_after : (base : Base) (now id price : ℕ) (t : Trade) → BooksInvariant base → trade_with_id base id ≡ Some t
+    → refusal_of_command base now (CompleteTrade id price) ≡ None → RunsPreservePrintedBalanceAfterTrade base now id price
 stays_after base now id price t books e accepted calls outcomes later u run found =
     (balances_as_told later u next (ap (trade_with_id later) (id_of later id u found) ∙ found) done).after
     ∙ ap (λ (n : ℕ). balance_at_stamp later n u.account) moment

@@ -68,7 +68,9 @@ last_is_balance base id r books e =
 opening_is : (base : Base) (account : ℕ) → option_map_or (λ (a : AccountRow). a.opening) (account_row_with_id (sheets base) account) (pos 0) ≡ opening_balance_in_accounts base.accounts account
 opening_is base account = ap (λ o. option_map_or (λ (a : AccountRow). a.opening) o (pos 0)) (reads_account base account) ∙ by_account (account_with_id base account)
   where
-    by_account : (o : Option Account) → option_map_or (λ (a : AccountRow). a.opening) (option_map (account_row base.accounts (postings_of_base base)) o) (pos 0) ≡ option_map_or (λ a. a.opening) o (pos 0)
+    by_account : (o : Option Account)
+        → option_map_or (λ (a : AccountRow). a.opening) (option_map (account_row base.accounts (postings_of_base base)) o) (pos 0)
+        ≡ option_map_or (λ a. a.opening) o (pos 0)
     by_account None = refl
     by_account (Some a) = refl
 
@@ -132,7 +134,8 @@ only_posting accounts xs t ys ms q f g h k = by_kind t.is_cash refl
 pub at_its_stamp : (base : Base) (t : Trade) → Among base t → filter (λ p. p.stamp == last_status_stamp_of_trade t) (postings_of_base base) ≡ cond t.is_cash (posting_of_trade base.accounts t ∷ []) []
 at_its_stamp base t a =
     ap (λ ts. filter (λ p. p.stamp == last_status_stamp_of_trade t) (postings base.accounts ts base.movements)) a.stands
-    ∙ only_posting base.accounts a.front t a.back base.movements (λ p. p.stamp == last_status_stamp_of_trade t) a.moments_before (eq-eqb (last_status_stamp_of_trade t) (last_status_stamp_of_trade t) refl) a.moments_after a.moved
+    ∙ only_posting base.accounts a.front t a.back base.movements (λ p. p.stamp == last_status_stamp_of_trade t) a.moments_before
+    (eq-eqb (last_status_stamp_of_trade t) (last_status_stamp_of_trade t) refl) a.moments_after a.moved
 
 -- by its number
 pub by_its_number : (base : Base) (t : Trade) → Among base t → filter (is_posting_of_trade t.id) (postings_of_base base) ≡ cond t.is_cash (posting_of_trade base.accounts t ∷ []) []
@@ -159,7 +162,8 @@ moved_is base t a =
     ∙ ap first (turn_filter (is_posting_of_trade t.id) (postings_of_base base) ∙ ap postings_sorted_by_stamp (by_its_number base t a)))
     ∙ by_kind t.is_cash
   where
-    by_kind : (b : Bool) → option_map_or (λ p. p.amount) (first (postings_sorted_by_stamp (cond b (posting_of_trade base.accounts t ∷ []) []))) (pos 0) ≡ cond b (settlement_amount base.accounts t) (pos 0)
+    by_kind : (b : Bool) → option_map_or (λ p. p.amount) (first (postings_sorted_by_stamp (cond b (posting_of_trade base.accounts t ∷ []) []))) (pos 0)
+        ≡ cond b (settlement_amount base.accounts t) (pos 0)
     by_kind true = refl
     by_kind false = refl
 
@@ -207,7 +211,10 @@ until_parts : (stamp account : ℕ) (ps : List Posting)
     → total_by (λ p. p.amount) (filter (is_to account) (postings_up_to_stamp stamp ps))
     ≡ total_by (λ p. p.amount) (filter (λ p. nat_lt p.stamp stamp) (filter (is_to account) ps)) +ℤ total_by (λ p. p.amount) (filter (λ p. p.stamp == stamp) (filter (is_to account) ps))
 until_parts stamp account ps =
-    ap (total_by (λ p. p.amount)) (filter-swap (is_to account) (λ p. nat_le p.stamp stamp) ps ∙ filter-same (λ p. nat_le p.stamp stamp) (λ p. nat_lt p.stamp stamp || (p.stamp == stamp)) (filter (is_to account) ps) (each (filter (is_to account) ps)))
+    ap (total_by (λ p. p.amount))
+    (filter-swap (is_to account) (λ p. nat_le p.stamp stamp) ps
+    ∙ filter-same (λ p. nat_le p.stamp stamp) (λ p. nat_lt p.stamp stamp || (p.stamp == stamp)) (filter (is_to account) ps)
+    (each (filter (is_to account) ps)))
     ∙ either_sum (λ p. p.amount) (λ p. nat_lt p.stamp stamp) (λ p. p.stamp == stamp) (filter (is_to account) ps) (λ p e. not_both p.stamp stamp e)
   where
     each : (qs : List Posting) → AllByRecursion (λ p. nat_le p.stamp stamp ≡ nat_lt p.stamp stamp || (p.stamp == stamp)) qs
@@ -220,8 +227,13 @@ pub balances_as_told : (base : Base) (t : Trade) → BooksInvariant base → tra
 unfolding balance_of_account
 balances_as_told base t books e c = record {
   before = before;
-  after = (λ i. before i +ℤ moved_is base t a i) ∙ +ℤ_assoc (opening_balance_in_accounts base.accounts t.account) (total_by (λ p. p.amount) (filter (is_to t.account) (postings_before_stamp (last_status_stamp_of_trade t) ps))) (cond t.is_cash (settlement_amount base.accounts t) (pos 0))
-      ∙ ap (λ z. opening_balance_in_accounts base.accounts t.account +ℤ z) ((λ i. ap (total_by (λ p. p.amount)) (filter-swap (is_to t.account) (λ p. nat_lt p.stamp (last_status_stamp_of_trade t)) ps) i +ℤ sym (own_sum base t a) i)
+  after = (λ i. before i +ℤ moved_is base t a i)
+      ∙ +ℤ_assoc (opening_balance_in_accounts base.accounts t.account)
+      (total_by (λ p. p.amount) (filter (is_to t.account) (postings_before_stamp (last_status_stamp_of_trade t) ps)))
+      (cond t.is_cash (settlement_amount base.accounts t) (pos 0))
+      ∙ ap (λ z. opening_balance_in_accounts base.accounts t.account +ℤ z)
+      ((λ i. ap (total_by (λ p. p.amount)) (filter-swap (is_to t.account) (λ p. nat_lt p.stamp (last_status_stamp_of_trade t)) ps) i +ℤ sym
+      (own_sum base t a) i)
       ∙ sym (until_parts (last_status_stamp_of_trade t) t.account ps));
 }
   where
@@ -232,4 +244,6 @@ balances_as_told base t books e c = record {
     a = among base t books e c
 
     before : printed_balance_before_trade (sheets base) t ≡ balance_of_account base.accounts (postings_before_stamp (last_status_stamp_of_trade t) ps) t.account
-    before = λ i. opening_is base t.account i +ℤ (cash_sum base t.account (λ n. nat_lt n (last_status_stamp_of_trade t)) ∙ ap (total_by (λ p. p.amount)) (filter-swap (λ p. nat_lt p.stamp (last_status_stamp_of_trade t)) (is_to t.account) ps)) i
+    before = λ i. opening_is base t.account i +ℤ
+        (cash_sum base t.account (λ n. nat_lt n (last_status_stamp_of_trade t))
+        ∙ ap (total_by (λ p. p.amount)) (filter-swap (λ p. nat_lt p.stamp (last_status_stamp_of_trade t)) (is_to t.account) ps)) i

@@ -91,7 +91,8 @@ rows_sorted : (base : Base) (t : Trade) (front back : List Trade) → IsPlaced b
     ≡ map (row_by (left_by front) (deal_of_trade t)) (filter (moves_lot t (left_by front)) front)
 rows_sorted base t front back k =
     ap (sort_by (by m)) (rows_found base t front back k (is_closing_by_trade t.id) (only_own t.id))
-    ∙ sort_again m (is_row_key_less holding_history_key) (map row F) (apart_map m row F (apart_filter n here done (apart_same n last_status_stamp_of_trade done stamps (apart_moments done k.books.moments))))
+    ∙ sort_again m (is_row_key_less holding_history_key) (map row F)
+    (apart_map m row F (apart_filter n here done (apart_same n last_status_stamp_of_trade done stamps (apart_moments done k.books.moments))))
     ∙ sort_map m row F
     ∙ ap (map row) (sort_same n last_status_stamp_of_trade F (All-filter (λ v. n v ≡ last_status_stamp_of_trade v) here done stamps)
     ∙ ap (sort_by (by last_status_stamp_of_trade)) (filter-both (is_here t) (passes (is_closing_by_trade t.id) us t) done

@@ -23,7 +23,8 @@ use Rattle.brk_lots.proofs.Books.{count_fits}
 use Rattle.brk_lots.proofs.Closed.{values_are}
 use Rattle.brk_lots.proofs.Ends.{all_end, shares_end, walk_of}
 use Rattle.brk_lots.proofs.Upon.{met_closes}
-use Rattle.brk_explain_model.specs.Trades.{buy_value_of_closings, closings_of_trade, trade_price_or_zero, opened_lot_row, completion_price_or_zero, sell_value_of_closings, shares_of_closing, total_closed_shares}
+use Rattle.brk_explain_model.specs.Trades.{buy_value_of_closings, closings_of_trade, trade_price_or_zero, opened_lot_row, completion_price_or_zero}
+use Rattle.brk_explain_model.specs.Trades.{sell_value_of_closings, shares_of_closing, total_closed_shares}
 use Rattle.brk_book_theorems.specs.Books.{BooksInvariant}
 use Rattle.brk_book_theorems.proofs.LotOrder.{InOrder, of_held, trades_held}
 use Rattle.brk_book_theorems.proofs.Same.{All-map}
@@ -133,10 +134,12 @@ of_placed base t front back k c = record {
     values = values_are d ls w ∙ ap (closing_values_of_deal d) shares
 
     buy : buy_value_of_closings d.side d.price (closings_of_trade T (trade_row t)) ≡ buy_value d us
-    buy = ap (buy_value_of_closings d.side d.price) closings ∙ buys d.side d.price (map (closing_at T t.id) (touches_of_first_shares n walk)) ∙ (λ i. buy_value_by_side d.side (at_price i) (at_cost i)) ∙ ap (λ (v : Values). v.buy_value) values
+    buy = ap (buy_value_of_closings d.side d.price) closings ∙ buys d.side d.price (map (closing_at T t.id) (touches_of_first_shares n walk))
+        ∙ (λ i. buy_value_by_side d.side (at_price i) (at_cost i)) ∙ ap (λ (v : Values). v.buy_value) values
 
     sell : sell_value_of_closings d.side d.price (closings_of_trade T (trade_row t)) ≡ sell_value d us
-    sell = ap (sell_value_of_closings d.side d.price) closings ∙ sells d.side d.price (map (closing_at T t.id) (touches_of_first_shares n walk)) ∙ (λ i. sell_value_by_side d.side (at_price i) (at_cost i)) ∙ ap (λ (v : Values). v.sell_value) values
+    sell = ap (sell_value_of_closings d.side d.price) closings ∙ sells d.side d.price (map (closing_at T t.id) (touches_of_first_shares n walk))
+        ∙ (λ i. sell_value_by_side d.side (at_price i) (at_cost i)) ∙ ap (λ (v : Values). v.sell_value) values
 
     opens : option_map_or (λ (r : HoldingHistoryRow). r.after) (opened_lot_row T t.id) (pos 0) ≡ signed_by_side d.side (d.qty - closed_share_count_of_deal d us)
     opens = own_qty base t front back k c

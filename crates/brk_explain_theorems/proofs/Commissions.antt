@@ -29,11 +29,13 @@ total_pos f (x ∷ xs) = ap (λ z. pos (f x) +ℤ z) (total_pos f xs) ∙ both (
 
 pub broker_as_told : (base : Base) (id : ℕ) (b : BrokerRow) → BooksInvariant base → find (λ r. r.id == id) (sheets base).brokers ≡ Some b → PrintedBrokerMatchesTotals base b
 broker_as_told base id b books e = record {
-  commissions = running_ends (λ (u : TradeRow). pos u.commission) (pos 0) (completed_trades_of_broker (sheets base) b.id) ∙ no_more (total_by (λ (u : TradeRow). pos u.commission) (completed_trades_of_broker (sheets base) b.id))
+  commissions = running_ends (λ (u : TradeRow). pos u.commission) (pos 0) (completed_trades_of_broker (sheets base) b.id)
+      ∙ no_more (total_by (λ (u : TradeRow). pos u.commission) (completed_trades_of_broker (sheets base) b.id))
       ∙ total_sorted (λ (u : TradeRow). pos u.commission) (λ x y. nat_lt x.stamp y.stamp) (completed_trade_rows_of_broker (sheets base) b.id)
       ∙ total_pos (λ (u : TradeRow). u.commission) (completed_trade_rows_of_broker (sheets base) b.id)
       ∙ ap (λ (n : ℕ). pos (sum_by (λ (u : TradeRow). u.commission) (completed_trade_rows_of_broker (sheets base) n))) same ∙ ap pos (sym (broker_sums base id b books e));
-  trades = ap pos (length_sort (λ x y. nat_lt x.stamp y.stamp) (completed_trade_rows_of_broker (sheets base) b.id) ∙ ap (λ (n : ℕ). length (completed_trade_rows_of_broker (sheets base) n)) same) ∙ sym (broker_counts base id b books e);
+  trades = ap pos (length_sort (λ x y. nat_lt x.stamp y.stamp) (completed_trade_rows_of_broker (sheets base) b.id)
+      ∙ ap (λ (n : ℕ). length (completed_trade_rows_of_broker (sheets base) n)) same) ∙ sym (broker_counts base id b books e);
 }
   where
     same : b.id ≡ id

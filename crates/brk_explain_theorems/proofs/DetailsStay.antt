@@ -1,5 +1,6 @@
 -- The explanation of a completed trade stays, through any run of calls.
-use Rattle.std.proofs.Common.{◌≡◌, ◌≤◌, ℕ, ◌-◌, ◌==◌, eqb, Bool, true, false, cond, List, [], ◌∷◌, ◌++◌, length, Option, Some, None, refl, sym, ◌∙◌, ap, subst, map, filter, arith, ℤ, pos, ◌+ℤ◌, is_some, unsigned_abs}
+use Rattle.std.proofs.Common.{◌≡◌, ◌≤◌, ℕ, ◌-◌, ◌==◌, eqb, Bool, true, false, cond, List, [], ◌∷◌, ◌++◌, length, Option, Some, None, refl, sym, ◌∙◌, ap, subst}
+use Rattle.std.proofs.Common.{map, filter, arith, ℤ, pos, ◌+ℤ◌, is_some, unsigned_abs}
 use Rattle.std.specs.Prelude.{bytes_eq, find, flat_map, nat_lt}
 use Rattle.std.specs.Option.{option_map_or}
 use Rattle.std.specs.List.{AllByRecursion}
@@ -57,7 +58,9 @@ use Rattle.brk_explain_theorems.proofs.TradeRows.{IsPlaced, done_found, placed_o
 closings_taken : ℕ → List Lot → List Closing
 closings_taken k [] = []
 closings_taken k (l ∷ ls) =
-    cond (eqb k 0) [] (record { lot = l.trade; stamp = l.stamp; price = l.price; before = l.qty; after = signed_by_side (side_of_qty l.qty) (unsigned_abs l.qty - k) } ∷ closings_taken (k - unsigned_abs l.qty) ls)
+    cond (eqb k 0) [] (record
+    { lot = l.trade; stamp = l.stamp; price = l.price; before = l.qty; after = signed_by_side (side_of_qty l.qty) (unsigned_abs l.qty - k) }
+    ∷ closings_taken (k - unsigned_abs l.qty) ls)
 
 -- the tables tell the stamp and the price of a lot
 abbrev IsRead : Tables → Lot → Type 0
@@ -115,7 +118,9 @@ lots_core : (ts : List Trade) → lots_by (map core ts) ≡ lots_by ts
 lots_core ts = ap (λ us. lots_left us (map core ts)) (left_core ts) ∙ ap (filter is_some_left) (upon_core (left_by ts) ts)
 
 closings_core : (t : Trade) (ts : List Trade) → closings_by (core t) (map core ts) ≡ closings_by t ts
-closings_core t ts = ap (λ ls. closings_taken (closed_share_count (deal_of_trade t).side (deal_of_trade t).qty (list_reversed_if_lifo t.is_lifo ls)) (list_reversed_if_lifo t.is_lifo ls)) (lots_core ts)
+closings_core t ts = ap
+    (λ ls. closings_taken (closed_share_count (deal_of_trade t).side (deal_of_trade t).qty (list_reversed_if_lifo t.is_lifo ls))
+    (list_reversed_if_lifo t.is_lifo ls)) (lots_core ts)
 
 -- the row of its own lot, by the shares before it
 abbrev own_by : Trade → List Share → Option HoldingHistoryRow
@@ -123,14 +128,18 @@ own_by t us = cond (has_quantity_change (row_by us (deal_of_trade t) t)) (Some (
 
 -- ---- the trades before it
 
-position_core : (ts : List Trade) (account : ℕ) (symbol : Text) → map core (sort_by_key last_status_stamp_of_trade (trades_of_position ts account symbol)) ≡ sort_by_key last_status_stamp_of_trade (trades_of_position (map core ts) account symbol)
+position_core : (ts : List Trade) (account : ℕ) (symbol : Text)
+    → map core (sort_by_key last_status_stamp_of_trade (trades_of_position ts account symbol))
+    ≡ sort_by_key last_status_stamp_of_trade (trades_of_position (map core ts) account symbol)
 position_core ts account symbol =
     sym (sort_map last_status_stamp_of_trade core (trades_of_position ts account symbol))
     ∙ ap (sort_by (by last_status_stamp_of_trade)) (sym (filter-map (λ t. bytes_eq t.symbol symbol) core (filter (λ t. t.account == account) ts))
     ∙ ap (filter (λ t. bytes_eq t.symbol symbol)) (sym (filter-map (λ t. t.account == account) core ts)))
 
 front_is : (base : Base) (t : Trade) (front back : List Trade) → IsPlaced base t front back
-    → map core front ≡ sort_by_key last_status_stamp_of_trade (trades_of_position (filter (λ u. nat_lt (last_status_stamp_of_trade u) (last_status_stamp_of_trade t)) (done_by base (last_status_stamp_of_trade t))) t.account t.symbol)
+    → map core front ≡ sort_by_key last_status_stamp_of_trade
+    (trades_of_position (filter (λ u. nat_lt (last_status_stamp_of_trade u) (last_status_stamp_of_trade t)) (done_by base (last_status_stamp_of_trade t)))
+    t.account t.symbol)
 front_is base t front back k =
     ap (map core) (sym (held_before base t front back k.stands (placed_order base t front back k)))
     ∙ position_core (trades_completed_before_stamp base (last_status_stamp_of_trade t)) t.account t.symbol
@@ -142,7 +151,9 @@ abbrev of_trade : ℕ → HistoryRow → Bool
 of_trade id r = r.trade == id
 
 none_of : (t : Trade) (id : ℕ) → (t.id == id) ≡ false → filter (of_trade id) (history_rows t) ≡ []
-none_of t id e = filter-none (of_trade id) (history_rows t) (All-mapped (λ r. of_trade id r ≡ false) (λ (m : StatusChange). record { trade = t.id; status = m.status; stamp = m.stamp }) t.marks (All-of t.marks (λ m. e)))
+none_of t id e = filter-none (of_trade id) (history_rows t)
+    (All-mapped (λ r. of_trade id r ≡ false) (λ (m : StatusChange). record { trade = t.id; status = m.status; stamp = m.stamp }) t.marks
+    (All-of t.marks (λ m. e)))
 
 all_of : (t : Trade) → filter (of_trade t.id) (history_rows t) ≡ history_rows t
 all_of t =
@@ -193,14 +204,16 @@ stays_by base later t u books next k e c f = record {
   opening = columns (λ (a : AccountRow). a.opening) (λ a. a.opening) (pos 0) (λ accounts posted a. refl);
   statuses = statuses_are later u next found ∙ statuses_same ∙ sym (statuses_are base t books e);
   price = ap completion_price same;
-  closings = closings_told later u s'.front s'.back k' ∙ sym (closings_core u s'.front) ∙ (λ i. closings_by (same i) (fronts i)) ∙ closings_core t s.front ∙ sym (closings_told base t s.front s.back p);
+  closings = closings_told later u s'.front s'.back k' ∙ sym (closings_core u s'.front) ∙ (λ i. closings_by (same i) (fronts i)) ∙ closings_core t s.front
+      ∙ sym (closings_told base t s.front s.back p);
   own_lot = own_row later u s'.front s'.back k' done ∙ own_same ∙ sym (own_row base t s.front s.back p c);
   settlement = ap (λ (r : SettlementRow). r.amount) (settlement_is later u a') ∙ amounts ∙ sym (ap (λ (r : SettlementRow). r.amount) (settlement_is base t a));
   due = ap (λ (r : SettlementRow). r.due_day) (settlement_is later u a') ∙ days ∙ sym (ap (λ (r : SettlementRow). r.due_day) (settlement_is base t a));
   moved = moves;
   number = number_kept base later t u a a' same k;
   rows = rows_same;
-  before = taken_off (printed_balance_before_trade (sheets later) u) (printed_balance_before_trade (sheets base) t) (balance_change_of_trade (result_details_in_base later u)) (balance_change_of_trade (result_details_in_base base t)) balances moves;
+  before = taken_off (printed_balance_before_trade (sheets later) u) (printed_balance_before_trade (sheets base) t)
+      (balance_change_of_trade (result_details_in_base later u)) (balance_change_of_trade (result_details_in_base base t)) balances moves;
   after = balances;
 }
   where
@@ -241,7 +254,8 @@ stays_by base later t u books next k e c f = record {
     known = find-All (λ v. is_some (account_with_id base v.account) ≡ true) (λ v. v.id == t.id) base.trades t books.accounts e
 
     account : account_with_id_in_list later.accounts u.account ≡ account_with_id_in_list base.accounts t.account
-    account = ap (λ v. account_with_id_in_list later.accounts v.account) same ∙ ap (λ accounts. account_with_id_in_list accounts t.account) k.accounts ∙ same_account base.accounts k.more t.account known
+    account = ap (λ v. account_with_id_in_list later.accounts v.account) same ∙ ap (λ accounts. account_with_id_in_list accounts t.account) k.accounts
+        ∙ same_account base.accounts k.more t.account known
 
     columns : {A : Type 0} (g : AccountRow → A) (h : Account → A) (none : A) → ((accounts : List Account) (posted : List Posting) (b : Account) → g (account_row accounts posted b) ≡ h b)
         → option_map_or g (account_row_with_id (sheets later) u.account) none ≡ option_map_or g (account_row_with_id (sheets base) t.account) none
@@ -255,7 +269,8 @@ stays_by base later t u books next k e c f = record {
     fronts : map core s'.front ≡ map core s.front
     fronts =
         front_is later u s'.front s'.back k'
-        ∙ (λ i. sort_by_key last_status_stamp_of_trade (trades_of_position (filter (λ v. nat_lt (last_status_stamp_of_trade v) (moment i)) (done_by later (moment i))) (same i).account (same i).symbol))
+        ∙ (λ i. sort_by_key last_status_stamp_of_trade
+        (trades_of_position (filter (λ v. nat_lt (last_status_stamp_of_trade v) (moment i)) (done_by later (moment i))) (same i).account (same i).symbol))
         ∙ ap (λ ts. sort_by_key last_status_stamp_of_trade (trades_of_position (filter (λ v. nat_lt (last_status_stamp_of_trade v) (last_status_stamp_of_trade t)) ts) t.account t.symbol)) k.done
         ∙ sym (front_is base t s.front s.back p)
 
@@ -269,7 +284,9 @@ stays_by base later t u books next k e c f = record {
     amounts = (λ i. settlement_amount (k.accounts i) (same i)) ∙ same_amount base.accounts k.more t known
 
     days : due_day later.rule u ≡ due_day base.rule t
-    days = ap (due_day later.rule) same ∙ find-All (λ v. due_day later.rule v ≡ due_day base.rule v) (λ v. v.id == t.id) (done_by base (last_status_stamp_of_trade t)) (core t) k.due (in_done base t books e c)
+    days = ap (due_day later.rule) same
+        ∙ find-All (λ v. due_day later.rule v ≡ due_day base.rule v) (λ v. v.id == t.id) (done_by base (last_status_stamp_of_trade t)) (core t) k.due
+        (in_done base t books e c)
 
     moves : balance_change_of_trade (result_details_in_base later u) ≡ balance_change_of_trade (result_details_in_base base t)
     moves = moved_is later u a' ∙ (λ i. cond (same i).is_cash (amounts i) (pos 0)) ∙ sym (moved_is base t a)
@@ -289,7 +306,8 @@ stays_by base later t u books next k e c f = record {
     taken_off x y m n q r = omega (arith, ints, q, r)
 
 -- the trade is there
-still_there : (base later : Base) (t : Trade) → BooksInvariant base → Keeps (last_status_stamp_of_trade t) base later → trade_with_id base t.id ≡ Some t → is_completed t ≡ true → (u : Trade) × (trade_with_id later t.id ≡ Some u)
+still_there : (base later : Base) (t : Trade) → BooksInvariant base → Keeps (last_status_stamp_of_trade t) base later → trade_with_id base t.id ≡ Some t
+    → is_completed t ≡ true → (u : Trade) × (trade_with_id later t.id ≡ Some u)
 still_there base later t books k e c = by_trade (trade_with_id later t.id) refl
   where
     by_trade : (o : Option Trade) → trade_with_id later t.id ≡ o → (u : Trade) × (trade_with_id later t.id ≡ Some u)
@@ -298,11 +316,14 @@ still_there base later t books k e c = by_trade (trade_with_id later t.id) refl
         let none : find (λ v. v.id == t.id) (done_by later (last_status_stamp_of_trade t)) ≡ None = none_in later (last_status_stamp_of_trade t) t.id f in
         let clash : None ≡ Some (core t) = sym none ∙ ap (find (λ v. v.id == t.id)) k.done ∙ in_done base t books e c in absurd (cc)
 
-pub explanations_stay : (base later : Base) (calls : List (ℕ × Call)) (outcomes : List Outcome) (t : Trade) → BooksInvariant base → Run base calls outcomes later → trade_with_id base t.id ≡ Some t → is_completed t ≡ true
+pub explanations_stay : (base later : Base) (calls : List (ℕ × Call)) (outcomes : List Outcome) (t : Trade) → BooksInvariant base
+    → Run base calls outcomes later → trade_with_id base t.id ≡ Some t → is_completed t ≡ true
     → (u : Trade) × (trade_with_id later t.id ≡ Some u) × PrintsSameFigures base later t u
 explanations_stay base later calls outcomes t books r e c =
     let a : Among base t = among base t books e c in
-    let past : IsPast base.last (last_status_stamp_of_trade t) = past_of base.last t (All-back (TradeStampIsAtMostLastStamp base.last) a.front (t ∷ a.back) (subst (AllByRecursion (TradeStampIsAtMostLastStamp base.last)) a.stands books.early)).0 in
+    let past : IsPast base.last (last_status_stamp_of_trade t) =
+    past_of base.last t (All-back (TradeStampIsAtMostLastStamp base.last) a.front (t ∷ a.back)
+    (subst (AllByRecursion (TradeStampIsAtMostLastStamp base.last)) a.stands books.early)).0 in
     let k : Keeps (last_status_stamp_of_trade t) base later = keeps_run (last_status_stamp_of_trade t) base calls outcomes later books past r in
     let u = still_there base later t books k e c in
     (u.0, u.1, stays_by base later t u.0 books (run_books base calls outcomes later books r) k e c u.1)

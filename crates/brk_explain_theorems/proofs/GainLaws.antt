@@ -20,7 +20,10 @@ use Rattle.brk_lots.specs.HistoryRows.{has_quantity_change, changing_rows_of_lot
 use Rattle.brk_lots.specs.Books.{realised_gain_sum, lot_cost_basis, purchase_value_minus_sale_value}
 use Rattle.brk_lots.specs.Chains.{ShrinksTowardZero, IsLotHistory}
 use Rattle.brk_lots.specs.declared.lot.Lot.{Lot}
-use Rattle.brk_explain_model.specs.Holdings.{LotChange, LotDetails, realised_gain_of_change, remaining_cost_of_lot, remaining_cost_of_lots, completed_trades_in_symbol, realised_gain_in_symbol, remaining_quantity_of_lot, recorded_lot_change, realised_gain_of_lot, lot_with_later_changes, lots_opened_in_symbol, total_purchase_value, total_sale_value, signed_quantity_of_trade, signed_value_of_trade}
+use Rattle.brk_explain_model.specs.Holdings.{LotChange, LotDetails, realised_gain_of_change, remaining_cost_of_lot, remaining_cost_of_lots}
+use Rattle.brk_explain_model.specs.Holdings.{completed_trades_in_symbol, realised_gain_in_symbol, remaining_quantity_of_lot, recorded_lot_change}
+use Rattle.brk_explain_model.specs.Holdings.{realised_gain_of_lot, lot_with_later_changes, lots_opened_in_symbol, total_purchase_value, total_sale_value}
+use Rattle.brk_explain_model.specs.Holdings.{signed_quantity_of_trade, signed_value_of_trade}
 use Rattle.brk_explain_model.specs.Running.{running_totals}
 use Rattle.brk_explain_model.specs.Trades.{has_completed_status, trade_price_or_zero, opened_lot_row}
 use Rattle.brk_book_theorems.specs.Books.{BooksInvariant}
@@ -105,7 +108,9 @@ each_is base account symbol books =
     all_done : (ts : List Trade) → AllByRecursion (λ v. is_completed v ≡ true) (filter is_completed ts)
     all_done ts = all_pass is_completed ts
 
-    rows : (v : Trade) → (v.account == account) ≡ true → bytes_eq v.symbol symbol ≡ true → changing_rows_of_lot (completed_trades base) v ≡ filter has_quantity_change (lot_history_rows_per_deal v.id [] (deals_of_position (completed_trades base) account symbol))
+    rows : (v : Trade) → (v.account == account) ≡ true → bytes_eq v.symbol symbol ≡ true
+        → changing_rows_of_lot (completed_trades base) v
+        ≡ filter has_quantity_change (lot_history_rows_per_deal v.id [] (deals_of_position (completed_trades base) account symbol))
     rows v a s = λ i. filter has_quantity_change (lot_history_rows_per_deal v.id [] (deals_of_position (completed_trades base) (eqb-true v.account account a i) (same_text v.symbol symbol s i)))
 
 -- the gains of the lot's changes
@@ -119,7 +124,8 @@ first_gains : (base : Base) (v : Trade) (rows : List HoldingHistoryRow) → trad
 unfolding total_by
 first_gains base v [] e o = refl
 first_gains base v (x ∷ xs) e o =
-    sym (ap (λ z. z +ℤ total_by (row_gain (trade_price_or_zero (sheets base)) (completion_price v)) xs) (ap (λ (n : ℕ). (x.before -ℤ x.after) *ℤ (pos n -ℤ pos (completion_price v))) (ap (trade_price_or_zero (sheets base)) o ∙ price_is base v e)
+    sym (ap (λ z. z +ℤ total_by (row_gain (trade_price_or_zero (sheets base)) (completion_price v)) xs)
+    (ap (λ (n : ℕ). (x.before -ℤ x.after) *ℤ (pos n -ℤ pos (completion_price v))) (ap (trade_price_or_zero (sheets base)) o ∙ price_is base v e)
     ∙ times_less (x.before -ℤ x.after) (pos (completion_price v)) (pos (completion_price v)) ∙ nothing ((x.before -ℤ x.after) *ℤ pos (completion_price v)))
     ∙ no_more (total_by (row_gain (trade_price_or_zero (sheets base)) (completion_price v)) xs))
   where
@@ -133,7 +139,8 @@ gain_is base account symbol v books k =
     ∙ changed_total base v (rest (changing_rows_of_lot (completed_trades base) v))
     ∙ first_gains base v (changing_rows_of_lot (completed_trades base) v) k.found (opened_by_own base v books k.among_all)
     ∙ ap (total_by (row_gain (trade_price_or_zero (sheets base)) (completion_price v))) k.history
-    ∙ rows_gain (trade_price_or_zero (sheets base)) (completion_price v) v.id [] (deals_of_position (completed_trades base) account symbol) (All-mapped (λ d. trade_price_or_zero (sheets base) d.trade ≡ d.price) deal_of_trade (trades_held base account symbol) prices)
+    ∙ rows_gain (trade_price_or_zero (sheets base)) (completion_price v) v.id [] (deals_of_position (completed_trades base) account symbol)
+    (All-mapped (λ d. trade_price_or_zero (sheets base) d.trade ≡ d.price) deal_of_trade (trades_held base account symbol) prices)
   where
     prices : AllByRecursion (λ u. trade_price_or_zero (sheets base) u.id ≡ completion_price u) (trades_held base account symbol)
     prices = of_held (λ u. trade_price_or_zero (sheets base) u.id ≡ completion_price u) base account symbol (All-map (completed_trades base) (λ u e. price_is base u e) (done_found base books))
@@ -179,11 +186,13 @@ no_history base v books a e = empty (changing_rows_of_lot (completed_trades base
 held_each : (ts : List Trade) → IdsApart ts → AllByRecursion (λ d. IsHeld ts (opened_share d)) (map deal_of_trade ts)
 held_each ts a = All-mapped (λ d. IsHeld ts (opened_share d)) deal_of_trade ts (All-map ts (λ v e. (v, e, refl)) (found_each ts a))
 
-pub gains_are : (base : Base) (account : ℕ) (symbol : Text) → BooksInvariant base → realised_gain_in_symbol (sheets base) account symbol ≡ realised_gain_sum (deals_of_position (completed_trades base) account symbol) []
+pub gains_are : (base : Base) (account : ℕ) (symbol : Text) → BooksInvariant base
+    → realised_gain_in_symbol (sheets base) account symbol ≡ realised_gain_sum (deals_of_position (completed_trades base) account symbol) []
 unfolding total_by
 gains_are base account symbol books =
     told_sum base account symbol realised_gain_of_lot books (All-map W none known)
-    ∙ total_by-same (λ v. realised_gain_of_lot (lot_with_later_changes (sheets base) (trade_row v))) (λ v. lot_gains (completion_price v) v.id [] D) W (All-map W (λ v k. gain_is base account symbol v books k) known)
+    ∙ total_by-same (λ v. realised_gain_of_lot (lot_with_later_changes (sheets base) (trade_row v))) (λ v. lot_gains (completion_price v) v.id [] D) W
+    (All-map W (λ v k. gain_is base account symbol v books k) known)
     ∙ all_lots W [] [] D refl apart tt (held_each W apart)
   where
     W : List Trade
@@ -199,7 +208,8 @@ gains_are base account symbol books =
     apart = order_apart W (held_in_order base account symbol books)
 
     none : (v : Trade) → IsOf base account symbol v → is_some (opened_lot_row (sheets base) v.id) ≡ false → realised_gain_of_lot (lot_with_later_changes (sheets base) (trade_row v)) ≡ pos 0
-    none v k e = ap (total_by (realised_gain_of_change (completion_price v))) (changes_are_rest base v books k.among_all ∙ ap (λ rows. map (recorded_lot_change (sheets base)) (rest rows)) (no_history base v books k.among_all e))
+    none v k e = ap (total_by (realised_gain_of_change (completion_price v)))
+        (changes_are_rest base v books k.among_all ∙ ap (λ rows. map (recorded_lot_change (sheets base)) (rest rows)) (no_history base v books k.among_all e))
 
 -- ---- what is left
 
@@ -220,7 +230,8 @@ life_ends : (T : Tables) (rows : List HoldingHistoryRow) (to : ℤ) → IsLotHis
 life_ends T [] to h = h
 life_ends T (x ∷ xs) to h = falls_end T x.after xs to h.1
 
-left_rows : (base : Base) (v : Trade) → BooksInvariant base → Among base v → remaining_quantity_of_lot (lot_with_later_changes (sheets base) (trade_row v)) ≡ rows_leave (sheets base) (changing_rows_of_lot (completed_trades base) v)
+left_rows : (base : Base) (v : Trade) → BooksInvariant base → Among base v
+    → remaining_quantity_of_lot (lot_with_later_changes (sheets base) (trade_row v)) ≡ rows_leave (sheets base) (changing_rows_of_lot (completed_trades base) v)
 left_rows base v books a =
     λ i. unwrap_or (last_or None (map (λ (c : LotChange). c.after) (changes_are_rest base v books a i))) (option_map_or (λ (r : HoldingHistoryRow). r.after) (own_is_first base v books a i) (pos 0))
 
@@ -228,9 +239,11 @@ left_is : (base : Base) (account : ℕ) (symbol : Text) (v : Trade) → BooksInv
     → remaining_quantity_of_lot (lot_with_later_changes (sheets base) (trade_row v)) ≡ lot_quantity (replay (deals_of_position (completed_trades base) account symbol)) v.id
 left_is base account symbol v books k =
     left_rows base v books k.among_all ∙ ap (rows_leave (sheets base)) k.history
-    ∙ life_ends (sheets base) (filter has_quantity_change (lot_history_rows_per_deal v.id [] (deals_of_position (completed_trades base) account symbol))) (lot_quantity (replay (deals_of_position (completed_trades base) account symbol)) v.id) (lot_lives base account symbol v.id books)
+    ∙ life_ends (sheets base) (filter has_quantity_change (lot_history_rows_per_deal v.id [] (deals_of_position (completed_trades base) account symbol)))
+    (lot_quantity (replay (deals_of_position (completed_trades base) account symbol)) v.id) (lot_lives base account symbol v.id books)
 
-none_left : (base : Base) (v : Trade) → BooksInvariant base → Among base v → is_some (opened_lot_row (sheets base) v.id) ≡ false → remaining_quantity_of_lot (lot_with_later_changes (sheets base) (trade_row v)) ≡ pos 0
+none_left : (base : Base) (v : Trade) → BooksInvariant base → Among base v → is_some (opened_lot_row (sheets base) v.id) ≡ false
+    → remaining_quantity_of_lot (lot_with_later_changes (sheets base) (trade_row v)) ≡ pos 0
 none_left base v books a e = left_rows base v books a ∙ ap (rows_leave (sheets base)) (no_history base v books a e)
 
 -- ---- what the lots cost, and how many shares they have
@@ -254,10 +267,13 @@ lots_sum base account symbol f books none =
     each [] = tt
     each (l ∷ ls) = ((λ e. none l (zero_is l.qty (not_not (is_zero l.qty) e))), each ls)
 
-pub costs_are : (base : Base) (account : ℕ) (symbol : Text) → BooksInvariant base → remaining_cost_of_lots (lots_opened_in_symbol (sheets base) account symbol) ≡ lot_cost_basis (lots_of_position (sheets base) account symbol)
+pub costs_are : (base : Base) (account : ℕ) (symbol : Text) → BooksInvariant base
+    → remaining_cost_of_lots (lots_opened_in_symbol (sheets base) account symbol) ≡ lot_cost_basis (lots_of_position (sheets base) account symbol)
 costs_are base account symbol books =
-    told_sum base account symbol remaining_cost_of_lot books (All-map W (λ v k e. ap (λ z. z *ℤ pos (completion_price v)) (none_left base v books k.among_all e) ∙ zero-*ℤ (pos (completion_price v))) known)
-    ∙ total_by-same (λ v. remaining_cost_of_lot (lot_with_later_changes (sheets base) (trade_row v))) (λ v. lot_quantity us v.id *ℤ pos (completion_price v)) W (All-map W (λ v k. ap (λ z. z *ℤ pos (completion_price v)) (left_is base account symbol v books k)) known)
+    told_sum base account symbol remaining_cost_of_lot books
+    (All-map W (λ v k e. ap (λ z. z *ℤ pos (completion_price v)) (none_left base v books k.among_all e) ∙ zero-*ℤ (pos (completion_price v))) known)
+    ∙ total_by-same (λ v. remaining_cost_of_lot (lot_with_later_changes (sheets base) (trade_row v))) (λ v. lot_quantity us v.id *ℤ pos (completion_price v)) W
+    (All-map W (λ v k. ap (λ z. z *ℤ pos (completion_price v)) (left_is base account symbol v books k)) known)
     ∙ sym (lots_sum base account symbol (λ (l : Lot). l.qty *ℤ pos l.price) books (λ l e. ap (λ z. z *ℤ pos l.price) e ∙ zero-*ℤ (pos l.price)))
   where
     us : List Share
@@ -270,11 +286,14 @@ costs_are base account symbol books =
     known = each_is base account symbol books
 
 -- the trades of the position, in whatever order
-deals_sum : (base : Base) (account : ℕ) (symbol : Text) → total_by (λ v. signed_by_side (side_of_trade_type v.kind) v.qty) (trades_held base account symbol) ≡ holding_summary_quantity (completed_trades base) account symbol
+deals_sum : (base : Base) (account : ℕ) (symbol : Text)
+    → total_by (λ v. signed_by_side (side_of_trade_type v.kind) v.qty) (trades_held base account symbol)
+    ≡ holding_summary_quantity (completed_trades base) account symbol
 unfolding holding_summary_quantity
 deals_sum base account symbol = total_sorted (λ v. signed_by_side (side_of_trade_type v.kind) v.qty) (by last_status_stamp_of_trade) (trades_of_position (completed_trades base) account symbol)
 
-left_are : (base : Base) (account : ℕ) (symbol : Text) → BooksInvariant base → total_by remaining_quantity_of_lot (lots_opened_in_symbol (sheets base) account symbol) ≡ holding_summary_quantity (completed_trades base) account symbol
+left_are : (base : Base) (account : ℕ) (symbol : Text) → BooksInvariant base
+    → total_by remaining_quantity_of_lot (lots_opened_in_symbol (sheets base) account symbol) ≡ holding_summary_quantity (completed_trades base) account symbol
 left_are base account symbol books =
     told_sum base account symbol remaining_quantity_of_lot books (All-map W (λ v k e. none_left base v books k.among_all e) known)
     ∙ total_by-same (λ v. remaining_quantity_of_lot (lot_with_later_changes (sheets base) (trade_row v))) (λ v. lot_quantity us v.id) W (All-map W (λ v k. left_is base account symbol v books k) known)
@@ -290,9 +309,12 @@ left_are base account symbol books =
     known : AllByRecursion (IsOf base account symbol) W
     known = each_is base account symbol books
 
-shares_are : (base : Base) (account : ℕ) (symbol : Text) → BooksInvariant base → last_number_or_default (pos 0) (running_totals signed_quantity_of_trade (pos 0) (completed_trades_in_symbol (sheets base) account symbol)) ≡ holding_summary_quantity (completed_trades base) account symbol
+shares_are : (base : Base) (account : ℕ) (symbol : Text) → BooksInvariant base
+    → last_number_or_default (pos 0) (running_totals signed_quantity_of_trade (pos 0) (completed_trades_in_symbol (sheets base) account symbol))
+    ≡ holding_summary_quantity (completed_trades base) account symbol
 shares_are base account symbol books =
-    running_ends signed_quantity_of_trade (pos 0) (completed_trades_in_symbol (sheets base) account symbol) ∙ no_more (total_by signed_quantity_of_trade (completed_trades_in_symbol (sheets base) account symbol))
+    running_ends signed_quantity_of_trade (pos 0) (completed_trades_in_symbol (sheets base) account symbol)
+    ∙ no_more (total_by signed_quantity_of_trade (completed_trades_in_symbol (sheets base) account symbol))
     ∙ ap (total_by signed_quantity_of_trade) (done_are base account symbol books) ∙ total-map signed_quantity_of_trade trade_row (trades_held base account symbol) ∙ deals_sum base account symbol
 
 -- ---- purchases and sales
@@ -328,7 +350,8 @@ both_signs {X = X} f (x ∷ xs) = by_test (int_lt (pos 0) (f x)) (int_lt (f x) (
     by_test false false e g ih = ih ∙ sym (no_more (total_by f xs)) ∙ ap (λ z. z +ℤ total_by f xs) (zero (f x) e g)
 
 traded_are : (base : Base) (account : ℕ) (symbol : Text) → BooksInvariant base
-    → total_purchase_value (completed_trades_in_symbol (sheets base) account symbol) +ℤ total_sale_value (completed_trades_in_symbol (sheets base) account symbol) ≡ purchase_value_minus_sale_value (deals_of_position (completed_trades base) account symbol)
+    → total_purchase_value (completed_trades_in_symbol (sheets base) account symbol) +ℤ total_sale_value
+    (completed_trades_in_symbol (sheets base) account symbol) ≡ purchase_value_minus_sale_value (deals_of_position (completed_trades base) account symbol)
 traded_are base account symbol books =
     both_signs signed_value_of_trade (completed_trades_in_symbol (sheets base) account symbol) ∙ ap (total_by signed_value_of_trade) (done_are base account symbol books)
     ∙ total-map signed_value_of_trade trade_row W
@@ -350,7 +373,8 @@ holding_as_told base account symbol books = record {
   costs = costs_are base account symbol books;
   balance = costs_are base account symbol books ∙ costs_sum base account symbol books
       ∙ (λ i. sym (gains_are base account symbol books) i +ℤ sym (traded_are base account symbol books) i)
-      ∙ sym (+ℤ_assoc (realised_gain_in_symbol (sheets base) account symbol) (total_purchase_value (completed_trades_in_symbol (sheets base) account symbol)) (total_sale_value (completed_trades_in_symbol (sheets base) account symbol)));
+      ∙ sym (+ℤ_assoc (realised_gain_in_symbol (sheets base) account symbol) (total_purchase_value (completed_trades_in_symbol (sheets base) account symbol))
+      (total_sale_value (completed_trades_in_symbol (sheets base) account symbol)));
   shares = shares_are base account symbol books;
   left = left_are base account symbol books;
 }

@@ -1,5 +1,6 @@
 -- The trades of a position before a trade and after it, and the lots that the earlier ones left.
-use Rattle.std.proofs.Common.{◌≡◌, ◌≢◌, ◌<◌, ℕ, ◌==◌, zero, suc, Bool, true, false, not, cond, List, [], ◌∷◌, ◌++◌, Some, refl, sym, ◌∙◌, ap, subst, map, filter, replicate, unsigned_abs, arith, ℤ, pos, negsuc, ◌+ℤ◌}
+use Rattle.std.proofs.Common.{◌≡◌, ◌≢◌, ◌<◌, ℕ, ◌==◌, zero, suc, Bool, true, false, not, cond, List, [], ◌∷◌, ◌++◌, Some, refl, sym, ◌∙◌, ap, subst, map}
+use Rattle.std.proofs.Common.{filter, replicate, unsigned_abs, arith, ℤ, pos, negsuc, ◌+ℤ◌}
 use Rattle.std.specs.Prelude.{bytes_eq, flat_map, fold, nat_lt}
 use Rattle.std.specs.List.{AllByRecursion}
 use Rattle.std.proofs.lemmas.Bool.{eqb-false}
@@ -12,7 +13,8 @@ use Rattle.brk_model.specs.Base.{Base, completed_trades, is_completed, last_stat
 use Rattle.brk_model.specs.Derived.{deal_of_trade, trades_of_account, trades_of_position, shares_of_position}
 use Rattle.brk_model.specs.Lists.{is_zero, sort_by_key}
 use Rattle.brk_model.specs.Records.{Trade}
-use Rattle.brk_model.specs.Shares.{Deal, Share, Touch, first_shares_of_lots, changes_lot_quantity, lot_quantity, opened_share, replay, shares_after_deal, signed_by_side, touch_of_lot, touch_of_lot_with_share, touches_of_existing_lots}
+use Rattle.brk_model.specs.Shares.{Deal, Share, Touch, first_shares_of_lots, changes_lot_quantity, lot_quantity, opened_share, replay, shares_after_deal}
+use Rattle.brk_model.specs.Shares.{signed_by_side, touch_of_lot, touch_of_lot_with_share, touches_of_existing_lots}
 use Rattle.brk_lots.specs.Lots.{share_of_lot, shares_of_lots}
 use Rattle.brk_lots.specs.Position.{AreOpenedByOtherTrades, IsPosition}
 use Rattle.brk_lots.specs.declared.lot.Lot.{Lot}
@@ -44,7 +46,9 @@ placed base t e c =
     let done : completed_trades base ≡ A ++ t ∷ Z = ap (filter is_completed) f.stands ∙ filter-one is_completed f.before t f.after c in
     let held : trades_of_position (completed_trades base) t.account t.symbol ≡ trades_of_position A t.account t.symbol ++ t ∷ trades_of_position Z t.account t.symbol =
     ap (λ ts. trades_of_position ts t.account t.symbol) done ∙ position_own A t Z in
-    subst (λ ts. Split Trade t (sort_by_key last_status_stamp_of_trade ts)) (sym held) (split_sort (λ u v. nat_lt (last_status_stamp_of_trade u) (last_status_stamp_of_trade v)) t (trades_of_position A t.account t.symbol) (trades_of_position Z t.account t.symbol))
+    subst (λ ts. Split Trade t (sort_by_key last_status_stamp_of_trade ts)) (sym held)
+    (split_sort (λ u v. nat_lt (last_status_stamp_of_trade u) (last_status_stamp_of_trade v)) t (trades_of_position A t.account t.symbol)
+    (trades_of_position Z t.account t.symbol))
 
 -- of another number, and completed before
 abbrev pub Precedes : Trade → Trade → Type 0
@@ -94,11 +98,16 @@ pub held_before : (base : Base) (t : Trade) (front back : List Trade) → trades
     → sort_by_key last_status_stamp_of_trade (trades_of_position (trades_completed_before_stamp base (last_status_stamp_of_trade t)) t.account t.symbol) ≡ front
 held_before base t front back e o =
     ap (sort_by_key last_status_stamp_of_trade) (ap (filter S) (filter-swap A E (completed_trades base)) ∙ filter-swap S E (trades_of_account (completed_trades base) t.account))
-    ∙ sort_filter (λ u v. nat_lt (last_status_stamp_of_trade u) (last_status_stamp_of_trade v)) E (trades_of_position (completed_trades base) t.account t.symbol) (by_splits last_status_stamp_of_trade) (by_one_way last_status_stamp_of_trade)
+    ∙ sort_filter (λ u v. nat_lt (last_status_stamp_of_trade u) (last_status_stamp_of_trade v)) E
+    (trades_of_position (completed_trades base) t.account t.symbol) (by_splits last_status_stamp_of_trade) (by_one_way last_status_stamp_of_trade)
     ∙ ap (filter E) e
     ∙ filter-append E front (t ∷ back)
     ∙ (λ i. filter-all E front (All-map front (λ u h. is_earlier (last_status_stamp_of_trade u) (last_status_stamp_of_trade t) h.1) (front_precedes front t back o)) i
-    ++ filter-none E (t ∷ back) (not_itself (last_status_stamp_of_trade t), All-map back (λ u h. not_earlier (last_status_stamp_of_trade u) (last_status_stamp_of_trade t) h.1) (back_follows front t back o)) i)
+    ++ filter-none E (t ∷ back) (
+      not_itself (last_status_stamp_of_trade t),
+      All-map back (λ u h. not_earlier (last_status_stamp_of_trade u) (last_status_stamp_of_trade t) h.1)
+          (back_follows front t back o),
+    ) i)
     ∙ append_nil front
   where
     A : Trade → Bool
@@ -131,13 +140,15 @@ runs_told whole [] shares d r h = sym r
 runs_told whole (t ∷ ts) shares d r h =
     let none : lot_quantity r.1 t.id ≡ pos 0 = no_lot t.id (map deal_of_trade ts) r.1 (opened_by_deals t.id ts d.0) r.3 in
     let qty : lot_quantity whole t.id ≡ signed_by_side (side_of_trade_type t.kind) r.0 =
-    h.0 ∙ ap (λ xs. lot_quantity xs t.id) r.2 ∙ lot_own (opened_share (deal_of_trade t)) r.0 r.1 ∙ ap (λ z. signed_by_side (side_of_trade_type t.kind) r.0 +ℤ z) none ∙ +ℤ_idr (signed_by_side (side_of_trade_type t.kind) r.0) in
+    h.0 ∙ ap (λ xs. lot_quantity xs t.id) r.2 ∙ lot_own (opened_share (deal_of_trade t)) r.0 r.1
+    ∙ ap (λ z. signed_by_side (side_of_trade_type t.kind) r.0 +ℤ z) none ∙ +ℤ_idr (signed_by_side (side_of_trade_type t.kind) r.0) in
     let run : lot_run (lot_upon whole t) ≡ replicate r.0 (opened_share (deal_of_trade t)) =
     ap (λ q. lot_run (record (lot_upon whole t) { qty = q })) qty ∙ run_told (side_of_trade_type t.kind) r.0 t.id (completion_price t) (last_status_stamp_of_trade t) in
     let others : AllByRecursion (λ u. lot_quantity whole u.id ≡ lot_quantity r.1 u.id) ts = left ts h.1 d.0 in
     (λ i. run i ++ runs_told whole ts r.1 d.1 r.3 others i) ∙ sym r.2
   where
-    left : (us : List Trade) → AllByRecursion (λ u. lot_quantity whole u.id ≡ lot_quantity shares u.id) us → NonePass (λ u. u.id == t.id) us → AllByRecursion (λ u. lot_quantity whole u.id ≡ lot_quantity r.1 u.id) us
+    left : (us : List Trade) → AllByRecursion (λ u. lot_quantity whole u.id ≡ lot_quantity shares u.id) us → NonePass (λ u. u.id == t.id) us
+        → AllByRecursion (λ u. lot_quantity whole u.id ≡ lot_quantity r.1 u.id) us
     left [] h n = tt
     left (u ∷ us) h n = (h.0 ∙ ap (λ xs. lot_quantity xs u.id) r.2 ∙ lot_other u.id (opened_share (deal_of_trade t)) r.0 r.1 (numbers_back t.id u.id ∙ n.0), left us h.1 n.1)
 
@@ -222,7 +233,8 @@ touched_of s us d (t ∷ ts) one h = by_test (is_zero (lot_quantity us t.id)) re
     touch : Touch
     touch = touch_of_lot t.id d us
 
-    by_test : (b : Bool) → is_zero (lot_quantity us t.id) ≡ b → F (lots_left us ts) ≡ R → F (cond (not b) (lot_upon us t ∷ lots_left us ts) (lots_left us ts)) ≡ cond (changes_lot_quantity touch) (touch ∷ R) R
+    by_test : (b : Bool) → is_zero (lot_quantity us t.id) ≡ b → F (lots_left us ts) ≡ R
+        → F (cond (not b) (lot_upon us t ∷ lots_left us ts) (lots_left us ts)) ≡ cond (changes_lot_quantity touch) (touch ∷ R) R
     by_test true e ih = ih ∙ sym (ap (λ c. cond c (touch ∷ R) R) (unchanged t.id d us h.0 (without_of s t.id us one e)))
     by_test false e ih = ap (λ rows. cond (changes_lot_quantity touch) (touch ∷ rows) rows) ih
 
@@ -231,5 +243,6 @@ pub touches_by : (ts : List Trade) (d : Deal) → InOrder ts → AllByRecursion 
 unfolding touches_of_existing_lots
 touches_by ts d o h =
     let s = one_side ts in
-    ap (λ us. filter changes_lot_quantity (map (touch_of_lot_with_share d (left_by ts)) us)) (ap first_shares_of_lots (sym (lots_shares ts o)) ∙ firsts_walk (lots_by ts) (walk_of (lots_by ts) (lots_position ts o)))
+    ap (λ us. filter changes_lot_quantity (map (touch_of_lot_with_share d (left_by ts)) us))
+    (ap first_shares_of_lots (sym (lots_shares ts o)) ∙ firsts_walk (lots_by ts) (walk_of (lots_by ts) (lots_position ts o)))
     ∙ touched_of s.0 (left_by ts) d ts s.1 h

@@ -7,7 +7,9 @@ use Rattle.std.specs.List.{AllByRecursion}
 use Rattle.std.proofs.lemmas.Bool.Decides.{nat_tests}
 use Rattle.brk_money.specs.declared.status.Status.TheVariants.{Canceled, Completed}
 use Rattle.brk_model.specs.Base.{Base, completed_trades, is_completed, trade_with_status_change, last_status_stamp_of_trade, trade_with_id}
-use Rattle.brk_model.specs.Commands.{AddAccount, AddBand, AddBroker, AddCharge, AddCustomer, AddCustomerTax, AddPermission, AddSecurity, AddTaxRate, CancelTrade, ChangeCashNames, ChangeCashTypes, ChangeExecutors, Command, CompleteTrade, DepositCash, FeedTicks, PlaceOrder, Reply, SetOneDay, Tick, WithdrawCash}
+use Rattle.brk_model.specs.Commands.{AddAccount, AddBand, AddBroker, AddCharge, AddCustomer, AddCustomerTax, AddPermission, AddSecurity, AddTaxRate}
+use Rattle.brk_model.specs.Commands.{CancelTrade, ChangeCashNames, ChangeCashTypes, ChangeExecutors, Command, CompleteTrade, DepositCash, FeedTicks, PlaceOrder}
+use Rattle.brk_model.specs.Commands.{Reply, SetOneDay, Tick, WithdrawCash}
 use Rattle.brk_model.specs.Feed.{base_after_tick, base_after_ticks}
 use Rattle.brk_model.specs.Keyed.{base_with_stored_reply}
 use Rattle.brk_model.specs.Lists.{contains_number, update_where}
@@ -97,7 +99,8 @@ not_by m n h = grind (arith, nat_tests)
 
 -- ---- commands that complete nothing
 
-same_done : (s : ℕ) (base later : Base) → later.accounts ≡ base.accounts → completed_trades later ≡ completed_trades base → later.movements ≡ base.movements → later.rule ≡ base.rule → Keeps s base later
+same_done : (s : ℕ) (base later : Base) → later.accounts ≡ base.accounts → completed_trades later ≡ completed_trades base → later.movements ≡ base.movements
+    → later.rule ≡ base.rule → Keeps s base later
 same_done s base later a e m r = record {
   more = [];
   accounts = a ∙ sym (append_nil base.accounts);
@@ -124,7 +127,8 @@ ticks_rule base stamp (tick ∷ ticks) = ticks_rule (base_after_tick stamp base 
 keeps_feed : (s : ℕ) (base : Base) (now : ℕ) (ticks : List Tick) → Keeps s base (base_after_command base now (FeedTicks ticks))
 unfolding base_after_command_unstamped
 keeps_feed s base now ticks =
-    same_done s base (base_after_command base now (FeedTicks ticks)) (ticks_accounts base (stamp_of_next_command base now) ticks) (completed_ticks base (stamp_of_next_command base now) ticks) (ticks_movements base (stamp_of_next_command base now) ticks)
+    same_done s base (base_after_command base now (FeedTicks ticks)) (ticks_accounts base (stamp_of_next_command base now) ticks)
+    (completed_ticks base (stamp_of_next_command base now) ticks) (ticks_movements base (stamp_of_next_command base now) ticks)
     (ticks_rule base (stamp_of_next_command base now) ticks)
 
 keeps_cancel : (s : ℕ) (base : Base) (now id : ℕ) → BooksInvariant base → refusal_of_command base now (CancelTrade id) ≡ None → Keeps s base (base_after_command base now (CancelTrade id))
@@ -155,13 +159,16 @@ keeps_result s base now id price books past e =
     subst (λ o. Keeps s base (record (option_map_or (base_after_result base stamp price) o base) { last = Some stamp })) (sym t.1)
     (record { more = []; accounts = sym (append_nil base.accounts); done = same; moved = refl; due = same_rule s base base.rule refl })
 
-keeps_moved : (s : ℕ) (base : Base) (now : ℕ) (m : Movement) (later : Base) → IsPast base.last s → m.stamp ≡ stamp_of_next_command base now → later.accounts ≡ base.accounts → completed_trades later ≡ completed_trades base
+keeps_moved : (s : ℕ) (base : Base) (now : ℕ) (m : Movement) (later : Base) → IsPast base.last s → m.stamp ≡ stamp_of_next_command base now
+    → later.accounts ≡ base.accounts → completed_trades later ≡ completed_trades base
     → later.movements ≡ base.movements ++ m ∷ [] → later.rule ≡ base.rule → Keeps s base later
 keeps_moved s base now m later past e a d moved r = record {
   more = [];
   accounts = a ∙ sym (append_nil base.accounts);
   done = ap (λ ts. map core (filter (λ t. nat_le (last_status_stamp_of_trade t) s) ts)) d;
-  moved = ap (filter B) moved ∙ filter-not_one B base.movements m [] (ap (λ (n : ℕ). nat_le n s) e ∙ not_by s (stamp_of_next_command base now) (next_after base.last now s past)) ∙ append_nil (filter B base.movements);
+  moved = ap (filter B) moved
+      ∙ filter-not_one B base.movements m [] (ap (λ (n : ℕ). nat_le n s) e ∙ not_by s (stamp_of_next_command base now) (next_after base.last now s past))
+      ∙ append_nil (filter B base.movements);
   due = same_rule s base later.rule r;
 }
   where
@@ -227,7 +234,8 @@ keeps_one_day s base now day books e = record {
       (All-filter (λ t. due_day (Some day) t ≡ due_day base.rule t) (λ t. nat_le (last_status_stamp_of_trade t) s) (completed_trades base) (due_days_stay base now day books e));
 }
 
-pub keeps_command : (s : ℕ) (base : Base) (now : ℕ) (command : Command) → BooksInvariant base → IsPast base.last s → refusal_of_command base now command ≡ None → Keeps s base (base_after_command base now command)
+pub keeps_command : (s : ℕ) (base : Base) (now : ℕ) (command : Command) → BooksInvariant base → IsPast base.last s → refusal_of_command base now command ≡ None
+    → Keeps s base (base_after_command base now command)
 unfolding base_after_command_unstamped
 keeps_command s base now (AddBroker b) books past e = same_base s base (base_after_command base now (AddBroker b)) refl refl refl refl
 keeps_command s base now (AddCustomer c) books past e = same_base s base (base_after_command base now (AddCustomer c)) refl refl refl refl
@@ -243,13 +251,21 @@ keeps_command s base now (FeedTicks ticks) books past e = keeps_feed s base now 
 keeps_command s base now (CancelTrade id) books past e = keeps_cancel s base now id books e
 keeps_command s base now (CompleteTrade id price) books past e = keeps_result s base now id price books past e
 keeps_command s base now (ChangeExecutors ids) books past e =
-    keeps_words s base (λ t. contains_number t.id ids) (λ t. record t { executor = updated_executor_name t.executor }) (base_after_command base now (ChangeExecutors ids)) (λ t. refl) refl refl refl refl
+    keeps_words s base (λ t. contains_number t.id ids) (λ t. record t { executor = updated_executor_name t.executor })
+    (base_after_command base now (ChangeExecutors ids)) (λ t. refl) refl refl refl refl
 keeps_command s base now (ChangeCashTypes account first last) books past e =
-    keeps_words s base (λ t. contains_number t.id (selected_trade_ids_of_account base account first last)) (λ t. record t { cash_type = updated_cash_type t }) (base_after_command base now (ChangeCashTypes account first last)) (λ t. refl) refl refl refl refl
+    keeps_words s base (λ t. contains_number t.id (selected_trade_ids_of_account base account first last)) (λ t. record t { cash_type = updated_cash_type t })
+    (base_after_command base now (ChangeCashTypes account first last)) (λ t. refl) refl refl refl refl
 keeps_command s base now (ChangeCashNames symbol first last) books past e =
-    keeps_words s base (λ t. contains_number t.id (selected_trade_ids_of_symbol base symbol first last)) (λ t. record t { cash_name = updated_cash_row_name base t }) (base_after_command base now (ChangeCashNames symbol first last)) (λ t. refl) refl refl refl refl
-keeps_command s base now (DepositCash account amount) books past e = keeps_moved s base now (deposit_movement (stamp_of_next_command base now) account amount) (base_after_command base now (DepositCash account amount)) past refl refl refl refl refl
-keeps_command s base now (WithdrawCash account amount) books past e = keeps_moved s base now (withdrawal_movement (stamp_of_next_command base now) account amount) (base_after_command base now (WithdrawCash account amount)) past refl refl refl refl refl
+    keeps_words s base (λ t. contains_number t.id (selected_trade_ids_of_symbol base symbol first last))
+    (λ t. record t { cash_name = updated_cash_row_name base t }) (base_after_command base now (ChangeCashNames symbol first last)) (λ t. refl) refl refl
+    refl refl
+keeps_command s base now (DepositCash account amount) books past e =
+    keeps_moved s base now (deposit_movement (stamp_of_next_command base now) account amount) (base_after_command base now (DepositCash account amount)) past
+    refl refl refl refl refl
+keeps_command s base now (WithdrawCash account amount) books past e =
+    keeps_moved s base now (withdrawal_movement (stamp_of_next_command base now) account amount) (base_after_command base now (WithdrawCash account amount))
+    past refl refl refl refl refl
 keeps_command s base now (SetOneDay day) books past e = keeps_one_day s base now day books e
 
 -- ---- every run
@@ -269,7 +285,12 @@ keeps_run s base calls outcomes later books past r =
       where
         by_key : (o : Option Key) → Left s base (base_with_stored_reply o command reply mid)
         by_key None = k
-        by_key (Some key) = record { books = books_kept mid (Some key) command reply k.books; past = k.past; kept = record { more = k.kept.more; accounts = k.kept.accounts; done = k.kept.done; moved = k.kept.moved; due = k.kept.due } }
+        by_key (Some key) = record {
+          books = books_kept mid (Some key) command reply k.books;
+          past = k.past;
+          kept =
+              record { more = k.kept.more; accounts = k.kept.accounts; done = k.kept.done; moved = k.kept.moved; due = k.kept.due };
+        }
 
     after : (mid : Base) (now : ℕ) (command : Command) → Left s base mid → refusal_of_command mid now command ≡ None → Left s base (base_after_command mid now command)
     after mid now command k e = record {
@@ -294,5 +315,6 @@ below m n e = grind (arith, nat_tests)
 
 pub before_core : (base : Base) (s : ℕ) → map core (trades_completed_before_stamp base s) ≡ filter (λ t. nat_lt (last_status_stamp_of_trade t) s) (done_by base s)
 before_core base s =
-    ap (map core) (sym (implied (λ t. nat_lt (last_status_stamp_of_trade t) s) (λ t. nat_le (last_status_stamp_of_trade t) s) (completed_trades base) (λ t e. below (last_status_stamp_of_trade t) s e)))
+    ap (map core) (sym (implied (λ t. nat_lt (last_status_stamp_of_trade t) s) (λ t. nat_le (last_status_stamp_of_trade t) s) (completed_trades base)
+    (λ t e. below (last_status_stamp_of_trade t) s e)))
     ∙ sym (filter-map (λ t. nat_lt (last_status_stamp_of_trade t) s) core (filter (λ t. nat_le (last_status_stamp_of_trade t) s) (completed_trades base)))

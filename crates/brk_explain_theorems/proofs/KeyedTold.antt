@@ -45,13 +45,15 @@ done_steps base now command key reply after e = by_kept (stored_row_with_optiona
     by_kept None e = by_result base now command key reply after (step base now command) refl e
 
 -- what is kept under a key changes no row that is told
-kept_tells : (base : Base) (key : Option Key) (command : Command) (reply : Reply) (u : Trade) (c : Completion) → PrintsReplyFigures base u c → PrintsReplyFigures (base_with_stored_reply key command reply base) u c
+kept_tells : (base : Base) (key : Option Key) (command : Command) (reply : Reply) (u : Trade) (c : Completion) → PrintsReplyFigures base u c
+    → PrintsReplyFigures (base_with_stored_reply key command reply base) u c
 unfolding tables_of_base_in_schema tables_sorted_by_key
 kept_tells base None command reply u c k = k
 kept_tells base (Some key) command reply u c k =
     record { commission = k.commission; tax = k.tax; settlement = k.settlement; due = k.due; bought = k.bought; sold = k.sold; balance = k.balance }
 
-kept_found : (base : Base) (key : Option Key) (command : Command) (reply : Reply) (id : ℕ) (u : Trade) → trade_with_id base id ≡ Some u → trade_with_id (base_with_stored_reply key command reply base) id ≡ Some u
+kept_found : (base : Base) (key : Option Key) (command : Command) (reply : Reply) (id : ℕ) (u : Trade) → trade_with_id base id ≡ Some u
+    → trade_with_id (base_with_stored_reply key command reply base) id ≡ Some u
 kept_found base None command reply id u e = e
 kept_found base (Some key) command reply id u e = e
 

@@ -63,7 +63,8 @@ qty_more : (u : Share) (us : List Share) (id : ℕ) → lot_quantity (u ∷ us) 
 unfolding total_by
 qty_more u us id = by_test (u.trade == id)
   where
-    by_test : (b : Bool) → net_share_count (cond b (u ∷ shares_opened_by_trade id us) (shares_opened_by_trade id us)) ≡ cond b (signed_by_side u.side 1) (pos 0) +ℤ net_share_count (shares_opened_by_trade id us)
+    by_test : (b : Bool) → net_share_count (cond b (u ∷ shares_opened_by_trade id us) (shares_opened_by_trade id us))
+        ≡ cond b (signed_by_side u.side 1) (pos 0) +ℤ net_share_count (shares_opened_by_trade id us)
     by_test true = refl
     by_test false = sym (no_more (net_share_count (shares_opened_by_trade id us)))
 
@@ -111,7 +112,8 @@ at_own ts us a h =
 step_gain : (ts : List Trade) (before : List Deal) (d : Deal) → IdsApart ts → AllByRecursion (IsHeld ts) (replay before) → AllByRecursion (IsHeld ts) (shares_after_deal (replay before) d)
     → total_by (moved_at (replay before) d) ts ≡ realised_gain d (replay before)
 step_gain ts before d a h k =
-    total_by-same (moved_at us d) (λ v. (at_price us v -ℤ at_price vs v) -ℤ (at_cost us v -ℤ at_cost vs v)) ts (All-of ts (λ v. parts (lot_quantity us v.id) (lot_quantity vs v.id) d.price (completion_price v)))
+    total_by-same (moved_at us d) (λ v. (at_price us v -ℤ at_price vs v) -ℤ (at_cost us v -ℤ at_cost vs v)) ts
+    (All-of ts (λ v. parts (lot_quantity us v.id) (lot_quantity vs v.id) d.price (completion_price v)))
     ∙ total_less (λ v. at_price us v -ℤ at_price vs v) (λ v. at_cost us v -ℤ at_cost vs v) ts
     ∙ (λ i. total_less (at_price us) (at_price vs) ts i -ℤ total_less (at_cost us) (at_cost vs) ts i)
     ∙ (λ i. (at_one ts d.price us a h i -ℤ at_one ts d.price vs a k i) -ℤ (at_own ts us a h i -ℤ at_own ts vs a k i))
@@ -134,7 +136,8 @@ step_gain ts before d a h k =
     parts x y m n = times_less (x -ℤ y) (pos m) (pos n) ∙ (λ i. less_times x y (pos m) i -ℤ less_times x y (pos n) i)
 
     later : net_share_count vs *ℤ pos d.price ≡ net_share_count us *ℤ pos d.price +ℤ signed_by_side d.side (d.qty * d.price)
-    later = ap (λ z. z *ℤ pos d.price) (net_step before d) ∙ times_sum (net_share_count us) (signed_by_side d.side d.qty) d.price ∙ ap (λ z. net_share_count us *ℤ pos d.price +ℤ z) (signed_worth d.side d.qty d.price)
+    later = ap (λ z. z *ℤ pos d.price) (net_step before d) ∙ times_sum (net_share_count us) (signed_by_side d.side d.qty) d.price
+        ∙ ap (λ z. net_share_count us *ℤ pos d.price +ℤ z) (signed_worth d.side d.qty d.price)
 
     gathered : (x s c g : ℤ) → (x -ℤ (x +ℤ s)) -ℤ (c -ℤ (c +ℤ (g +ℤ s))) ≡ g
     gathered x s c g = omega (arith, ints)

@@ -89,7 +89,8 @@ lots_same lot shares [] = tt
 lots_same lot shares (d ∷ deals) = (refl, lots_same lot (shares_after_deal shares d) deals)
 
 own_lots : (done : List Trade) (u : Trade) → AllByRecursion (λ r. r.lot ≡ u.id) (changing_rows_of_lot done u)
-own_lots done u = All-filter (λ r. r.lot ≡ u.id) has_quantity_change (lot_history_rows_per_deal u.id [] (deals_of_position done u.account u.symbol)) (lots_same u.id [] (deals_of_position done u.account u.symbol))
+own_lots done u = All-filter (λ r. r.lot ≡ u.id) has_quantity_change (lot_history_rows_per_deal u.id [] (deals_of_position done u.account u.symbol))
+    (lots_same u.id [] (deals_of_position done u.account u.symbol))
 
 abbrev of_lot : ℕ → HoldingHistoryRow → Bool
 of_lot lot r = r.lot == lot
@@ -119,7 +120,8 @@ rows_of_lot base v a =
 -- by the stamps of the trades that made them they are those of the deals
 pub in_turn_of : (base : Base) (v : Trade) → BooksInvariant base → Among base v → lot_changes_by_stamp (sheets base) v.id ≡ changing_rows_of_lot (completed_trades base) v
 in_turn_of base v books a =
-    ap (sort_by (by (made_at base))) (rows_of_lot base v a) ∙ as_they_rise (made_at base) (is_row_key_less holding_history_key) (changing_rows_of_lot (completed_trades base) v) (history_rises base v books)
+    ap (sort_by (by (made_at base))) (rows_of_lot base v a)
+    ∙ as_they_rise (made_at base) (is_row_key_less holding_history_key) (changing_rows_of_lot (completed_trades base) v) (history_rises base v books)
 
 -- ---- the first, and the later ones
 
@@ -182,7 +184,8 @@ own_is_first base v books a =
     alone (x ∷ xs) = refl
 
 -- the changes by later trades are the others
-pub changes_are_rest : (base : Base) (v : Trade) → BooksInvariant base → Among base v → later_changes_of_lot (sheets base) v.id ≡ map (recorded_lot_change (sheets base)) (rest (changing_rows_of_lot (completed_trades base) v))
+pub changes_are_rest : (base : Base) (v : Trade) → BooksInvariant base → Among base v
+    → later_changes_of_lot (sheets base) v.id ≡ map (recorded_lot_change (sheets base)) (rest (changing_rows_of_lot (completed_trades base) v))
 changes_are_rest base v books a =
     sort_map (λ (c : LotChange). c.stamp) (recorded_lot_change T) (filter (is_later_change_of_lot v.id) T.holding_history)
     ∙ ap (map (recorded_lot_change T)) (ap (sort_by (by (made_at base))) (filter-both (of_lot v.id) N T.holding_history)

@@ -55,7 +55,8 @@ own_alone base t front back k c =
     and_false false = refl
 
     other : (v : Trade) → (v.id == t.id) ≡ false → Q v ≡ false
-    other v e = ap (λ b. is_here t v && (((t.id == t.id) && b) && has_quantity_change (row v))) e ∙ ap (λ b. is_here t v && (b && has_quantity_change (row v))) (and_false (t.id == t.id)) ∙ and_false (is_here t v)
+    other v e = ap (λ b. is_here t v && (((t.id == t.id) && b) && has_quantity_change (row v))) e
+        ∙ ap (λ b. is_here t v && (b && has_quantity_change (row v))) (and_false (t.id == t.id)) ∙ and_false (is_here t v)
 
     own : Q t ≡ has_quantity_change (row t)
     own = (λ i. here_itself t i && ((eq-eqb t.id t.id refl i && eq-eqb t.id t.id refl i) && has_quantity_change (row t)))
@@ -69,13 +70,15 @@ own_row base t front back k c =
     ∙ ap (λ vs. rows_sorted_by_key holding_history_key (map (row_by (left_by front) (deal_of_trade t)) vs)) (own_alone base t front back k c))
     ∙ alone (has_quantity_change (row_by (left_by front) (deal_of_trade t) t))
   where
-    alone : (b : Bool) → first (rows_sorted_by_key holding_history_key (map (row_by (left_by front) (deal_of_trade t)) (cond b (t ∷ []) []))) ≡ cond b (Some (row_by (left_by front) (deal_of_trade t) t)) None
+    alone : (b : Bool) → first (rows_sorted_by_key holding_history_key (map (row_by (left_by front) (deal_of_trade t)) (cond b (t ∷ []) [])))
+        ≡ cond b (Some (row_by (left_by front) (deal_of_trade t) t)) None
     alone true = refl
     alone false = refl
 
 -- what it opened: nothing, where it has no row
 pub own_qty : (base : Base) (t : Trade) (front back : List Trade) → IsPlaced base t front back → is_completed t ≡ true
-    → option_map_or (λ (r : HoldingHistoryRow). r.after) (opened_lot_row (sheets base) t.id) (pos 0) ≡ signed_by_side (side_of_trade_type t.kind) (t.qty - closed_share_count_of_deal (deal_of_trade t) (left_by front))
+    → option_map_or (λ (r : HoldingHistoryRow). r.after) (opened_lot_row (sheets base) t.id) (pos 0)
+    ≡ signed_by_side (side_of_trade_type t.kind) (t.qty - closed_share_count_of_deal (deal_of_trade t) (left_by front))
 own_qty base t front back k c =
     ap (λ o. option_map_or (λ (r : HoldingHistoryRow). r.after) o (pos 0)) (own_row base t front back k c)
     ∙ by_test (has_quantity_change row) refl
@@ -99,6 +102,7 @@ own_qty base t front back k c =
         zero_too : (x y : ℤ) → x ≡ pos 0 → x -ℤ y ≡ pos 0 → pos 0 ≡ y
         zero_too x y b d = omega (arith, ints, b, d)
 
-    by_test : (b : Bool) → has_quantity_change row ≡ b → option_map_or (λ (r : HoldingHistoryRow). r.after) (cond b (Some row) None) (pos 0) ≡ lot_quantity (shares_after_deal us (deal_of_trade t)) t.id
+    by_test : (b : Bool) → has_quantity_change row ≡ b
+        → option_map_or (λ (r : HoldingHistoryRow). r.after) (cond b (Some row) None) (pos 0) ≡ lot_quantity (shares_after_deal us (deal_of_trade t)) t.id
     by_test true e = refl
     by_test false e = still e

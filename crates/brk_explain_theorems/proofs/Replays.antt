@@ -56,7 +56,8 @@ fold_last us (e ∷ ds) d = fold_last (shares_after_deal us e) ds d
 
 gains_last : (ds : List Deal) (d : Deal) (us : List Share) → realised_gain_sum (ds ++ d ∷ []) us ≡ realised_gain_sum ds us +ℤ realised_gain d (fold shares_after_deal us ds)
 gains_last [] d us = omega (arith, ints)
-gains_last (e ∷ ds) d us = ap (λ z. realised_gain e us +ℤ z) (gains_last ds d (shares_after_deal us e)) ∙ regroup (realised_gain e us) (realised_gain_sum ds (shares_after_deal us e)) (realised_gain d (fold shares_after_deal (shares_after_deal us e) ds))
+gains_last (e ∷ ds) d us = ap (λ z. realised_gain e us +ℤ z) (gains_last ds d (shares_after_deal us e))
+    ∙ regroup (realised_gain e us) (realised_gain_sum ds (shares_after_deal us e)) (realised_gain d (fold shares_after_deal (shares_after_deal us e) ds))
   where
     regroup : (a b c : ℤ) → a +ℤ (b +ℤ c) ≡ (a +ℤ b) +ℤ c
     regroup a b c = omega (arith, ints)
@@ -73,7 +74,9 @@ net_step ds d =
     ap net_share_count (sym (fold_last [] ds d)) ∙ net_replayed (ds ++ d ∷ []) ∙ last_total (λ e. signed_by_side e.side e.qty) ds d
     ∙ ap (λ z. z +ℤ signed_by_side d.side d.qty) (sym (net_replayed ds))
 
-pub cost_step : (ds : List Deal) (d : Deal) → share_cost_basis (shares_after_deal (replay ds) d) ≡ share_cost_basis (replay ds) +ℤ (realised_gain d (replay ds) +ℤ signed_by_side d.side (d.qty * d.price))
+pub cost_step : (ds : List Deal) (d : Deal)
+    → share_cost_basis (shares_after_deal (replay ds) d)
+    ≡ share_cost_basis (replay ds) +ℤ (realised_gain d (replay ds) +ℤ signed_by_side d.side (d.qty * d.price))
 cost_step ds d =
     ap share_cost_basis (sym (fold_last [] ds d)) ∙ cost_replayed (ds ++ d ∷ [])
     ∙ (λ i. gains_last ds d [] i +ℤ last_total (λ e. signed_by_side e.side (e.qty * e.price)) ds d i)

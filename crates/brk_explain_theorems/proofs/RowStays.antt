@@ -37,7 +37,8 @@ before_are : (accounts : List Account) (s : ℕ) (done : List Trade) (ms : List 
     → filter (is_earlier s) (postings accounts done ms) ≡ postings accounts (filter (λ t. nat_lt (last_status_stamp_of_trade t) s) done) (filter (λ m. nat_lt m.stamp s) ms)
 before_are accounts s done ms =
     filter-append (is_earlier s) (map P (cash_trades done)) (map posting_of_movement ms)
-    ∙ (λ i. (filter-map (is_earlier s) P (cash_trades done) ∙ ap (map P) (filter-swap (λ t. nat_lt (last_status_stamp_of_trade t) s) (λ t. t.is_cash) done)) i ++ filter-map (is_earlier s) posting_of_movement ms i)
+    ∙ (λ i. (filter-map (is_earlier s) P (cash_trades done) ∙ ap (map P) (filter-swap (λ t. nat_lt (last_status_stamp_of_trade t) s) (λ t. t.is_cash) done)) i
+    ++ filter-map (is_earlier s) posting_of_movement ms i)
   where
     P : Trade → Posting
     P = posting_of_trade accounts
@@ -50,8 +51,10 @@ length-append (x ∷ xs) ys = let h = length-append xs ys in omega (arith, h)
 count_of : (accounts : List Account) (q : ℕ → Bool) (ts : List Trade) (ms : List Movement)
     → length (filter (λ p. q p.account) (postings accounts ts ms)) ≡ length (filter (λ t. q t.account) (cash_trades (map core ts))) + length (filter (λ m. q m.account) ms)
 count_of accounts q ts ms =
-    ap length (filter-append (λ p. q p.account) (map P (cash_trades ts)) (map posting_of_movement ms)) ∙ length-append (filter (λ p. q p.account) (map P (cash_trades ts))) (filter (λ p. q p.account) (map posting_of_movement ms))
-    ∙ (λ i. (ap length (filter-map (λ p. q p.account) P (cash_trades ts)) ∙ length-map P (filter (λ t. q t.account) (cash_trades ts)) ∙ sym (length-map core (filter (λ t. q t.account) (cash_trades ts)))
+    ap length (filter-append (λ p. q p.account) (map P (cash_trades ts)) (map posting_of_movement ms))
+    ∙ length-append (filter (λ p. q p.account) (map P (cash_trades ts))) (filter (λ p. q p.account) (map posting_of_movement ms))
+    ∙ (λ i. (ap length (filter-map (λ p. q p.account) P (cash_trades ts)) ∙ length-map P (filter (λ t. q t.account) (cash_trades ts))
+    ∙ sym (length-map core (filter (λ t. q t.account) (cash_trades ts)))
     ∙ ap length (sym (ap (filter (λ t. q t.account)) (filter-map (λ t. t.is_cash) core ts) ∙ filter-map (λ t. q t.account) core (cash_trades ts)))) i
     + (ap length (filter-map (λ p. q p.account) posting_of_movement ms) ∙ length-map posting_of_movement (filter (λ m. q m.account) ms)) i)
   where
@@ -66,7 +69,8 @@ moved_before base s = sym (implied (λ (m : Movement). nat_lt m.stamp s) (λ m. 
 
 count_is : (base : Base) (s : ℕ) (q : ℕ → Bool)
     → length (filter (λ p. q p.account) (filter (is_earlier s) (postings_of_base base)))
-    ≡ length (filter (λ t. q t.account) (cash_trades (filter (λ t. nat_lt (last_status_stamp_of_trade t) s) (done_by base s)))) + length (filter (λ m. q m.account) (filter (λ m. nat_lt m.stamp s) (moved_by base s)))
+    ≡ length (filter (λ t. q t.account) (cash_trades (filter (λ t. nat_lt (last_status_stamp_of_trade t) s) (done_by base s))))
+    + length (filter (λ m. q m.account) (filter (λ m. nat_lt m.stamp s) (moved_by base s)))
 count_is base s q =
     ap (λ ps. length (filter (λ p. q p.account) ps)) (before_are base.accounts s (completed_trades base) base.movements)
     ∙ count_of base.accounts q (trades_completed_before_stamp base s) (filter (λ m. nat_lt m.stamp s) base.movements)
@@ -77,18 +81,22 @@ pub count_kept : (s : ℕ) (base later : Base) (q : ℕ → Bool) → Keeps s ba
     → length (filter (λ p. q p.account) (filter (is_earlier s) (postings_of_base later))) ≡ length (filter (λ p. q p.account) (filter (is_earlier s) (postings_of_base base)))
 count_kept s base later q k =
     count_is later s q
-    ∙ (λ i. length (filter (λ t. q t.account) (cash_trades (filter (λ t. nat_lt (last_status_stamp_of_trade t) s) (k.done i)))) + length (filter (λ m. q m.account) (filter (λ m. nat_lt m.stamp s) (k.moved i))))
+    ∙ (λ i. length (filter (λ t. q t.account) (cash_trades (filter (λ t. nat_lt (last_status_stamp_of_trade t) s) (k.done i))))
+    + length (filter (λ m. q m.account) (filter (λ m. nat_lt m.stamp s) (k.moved i))))
     ∙ sym (count_is base s q)
 
 -- ---- the cash rows before it
 
 pub rows_counted : (base : Base) (account s : ℕ)
-    → length (filter (λ (row : MoveRow). nat_lt row.stamp s) (sorted_cash_rows_of_account (sheets base) account)) ≡ length (filter (λ p. p.account == account) (filter (is_earlier s) (postings_of_base base)))
+    → length (filter (λ (row : MoveRow). nat_lt row.stamp s) (sorted_cash_rows_of_account (sheets base) account))
+    ≡ length (filter (λ p. p.account == account) (filter (is_earlier s) (postings_of_base base)))
 rows_counted base account s =
     ap length (sym (sort_filter (by (λ (row : MoveRow). row.stamp)) R (filter A M) (by_splits (λ (row : MoveRow). row.stamp)) (by_one_way (λ (row : MoveRow). row.stamp))))
     ∙ length_sort (by (λ (row : MoveRow). row.stamp)) (filter R (filter A M))
     ∙ sym (length-map posting_of_cash_move_row (filter R (filter A M)))
-    ∙ ap length (sym (filter-map (is_earlier s) posting_of_cash_move_row (filter A M)) ∙ ap (filter (is_earlier s)) (sym (filter-map to posting_of_cash_move_row M) ∙ ap (filter to) (rows_posted base) ∙ turn_filter to (postings_of_base base))
+    ∙ ap length (sym (filter-map (is_earlier s) posting_of_cash_move_row (filter A M))
+    ∙ ap (filter (is_earlier s))
+    (sym (filter-map to posting_of_cash_move_row M) ∙ ap (filter to) (rows_posted base) ∙ turn_filter to (postings_of_base base))
     ∙ turn_filter (is_earlier s) (filter to (postings_of_base base)))
     ∙ length_sort (λ a b. nat_lt a.stamp b.stamp) (filter (is_earlier s) (filter to (postings_of_base base)))
     ∙ ap length (filter-swap (is_earlier s) to (postings_of_base base))
@@ -109,7 +117,8 @@ rows_counted base account s =
 
 find_numbered : (q : Posting → Bool) (n : ℕ) (front : List Posting) (p : Posting) (back : List Posting) → NonePass q front → q p ≡ true
     → find (λ r. q (posting_of_cash_move_row r)) (numbered_move_rows n (front ++ p ∷ back)) ≡ Some (cash_move_row (n + length front) p)
-find_numbered q n [] p back h e = ap (λ b. cond b (Some (cash_move_row n p)) (find (λ r. q (posting_of_cash_move_row r)) (numbered_move_rows (n + 1) back))) e ∙ ap (λ (m : ℕ). Some (cash_move_row m p)) (none n)
+find_numbered q n [] p back h e = ap (λ b. cond b (Some (cash_move_row n p)) (find (λ r. q (posting_of_cash_move_row r)) (numbered_move_rows (n + 1) back))) e
+    ∙ ap (λ (m : ℕ). Some (cash_move_row m p)) (none n)
   where
     none : (n : ℕ) → n ≡ n + 0
     none n = omega arith
@@ -168,7 +177,8 @@ both_tests (x ∷ xs) s h k = (earlier_is x.stamp s h.0 k.0, both_tests xs s h.1
 
 -- the number of the cash row of a cash trade
 number_of : (base : Base) (t : Trade) → Among base t → t.is_cash ≡ true
-    → find (is_cash_row_of_trade t.id) (sheets base).moves ≡ Some (cash_move_row (1 + length (filter (is_earlier (last_status_stamp_of_trade t)) (postings_of_base base))) (posting_of_trade base.accounts t))
+    → find (is_cash_row_of_trade t.id) (sheets base).moves
+    ≡ Some (cash_move_row (1 + length (filter (is_earlier (last_status_stamp_of_trade t)) (postings_of_base base))) (posting_of_trade base.accounts t))
 unfolding sort_by
 number_of base t a e =
     ap (find (is_cash_row_of_trade t.id)) (moves_are base ∙ ap (numbered_move_rows 1) s.stands)
@@ -212,9 +222,12 @@ number_of base t a e =
 
     counted : length (filter (is_earlier (last_status_stamp_of_trade t)) ps) ≡ length s.front
     counted =
-        sym (length_sort before (filter (is_earlier (last_status_stamp_of_trade t)) ps)) ∙ ap length (sym (turn_filter (is_earlier (last_status_stamp_of_trade t)) ps) ∙ ap (filter (is_earlier (last_status_stamp_of_trade t))) s.stands
+        sym (length_sort before (filter (is_earlier (last_status_stamp_of_trade t)) ps))
+        ∙ ap length (sym (turn_filter (is_earlier (last_status_stamp_of_trade t)) ps) ∙ ap (filter (is_earlier (last_status_stamp_of_trade t))) s.stands
         ∙ filter-append (is_earlier (last_status_stamp_of_trade t)) s.front (p ∷ s.back)
-        ∙ (λ i. filter-all (is_earlier (last_status_stamp_of_trade t)) s.front earlier i ++ filter-none (is_earlier (last_status_stamp_of_trade t)) (p ∷ s.back) (not_itself (last_status_stamp_of_trade t), sorted_back s.front p s.back in_order) i)
+        ∙ (λ i. filter-all (is_earlier (last_status_stamp_of_trade t)) s.front earlier i
+        ++ filter-none (is_earlier (last_status_stamp_of_trade t)) (p ∷ s.back)
+        (not_itself (last_status_stamp_of_trade t), sorted_back s.front p s.back in_order) i)
         ∙ append_nil s.front)
 
 no_row : (o : Option MoveRow) → option_map posting_of_cash_move_row o ≡ None → option_map (λ (row : MoveRow). row.id) o ≡ None
@@ -222,12 +235,14 @@ no_row None e = refl
 no_row (Some row) e = absurd (cc)
 
 number_is : (base : Base) (t : Trade) → Among base t → (b : Bool) → t.is_cash ≡ b
-    → option_map (λ (row : MoveRow). row.id) (find (is_cash_row_of_trade t.id) (sheets base).moves) ≡ cond b (Some (1 + length (filter (is_earlier (last_status_stamp_of_trade t)) (postings_of_base base)))) None
+    → option_map (λ (row : MoveRow). row.id) (find (is_cash_row_of_trade t.id) (sheets base).moves)
+    ≡ cond b (Some (1 + length (filter (is_earlier (last_status_stamp_of_trade t)) (postings_of_base base)))) None
 unfolding sort_by
 number_is base t a true e = ap (option_map (λ (row : MoveRow). row.id)) (number_of base t a e)
 number_is base t a false e =
     no_row (find (is_cash_row_of_trade t.id) (sheets base).moves)
-    (sym (find-map (is_posting_of_trade t.id) posting_of_cash_move_row (sheets base).moves) ∙ ap (find (is_posting_of_trade t.id)) (rows_posted base) ∙ find_first (is_posting_of_trade t.id) (postings_sorted_by_stamp (postings_of_base base))
+    (sym (find-map (is_posting_of_trade t.id) posting_of_cash_move_row (sheets base).moves) ∙ ap (find (is_posting_of_trade t.id)) (rows_posted base)
+    ∙ find_first (is_posting_of_trade t.id) (postings_sorted_by_stamp (postings_of_base base))
     ∙ ap first (turn_filter (is_posting_of_trade t.id) (postings_of_base base) ∙ ap postings_sorted_by_stamp (by_its_number base t a ∙ ap (λ b. cond b (posting_of_trade base.accounts t ∷ []) []) e)))
 
 all_true : {X : Type 0} (xs : List X) → filter (λ x. true) xs ≡ xs
@@ -239,6 +254,8 @@ pub number_kept : (base later : Base) (t u : Trade) → Among base t → Among l
 number_kept base later t u a a' same k =
     number_is later u a' u.is_cash refl
     ∙ (λ i. cond (same i).is_cash (Some (1 + length (filter (is_earlier (last_status_stamp_of_trade (same i))) (postings_of_base later)))) None)
-    ∙ ap (λ (n : ℕ). cond t.is_cash (Some (1 + n)) None) (ap length (sym (all_true (filter (is_earlier (last_status_stamp_of_trade t)) (postings_of_base later)))) ∙ count_kept (last_status_stamp_of_trade t) base later (λ n. true) k
+    ∙ ap (λ (n : ℕ). cond t.is_cash (Some (1 + n)) None)
+    (ap length (sym (all_true (filter (is_earlier (last_status_stamp_of_trade t)) (postings_of_base later))))
+    ∙ count_kept (last_status_stamp_of_trade t) base later (λ n. true) k
     ∙ ap length (all_true (filter (is_earlier (last_status_stamp_of_trade t)) (postings_of_base base))))
     ∙ sym (number_is base t a t.is_cash refl)

@@ -60,7 +60,9 @@ unfolding is_by
 found_by base s id t books e =
     find-map (λ u. u.id == id) core (filter (λ u. nat_le (last_status_stamp_of_trade u) s) (completed_trades base))
     ∙ ap (option_map core)
-    (ap (find (λ u. u.id == id)) (sym (filter-both is_completed (λ u. nat_le (last_status_stamp_of_trade u) s) base.trades) ∙ ap (filter (λ u. is_completed u && nat_le (last_status_stamp_of_trade u) s)) f.stands)
+    (ap (find (λ u. u.id == id))
+    (sym (filter-both is_completed (λ u. nat_le (last_status_stamp_of_trade u) s) base.trades)
+    ∙ ap (filter (λ u. is_completed u && nat_le (last_status_stamp_of_trade u) s)) f.stands)
     ∙ find_left (λ u. u.id == id) (λ u. is_completed u && nat_le (last_status_stamp_of_trade u) s) f.before t f.after f.others f.passes after)
   where
     f : FoundAt Trade (λ u. u.id == id) t base.trades
@@ -77,7 +79,9 @@ is_at_most m n h = grind (arith, nat_tests)
 pub same_trade : (s : ℕ) (base later : Base) (id : ℕ) (t u : Trade) → BooksInvariant base → BooksInvariant later → Keeps s base later
     → trade_with_id base id ≡ Some t → is_completed t ≡ true → last_status_stamp_of_trade t ≤ s → trade_with_id later id ≡ Some u → core u ≡ core t
 unfolding is_by
-same_trade s base later id t u books next k e c h f = by_test (is_by s u) (sym (found_by later s id u next f) ∙ ap (find (λ v. v.id == id)) k.done ∙ found_by base s id t books e ∙ ap (λ b. option_map core (cond b (Some t) None)) by)
+same_trade s base later id t u books next k e c h f =
+    by_test (is_by s u) (sym (found_by later s id u next f) ∙ ap (find (λ v. v.id == id)) k.done ∙ found_by base s id t books e
+    ∙ ap (λ b. option_map core (cond b (Some t) None)) by)
   where
     by : is_by s t ≡ true
     by = (λ i. c i && is_at_most (last_status_stamp_of_trade t) s h i)
@@ -87,10 +91,13 @@ same_trade s base later id t u books next k e c h f = by_test (is_by s u) (sym (
     by_test false g = let k : None ≡ Some (core t) = g in absurd (cc)
 
 -- a completed trade is found among those by its moment
-pub in_done : (base : Base) (t : Trade) → BooksInvariant base → trade_with_id base t.id ≡ Some t → is_completed t ≡ true → find (λ u. u.id == t.id) (done_by base (last_status_stamp_of_trade t)) ≡ Some (core t)
+pub in_done : (base : Base) (t : Trade) → BooksInvariant base → trade_with_id base t.id ≡ Some t → is_completed t ≡ true
+    → find (λ u. u.id == t.id) (done_by base (last_status_stamp_of_trade t)) ≡ Some (core t)
 unfolding is_by
 in_done base t books e c =
-    found_by base (last_status_stamp_of_trade t) t.id t books e ∙ ap (λ b. option_map core (cond b (Some t) None)) (λ i. c i && is_at_most (last_status_stamp_of_trade t) (last_status_stamp_of_trade t) (no_more (last_status_stamp_of_trade t)) i)
+    found_by base (last_status_stamp_of_trade t) t.id t books e
+    ∙ ap (λ b. option_map core (cond b (Some t) None))
+    (λ i. c i && is_at_most (last_status_stamp_of_trade t) (last_status_stamp_of_trade t) (no_more (last_status_stamp_of_trade t)) i)
   where
     no_more : (n : ℕ) → n ≤ n
     no_more n = omega arith

@@ -40,7 +40,8 @@ pub apart_map : {X Y : Type 0} (m : Y → ℕ) (f : X → Y) (xs : List X) → A
 apart_map m f [] a = tt
 apart_map m f (x ∷ xs) a = (apart_behind m f x xs a.0, apart_map m f xs a.1)
 
-apart_beside : {X : Type 0} (m n : X → ℕ) (x : X) (ys : List X) → m x ≡ n x → AllByRecursion (λ y. m y ≡ n y) ys → AllByRecursion (λ y. (n y == n x) ≡ false) ys → AllByRecursion (λ y. (m y == m x) ≡ false) ys
+apart_beside : {X : Type 0} (m n : X → ℕ) (x : X) (ys : List X) → m x ≡ n x → AllByRecursion (λ y. m y ≡ n y) ys → AllByRecursion (λ y. (n y == n x) ≡ false) ys
+    → AllByRecursion (λ y. (m y == m x) ≡ false) ys
 apart_beside m n x [] e h a = tt
 apart_beside m n x (y ∷ ys) e h a = ((λ i. h.0 i == e i) ∙ a.0, apart_beside m n x ys e h.1 a.1)
 

@@ -1,5 +1,6 @@
 -- What is taken of lots, lot by lot, and what it was bought and sold for.
-use Rattle.std.proofs.Common.{◌≡◌, ◌≢◌, ℕ, ◌+◌, ◌*◌, ◌-◌, ◌≤◌, min, eqb, Bool, true, false, cond, List, [], ◌∷◌, length, map, unsigned_abs, nat_abs, sum_by, refl, sym, ◌∙◌, ap, arith, ℤ, pos, negsuc, ◌-ℤ◌}
+use Rattle.std.proofs.Common.{◌≡◌, ◌≢◌, ℕ, ◌+◌, ◌*◌, ◌-◌, ◌≤◌, min, eqb, Bool, true, false, cond, List, [], ◌∷◌, length, map, unsigned_abs, nat_abs, sum_by}
+use Rattle.std.proofs.Common.{refl, sym, ◌∙◌, ap, arith, ℤ, pos, negsuc, ◌-ℤ◌}
 use Rattle.std.specs.List.{AllByRecursion}
 use Rattle.std.proofs.lemmas.Bool.{eqb-true}
 use Rattle.std.proofs.lemmas.Int.{ints}
@@ -64,10 +65,12 @@ all_taken T id k (l ∷ ls) =
     omega (arith, a, b, c, d)
 
 -- at the price of each lot
-pub all_paid : (T : Tables) (id k : ℕ) (ls : List Lot) → AllByRecursion (λ l. trade_price_or_zero T l.trade ≡ l.price) ls → sum_by (λ c. shares_of_closing c * c.price) (map (closing_at T id) (touches_of_first_shares k ls)) ≡ cost_of_first_shares k ls
+pub all_paid : (T : Tables) (id k : ℕ) (ls : List Lot) → AllByRecursion (λ l. trade_price_or_zero T l.trade ≡ l.price) ls
+    → sum_by (λ c. shares_of_closing c * c.price) (map (closing_at T id) (touches_of_first_shares k ls)) ≡ cost_of_first_shares k ls
 all_paid T id k [] h = refl
 all_paid T id k (l ∷ ls) h =
-    sum_rows (λ c. shares_of_closing c * c.price) T id k l ls (λ e. ap (λ n. n * trade_price_or_zero T l.trade) (none_taken T id k l e) ∙ nothing (trade_price_or_zero T l.trade)) (no_rows k (unsigned_abs l.qty) ls)
+    sum_rows (λ c. shares_of_closing c * c.price) T id k l ls
+    (λ e. ap (λ n. n * trade_price_or_zero T l.trade) (none_taken T id k l e) ∙ nothing (trade_price_or_zero T l.trade)) (no_rows k (unsigned_abs l.qty) ls)
     ∙ (λ i. shares_taken l.qty k i * h.0 i + all_paid T id (k - unsigned_abs l.qty) ls h.1 i)
   where
     nothing : (p : ℕ) → 0 * p ≡ 0
@@ -88,11 +91,15 @@ all_at price (c ∷ cs) =
 
 -- ---- bought and sold
 
-pub buys : (side : Side) (price : ℕ) (cs : List Closing) → buy_value_of_closings side price cs ≡ buy_value_by_side side (sum_by (λ c. shares_of_closing c * price) cs) (sum_by (λ c. shares_of_closing c * c.price) cs)
+pub buys : (side : Side) (price : ℕ) (cs : List Closing)
+    → buy_value_of_closings side price cs
+    ≡ buy_value_by_side side (sum_by (λ c. shares_of_closing c * price) cs) (sum_by (λ c. shares_of_closing c * c.price) cs)
 buys Buy price cs = refl
 buys Sell price cs = refl
 
-pub sells : (side : Side) (price : ℕ) (cs : List Closing) → sell_value_of_closings side price cs ≡ sell_value_by_side side (sum_by (λ c. shares_of_closing c * price) cs) (sum_by (λ c. shares_of_closing c * c.price) cs)
+pub sells : (side : Side) (price : ℕ) (cs : List Closing)
+    → sell_value_of_closings side price cs ≡ sell_value_by_side side (sum_by (λ c. shares_of_closing c * price) cs)
+    (sum_by (λ c. shares_of_closing c * c.price) cs)
 sells Buy price cs = refl
 sells Sell price cs = refl
 

@@ -126,7 +126,11 @@ tells base now id price t books e accepted = record {
 -- ---- the reply
 
 told_of : (base after : Base) (now id price stamp : ℕ) (c : Completion) → BooksInvariant base → (o : Option Refusal) → refusal_of_command base now (CompleteTrade id price) ≡ o
-    → value_unless_refused {A = Reply × Base} o (reply_to_command base (stamp_of_next_command base now) (CompleteTrade id price), base_after_accepted_command base (stamp_of_next_command base now) (CompleteTrade id price)) ≡ Ok (CompletedTrade stamp c, after)
+    → value_unless_refused {A = Reply × Base} o (
+      reply_to_command base (stamp_of_next_command base now) (CompleteTrade id price),
+      base_after_accepted_command base (stamp_of_next_command base now)
+          (CompleteTrade id price),
+    ) ≡ Ok (CompletedTrade stamp c, after)
     → (u : Trade) × (trade_with_id after id ≡ Some u) × PrintsReplyFigures after u c
 unfolding reply_to_command
 told_of base after now id price stamp c books (Some refusal) e k = absurd (cc)
@@ -135,15 +139,18 @@ told_of base after now id price stamp c books None e k =
     let made : Reply × Base = (reply_to_command base (stamp_of_next_command base now) (CompleteTrade id price), base_after_command base now (CompleteTrade id price)) in
     let wanted : Reply × Base = (CompletedTrade stamp c, after) in
     let both : made ≡ wanted = cc in
-    let reply : option_map_or (λ t. CompletedTrade (stamp_of_next_command base now) (completion_of_trade base (stamp_of_next_command base now) price t)) (trade_with_id base id) (Booked (stamp_of_next_command base now)) ≡ CompletedTrade stamp c = ap (λ p. p.0) both in
+    let reply : option_map_or (λ t. CompletedTrade (stamp_of_next_command base now) (completion_of_trade base (stamp_of_next_command base now) price t))
+    (trade_with_id base id) (Booked (stamp_of_next_command base now)) ≡ CompletedTrade stamp c = ap (λ p. p.0) both in
     let same : CompletedTrade (stamp_of_next_command base now) (completion_of_trade base (stamp_of_next_command base now) price t.0) ≡ CompletedTrade stamp c =
-    sym (ap (λ o. option_map_or (λ t. CompletedTrade (stamp_of_next_command base now) (completion_of_trade base (stamp_of_next_command base now) price t)) o (Booked (stamp_of_next_command base now))) t.1) ∙ reply in
+    sym (ap (λ o. option_map_or (λ t. CompletedTrade (stamp_of_next_command base now) (completion_of_trade base (stamp_of_next_command base now) price t)) o
+    (Booked (stamp_of_next_command base now))) t.1) ∙ reply in
     let figures : completion_of_trade base (stamp_of_next_command base now) price t.0 ≡ c = cc in
     let later : then_of base now price t.0 ≡ after = sym (then_is base now id price t.0 t.1) ∙ ap (λ p. p.1) both in (
       completed_trade base (stamp_of_next_command base now) price t.0,
       subst (λ b. trade_with_id b id ≡ Some (completed_trade base (stamp_of_next_command base now) price t.0)) (ap (λ p. p.1) both) (found_then base now id price t.0 books t.1 e),
       subst (PrintsReplyFigures after (completed_trade base (stamp_of_next_command base now) price t.0)) figures
-          (subst (λ b. PrintsReplyFigures b (completed_trade base (stamp_of_next_command base now) price t.0) (completion_of_trade base (stamp_of_next_command base now) price t.0)) later (tells base now id price t.0 books t.1 e)),
+          (subst (λ b. PrintsReplyFigures b (completed_trade base (stamp_of_next_command base now) price t.0)
+          (completion_of_trade base (stamp_of_next_command base now) price t.0)) later (tells base now id price t.0 books t.1 e)),
     )
 
 pub replies_told : (base after : Base) (now id price stamp : ℕ) (c : Completion) → BooksInvariant base → step base now (CompleteTrade id price) ≡ Ok (CompletedTrade stamp c, after)

@@ -77,7 +77,8 @@ row_by us d v = holding_history_row d.trade (touch_of_lot v.id d us)
 
 rows_split : (lot : ℕ) (us : List Share) (ds : List Deal) (d : Deal) (es : List Deal)
     → lot_history_rows_per_deal lot us (ds ++ d ∷ es)
-    ≡ lot_history_rows_per_deal lot us ds ++ holding_history_row d.trade (touch_of_lot lot d (fold shares_after_deal us ds)) ∷ lot_history_rows_per_deal lot (shares_after_deal (fold shares_after_deal us ds) d) es
+    ≡ lot_history_rows_per_deal lot us ds ++ holding_history_row d.trade (touch_of_lot lot d (fold shares_after_deal us ds))
+    ∷ lot_history_rows_per_deal lot (shares_after_deal (fold shares_after_deal us ds) d) es
 rows_split lot us [] d es = refl
 rows_split lot us (e ∷ ds) d es = ap (λ rows. holding_history_row e.trade (touch_of_lot lot e us) ∷ rows) (rows_split lot (shares_after_deal us e) ds d es)
 
@@ -89,13 +90,15 @@ rows_of_others id lot us (d ∷ ds) h = (h.0, rows_of_others id lot (shares_afte
 abbrev OnlyOf : ℕ → (HoldingHistoryRow → Bool) → Type 0
 OnlyOf id p = (r : HoldingHistoryRow) → (r.trade == id) ≡ false → p r ≡ false
 
-none_of_others : (id lot : ℕ) (p : HoldingHistoryRow → Bool) (us : List Share) (ds : List Deal) → OnlyOf id p → Others id ds → filter p (filter has_quantity_change (lot_history_rows_per_deal lot us ds)) ≡ []
+none_of_others : (id lot : ℕ) (p : HoldingHistoryRow → Bool) (us : List Share) (ds : List Deal) → OnlyOf id p → Others id ds
+    → filter p (filter has_quantity_change (lot_history_rows_per_deal lot us ds)) ≡ []
 none_of_others id lot p us ds only h =
     filter-none p (filter has_quantity_change (lot_history_rows_per_deal lot us ds))
     (All-filter (λ r. p r ≡ false) has_quantity_change (lot_history_rows_per_deal lot us ds) (All-map (lot_history_rows_per_deal lot us ds) (λ r k. only r k) (rows_of_others id lot us ds h)))
 
 one_of : (lot : ℕ) (p : HoldingHistoryRow → Bool) (us : List Share) (ds : List Deal) (d : Deal) (es : List Deal) → OnlyOf d.trade p → Others d.trade ds → Others d.trade es
-    → filter p (filter has_quantity_change (lot_history_rows_per_deal lot us (ds ++ d ∷ es))) ≡ filter p (filter has_quantity_change (holding_history_row d.trade (touch_of_lot lot d (fold shares_after_deal us ds)) ∷ []))
+    → filter p (filter has_quantity_change (lot_history_rows_per_deal lot us (ds ++ d ∷ es)))
+    ≡ filter p (filter has_quantity_change (holding_history_row d.trade (touch_of_lot lot d (fold shares_after_deal us ds)) ∷ []))
 one_of lot p us ds d es only g h =
     ap (λ rows. filter p (filter has_quantity_change rows)) (rows_split lot us ds d es)
     ∙ ap (filter p) (filter-append has_quantity_change X (row ∷ Y) ∙ ap (λ rows. filter has_quantity_change X ++ rows) (filter-append has_quantity_change (row ∷ []) Y))
@@ -156,11 +159,14 @@ lot_row : (base : Base) (t : Trade) (front back : List Trade) → IsPlaced base 
     → filter p (changing_rows_of_lot (completed_trades base) v) ≡ cond (b && passes p (left_by front) t v) (row_by (left_by front) (deal_of_trade t) v ∷ []) []
 lot_row base t front back k p only v true e =
     let o : InOrder (front ++ t ∷ back) = placed_order base t front back k in
-    ap (λ ds. filter p (filter has_quantity_change (lot_history_rows_per_deal v.id [] ds))) (here_deals (completed_trades base) t v e ∙ ap (map deal_of_trade) k.stands ∙ map-append deal_of_trade front (t ∷ back))
-    ∙ one_of v.id p [] (map deal_of_trade front) (deal_of_trade t) (map deal_of_trade back) only (front_others t front (front_precedes front t back o)) (back_others t back (back_follows front t back o))
+    ap (λ ds. filter p (filter has_quantity_change (lot_history_rows_per_deal v.id [] ds)))
+    (here_deals (completed_trades base) t v e ∙ ap (map deal_of_trade) k.stands ∙ map-append deal_of_trade front (t ∷ back))
+    ∙ one_of v.id p [] (map deal_of_trade front) (deal_of_trade t) (map deal_of_trade back) only (front_others t front (front_precedes front t back o))
+    (back_others t back (back_follows front t back o))
     ∙ twice p has_quantity_change (row_by (left_by front) (deal_of_trade t) v)
 lot_row base t front back k p only v false e =
-    none_of_others t.id v.id p [] (deals_of_position (completed_trades base) v.account v.symbol) only (all_others t.id (trades_held base v.account v.symbol) (elsewhere base t v.account v.symbol k.books k.found (other_way t v e)))
+    none_of_others t.id v.id p [] (deals_of_position (completed_trades base) v.account v.symbol) only
+    (all_others t.id (trades_held base v.account v.symbol) (elsewhere base t v.account v.symbol k.books k.found (other_way t v e)))
 
 rows_of : (base : Base) (t : Trade) (front back : List Trade) → IsPlaced base t front back → (p : HoldingHistoryRow → Bool) → OnlyOf t.id p → (vs : List Trade)
     → filter p (flat_map (changing_rows_of_lot (completed_trades base)) vs) ≡ map (row_by (left_by front) (deal_of_trade t)) (filter (λ v. is_here t v && passes p (left_by front) t v) vs)

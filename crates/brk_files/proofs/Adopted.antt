@@ -9,7 +9,8 @@ use Rattle.brk_store.specs.Audited.{AdoptPost}
 use Rattle.brk_store.proofs.Taking.{upgraded_books}
 use Rattle.brk_files.specs.Opened.{RepresentsRowsOfFile}
 
-pub stands_on_rows : {S : Type 0} (g : Ghosts S) → ((s : S) (db : Trees) → IsTrue (g.view s).is_open → g.recovers s db → db ≡ (g.view s).committed) → (conn store : Held S) → AdoptPost g conn store (Ok tt) → RepresentsRowsOfFile g store
+pub stands_on_rows : {S : Type 0} (g : Ghosts S) → ((s : S) (db : Trees) → IsTrue (g.view s).is_open → g.recovers s db → db ≡ (g.view s).committed)
+    → (conn store : Held S) → AdoptPost g conn store (Ok tt) → RepresentsRowsOfFile g store
 stands_on_rows g settled conn store adopted = record {
   found = conn;
   adopted = adopted;
@@ -24,7 +25,8 @@ stands_on_rows g settled conn store adopted = record {
       );
 }
 
-pub stands_if : {S E : Type 0} (g : Ghosts S) → ((s : S) (db : Trees) → IsTrue (g.view s).is_open → g.recovers s db → db ≡ (g.view s).committed) → (conn : Held S) (result : Result (Held S) E) (Q : E → Type 0)
+pub stands_if : {S E : Type 0} (g : Ghosts S) → ((s : S) (db : Trees) → IsTrue (g.view s).is_open → g.recovers s db → db ≡ (g.view s).committed)
+    → (conn : Held S) (result : Result (Held S) E) (Q : E → Type 0)
     → MatchResult result (λ store. AdoptPost g conn store (Ok tt)) Q → IfOk result (λ store. RepresentsRowsOfFile g store)
 stands_if g settled conn (Ok store) Q adopted = stands_on_rows g settled conn store adopted
 stands_if g settled conn (Err e) Q failed = tt

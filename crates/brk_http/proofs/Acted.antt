@@ -49,7 +49,8 @@ module _ {S : Type 0} (g : Ghosts S) (old new : Held S) (now : ℕ) where
   has_outcome command key (Ok answer) h = did command key answer h
   has_outcome command key (Err fault) h = failed command key fault h
 
-  pub asked : (query : Query) (result : Result (Result View Refusal) Fault) → AskPost g old new (abstract_query query) result → DeskCallHasOutcome g old now (Ask (abstract_query query)) (query_outcome_in_model records_of_view result) new
+  pub asked : (query : Query) (result : Result (Result View Refusal) Fault) → AskPost g old new (abstract_query query) result
+      → DeskCallHasOutcome g old now (Ask (abstract_query query)) (query_outcome_in_model records_of_view result) new
   asked query result h = record { made = made.Ask query; came = outcome_of_query result; call_is = refl; outcome_is = seen_is result; is_made = (result, refl, h) }
 
   module _ (call : Call) (outcome : Outcome) (acts : DeskCallHasOutcome g old now call outcome new) where
@@ -66,6 +67,7 @@ module _ {S : Type 0} (g : Ghosts S) (old new : Held S) (now : ℕ) where
     pub steps : HasCleanDisk (state g new) → (base : Base) → Represents g old base → (after : Base) × Represents g new after × IsOutcomeOfCall base now call outcome after
     steps clean base keeps =
         let r = one_run.refines_model clean base keeps in
-        let told : IsOutcomeOfCall base (model_call (now, acts.made)).0 (model_call (now, acts.made)).1 (model_outcome acts.came) r.0 = subst (λ b. IsOutcomeOfCall base (model_call (now, acts.made)).0 (model_call (now, acts.made)).1 (model_outcome acts.came) b) (sym r.2.2) r.2.1 in
+        let told : IsOutcomeOfCall base (model_call (now, acts.made)).0 (model_call (now, acts.made)).1 (model_outcome acts.came) r.0 =
+        subst (λ b. IsOutcomeOfCall base (model_call (now, acts.made)).0 (model_call (now, acts.made)).1 (model_outcome acts.came) b) (sym r.2.2) r.2.1 in
         let called : IsOutcomeOfCall base now call (model_outcome acts.came) r.0 = subst (λ (c : ℕ × Call). IsOutcomeOfCall base c.0 c.1 (model_outcome acts.came) r.0) acts.call_is told in
         (r.0, r.1, subst (λ o. IsOutcomeOfCall base now call o r.0) acts.outcome_is called)

@@ -49,7 +49,8 @@ module _ {S : Type 0} (g : Ghosts S) where
 
   -- whatever the reader gave, calls were made; where it tells its bytes, these are what they ask
   -- for
-  pub tells_run : {C : Type 0} (gives : C → ℕ → C → Type 0) (input : Option Text) (first last : Held S) (outside : ClockAndWriterChange C) (result : Result ℕ ServeFault) → ChangesOnlyByCalls CallOutcome (call_limit_of_stream result) first last
+  pub tells_run : {C : Type 0} (gives : C → ℕ → C → Type 0) (input : Option Text) (first last : Held S) (outside : ClockAndWriterChange C)
+      (result : Result ℕ ServeFault) → ChangesOnlyByCalls CallOutcome (call_limit_of_stream result) first last
       → IfSome input (λ text. IsStreamResult model_parsers CallOutcome gives text (environment_change_with_bases first last outside) result)
       → (calls : List (ℕ × Call)) × (outcomes : List Outcome) × IsRunWithOutcomes g first last calls outcomes × (length calls ≤ call_limit_of_stream result)
       × IfSome input (λ text. StreamMatchesScript model_parsers gives text (map model_call calls, map model_outcome outcomes) outside result)

@@ -13,7 +13,8 @@ pub no_route : (forms : RequestParsers) (q : Request) → route_of_target forms.
 unfolding demand_of_request
 no_route forms q e = rw (demand_of_request, e) refl
 
-pub no_post : (forms : RequestParsers) (q : Request) (route : Route) → route_of_target forms.views q.target ≡ Some route → bytes_eq q.method (codes "POST") ≡ false → ResponseOnly (FromProblem NotAllowed) ≡ demand_of_request forms q
+pub no_post : (forms : RequestParsers) (q : Request) (route : Route) → route_of_target forms.views q.target ≡ Some route
+    → bytes_eq q.method (codes "POST") ≡ false → ResponseOnly (FromProblem NotAllowed) ≡ demand_of_request forms q
 unfolding demand_of_request
 no_post forms q route e t = rw (demand_of_request, e, t) refl
 
@@ -22,7 +23,8 @@ pub no_texts : (forms : RequestParsers) (q : Request) (route : Route) → route_
 unfolding demand_of_request
 no_texts forms q route e t b = rw (demand_of_request, e, t, b) refl
 
-pub all_there : (forms : RequestParsers) (q : Request) (route : Route) (texts : List Text) → route_of_target forms.views q.target ≡ Some route → bytes_eq q.method (codes "POST") ≡ true → texts_of_body q.body ≡ Some texts
+pub all_there : (forms : RequestParsers) (q : Request) (route : Route) (texts : List Text) → route_of_target forms.views q.target ≡ Some route
+    → bytes_eq q.method (codes "POST") ≡ true → texts_of_body q.body ≡ Some texts
     → demand_of_texts forms route texts ≡ demand_of_request forms q
 unfolding demand_of_request
 all_there forms q route texts e t b = rw (demand_of_request, e, t, b) refl

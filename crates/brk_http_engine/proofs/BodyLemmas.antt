@@ -43,7 +43,8 @@ some_cons : (t : Text) (ds : List Data) (ts : List Text) (o : Option (List Text)
 some_cons t ds ts None e f = cc
 some_cons t ds ts (Some rest) e f = (rest, e, cc)
 
-only_cons : (d : Data) (ds : List Data) (ts : List Text) (o : Option Text) → text_of_json_string d ≡ o → option_and_then (λ t. option_map (λ xs. t ∷ xs) (texts_of_json_items (items_of ds))) o ≡ Some ts
+only_cons : (d : Data) (ds : List Data) (ts : List Text) (o : Option Text) → text_of_json_string d ≡ o
+    → option_and_then (λ t. option_map (λ xs. t ∷ xs) (texts_of_json_items (items_of ds))) o ≡ Some ts
     → (t : Text) × (d ≡ string t) × (rest : List Text) × (texts_of_json_items (items_of ds) ≡ Some rest) × (ts ≡ t ∷ rest)
 only_cons d ds ts None e f = cc
 only_cons d ds ts (Some t) e f =
@@ -122,7 +123,8 @@ pub no_array : (body text : Text) (d : Data) → text ≡ body → IsUtf8 body �
 no_array body text d same utf8 e none = sym (utf8_read body text same utf8 ∙ ap (λ o. option_and_then texts_of_json_array o) e ∙ no_list d none)
 
 pub list_read : {E : Type 0} (body text : Text) (v : Value) (items : List Value) (r : Result (Option (Vec (String Global))) E) → text ≡ body → IsUtf8 body → read text ≡ Some (view v)
-    → Some (items_view items) ≡ as_array (view v) → IfOk r (λ o. IfSome o (λ t. map view items ≡ map string (bytes_of_texts t))) → IfOk r (λ o. IfNone o ((ts : List Text) → map view items ≢ map string ts))
+    → Some (items_view items) ≡ as_array (view v) → IfOk r (λ o. IfSome o (λ t. map view items ≡ map string (bytes_of_texts t)))
+    → IfOk r (λ o. IfNone o ((ts : List Text) → map view items ≢ map string ts))
     → IfOk r (λ found. option_map bytes_of_texts found ≡ texts_of_body body)
 list_read body text v items (Err e) same utf8 reads is found none = tt
 list_read body text v items (Ok None) same utf8 reads is found none =

@@ -23,7 +23,8 @@ same_script : (before after : CallScript) (n : ℕ) → after ≡ before → cal
 same_script before after n same = let e : call_count_of_script after ≡ call_count_of_script before = ap call_count_of_script same in omega (arith, e)
 
 module _ (forms : RequestParsers) where
-  responds_few : (asked : RequestDemand) (before after : CallScript) (taken : List ℕ) (response : Response) → IsResponseToDemand IsNextScriptedCall asked before taken response after → call_count_of_script before ≤ call_count_of_script after + 1
+  responds_few : (asked : RequestDemand) (before after : CallScript) (taken : List ℕ) (response : Response)
+      → IsResponseToDemand IsNextScriptedCall asked before taken response after → call_count_of_script before ≤ call_count_of_script after + 1
   responds_few (ResponseOnly said) before after taken response (is, none, same) = same_script before after 1 same
   responds_few (DeskCall call) before after taken response (now, outcome, is, took, (made, came)) =
       let e : call_count_of_script before ≡ length ((now, call) ∷ after.0) = ap length made in omega (arith, e)
@@ -56,13 +57,16 @@ module _ (forms : RequestParsers) where
       omega (arith, one, later)
 
   module _ {C : Type 0} (gives : C → ℕ → C → Type 0) where
-    failed_few : (n : ℕ) (input : Text) (span : EnvironmentChange CallScript C) (kind : FaultKind) → ExchangeFailsWith forms IsNextScriptedCall gives n input span kind → call_count_of_script span.base ≤ call_count_of_script span.after + call_limit_at_fault kind
+    failed_few : (n : ℕ) (input : Text) (span : EnvironmentChange CallScript C) (kind : FaultKind)
+        → ExchangeFailsWith forms IsNextScriptedCall gives n input span kind
+        → call_count_of_script span.base ≤ call_count_of_script span.after + call_limit_at_fault kind
     failed_few n input span kinds.Read h = same_script span.base span.after 0 h.base
     failed_few n input span kinds.Memory (inl h) = same_script span.base span.after 1 h.base
     failed_few n input span kinds.Memory (inr (reply, next, h, wrote)) = one_few n input (effect_of span.base h.taken reply next span.after) h.one
     failed_few n input span kinds.Write (reply, next, size, h, wrote) = one_few n input (effect_of span.base h.taken reply next span.after) h.one
 
-    pub tells_few : (input : Text) (script : CallScript) (outside : ClockAndWriterChange C) (result : Result ℕ ServeFault) → StreamMatchesScript forms gives input script outside result → call_count_of_script script ≤ call_limit_of_stream result
+    pub tells_few : (input : Text) (script : CallScript) (outside : ClockAndWriterChange C) (result : Result ℕ ServeFault)
+        → StreamMatchesScript forms gives input script outside result → call_count_of_script script ≤ call_limit_of_stream result
     tells_few input script outside (Ok count) h =
         let few : call_count_of_script script ≤ 0 + length h.replies = replies_few h.replies 0 (Continues input) script ([], []) h.moments h.replied in
         omega (arith, few, h.counted)

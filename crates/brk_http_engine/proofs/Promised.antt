@@ -8,7 +8,8 @@ use Rattle.brk_io.specs.Span.{IsUnchangedEnvironment, ClockAndWriterChange, Envi
 use Rattle.brk_http_model.specs.Asked.{RequestParsers, RequestDemand, ResponseOnly, DeskCall, demand_of_request}
 use Rattle.brk_http_model.specs.Found.{RequestReading, NoBytesLeft, Unreadable, CompleteRequest}
 use Rattle.brk_http_model.specs.Replies.{Response}
-use Rattle.brk_http_model.specs.Stream.{CallRelation, StreamState, Finished, Continues, RequestEffect, IsEffectOfFirstRequest, IsEffectOfReading, AreRepliesOfStream, AreFirstReplies, IsResponseToDemand}
+use Rattle.brk_http_model.specs.Stream.{CallRelation, StreamState, Finished, Continues, RequestEffect, IsEffectOfFirstRequest, IsEffectOfReading}
+use Rattle.brk_http_model.specs.Stream.{AreRepliesOfStream, AreFirstReplies, IsResponseToDemand}
 use Rattle.brk_http_engine.proofs.Effects.{effect_of, effect_between}
 use Rattle.brk_http_engine.specs.Promises.{StreamRefinesModel, CallScript, StreamMatchesScript, IsNextScriptedCall}
 use Rattle.brk_http_engine.specs.Turns.{ExchangeHasReply, ExchangeFailsWith, IsStreamResult}
@@ -32,7 +33,8 @@ module _ {D B C : Type 0} (forms : RequestParsers) (acts : CallRelation D) (does
   abbrev RefinesFromEveryBase : D → D → (B → B → Type 0) → Type 0
   RefinesFromEveryBase old new P = meets_disk_assumption new → meets_disk_assumption old × ((base : B) → represents old base → (after : B) × represents new after × P base after)
 
-  answered_carries : (n : ℕ) (input : Text) (old new : D) (clock later : C) (was now : Option Text) (reply : Text) (next : StreamState) → ExchangeHasReply forms acts gives n input (change_between old new clock later was now) reply next
+  answered_carries : (n : ℕ) (input : Text) (old new : D) (clock later : C) (was now : Option Text) (reply : Text) (next : StreamState)
+      → ExchangeHasReply forms acts gives n input (change_between old new clock later was now) reply next
       → RefinesFromEveryBase old new (λ base after. ExchangeHasReply forms does gives n input (change_between base after clock later was now) reply next)
   answered_carries n input old new clock later was now reply next h good =
       let r = sim.one forms acts does meets_disk_assumption represents earlier steps n input (effect_of old h.taken reply next new) h.one good in
@@ -43,7 +45,8 @@ module _ {D B C : Type 0} (forms : RequestParsers) (acts : CallRelation D) (does
   untouched_carries old new clock later was now h good =
       (subst meets_disk_assumption h.base good, λ base stood. (base, subst (λ d. represents d base) (sym h.base) stood, record { base = refl; clock = h.clock; written = h.written }))
 
-  failed_carries : (n : ℕ) (input : Text) (old new : D) (clock later : C) (was now : Option Text) (kind : FaultKind) → ExchangeFailsWith forms acts gives n input (change_between old new clock later was now) kind
+  failed_carries : (n : ℕ) (input : Text) (old new : D) (clock later : C) (was now : Option Text) (kind : FaultKind)
+      → ExchangeFailsWith forms acts gives n input (change_between old new clock later was now) kind
       → RefinesFromEveryBase old new (λ base after. ExchangeFailsWith forms does gives n input (change_between base after clock later was now) kind)
   failed_carries n input old new clock later was now kinds.Read h good = untouched_carries old new clock later was now h good
   failed_carries n input old new clock later was now kinds.Memory (inl h) good =
@@ -53,7 +56,8 @@ module _ {D B C : Type 0} (forms : RequestParsers) (acts : CallRelation D) (does
   failed_carries n input old new clock later was now kinds.Write (reply, next, size, h, wrote) good =
       let r = answered_carries n input old new clock later was now reply next h good in (r.0, λ base stood. let k = r.1 base stood in (k.0, k.1, (reply, next, size, k.2, wrote)))
 
-  pub keeps : (input : Text) (first last : D) (outside : ClockAndWriterChange C) (result : Result ℕ ServeFault) → IsStreamResult forms acts gives input (environment_change_with_bases first last outside) result
+  pub keeps : (input : Text) (first last : D) (outside : ClockAndWriterChange C) (result : Result ℕ ServeFault)
+      → IsStreamResult forms acts gives input (environment_change_with_bases first last outside) result
       → StreamRefinesModel meets_disk_assumption represents forms does gives input first last outside result
   keeps input first last outside (Ok count) h good base stood =
       let r = sim.replies_carry forms acts does meets_disk_assumption represents earlier steps h.replies 0 (Continues input) first last h.moments h.replied good in
@@ -129,7 +133,8 @@ module _ {D C : Type 0} (forms : RequestParsers) (acts : CallRelation D) (gives 
       let k = one_told n input (effect_of old taken reply (Continues left) mid) first l.0 l.1 in
       (k.0, k.1, (taken, more, left, l.0, split, k.2, l.2))
 
-  answered_told : (n : ℕ) (input : Text) (old new : D) (clock later : C) (was now : Option Text) (reply : Text) (next : StreamState) → ExchangeHasReply forms acts gives n input (change_between old new clock later was now) reply next
+  answered_told : (n : ℕ) (input : Text) (old new : D) (clock later : C) (was now : Option Text) (reply : Text) (next : StreamState)
+      → ExchangeHasReply forms acts gives n input (change_between old new clock later was now) reply next
       → ExtendsScript old new (λ before after. ExchangeHasReply forms IsNextScriptedCall gives n input (change_between before after clock later was now) reply next)
   answered_told n input old new clock later was now reply next h after made =
       let r = one_told n input (effect_of old h.taken reply next new) h.one after made in (r.0, r.1, record { taken = h.taken; moments = h.moments; one = r.2 })
@@ -138,7 +143,8 @@ module _ {D C : Type 0} (forms : RequestParsers) (acts : CallRelation D) (gives 
       → ExtendsScript old new (λ before after. IsUnchangedEnvironment (change_between before after clock later was now))
   untouched_told old new clock later was now h after made = (after, stayed old new after h.base made, record { base = refl; clock = h.clock; written = h.written })
 
-  failed_told : (n : ℕ) (input : Text) (old new : D) (clock later : C) (was now : Option Text) (kind : FaultKind) → ExchangeFailsWith forms acts gives n input (change_between old new clock later was now) kind
+  failed_told : (n : ℕ) (input : Text) (old new : D) (clock later : C) (was now : Option Text) (kind : FaultKind)
+      → ExchangeFailsWith forms acts gives n input (change_between old new clock later was now) kind
       → ExtendsScript old new (λ before after. ExchangeFailsWith forms IsNextScriptedCall gives n input (change_between before after clock later was now) kind)
   failed_told n input old new clock later was now kinds.Read h after made = untouched_told old new clock later was now h after made
   failed_told n input old new clock later was now kinds.Memory (inl h) after made = let r = untouched_told old new clock later was now h after made in (r.0, r.1, inl r.2)
@@ -147,7 +153,8 @@ module _ {D C : Type 0} (forms : RequestParsers) (acts : CallRelation D) (gives 
   failed_told n input old new clock later was now kinds.Write (reply, next, size, h, wrote) after made =
       let r = answered_told n input old new clock later was now reply next h after made in (r.0, r.1, (reply, next, size, r.2, wrote))
 
-  pub tells : (input : Text) (first : D) (outside : ClockAndWriterChange C) (result : Result ℕ ServeFault) → IsStreamResult forms acts gives input (environment_change_with_bases first last outside) result
+  pub tells : (input : Text) (first : D) (outside : ClockAndWriterChange C) (result : Result ℕ ServeFault)
+      → IsStreamResult forms acts gives input (environment_change_with_bases first last outside) result
       → (script : CallScript) × IsCallSequence acts first script.0 script.1 last × StreamMatchesScript forms gives input script outside result
   tells input first outside (Ok count) h =
       let r = replies_told h.replies 0 (Continues input) first last h.moments h.replied ([], []) refl in

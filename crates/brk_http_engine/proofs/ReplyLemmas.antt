@@ -6,7 +6,8 @@ use Rattle.brk_money.specs.Spelling.{Text}
 use Rattle.brk_http_model.specs.Replies.{head_line, head_line_if, reply_bytes}
 use Rattle.brk_http_engine.specs.Lines.{first_head_lines, status_text}
 
-pub digits_and_phrase : (code : ℕ) (digits phrase s1 s2 s3 : Text) → s1 ≡ digits → digits ≡ code_digits code → s2 ≡ s1 ++ 32 ∷ [] → s3 ≡ s2 ++ phrase → phrase ≡ unwrap_or (reason_phrase code) [] → s3 ≡ status_text code
+pub digits_and_phrase : (code : ℕ) (digits phrase s1 s2 s3 : Text) → s1 ≡ digits → digits ≡ code_digits code → s2 ≡ s1 ++ 32 ∷ [] → s3 ≡ s2 ++ phrase
+    → phrase ≡ unwrap_or (reason_phrase code) [] → s3 ≡ status_text code
 unfolding status_text
 digits_and_phrase code digits phrase s1 s2 s3 e1 ed e2 e3 ep = rw (e3, e2, e1, ed, ep) (append_assoc (code_digits code) (32 ∷ []) (unwrap_or (reason_phrase code) []))
 

@@ -29,11 +29,14 @@ routed : (views : List Text) (target : Text) → is_utf8 target ≡ true → rou
 unfolding route_of_target
 routed views target e = rw e refl
 
-pub text_routed : {V : Type 0} (named : V → Text) (views : List Text) (target text : Text) (parts slice : List (Bor Text)) (result : Result (Option (Route V)) Fault) → text ≡ target → IsUtf8 target → texts_of_fields parts ≡ split_at_byte 47 text → slice ≡ parts
-    → IfOk result (λ route. option_map (route_in_model named) route ≡ route_of_segments views (texts_of_fields slice)) → IfOk result (λ route. option_map (route_in_model named) route ≡ route_of_target views target)
+pub text_routed : {V : Type 0} (named : V → Text) (views : List Text) (target text : Text) (parts slice : List (Bor Text))
+    (result : Result (Option (Route V)) Fault) → text ≡ target → IsUtf8 target → texts_of_fields parts ≡ split_at_byte 47 text → slice ≡ parts
+    → IfOk result (λ route. option_map (route_in_model named) route ≡ route_of_segments views (texts_of_fields slice))
+    → IfOk result (λ route. option_map (route_in_model named) route ≡ route_of_target views target)
 text_routed named views target text parts slice result same utf8 cut is h =
     let e : route_of_segments views (texts_of_fields slice) ≡ route_of_target views target =
-    ap (λ ps. route_of_segments views (texts_of_fields ps)) is ∙ ap (route_of_segments views) cut ∙ ap (λ t. route_of_segments views (split_at_byte 47 t)) same ∙ sym (routed views target (is_utf8-from_IsUtf8 target utf8)) in
+    ap (λ ps. route_of_segments views (texts_of_fields ps)) is ∙ ap (route_of_segments views) cut ∙ ap (λ t. route_of_segments views (split_at_byte 47 t)) same
+    ∙ sym (routed views target (is_utf8-from_IsUtf8 target utf8)) in
     subst (λ r. IfOk result (λ route. option_map (route_in_model named) route ≡ r)) e h
 
 pub text_unrouted : (views : List Text) (target text : Text) → list_all is_nonempty views ≡ true → ((k : ℕ) → get_or target k 0 < 256) → text ≡ target → IsUtf8 target

@@ -59,7 +59,8 @@ found_view b v byte plain =
 found_keyed : (b c : ℕ) (v w : Text) → (256 == b) ≡ false → has_slash (b ∷ v) ≡ false → (256 == c) ≡ false → has_slash (c ∷ w) ≡ false
     → is_some (first all_router_rows (codes "/rows/" ++ ((b ∷ v) ++ 47 ∷ c ∷ w))) ≡ true
 found_keyed b c v w byte plain byte2 plain2 =
-    ap is_some (seek_word (codes "/rows/") ((b ∷ v) ++ 47 ∷ c ∷ w) all_router_rows ((refl, refl, (refl, refl, (refl, refl, (refl, refl, (refl, refl, (refl, refl, tt))))))) ∙ seek_two _ b c v w byte plain byte2 plain2)
+    ap is_some (seek_word (codes "/rows/") ((b ∷ v) ++ 47 ∷ c ∷ w) all_router_rows
+    ((refl, refl, (refl, refl, (refl, refl, (refl, refl, (refl, refl, (refl, refl, tt))))))) ∙ seek_two _ b c v w byte plain byte2 plain2)
 
 clash : {A : Type 0} {b : Bool} → b ≡ true → b ≡ false → A
 clash is not_so = let e : true ≡ false = sym is ∙ not_so in absurd (cc)
@@ -77,7 +78,9 @@ known : (views : List Text) (view : Text) → list_all is_nonempty views ≡ tru
 known [] view all any = absurd (cc)
 known (v ∷ views) view all any = choose (known views view) (is_nonempty v) refl (bytes_eq v view) refl all any
   where
-    choose : (list_all is_nonempty views ≡ true → list_any (λ v. bytes_eq v view) views ≡ true → is_nonempty view ≡ true) → (x : Bool) → is_nonempty v ≡ x → (y : Bool) → bytes_eq v view ≡ y → (x && list_all is_nonempty views) ≡ true → (y || list_any (λ v. bytes_eq v view) views) ≡ true → is_nonempty view ≡ true
+    choose : (list_all is_nonempty views ≡ true → list_any (λ v. bytes_eq v view) views ≡ true → is_nonempty view ≡ true) → (x : Bool) → is_nonempty v ≡ x
+        → (y : Bool) → bytes_eq v view ≡ y → (x && list_all is_nonempty views) ≡ true → (y || list_any (λ v. bytes_eq v view) views) ≡ true
+        → is_nonempty view ≡ true
     choose others true e true f all any = subst (λ t. is_nonempty t ≡ true) ((bytes_eq-Decides v view).0 f) e
     choose others true e false f all any = others all any
     choose others false e y f all any = absurd (cc)
@@ -94,9 +97,11 @@ two_parts : (a b : Text) → is_some (first all_router_rows (join_with_byte 47 (
 two_parts a b none false h = refl
 two_parts a b none true h =
     let e = begun a b (codes "rows") h in
-    clash found_row (subst (λ x. is_some (first all_router_rows (join_with_byte 47 (x ∷ codes "rows" ∷ []))) ≡ false) e.0 (subst (λ x. is_some (first all_router_rows (join_with_byte 47 (a ∷ x ∷ []))) ≡ false) e.1 none))
+    clash found_row (subst (λ x. is_some (first all_router_rows (join_with_byte 47 (x ∷ codes "rows" ∷ []))) ≡ false) e.0
+    (subst (λ x. is_some (first all_router_rows (join_with_byte 47 (a ∷ x ∷ []))) ≡ false) e.1 none))
 
-three_parts : (views : List Text) (a b view : Text) (r : Route) → list_all is_nonempty views ≡ true → ArePlainSegments (view ∷ []) → is_some (first all_router_rows (join_with_byte 47 (a ∷ b ∷ view ∷ []))) ≡ false
+three_parts : (views : List Text) (a b view : Text) (r : Route) → list_all is_nonempty views ≡ true → ArePlainSegments (view ∷ [])
+    → is_some (first all_router_rows (join_with_byte 47 (a ∷ b ∷ view ∷ []))) ≡ false
     → (t : Bool) → has_first_segment a b (codes "ask") ≡ t → (u : Bool) → list_any (λ v. bytes_eq v view) views ≡ u → cond (t && u) (Some r) None ≡ None
 three_parts views a b view r named parts none false h u k = refl
 three_parts views a b view r named parts none true h false k = refl
@@ -118,7 +123,8 @@ four_parts a b (c ∷ v) (d ∷ w) f ((bytes, plain), ((bytes2, plain2), others)
     (subst (λ x. is_some (first all_router_rows (join_with_byte 47 (x ∷ codes "rows" ∷ (c ∷ v) ∷ (d ∷ w) ∷ []))) ≡ false) e.0
     (subst (λ x. is_some (first all_router_rows (join_with_byte 47 (a ∷ x ∷ (c ∷ v) ∷ (d ∷ w) ∷ []))) ≡ false) e.1 none))
 
-by_parts : (views : List Text) (parts : List Text) → list_all is_nonempty views ≡ true → ArePlainSegments parts → is_some (first all_router_rows (join_with_byte 47 parts)) ≡ false → route_of_segments views parts ≡ None
+by_parts : (views : List Text) (parts : List Text) → list_all is_nonempty views ≡ true → ArePlainSegments parts
+    → is_some (first all_router_rows (join_with_byte 47 parts)) ≡ false → route_of_segments views parts ≡ None
 by_parts views [] named are none = refl
 by_parts views (a ∷ []) named are none = refl
 by_parts views (a ∷ b ∷ []) named are none = two_parts a b none (has_first_segment a b (codes "rows")) refl

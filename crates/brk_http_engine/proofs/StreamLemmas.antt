@@ -29,12 +29,14 @@ from_zero : {n m : ℕ} → n ≡ m → 0 + m ≡ n
 from_zero e = omega (arith, e)
 
 -- moments after moments
-moments_more : {C : Type 0} (gives : C → ℕ → C → Type 0) (first mid last : C) (ms ns : List ℕ) → ClockReturnsInOrder gives first ms mid → ClockReturnsInOrder gives mid ns last → ClockReturnsInOrder gives first (ms ++ ns) last
+moments_more : {C : Type 0} (gives : C → ℕ → C → Type 0) (first mid last : C) (ms ns : List ℕ) → ClockReturnsInOrder gives first ms mid
+    → ClockReturnsInOrder gives mid ns last → ClockReturnsInOrder gives first (ms ++ ns) last
 moments_more gives first mid last [] ns e h = subst (λ c. ClockReturnsInOrder gives c ns last) e h
 moments_more gives first mid last (m ∷ ms) ns (c, g, more) h = (c, g, moments_more gives c mid last ms ns more h)
 
 module _ {B C : Type 0} (forms : RequestParsers) (does : CallRelation B) (gives : C → ℕ → C → Type 0) where
-  one_same : (n n' : ℕ) (i i' : Text) (b b' : B) (taken : List ℕ) (reply : Text) (next : StreamState) (after : B) → n' ≡ n → i' ≡ i → b' ≡ b → IsEffectOfFirstRequest forms does n' i' (effect_of b' taken reply next after)
+  one_same : (n n' : ℕ) (i i' : Text) (b b' : B) (taken : List ℕ) (reply : Text) (next : StreamState) (after : B) → n' ≡ n → i' ≡ i → b' ≡ b
+      → IsEffectOfFirstRequest forms does n' i' (effect_of b' taken reply next after)
       → IsEffectOfFirstRequest forms does n i (effect_of b taken reply next after)
   one_same n n' i i' b b' taken reply next after en ei eb h =
       subst (λ m. IsEffectOfFirstRequest forms does m i (effect_of b taken reply next after)) en
@@ -57,7 +59,8 @@ module _ {B C : Type 0} (forms : RequestParsers) (does : CallRelation B) (gives 
       (t, more ++ taken, Continues left, mid, ap (λ l. l ++ taken) e ∙ append_assoc t more taken, first, begins_last rs (n + 1) k left j mid m more taken reply after others (omega (arith, count)) one)
 
   -- no request more
-  begins_end : (rs : List Text) (n : ℕ) (i j : Text) (b m : B) (ms : List ℕ) → AreFirstReplies forms does n i b ms rs j m → ReadsFirstRequest j NoBytesLeft → AreRepliesOfStream forms does n (Continues i) b ms rs m
+  begins_end : (rs : List Text) (n : ℕ) (i j : Text) (b m : B) (ms : List ℕ) → AreFirstReplies forms does n i b ms rs j m → ReadsFirstRequest j NoBytesLeft
+      → AreRepliesOfStream forms does n (Continues i) b ms rs m
   begins_end [] n i j b m ms (ei, em, eb) none = (subst (λ t. ReadsFirstRequest t NoBytesLeft) ei none, em, eb)
   begins_end (x ∷ rs) n i j b m ms (t, more, left, mid, e, first, others) none = (t, more, Continues left, mid, e, first, begins_end rs (n + 1) left j mid m more others none)
 
@@ -93,7 +96,8 @@ module _ {B C : Type 0} (forms : RequestParsers) (does : CallRelation B) (gives 
   change_since_start span after later new = record { base = span.base; after = after; clock = span.clock; later = later; old = span.old; new = new }
 
   here : (input : Text) (span : EnvironmentChange B C) (n : ℕ) (rest left : Text) (after : B) (later : C) (new : Option Text) (reply : Text) → HasFirstReplies input span n rest
-      → ExchangeHasReply forms does gives n rest (change_after span after later new) reply (Continues left) → Appends span.new new reply → HasFirstReplies input (change_since_start span after later new) (n + 1) left
+      → ExchangeHasReply forms does gives n rest (change_after span after later new) reply (Continues left) → Appends span.new new reply
+      → HasFirstReplies input (change_since_start span after later new) (n + 1) left
   here input span n rest left after later new reply p answered wrote = record {
     moments = p.moments ++ answered.taken;
     replies = p.replies ++ reply ∷ [];
@@ -104,7 +108,9 @@ module _ {B C : Type 0} (forms : RequestParsers) (does : CallRelation B) (gives 
   }
 
   pub open_here : (a : Option Text) (span : EnvironmentChange B C) (n : ℕ) (buffer : Text) (left : Option Text) (after : B) (later : C) (new : Option Text) (buffer' : Text) (left' : Option Text)
-      → HasFirstRepliesIfKnown a span n buffer left → IfSome left (λ xs. ExchangeCompletesWith forms does gives n (buffer ++ xs) (change_after span after later new) (prepend_known buffer' left') turn.Open)
+      → HasFirstRepliesIfKnown a span n buffer left
+      → IfSome left (λ xs. ExchangeCompletesWith forms does gives n (buffer ++ xs) (change_after span after later new) (prepend_known buffer' left')
+      turn.Open)
       → HasFirstRepliesIfKnown a (change_since_start span after later new) (n + 1) buffer' left'
   open_here None span n buffer left after later new buffer' left' h t = tt
   open_here (Some input) span n buffer left after later new buffer' left' (rest, is, p) t =
@@ -139,7 +145,8 @@ module _ {B C : Type 0} (forms : RequestParsers) (does : CallRelation B) (gives 
         moments = p.moments;
         replies = p.replies;
         taken = same_moments _ _ _ p.moments p.taken u.1.clock;
-        replied = subst (λ b. AreRepliesOfStream forms does 0 (Continues input) span.base p.moments p.replies b) (sym u.1.base) (begins_end p.replies 0 input rest span.base span.after p.moments p.begun u.0);
+        replied = subst (λ b. AreRepliesOfStream forms does 0 (Continues input) span.base p.moments p.replies b) (sym u.1.base)
+            (begins_end p.replies 0 input rest span.base span.after p.moments p.begun u.0);
         written = subst (λ t. Appends span.old new t) (append-nil (concat p.replies)) (Appends-trans _ _ _ _ _ p.written u.1.written);
         counted = p.counted;
       }

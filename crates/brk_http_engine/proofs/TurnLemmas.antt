@@ -20,7 +20,8 @@ module _ {B C : Type 0} (forms : RequestParsers) (does : CallRelation B) (gives 
       → IfSome a (λ xs. ExchangeCompletesWith forms does gives n (x ++ xs) span left turn.Ended)
   ended h same left = over a h
     where
-      over : (a : Option Text) → IfSome a (λ xs. (found : RequestReading) × ReadsFirstRequest (x ++ xs) found × (found ≡ NoBytesLeft)) → IfSome a (λ xs. ExchangeCompletesWith forms does gives n (x ++ xs) span left turn.Ended)
+      over : (a : Option Text) → IfSome a (λ xs. (found : RequestReading) × ReadsFirstRequest (x ++ xs) found × (found ≡ NoBytesLeft))
+          → IfSome a (λ xs. ExchangeCompletesWith forms does gives n (x ++ xs) span left turn.Ended)
       over None h = tt
       over (Some xs) (found, finds, is) = (subst (λ f. ReadsFirstRequest (x ++ xs) f) is finds, same)
 
@@ -33,19 +34,26 @@ module _ {B C : Type 0} (forms : RequestParsers) (does : CallRelation B) (gives 
     one = record { found = Unreadable problem; finds = subst (λ f. ReadsFirstRequest input f) is finds; replied = (refl, refl, refl, base) };
   }
 
-  pub wrong_closed : (problem : RequestProblem) (reply : Text) → IfSome a (λ xs. (found : RequestReading) × ReadsFirstRequest (x ++ xs) found × (found ≡ Unreadable problem)) → span.after ≡ span.base → span.later ≡ span.clock
-      → reply ≡ reply_text (FromProblem problem) true → Appends span.old span.new reply → (left : Option Text) → IfSome a (λ xs. ExchangeCompletesWith forms does gives n (x ++ xs) span left turn.Closed)
+  pub wrong_closed : (problem : RequestProblem) (reply : Text)
+      → IfSome a (λ xs. (found : RequestReading) × ReadsFirstRequest (x ++ xs) found × (found ≡ Unreadable problem)) → span.after ≡ span.base
+      → span.later ≡ span.clock
+      → reply ≡ reply_text (FromProblem problem) true → Appends span.old span.new reply → (left : Option Text)
+      → IfSome a (λ xs. ExchangeCompletesWith forms does gives n (x ++ xs) span left turn.Closed)
   wrong_closed problem reply h base clock is wrote left = over a h
     where
-      over : (a : Option Text) → IfSome a (λ xs. (found : RequestReading) × ReadsFirstRequest (x ++ xs) found × (found ≡ Unreadable problem)) → IfSome a (λ xs. ExchangeCompletesWith forms does gives n (x ++ xs) span left turn.Closed)
+      over : (a : Option Text) → IfSome a (λ xs. (found : RequestReading) × ReadsFirstRequest (x ++ xs) found × (found ≡ Unreadable problem))
+          → IfSome a (λ xs. ExchangeCompletesWith forms does gives n (x ++ xs) span left turn.Closed)
       over None h = tt
       over (Some xs) (found, finds, same) = (reply_text (FromProblem problem) true, wrong problem (x ++ xs) found finds same base clock, rw is at wrote)
 
-  pub wrong_failed : (problem : RequestProblem) (reply : Text) → IfSome a (λ xs. (found : RequestReading) × ReadsFirstRequest (x ++ xs) found × (found ≡ Unreadable problem)) → span.after ≡ span.base → span.later ≡ span.clock
+  pub wrong_failed : (problem : RequestProblem) (reply : Text)
+      → IfSome a (λ xs. (found : RequestReading) × ReadsFirstRequest (x ++ xs) found × (found ≡ Unreadable problem)) → span.after ≡ span.base
+      → span.later ≡ span.clock
       → reply ≡ reply_text (FromProblem problem) true → ((k : ℕ) × Appends span.old span.new (take k reply)) → IfSome a (λ xs. ExchangeFailsWith forms does gives n (x ++ xs) span kinds.Write)
   wrong_failed problem reply h base clock is (k, wrote) = over a h
     where
-      over : (a : Option Text) → IfSome a (λ xs. (found : RequestReading) × ReadsFirstRequest (x ++ xs) found × (found ≡ Unreadable problem)) → IfSome a (λ xs. ExchangeFailsWith forms does gives n (x ++ xs) span kinds.Write)
+      over : (a : Option Text) → IfSome a (λ xs. (found : RequestReading) × ReadsFirstRequest (x ++ xs) found × (found ≡ Unreadable problem))
+          → IfSome a (λ xs. ExchangeFailsWith forms does gives n (x ++ xs) span kinds.Write)
       over None h = tt
       over (Some xs) (found, finds, same) = (reply_text (FromProblem problem) true, Finished, k, wrong problem (x ++ xs) found finds same base clock, rw is at wrote)
 
@@ -76,42 +84,58 @@ module _ {B C : Type 0} (forms : RequestParsers) (does : CallRelation B) (gives 
     };
   }
 
-  pub request_failed : (q : RequestPositions) (y : Text) (left : Option Text) (closes : Bool) (reply : Text) → IfSome a (λ xs. (found : RequestReading) × ReadsFirstRequest (x ++ xs) found × MatchesNextRequest (Whole q) y left found)
-      → ExecutesRequest forms does gives n (request_at_positions y q) span closes reply → ((k : ℕ) × Appends span.old span.new (take k reply)) → IfSome a (λ xs. ExchangeFailsWith forms does gives n (x ++ xs) span kinds.Write)
+  pub request_failed : (q : RequestPositions) (y : Text) (left : Option Text) (closes : Bool) (reply : Text)
+      → IfSome a (λ xs. (found : RequestReading) × ReadsFirstRequest (x ++ xs) found × MatchesNextRequest (Whole q) y left found)
+      → ExecutesRequest forms does gives n (request_at_positions y q) span closes reply → ((k : ℕ) × Appends span.old span.new (take k reply))
+      → IfSome a (λ xs. ExchangeFailsWith forms does gives n (x ++ xs) span kinds.Write)
   request_failed q y left closes reply h acted (k, wrote) = over a h
     where
-      over : (a : Option Text) → IfSome a (λ xs. (found : RequestReading) × ReadsFirstRequest (x ++ xs) found × MatchesNextRequest (Whole q) y left found) → IfSome a (λ xs. ExchangeFailsWith forms does gives n (x ++ xs) span kinds.Write)
+      over : (a : Option Text) → IfSome a (λ xs. (found : RequestReading) × ReadsFirstRequest (x ++ xs) found × MatchesNextRequest (Whole q) y left found)
+          → IfSome a (λ xs. ExchangeFailsWith forms does gives n (x ++ xs) span kinds.Write)
       over None h = tt
       over (Some xs) (found, finds, (rest, some, is)) = (reply, stream_after_reply closes rest, k, answered (request_at_positions y q) (x ++ xs) rest closes reply found finds is acted, wrote)
 
-  pub request_unwritten : (q : RequestPositions) (y : Text) (left : Option Text) (closes : Bool) (reply : Text) → IfSome a (λ xs. (found : RequestReading) × ReadsFirstRequest (x ++ xs) found × MatchesNextRequest (Whole q) y left found)
-      → ExecutesRequest forms does gives n (request_at_positions y q) span closes reply → Appends span.old span.new [] → IfSome a (λ xs. ExchangeFailsWith forms does gives n (x ++ xs) span kinds.Memory)
+  pub request_unwritten : (q : RequestPositions) (y : Text) (left : Option Text) (closes : Bool) (reply : Text)
+      → IfSome a (λ xs. (found : RequestReading) × ReadsFirstRequest (x ++ xs) found × MatchesNextRequest (Whole q) y left found)
+      → ExecutesRequest forms does gives n (request_at_positions y q) span closes reply → Appends span.old span.new []
+      → IfSome a (λ xs. ExchangeFailsWith forms does gives n (x ++ xs) span kinds.Memory)
   request_unwritten q y left closes reply h acted wrote = over a h
     where
-      over : (a : Option Text) → IfSome a (λ xs. (found : RequestReading) × ReadsFirstRequest (x ++ xs) found × MatchesNextRequest (Whole q) y left found) → IfSome a (λ xs. ExchangeFailsWith forms does gives n (x ++ xs) span kinds.Memory)
+      over : (a : Option Text) → IfSome a (λ xs. (found : RequestReading) × ReadsFirstRequest (x ++ xs) found × MatchesNextRequest (Whole q) y left found)
+          → IfSome a (λ xs. ExchangeFailsWith forms does gives n (x ++ xs) span kinds.Memory)
       over None h = tt
       over (Some xs) (found, finds, (rest, some, is)) = inr (reply, stream_after_reply closes rest, answered (request_at_positions y q) (x ++ xs) rest closes reply found finds is acted, wrote)
 
-  pub request_closed : (q : RequestPositions) (y : Text) (left : Option Text) (closes : Bool) (reply : Text) → IfSome a (λ xs. (found : RequestReading) × ReadsFirstRequest (x ++ xs) found × MatchesNextRequest (Whole q) y left found)
-      → ExecutesRequest forms does gives n (request_at_positions y q) span closes reply → closes ≡ true → Appends span.old span.new reply → (after : Option Text) → IfSome a (λ xs. ExchangeCompletesWith forms does gives n (x ++ xs) span after turn.Closed)
+  pub request_closed : (q : RequestPositions) (y : Text) (left : Option Text) (closes : Bool) (reply : Text)
+      → IfSome a (λ xs. (found : RequestReading) × ReadsFirstRequest (x ++ xs) found × MatchesNextRequest (Whole q) y left found)
+      → ExecutesRequest forms does gives n (request_at_positions y q) span closes reply → closes ≡ true → Appends span.old span.new reply
+      → (after : Option Text) → IfSome a (λ xs. ExchangeCompletesWith forms does gives n (x ++ xs) span after turn.Closed)
   request_closed q y left closes reply h acted last wrote after = over a h
     where
-      over : (a : Option Text) → IfSome a (λ xs. (found : RequestReading) × ReadsFirstRequest (x ++ xs) found × MatchesNextRequest (Whole q) y left found) → IfSome a (λ xs. ExchangeCompletesWith forms does gives n (x ++ xs) span after turn.Closed)
+      over : (a : Option Text) → IfSome a (λ xs. (found : RequestReading) × ReadsFirstRequest (x ++ xs) found × MatchesNextRequest (Whole q) y left found)
+          → IfSome a (λ xs. ExchangeCompletesWith forms does gives n (x ++ xs) span after turn.Closed)
       over None h = tt
-      over (Some xs) (found, finds, (rest, some, is)) =
-          (reply, subst (λ b. ExchangeHasReply forms does gives n (x ++ xs) span reply (stream_after_reply b rest)) last (answered (request_at_positions y q) (x ++ xs) rest closes reply found finds is acted), wrote)
+      over (Some xs) (found, finds, (rest, some, is)) = (
+        reply,
+        subst (λ b. ExchangeHasReply forms does gives n (x ++ xs) span reply (stream_after_reply b rest)) last
+            (answered (request_at_positions y q) (x ++ xs) rest closes reply found finds is acted),
+        wrote,
+      )
 
-  pub request_open : (q : RequestPositions) (y : Text) (left : Option Text) (closes : Bool) (reply : Text) → IfSome a (λ xs. (found : RequestReading) × ReadsFirstRequest (x ++ xs) found × MatchesNextRequest (Whole q) y left found)
+  pub request_open : (q : RequestPositions) (y : Text) (left : Option Text) (closes : Bool) (reply : Text)
+      → IfSome a (λ xs. (found : RequestReading) × ReadsFirstRequest (x ++ xs) found × MatchesNextRequest (Whole q) y left found)
       → ExecutesRequest forms does gives n (request_at_positions y q) span closes reply → closes ≡ false → Appends span.old span.new reply → (z : Text) → z ≡ drop q.body.end y
       → IfSome a (λ xs. ExchangeCompletesWith forms does gives n (x ++ xs) span (prepend_known z left) turn.Open)
   request_open q y left closes reply h acted goes_on wrote z cut = over a h
     where
-      over : (a : Option Text) → IfSome a (λ xs. (found : RequestReading) × ReadsFirstRequest (x ++ xs) found × MatchesNextRequest (Whole q) y left found) → IfSome a (λ xs. ExchangeCompletesWith forms does gives n (x ++ xs) span (prepend_known z left) turn.Open)
+      over : (a : Option Text) → IfSome a (λ xs. (found : RequestReading) × ReadsFirstRequest (x ++ xs) found × MatchesNextRequest (Whole q) y left found)
+          → IfSome a (λ xs. ExchangeCompletesWith forms does gives n (x ++ xs) span (prepend_known z left) turn.Open)
       over None h = tt
       over (Some xs) (found, finds, (rest, some, is)) = (
         reply,
         rest,
-        subst (λ b. ExchangeHasReply forms does gives n (x ++ xs) span reply (stream_after_reply b rest)) goes_on (answered (request_at_positions y q) (x ++ xs) rest closes reply found finds is acted),
+        subst (λ b. ExchangeHasReply forms does gives n (x ++ xs) span reply (stream_after_reply b rest)) goes_on
+            (answered (request_at_positions y q) (x ++ xs) rest closes reply found finds is acted),
         wrote,
         ap (λ front. prepend_known front left) cut ∙ some,
       )

@@ -5,7 +5,8 @@ use Rattle.std.proofs.lemmas.List.{length-append}
 use Rattle.brk_http_engine.specs.declared.stream.ServeFault.{ServeFault}
 use Rattle.brk_http_engine.specs.declared.turning.FaultKind.{FaultKind}
 use Rattle.brk_http_engine.specs.declared.turning.FaultKind.TheVariants as kinds
-use Rattle.brk_http_listener.specs.Listening.{AcceptRelation, AcceptHasResult, ServeEachStreamPost, MayAcceptNextStream, ListenerClockAndDesk, ServeRelation, StreamEnd, HandlesStream, HandlesStreamsInOrder}
+use Rattle.brk_http_listener.specs.Listening.{AcceptRelation, AcceptHasResult, ServeEachStreamPost, MayAcceptNextStream, ListenerClockAndDesk, ServeRelation}
+use Rattle.brk_http_listener.specs.Listening.{StreamEnd, HandlesStream, HandlesStreamsInOrder}
 use Rattle.brk_http_listener.specs.declared.faults.AcceptFault.TheVariants.{Aborted, Failed}
 use Rattle.brk_http_listener.specs.declared.faults.ListenFault.{ListenFault}
 use Rattle.brk_http_listener.specs.declared.faults.ListenFault.TheVariants.{Stream, Net}

@@ -52,11 +52,14 @@ many [] v w = refl
 many (u ∷ vs) v w = refl
 
 len_push : (name : List ℕ) (ps : List HeadField) (q : HeadField)
-    → body_length_of_values (values_of_field name (ps ++ q ∷ [])) ≡ (if is_equal_ignoring_case q.0 name then (if has_field_named name ps then Err BadRequest else body_length_of_value q.1) else body_length_of_values (values_of_field name ps))
+    → body_length_of_values (values_of_field name (ps ++ q ∷ []))
+    ≡ (if is_equal_ignoring_case q.0 name then (if has_field_named name ps then Err BadRequest else body_length_of_value q.1) else body_length_of_values
+    (values_of_field name ps))
 len_push name ps q = rw (filter_map-append (λ p. if is_equal_ignoring_case p.0 name then Some p.1 else None) ps (q ∷ [])) (by (is_equal_ignoring_case q.0 name) (has_field_named name ps) refl refl)
   where
     by : (b c : Bool) → is_equal_ignoring_case q.0 name ≡ b → has_field_named name ps ≡ c
-        → body_length_of_values (values_of_field name ps ++ values_of_field name (q ∷ [])) ≡ (if b then (if c then Err BadRequest else body_length_of_value q.1) else body_length_of_values (values_of_field name ps))
+        → body_length_of_values (values_of_field name ps ++ values_of_field name (q ∷ []))
+        ≡ (if b then (if c then Err BadRequest else body_length_of_value q.1) else body_length_of_values (values_of_field name ps))
     by true true e f = let r = values_some name ps f in rw (e, r.2) (many r.1 r.0 q.1)
     by true false e f = rw (e, values_any name ps f) refl
     by false c e f = rw e (rw (nil (values_of_field name ps)) refl)

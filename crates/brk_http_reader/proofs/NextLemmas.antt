@@ -1,5 +1,6 @@
 -- From what the code saw to what stands at the front of all the input.
-use Rattle.std.proofs.Common.{◌≡◌, ℕ, ◌+◌, ◌-◌, ◌<◌, ◌≤◌, List, [], ◌++◌, length, take, drop, Option, Some, None, refl, sym, ap, ◌∙◌, subst, arith, append_assoc, IfSome, Bool, true, false, inl, inr, Ok, Err}
+use Rattle.std.proofs.Common.{◌≡◌, ℕ, ◌+◌, ◌-◌, ◌<◌, ◌≤◌, List, [], ◌++◌, length, take, drop, Option, Some, None, refl, sym, ap, ◌∙◌, subst, arith}
+use Rattle.std.proofs.Common.{append_assoc, IfSome, Bool, true, false, inl, inr, Ok, Err}
 use Rattle.std.specs.Prelude.{nat_lt}
 use Rattle.std.specs.Io.KnownBytes.{IsAtEnd, prepend_known}
 use Rattle.std.proofs.lemmas.Bool.Decides.{nat_tests}
@@ -112,7 +113,9 @@ module _ (a b : Option (List ℕ)) (x y : List ℕ) (n : ℕ) (moves : ReadsInto
   pub whole_body : (facts : HeadFacts) (h : RequestHead) (r : List ℕ) (len : ℕ) (c : Option (List ℕ)) (z : List ℕ) → FactsDescribeHead (take n y) facts h r → facts.len ≡ Ok len
       → ReadsIntoBuffer b c y z → n + len ≤ length z → IsWithin (length (take n y)) facts.method → IsWithin (length (take n y)) facts.target
       → IfSome a (λ xs. (found : RequestReading) × ReadsFirstRequest (x ++ xs) found × MatchesNextRequest (Whole (positions_of_request facts n len)) z c found)
-  whole_body facts h r len c z head e more long ms ts = on_some a (λ xs. (found : RequestReading) × ReadsFirstRequest (x ++ xs) found × MatchesNextRequest (Whole (positions_of_request facts n len)) z c found) (λ l some.
+  whole_body facts h r len c z head e more long ms ts =
+      on_some a (λ xs. (found : RequestReading) × ReadsFirstRequest (x ++ xs) found × MatchesNextRequest (Whole (positions_of_request facts n len)) z c found)
+      (λ l some.
       let m = moved_all a b x y l some moves in
       let k = moved_all b c y z m.0 m.1 more in
       let all : x ++ l ≡ z ++ k.0 = m.2 ∙ k.2 in

@@ -81,7 +81,8 @@ module _ {S C : Type 0} (g : Ghosts S) (rests : RecoversOnlyLastCommit g) (form 
 
   -- ---- the first run
 
-  ending_begins : (ending : BatchEnding) (name : Text) (rows : List Fields) (answers told : List Answer) (out : Text) → MatchesEnding (Some text) ending name rows answers told out → BeginsWithRecords (Some text) (batch_header name ∷ rows)
+  ending_begins : (ending : BatchEnding) (name : Text) (rows : List Fields) (answers told : List Answer) (out : Text)
+      → MatchesEnding (Some text) ending name rows answers told out → BeginsWithRecords (Some text) (batch_header name ∷ rows)
   ending_begins model.CorrectEnd name rows answers told out ends = begins_front (Some text) (batch_header name ∷ rows) (correct_end_record (length rows) ∷ []) ends.0
   ending_begins model.BadEnd name rows answers told out ends = begins_front (Some text) (batch_header name ∷ rows) (ends.0.0 ∷ []) ends.0.3
   ending_begins model.NoEnd name rows answers told out (inl cut, said) = ([], subst (λ (rs : List Fields). records default_config text ≡ batch_header name ∷ (rs ++ [])) (sym cut.0) cut.1)
@@ -127,7 +128,8 @@ module _ {S C : Type 0} (g : Ghosts S) (rests : RecoversOnlyLastCommit g) (form 
   by_result (Ok counts) after h = inr (ended model.CorrectEnd (counts.ok + counts.again + counts.no) after h.0)
   by_result (Err fault) after h = by_kind fault.rows fault.kind after h
 
-  under_way : (after : Base) (left : Held S) (fault : BatchFault) (w : CrashMayCommitFailedRow form step_of_row gives (CrashExposesOnlyOneOf g) (Some text) (environment_change_with_bases base after one) left fault)
+  under_way : (after : Base) (left : Held S) (fault : BatchFault)
+      (w : CrashMayCommitFailedRow form step_of_row gives (CrashExposesOnlyOneOf g) (Some text) (environment_change_with_bases base after one) left fault)
       → CommittedUnansweredRow after (step_of_row after w.failed.moment w.failed.command (record { batch = w.failed.stopped.name; row = fault.rows + 1 })).1
   under_way after left fault w = record {
     part = stopped fault.rows after w.failed.stopped;
@@ -152,7 +154,9 @@ module _ {S C : Type 0} (g : Ghosts S) (rests : RecoversOnlyLastCommit g) (form 
       how = inl (refl, first);
     }
 
-    found_under : (fault : BatchFault) → CrashMayCommitFailedRow form step_of_row gives (CrashExposesOnlyOneOf g) (Some text) (environment_change_with_bases base after one) left fault → IsExposedBase trees
+    found_under : (fault : BatchFault)
+        → CrashMayCommitFailedRow form step_of_row gives (CrashExposesOnlyOneOf g) (Some text) (environment_change_with_bases base after one) left fault
+        → IsExposedBase trees
     found_under fault w = elim (w.may trees may) [
       | inl are ↦ record { after = after; stood = after; can = kept_can_be g left after keeps; are = are; how = inl (refl, first) }
       | inr booked ↦ record {
@@ -164,7 +168,9 @@ module _ {S C : Type 0} (g : Ghosts S) (rests : RecoversOnlyLastCommit g) (form 
       }
     ]
 
-    found_at : (result : Result Counts BatchFault) → BoundsBatchCrashStates form step_of_row gives (CrashExposesOnlyOneOf g) (Some text) (environment_change_with_bases base after one) left result → IsExposedBase trees
+    found_at : (result : Result Counts BatchFault)
+        → BoundsBatchCrashStates form step_of_row gives (CrashExposesOnlyOneOf g) (Some text) (environment_change_with_bases base after one) left result
+        → IsExposedBase trees
     found_at (Ok counts) only = found_alone only
     found_at (Err fault) (inl only) = found_alone only
     found_at (Err fault) (inr w) = found_under fault w
@@ -188,7 +194,13 @@ module _ {S C : Type 0} (g : Ghosts S) (rests : RecoversOnlyLastCommit g) (form 
       moments = [];
       mid = one.clock;
       taken = refl;
-      settled = record { named = c.answered.settled.named; rows_only = tt; answered = answered-of form step_of_row c.answered.name base after [] [] [] (record { replies = []; one_each = refl; run = same; all = refl }); each = refl };
+      settled = record {
+        named = c.answered.settled.named;
+        rows_only = tt;
+        answered =
+            answered-of form step_of_row c.answered.name base after [] [] [] (record { replies = []; one_each = refl; run = same; all = refl });
+        each = refl;
+      };
       begins = begins_front (Some text) (batch_header c.answered.name ∷ []) (c.answered.rows ++ correct_end_record (length c.answered.rows) ∷ []) c.answered.ends.0;
     }
 
@@ -248,7 +260,8 @@ module _ {S C : Type 0} (g : Ghosts S) (rests : RecoversOnlyLastCommit g) (form 
       asked = c.taken;
       written = wrote;
       completed = λ none.
-          elim (booked-completed form p.name base after stood last p.moments c.moments p.rows (u.row ∷ on.1.0) p.answers c.answered.answers u.moment answer none p.settled next (second p (u.row ∷ on.1.0) on.0 on.1.1)) [
+          elim (booked-completed form p.name base after stood last p.moments c.moments p.rows (u.row ∷ on.1.0) p.answers c.answered.answers u.moment answer none
+          p.settled next (second p (u.row ∷ on.1.0) on.0 on.1.1)) [
             | inl k ↦ inl (named_again p (u.row ∷ on.1.0) on.0 on.1.1 p.moments p.answers k)
             | inr k ↦ inr (u.moment, answer, u.given, named_again p (u.row ∷ on.1.0) on.0 on.1.1 (p.moments ++ u.moment ∷ []) (p.answers ++ answer ∷ []) k)
           ];
@@ -294,7 +307,8 @@ module _ {S C : Type 0} (g : Ghosts S) (rests : RecoversOnlyLastCommit g) (form 
       second = c.answered.settled;
       retry_calls = late;
       written = wrote;
-      run = one-run base stood last (calls_of_rows c.answered.name moments (well_formed_rows_from form 1 front)) (calls_of_rows c.answered.name c.moments (well_formed_rows_from form 1 c.answered.rows))
+      run = one-run base stood last (calls_of_rows c.answered.name moments (well_formed_rows_from form 1 front))
+          (calls_of_rows c.answered.name c.moments (well_formed_rows_from form 1 c.answered.rows))
           early.replies late.replies early.run late.run;
       stored = done-kept base stood (calls_of_rows c.answered.name moments (well_formed_rows_from form 1 front)) early.replies early.run;
       repeated = (left-over stood last (calls_of_rows c.answered.name c.moments (well_formed_rows_from form 1 c.answered.rows)) late.replies late.run).1;
@@ -347,7 +361,8 @@ module _ {S C : Type 0} (g : Ghosts S) (rests : RecoversOnlyLastCommit g) (form 
 
   -- ---- both
 
-  pub sent_again : (first left conn store last : Held S) (two : ClockAndWriterChange C) (ended : Result Counts BatchFault) (taken : Result (Unit {0}) Fault) (counts : Counts) → RepresentsDurableBase g first base
+  pub sent_again : (first left conn store last : Held S) (two : ClockAndWriterChange C) (ended : Result Counts BatchFault) (taken : Result (Unit {0}) Fault)
+      (counts : Counts) → RepresentsDurableBase g first base
       → IsBatchCrashSafe (λ desk. HasCleanDisk (state g desk)) (λ desk. Represents g desk) (CrashExposesOnlyOneOf g) form step_of_row gives (Some text) first left one ended
       → HasCleanDisk (state g left) → IsNewConnectionAfterCrash g left conn → AdoptPost g conn store taken → HasCleanDisk (state g store)
       → AuditAnswerSatisfies taken (λ failing. failing ≡ None)

@@ -5,7 +5,8 @@ use Rattle.std.specs.List.{AllByRecursion}
 use Rattle.std.proofs.lemmas.List.{length-append}
 use Rattle.brk_money.specs.Spelling.{Text}
 use Rattle.brk_model.specs.Answers.{Fields, RowStep}
-use Rattle.brk_model_theorems.specs.RowCalls.{CallsHaveAnswers, RowCall, result_of_row_call, calls_of_rows, well_formed_rows_from, prepended_if_well_formed, answers_interleaved_with_refusals, RowsAreAnsweredByCalls}
+use Rattle.brk_model_theorems.specs.RowCalls.{CallsHaveAnswers, RowCall, result_of_row_call, calls_of_rows, well_formed_rows_from, prepended_if_well_formed}
+use Rattle.brk_model_theorems.specs.RowCalls.{answers_interleaved_with_refusals, RowsAreAnsweredByCalls}
 use Rattle.brk_model.specs.Batch.{BatchRowsAreDecided}
 use Rattle.brk_model.specs.Commands.{Answer}
 use Rattle.brk_model.specs.Forms.{ReadResult}

@@ -34,7 +34,8 @@ use Rattle.brk_import.specs.Rows.{RowCallHasOutcome}
 
 module _ {S : Type 0} (g : Ghosts S) (old new : Held S) (now : ℕ) (command : Command) where
   -- after a call that committed nothing, a crash exposes what it exposed before
-  quiet_left : (key : Key) (answer : CommandAnswer) → ((base after : Base) → step_of_row base now command key ≡ (model_answer answer, after) → after ≡ base) → CommandPost g old new now command (Some key) (Ok answer)
+  quiet_left : (key : Key) (answer : CommandAnswer) → ((base after : Base) → step_of_row base now command key ≡ (model_answer answer, after) → after ≡ base)
+      → CommandPost g old new now command (Some key) (Ok answer)
       → CallRefinesStep (λ desk. HasCleanDisk (state g desk)) (RepresentsDurably (λ desk. Represents g desk) (CrashExposesOnlyOneOf g) true) step_of_row old new now command key (model_answer answer)
   quiet_left key answer quiet called clean base sure =
       let told = called.answered clean base sure.0 in
@@ -65,7 +66,8 @@ module _ {S : Type 0} (g : Ghosts S) (old new : Held S) (now : ℕ) (command : C
         told.2,
       )
   answered_left key (given.Again line) called = quiet_left key (given.Again line) (λ base after e. quiet_leaves base now command (Some key) (model_answer (given.Again line)) after e tt) called
-  answered_left key (given.Refused refusal) called = quiet_left key (given.Refused refusal) (λ base after e. quiet_leaves base now command (Some key) (model_answer (given.Refused refusal)) after e tt) called
+  answered_left key (given.Refused refusal) called =
+      quiet_left key (given.Refused refusal) (λ base after e. quiet_leaves base now command (Some key) (model_answer (given.Refused refusal)) after e tt) called
 
   acts : (key : Key) (answer : CommandAnswer) → CommandPost g old new now command (Some key) (Ok answer) → (sure : Bool)
       → CallRefinesStep (λ desk. HasCleanDisk (state g desk)) (RepresentsDurably (λ desk. Represents g desk) (CrashExposesOnlyOneOf g) sure) step_of_row old new now command key (model_answer answer)
@@ -98,10 +100,12 @@ module _ {S : Type 0} (g : Ghosts S) (old new : Held S) (now : ℕ) (command : C
 
 -- one call was made, and nothing else
 module _ {S : Type 0} (g : Ghosts S) (old new : Held S) (now : ℕ) (command : commands.Command) (key : keys.Key) where
-  did : (answer : CommandAnswer) → CommandPost g old new now (abstract_command command) (optional_model_key (Some key)) (Ok answer) → RowCallHasOutcome g old now (abstract_command command, abstract_key key) (Did (model_answer answer)) new
+  did : (answer : CommandAnswer) → CommandPost g old new now (abstract_command command) (optional_model_key (Some key)) (Ok answer)
+      → RowCallHasOutcome g old now (abstract_command command, abstract_key key) (Did (model_answer answer)) new
   did answer h = record { made = made.Do command (Some key); came = came.Did answer; call_is = refl; outcome_is = refl; is_made = (Ok answer, refl, h) }
 
-  failed : (fault : Fault) → CommandPost g old new now (abstract_command command) (optional_model_key (Some key)) (Err fault) → RowCallHasOutcome g old now (abstract_command command, abstract_key key) (Failed fault) new
+  failed : (fault : Fault) → CommandPost g old new now (abstract_command command) (optional_model_key (Some key)) (Err fault)
+      → RowCallHasOutcome g old now (abstract_command command, abstract_key key) (Failed fault) new
   failed fault h = record { made = made.Do command (Some key); came = came.Failed fault; call_is = refl; outcome_is = refl; is_made = (Err fault, refl, h) }
 
   pub has_outcome : (result : Result CommandAnswer Fault) → CommandPost g old new now (abstract_command command) (optional_model_key (Some key)) result

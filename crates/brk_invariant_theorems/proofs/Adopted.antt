@@ -44,7 +44,8 @@ no_type : (base : Base) (t : Trade) → IsRead base t → is_completed t ≡ fal
 unfolding tables_sorted_by_key tables_of_base_in_schema
 no_type base t r e =
     ap (λ o. option_map_or (λ s. s.cash_type) o [])
-    (find-id (λ s. s.trade) t.id (map (settlement_row base.accounts base.rule) (completed_trades base)) ∙ find-map (λ s. s.trade == t.id) (settlement_row base.accounts base.rule) (completed_trades base)
+    (find-id (λ s. s.trade) t.id (map (settlement_row base.accounts base.rule) (completed_trades base))
+    ∙ find-map (λ s. s.trade == t.id) (settlement_row base.accounts base.rule) (completed_trades base)
     ∙ ap (option_map (settlement_row base.accounts base.rule)) r.done)
     ∙ ap (λ c. option_map_or (λ s. s.cash_type) (option_map (settlement_row base.accounts base.rule) (cond c (Some t) None)) []) e
 
@@ -52,13 +53,16 @@ no_name : (base : Base) (t : Trade) → IsRead base t → is_completed t && t.is
 no_name base t r e =
     ap (λ ps. option_map_or (λ p. p.name) (find (is_posting_of_trade t.id) ps) []) (posted_in base)
     ∙ ap (λ o. option_map_or (λ p. p.name) o []) (found_first (is_posting_of_trade t.id) (postings_sorted_by_stamp (postings_of_base base))
-    ∙ ap (find (λ p. true)) (turn_filter (is_posting_of_trade t.id) (postings_of_base base) ∙ ap postings_sorted_by_stamp (posting_again base t r) ∙ turn_one (is_completed t && t.is_cash) (posting_of_trade base.accounts t))
+    ∙ ap (find (λ p. true))
+    (turn_filter (is_posting_of_trade t.id) (postings_of_base base) ∙ ap postings_sorted_by_stamp (posting_again base t r)
+    ∙ turn_one (is_completed t && t.is_cash) (posting_of_trade base.accounts t))
     ∙ ap (λ b. find (λ p. true) (cond b (posting_of_trade base.accounts t ∷ []) [])) e)
 
 words_of : (t : Tables) → PassesAudit third_schema t → (r : TradeRow) → IsRead (base_of_tables t) (trade_of_row t r) → HasTextsOnlyIfCompleted (trade_of_row t r)
 words_of t p r k = record {
   settled = λ e. ap (λ T. option_map_or (λ s. s.cash_type) (find (λ s. s.trade == r.id) T.settlements) []) (sym (passing_tables third_schema t p)) ∙ no_type (base_of_tables t) (trade_of_row t r) k e;
-  moved = λ e. ap (λ T. option_map_or (λ p. p.name) (find (is_posting_of_trade r.id) (postings_of_tables T)) []) (sym (passing_tables third_schema t p)) ∙ no_name (base_of_tables t) (trade_of_row t r) k e;
+  moved = λ e. ap (λ T. option_map_or (λ p. p.name) (find (is_posting_of_trade r.id) (postings_of_tables T)) []) (sym (passing_tables third_schema t p))
+      ∙ no_name (base_of_tables t) (trade_of_row t r) k e;
 }
 
 -- movements that stand in turn, each at its own stamp, came one after another
@@ -79,10 +83,13 @@ in_order ms e =
 movements_told : (t : Tables) → BooksInvariant (base_of_tables t) → IsPosted t → is_strictly_ascending (map (λ m. m.stamp) (base_of_tables t).movements) ≡ true
 movements_told t books p = rising (completed_trades (base_of_tables t)) (base_of_tables t).movements (in_order (base_of_tables t).movements p.risen) books.movements.apart
 
-told_of : (t : Tables) → PassesAudit third_schema t → satisfies_status_condition t ≡ true → AllByRecursion (IsRead (base_of_tables t)) (base_of_tables t).trades → is_strictly_ascending (map (λ m. m.stamp) (base_of_tables t).movements) ≡ true → HasValidHistories (base_of_tables t)
+told_of : (t : Tables) → PassesAudit third_schema t → satisfies_status_condition t ≡ true → AllByRecursion (IsRead (base_of_tables t)) (base_of_tables t).trades
+    → is_strictly_ascending (map (λ m. m.stamp) (base_of_tables t).movements) ≡ true → HasValidHistories (base_of_tables t)
 unfolding base_of_tables satisfies_status_condition
 told_of t p s k rises =
-    let status = All-map t.trades (λ r e. parts3 (is_valid_status_sequence (map (λ m. m.status) (status_changes_of_trade t r.id))) (is_strictly_ascending (map (λ m. m.stamp) (status_changes_of_trade t r.id))) (matches_last_status_change r (status_changes_of_trade t r.id)) e)
+    let status = All-map t.trades
+    (λ r e. parts3 (is_valid_status_sequence (map (λ m. m.status) (status_changes_of_trade t r.id)))
+    (is_strictly_ascending (map (λ m. m.stamp) (status_changes_of_trade t r.id))) (matches_last_status_change r (status_changes_of_trade t r.id)) e)
     (list_all_true (has_valid_status_history t) t.trades (and_parts (list_all (has_valid_status_history t) t.trades) (all_distinct (completion_stamps t ++ movement_stamps t)) s).0) in
     record {
       stamps = All-mapped HasAscendingStatusStamps (trade_of_row t) t.trades (All-map t.trades (λ r e. e.1) status);
@@ -99,7 +106,8 @@ passing_told t p =
 
 pub passing_sound : (t : Tables) → PassesAudit third_schema t → AuditInvariant (base_of_tables t)
 unfolding ConditionHolds
-passing_sound t p = sound_back (base_of_tables t) (passing_books third_schema t p) (passing_told t p) (ap (satisfies_form_condition third_schema) (passing_tables third_schema t p) ∙ (all_hold third_schema t p).form)
+passing_sound t p = sound_back (base_of_tables t) (passing_books third_schema t p) (passing_told t p)
+    (ap (satisfies_form_condition third_schema) (passing_tables third_schema t p) ∙ (all_hold third_schema t p).form)
 
 -- ---- both ways
 
@@ -111,17 +119,21 @@ sound_exactly base books = ((λ k. (sound_told base k, form_of base books k)), (
 
 -- ---- whole runs
 
-pub run_passes : (base : Base) (calls : List (ℕ × Call)) (outcomes : List Outcome) (after : Base) → BooksInvariant base → AuditInvariant base → AllByRecursion CallMeetsAuditFormats calls → Run base calls outcomes after
+pub run_passes : (base : Base) (calls : List (ℕ × Call)) (outcomes : List Outcome) (after : Base) → BooksInvariant base → AuditInvariant base
+    → AllByRecursion CallMeetsAuditFormats calls → Run base calls outcomes after
     → PassesAudit third_schema (sheets after)
 run_passes base calls outcomes after books k f r = let h = run_both base calls outcomes after f r (books, k) in sound_passes after h.0 h.1
 
-pub run_sound : (base : Base) (calls : List (ℕ × Call)) (outcomes : List Outcome) (after : Base) → BooksInvariant base → AuditInvariant base → AllByRecursion CallMeetsAuditFormats calls → Run base calls outcomes after
+pub run_sound : (base : Base) (calls : List (ℕ × Call)) (outcomes : List Outcome) (after : Base) → BooksInvariant base → AuditInvariant base
+    → AllByRecursion CallMeetsAuditFormats calls → Run base calls outcomes after
     → AuditInvariant after
 run_sound base calls outcomes after books k f r = (run_both base calls outcomes after f r (books, k)).1
 
-pub first_passes : (calls : List (ℕ × Call)) (outcomes : List Outcome) (after : Base) → AllByRecursion CallMeetsAuditFormats calls → Run empty_base calls outcomes after → PassesAudit third_schema (sheets after)
+pub first_passes : (calls : List (ℕ × Call)) (outcomes : List Outcome) (after : Base) → AllByRecursion CallMeetsAuditFormats calls
+    → Run empty_base calls outcomes after → PassesAudit third_schema (sheets after)
 first_passes calls outcomes after f r = run_passes empty_base calls outcomes after empty_books empty_sound f r
 
-pub adopted_passes : (rows : Tables) (calls : List (ℕ × Call)) (outcomes : List Outcome) (after : Base) → PassesAudit third_schema rows → AllByRecursion CallMeetsAuditFormats calls → Run (base_of_tables rows) calls outcomes after
+pub adopted_passes : (rows : Tables) (calls : List (ℕ × Call)) (outcomes : List Outcome) (after : Base) → PassesAudit third_schema rows
+    → AllByRecursion CallMeetsAuditFormats calls → Run (base_of_tables rows) calls outcomes after
     → PassesAudit third_schema (sheets after)
 adopted_passes rows calls outcomes after p f r = run_passes (base_of_tables rows) calls outcomes after (passing_books third_schema rows p) (passing_sound rows p) f r

@@ -8,7 +8,9 @@ use Rattle.std.proofs.lemmas.List.Sums.{sum_by-cons}
 use Rattle.brk_money.specs.Amounts.{commission, half_up, tax}
 use Rattle.brk_money.specs.declared.side.Side.{Side}
 use Rattle.brk_money.specs.declared.side.Side.TheVariants.{Buy, Sell}
-use Rattle.brk_model.specs.Shares.{Share, Deal, closed_share_count_of_deal, closed_shares, closed_value_at_deal_price, realised_gain, remaining_shares, is_opposite_to_position, opened_share, opened_shares, closed_value_at_opening_prices, sell_value, sell_value_for_side, shares_after_deal, buy_value}
+use Rattle.brk_model.specs.Shares.{Share, Deal, closed_share_count_of_deal, closed_shares, closed_value_at_deal_price, realised_gain, remaining_shares}
+use Rattle.brk_model.specs.Shares.{is_opposite_to_position, opened_share, opened_shares, closed_value_at_opening_prices, sell_value, sell_value_for_side}
+use Rattle.brk_model.specs.Shares.{shares_after_deal, buy_value}
 use Rattle.brk_model.specs.Derived.{signed_proceeds}
 use Rattle.brk_model.specs.Orders.{tax_on_deal}
 use Rattle.brk_model.specs.Base.{Base, customer_id_of_account, is_taxable_account, tax_rate_sum_of_customer}
@@ -120,7 +122,8 @@ pub tax_within : (base : Base) (account : ℕ) (d : Deal) (shares : List Share) 
 tax_within base account d shares q p h r = by_status (is_taxable_account base account)
   where
     by_status : (b : Bool) → cond b (tax (realised_gain d shares) (tax_rate_sum_of_customer base (customer_id_of_account base account))) 0 ≤ 10 ^ 14
-    by_status true = tax_high (realised_gain d shares) (tax_rate_sum_of_customer base (customer_id_of_account base account)) (gained (sell_value d shares) (buy_value d shares) (sell_high d shares q p h)) r
+    by_status true = tax_high (realised_gain d shares) (tax_rate_sum_of_customer base (customer_id_of_account base account))
+        (gained (sell_value d shares) (buy_value d shares) (sell_high d shares q p h)) r
     by_status false = omega arith
 
 halved : (n : ℕ) → n ≤ 10000 * 99999980000001 → half_up n 10000 ≤ 10 ^ 14

@@ -1,5 +1,6 @@
 -- A base in order whose tables have form is sound.
-use Rattle.std.proofs.Common.{◌≡◌, ◌≤◌, ℕ, ◌==◌, ◌+◌, Bool, true, false, not, cond, List, [], ◌∷◌, refl, sym, ◌∙◌, ap, subst, map, filter, length, arith, Option, Some, None, pos, negsuc, zero, suc, ℤ, ◌+ℤ◌}
+use Rattle.std.proofs.Common.{◌≡◌, ◌≤◌, ℕ, ◌==◌, ◌+◌, Bool, true, false, not, cond, List, [], ◌∷◌, refl, sym, ◌∙◌, ap, subst, map, filter, length, arith}
+use Rattle.std.proofs.Common.{Option, Some, None, pos, negsuc, zero, suc, ℤ, ◌+ℤ◌}
 use Rattle.std.specs.Prelude.{◌&&◌, ◌||◌, bytes_eq, find, flat_map, is_none, is_some, nat_abs, nat_le, option_map, sum_by, nat_lt}
 use Rattle.std.specs.List.{AllByRecursion, list_all, list_any}
 use Rattle.std.specs.Option.{option_map_or}
@@ -15,16 +16,27 @@ use Rattle.brk_model.specs.Schemas.{third_schema}
 use Rattle.brk_model.specs.Limits.{greatest_amount, greatest_charge, greatest_summary, greatest_tax_rate, most_accounts_per_customer, greatest_id}
 use Rattle.brk_model.specs.Lists.{insert_by, is_zero, sort_by, total_by}
 use Rattle.brk_model.specs.Records.{Account, Customer, Trade}
-use Rattle.brk_model.specs.Base.{Base, account_with_id, broker_with_id, completed_trades, customer_with_id, is_completed, last_status_stamp_of_trade, tax_rate_sum_of_customer, security_with_symbol, tax_rate_record_with_id, trade_with_id}
-use Rattle.brk_model.specs.Derived.{settlement_amount, balance_of_account, cash_trades, commission_total_of_broker, due_day, trades_of_account, trades_of_broker, trades_of_position, holding_summary_quantity, postings_to_account, posting_of_movement, posting_of_trade, postings_of_base, due_day_of_completion_stamp}
+use Rattle.brk_model.specs.Base.{Base, account_with_id, broker_with_id, completed_trades, customer_with_id, is_completed, last_status_stamp_of_trade}
+use Rattle.brk_model.specs.Base.{tax_rate_sum_of_customer, security_with_symbol, tax_rate_record_with_id, trade_with_id}
+use Rattle.brk_model.specs.Derived.{settlement_amount, balance_of_account, cash_trades, commission_total_of_broker, due_day, trades_of_account}
+use Rattle.brk_model.specs.Derived.{trades_of_broker, trades_of_position, holding_summary_quantity, postings_to_account, posting_of_movement, posting_of_trade}
+use Rattle.brk_model.specs.Derived.{postings_of_base, due_day_of_completion_stamp}
 use Rattle.brk_model.specs.Shares.{signed_by_side}
 use Rattle.brk_model.specs.Tables.{Tables, account_row, broker_row, history_rows, last_trade_row, security_row, settlement_row, summary_rows, tables_of_base_in_schema, trade_row}
 use Rattle.brk_model.specs.Sheets.{sheets, tables_sorted_by_key}
 use Rattle.brk_model.specs.Adopted.{base_of_tables, posting_of_cash_move_row}
 use Rattle.brk_model.specs.Joins.{history_rows_with_trade_id, trade_row_with_id}
-use Rattle.brk_model.specs.Form.{is_well_formed_account_row, is_well_formed_broker_row, is_well_formed_cash_transaction_row, is_well_formed_charge_row, is_well_formed_customer_row, is_within_customer_limits, is_well_formed_customer_tax_row, has_account, has_broker, has_customer, satisfies_form_condition, has_security, has_trade, is_well_formed_history_row, is_cash_row_name_of_trade, is_cash_type_of_trade, is_id, is_up_to_last_stamp, is_price, is_quantity_in_schema, is_well_formed_last_trade_row, has_distinct_tax_ids, is_well_formed_permission_row, has_price_matching_completion, is_well_formed_security_row, is_well_formed_settlement_row, is_well_formed_summary_row, is_well_formed_trade_row, is_movement_name_and_amount, is_well_formed_cash_move_row}
+use Rattle.brk_model.specs.Form.{is_well_formed_account_row, is_well_formed_broker_row, is_well_formed_cash_transaction_row, is_well_formed_charge_row}
+use Rattle.brk_model.specs.Form.{is_well_formed_customer_row, is_within_customer_limits, is_well_formed_customer_tax_row, has_account, has_broker, has_customer}
+use Rattle.brk_model.specs.Form.{satisfies_form_condition, has_security, has_trade, is_well_formed_history_row, is_cash_row_name_of_trade}
+use Rattle.brk_model.specs.Form.{is_cash_type_of_trade, is_id, is_up_to_last_stamp, is_price, is_quantity_in_schema, is_well_formed_last_trade_row}
+use Rattle.brk_model.specs.Form.{has_distinct_tax_ids, is_well_formed_permission_row, has_price_matching_completion, is_well_formed_security_row}
+use Rattle.brk_model.specs.Form.{is_well_formed_settlement_row, is_well_formed_summary_row, is_well_formed_trade_row, is_movement_name_and_amount}
+use Rattle.brk_model.specs.Form.{is_well_formed_cash_move_row}
 use Rattle.brk_model.specs.Forms.{is_acl, is_exchange, is_name, is_symbol, is_tax_id}
-use Rattle.brk_model.specs.Keys.{KeyPart, word, rows_sorted_by_key, is_row_key_less, account_key, band_key, broker_key, cash_transaction_key, charge_key, customer_key, customer_tax_key, history_key, kept_key, last_trade_key, permission_key, security_key, settlement_key, summary_key, tax_rate_key, trade_key}
+use Rattle.brk_model.specs.Keys.{KeyPart, word, rows_sorted_by_key, is_row_key_less, account_key, band_key, broker_key, cash_transaction_key, charge_key}
+use Rattle.brk_model.specs.Keys.{customer_key, customer_tax_key, history_key, kept_key, last_trade_key, permission_key, security_key, settlement_key}
+use Rattle.brk_model.specs.Keys.{summary_key, tax_rate_key, trade_key}
 use Rattle.brk_book_theorems.specs.Books.{BooksInvariant}
 use Rattle.brk_book_theorems.proofs.NewKeys.{same_bytes, unused}
 use Rattle.brk_book_theorems.proofs.Order.{NewKey, by_key-filter}
@@ -43,7 +55,8 @@ use Rattle.brk_audit_theorems.proofs.Parts.{KeyParts, key_parts}
 use Rattle.brk_model_theorems.specs.FormParts.{SatisfiesFormParts}
 use Rattle.brk_model_theorems.proofs.FormParts.{form_parts}
 use Rattle.brk_model_theorems.proofs.Conjunctions.{parts3, parts4, parts5, parts6, parts10}
-use Rattle.brk_invariant_theorems.specs.Sound.{AuditInvariant, BaseTradeAuditInvariant, HasDistinctKeys, TaxCustomerIsListed, customer_tax_id_key, has_cash_text_with_security_name, is_well_formed_movement}
+use Rattle.brk_invariant_theorems.specs.Sound.{AuditInvariant, BaseTradeAuditInvariant, HasDistinctKeys, TaxCustomerIsListed, customer_tax_id_key}
+use Rattle.brk_invariant_theorems.specs.Sound.{has_cash_text_with_security_name, is_well_formed_movement}
 use Rattle.brk_invariant_theorems.proofs.OneTrade.{false_true}
 use Rattle.brk_model_theorems.proofs.Conjunctions.{and5, and6}
 use Rattle.brk_invariant_theorems.proofs.FormRows.{any_mark, found_trades, has_account_is, has_customer_is, has_rate_is, rates_same, row_of, same_name}
@@ -62,7 +75,8 @@ All-unflat P f (x ∷ xs) h = (All-front P (f x) (flat_map f xs) h, All-unflat P
 back_rows : {Row : Type 0} (form : Row → Bool) (key : Row → List KeyPart) (rows : List Row) → list_all form (rows_sorted_by_key key rows) ≡ true → AllByRecursion (λ r. form r ≡ true) rows
 back_rows form key rows h = All-unsort (λ r. form r ≡ true) (is_row_key_less key) rows (list_all_true form (rows_sorted_by_key key rows) h)
 
-back_mapped : {X Row : Type 0} (form : Row → Bool) (key : Row → List KeyPart) (row : X → Row) (xs : List X) → list_all form (rows_sorted_by_key key (map row xs)) ≡ true → AllByRecursion (λ x. form (row x) ≡ true) xs
+back_mapped : {X Row : Type 0} (form : Row → Bool) (key : Row → List KeyPart) (row : X → Row) (xs : List X)
+    → list_all form (rows_sorted_by_key key (map row xs)) ≡ true → AllByRecursion (λ x. form (row x) ≡ true) xs
 back_mapped form key row xs h = All-unmapped (λ r. form r ≡ true) row xs (back_rows form key (map row xs) h)
 
 climbs_apart : {Row : Type 0} (key : Row → List KeyPart) (xs : List Row) → Climbs key xs → HasDistinctKeys key xs
@@ -73,7 +87,8 @@ apart_taken : {Row : Type 0} (key : Row → List KeyPart) (before : Row → Row 
 apart_taken key before x [] a = (tt, tt)
 apart_taken {Row = Row} key before x (y ∷ ys) a = by_test (before y x) a (apart_taken key before x ys)
   where
-    by_test : (b : Bool) → HasDistinctKeys key (cond b (y ∷ insert_by before x ys) (x ∷ y ∷ ys)) → (HasDistinctKeys key (insert_by before x ys) → NewKey key x ys × HasDistinctKeys key ys) → NewKey key x (y ∷ ys) × HasDistinctKeys key (y ∷ ys)
+    by_test : (b : Bool) → HasDistinctKeys key (cond b (y ∷ insert_by before x ys) (x ∷ y ∷ ys))
+        → (HasDistinctKeys key (insert_by before x ys) → NewKey key x ys × HasDistinctKeys key ys) → NewKey key x (y ∷ ys) × HasDistinctKeys key (y ∷ ys)
     by_test true k ih =
         let r = ih k.1 in
         let new : AllByRecursion (λ z. key z ≡ key y → ⊥) (x ∷ ys) = out (λ z. key z ≡ key y → ⊥) x ys k.0 in
@@ -83,7 +98,8 @@ apart_taken {Row = Row} key before x (y ∷ ys) a = by_test (before y x) a (apar
         out P x [] h = h
         out P x (z ∷ zs) h = by_place (before z x) h (out P x zs)
           where
-            by_place : (b : Bool) → AllByRecursion P (cond b (z ∷ insert_by before x zs) (x ∷ z ∷ zs)) → (AllByRecursion P (insert_by before x zs) → AllByRecursion P (x ∷ zs)) → AllByRecursion P (x ∷ z ∷ zs)
+            by_place : (b : Bool) → AllByRecursion P (cond b (z ∷ insert_by before x zs) (x ∷ z ∷ zs))
+                → (AllByRecursion P (insert_by before x zs) → AllByRecursion P (x ∷ zs)) → AllByRecursion P (x ∷ z ∷ zs)
             by_place true h ih = let g = ih h.1 in (g.0, (h.0, g.1))
             by_place false h ih = h
     by_test false k ih = k
@@ -93,7 +109,8 @@ unfolding sort_by
 apart_unsort key before [] a = tt
 apart_unsort key before (x ∷ xs) a = let k = apart_taken key before x (sort_by before xs) a in (All-unsort (λ y. key y ≡ key x → ⊥) before xs k.0, apart_unsort key before xs k.1)
 
-apart_unmap : {X Row : Type 0} (key : X → List KeyPart) (key' : Row → List KeyPart) (f : X → Row) (xs : List X) → ((z : X) → key' (f z) ≡ key z) → HasDistinctKeys key' (map f xs) → HasDistinctKeys key xs
+apart_unmap : {X Row : Type 0} (key : X → List KeyPart) (key' : Row → List KeyPart) (f : X → Row) (xs : List X) → ((z : X) → key' (f z) ≡ key z)
+    → HasDistinctKeys key' (map f xs) → HasDistinctKeys key xs
 apart_unmap key key' f [] e a = tt
 apart_unmap key key' f (x ∷ xs) e a =
     (All-map xs (λ y h p. h (e y ∙ p ∙ sym (e x))) (All-unmapped (λ r. key' r ≡ key' (f x) → ⊥) f xs a.0), apart_unmap key key' f xs e a.1)
@@ -146,7 +163,8 @@ no_account : (base : Base) (o : Option Account) → is_some o ≡ false → opti
 no_account base None e = refl
 no_account base (Some a) e = false_true (sym e)
 
-no_balance : (base : Base) (account : ℕ) → BooksInvariant base → is_some (account_with_id base account) ≡ false → nat_abs (balance_of_account base.accounts (postings_of_base base) account) ≤ greatest_amount
+no_balance : (base : Base) (account : ℕ) → BooksInvariant base → is_some (account_with_id base account) ≡ false
+    → nat_abs (balance_of_account base.accounts (postings_of_base base) account) ≤ greatest_amount
 unfolding balance_of_account total_by
 no_balance base account books e =
     subst (λ z. nat_abs (z +ℤ total_by (λ p. p.amount) (postings_to_account (postings_of_base base) account)) ≤ greatest_amount) (sym (no_account base (account_with_id base account) e))
@@ -172,7 +190,8 @@ owned_back base customer books h =
     (λ e. length_none (filter (λ a. a.customer == customer) base.accounts) most_accounts_per_customer (filter-none (λ a. a.customer == customer) base.accounts
     (All-map base.accounts (λ a k. other_id (customer_with_id base) customer a.customer e k) books.customers)))
 
-rates_back : (base : Base) (customer : ℕ) → AllByRecursion (TaxCustomerIsListed base.customers) base.customer_taxes → AllByRecursion (λ c. tax_rate_sum_of_customer base c.id ≤ greatest_tax_rate) base.customers
+rates_back : (base : Base) (customer : ℕ) → AllByRecursion (TaxCustomerIsListed base.customers) base.customer_taxes
+    → AllByRecursion (λ c. tax_rate_sum_of_customer base c.id ≤ greatest_tax_rate) base.customers
     → tax_rate_sum_of_customer base customer ≤ greatest_tax_rate
 rates_back base customer payers h =
     by_some (is_some (customer_with_id base customer)) _
@@ -192,7 +211,9 @@ row_low T done account symbol h = by_zero (not (is_zero (holding_summary_quantit
     zero_low (negsuc n) e = false_true (sym e)
 
     by_zero : (b : Bool) → not (is_zero (holding_summary_quantity done account symbol)) ≡ b
-        → AllByRecursion (λ r. is_well_formed_summary_row third_schema T r ≡ true) (cond b (record { account = account; symbol = symbol; qty = holding_summary_quantity done account symbol } ∷ []) []) → nat_abs (holding_summary_quantity done account symbol) ≤ greatest_summary
+        → AllByRecursion (λ r. is_well_formed_summary_row third_schema T r ≡ true)
+        (cond b (record { account = account; symbol = symbol; qty = holding_summary_quantity done account symbol } ∷ []) [])
+        → nat_abs (holding_summary_quantity done account symbol) ≤ greatest_summary
     by_zero true e k =
         leb-true (nat_abs (holding_summary_quantity done account symbol)) greatest_summary
         (parts3 (has_account T account) (has_security T symbol) (nat_le (nat_abs (holding_summary_quantity done account symbol)) greatest_summary) k.0).2
@@ -241,7 +262,9 @@ trade_back base t books told h =
     let T : Tables = sheets base in
     let f = parts10 (is_id t.id) (is_quantity_in_schema third_schema t.qty) (is_price t.bid) (nat_le t.charge greatest_charge) (nat_le t.commission greatest_amount) (nat_le t.tax greatest_amount)
     (is_up_to_last_stamp base.last (last_status_stamp_of_trade t)) (has_security T t.symbol) (has_account T t.account) (has_price_matching_completion T (trade_row t)) h.row in
-    let marks = All-map t.marks (λ m k. parts3 (has_trade T t.id) (is_up_to_last_stamp base.last m.stamp) (not (is_same_trade_status m.status Completed) || nat_le (due_day_of_completion_stamp base.rule m.stamp) greatest_day) k)
+    let marks = All-map t.marks
+    (λ m k. parts3 (has_trade T t.id) (is_up_to_last_stamp base.last m.stamp)
+    (not (is_same_trade_status m.status Completed) || nat_le (due_day_of_completion_stamp base.rule m.stamp) greatest_day) k)
     (All-unmapped (λ r. is_well_formed_history_row T r ≡ true) (row_of t.id) t.marks h.history) in
     let done : list_any (λ h. is_same_trade_status h.status Completed) (history_rows_with_trade_id T t.id) ≡ is_completed t =
     ap (list_any (λ h. is_same_trade_status h.status Completed))
@@ -250,21 +273,25 @@ trade_back base t books told h =
     let row = row_of_trade base t h.found in
     record {
       alone = record {
-        fields = and6 (is_id t.id) (is_quantity_in_schema third_schema t.qty) (is_price t.bid) (nat_le t.charge greatest_charge) (nat_le t.commission greatest_amount) (nat_le t.tax greatest_amount) f.0 f.1 f.2 f.3 f.4 f.5;
+        fields = and6 (is_id t.id) (is_quantity_in_schema third_schema t.qty) (is_price t.bid) (nat_le t.charge greatest_charge)
+            (nat_le t.commission greatest_amount) (nat_le t.tax greatest_amount) f.0 f.1 f.2 f.3 f.4 f.5;
         stamps = h.stamps;
         way = h.way;
         priced = sym (ap (λ b. cond b (option_map_or is_price t.price false) (is_none t.price)) done) ∙ f.9;
         words = h.words;
         cash_type = λ d.
-            let p = parts3 (option_map_or (λ row. is_cash_type_of_trade row.is_cash t.cash_type) (trade_row_with_id T t.id) false) (nat_le (due_day base.rule t) greatest_day) (is_within_amount_limit (settlement_amount base.accounts t)) (h.settled d) in
+            let p = parts3 (option_map_or (λ row. is_cash_type_of_trade row.is_cash t.cash_type) (trade_row_with_id T t.id) false)
+            (nat_le (due_day base.rule t) greatest_day) (is_within_amount_limit (settlement_amount base.accounts t)) (h.settled d) in
             sym (ap (λ o. option_map_or (λ row. is_cash_type_of_trade row.is_cash t.cash_type) o false) row) ∙ p.0;
       };
       past = All-map t.marks (λ m k. k.1) marks;
       due = All-map t.marks (λ m k. k.2) marks;
       cash_name = λ d.
           let c = and_parts (is_completed t) t.is_cash d in
-          sym (ap (has_cash_text_with_security_name t) (same_name base t.symbol books told)) ∙ sym (ap (λ o. option_map_or (is_cash_row_name_of_trade T t.cash_name) o false) row) ∙ (h.moved c.0 c.1).name;
-      amount = λ d. (parts3 (option_map_or (λ row. is_cash_type_of_trade row.is_cash t.cash_type) (trade_row_with_id T t.id) false) (nat_le (due_day base.rule t) greatest_day) (is_within_amount_limit (settlement_amount base.accounts t)) (h.settled d)).2;
+          sym (ap (has_cash_text_with_security_name t) (same_name base t.symbol books told))
+          ∙ sym (ap (λ o. option_map_or (is_cash_row_name_of_trade T t.cash_name) o false) row) ∙ (h.moved c.0 c.1).name;
+      amount = λ d. (parts3 (option_map_or (λ row. is_cash_type_of_trade row.is_cash t.cash_type) (trade_row_with_id T t.id) false)
+          (nat_le (due_day base.rule t) greatest_day) (is_within_amount_limit (settlement_amount base.accounts t)) (h.settled d)).2;
     }
 
 -- the postings of a base whose cash rows have form
@@ -272,9 +299,11 @@ posted_back : (base : Base) → list_all (is_well_formed_cash_move_row (sheets b
 posted_back base f =
     All-unsort (HasForm (sheets base)) (λ a b. nat_lt a.stamp b.stamp) (postings_of_base base)
     (subst (AllByRecursion (HasForm (sheets base))) (rows_posted base)
-    (All-mapped (HasForm (sheets base)) posting_of_cash_move_row (sheets base).moves (All-map (sheets base).moves (move_posted (sheets base)) (list_all_true (is_well_formed_cash_move_row (sheets base)) (sheets base).moves f))))
+    (All-mapped (HasForm (sheets base)) posting_of_cash_move_row (sheets base).moves
+    (All-map (sheets base).moves (move_posted (sheets base)) (list_all_true (is_well_formed_cash_move_row (sheets base)) (sheets base).moves f))))
 
-cash_back : (base : Base) → AllByRecursion (HasForm (sheets base)) (postings_of_base base) → AllByRecursion (λ t. HasForm (sheets base) (posting_of_trade base.accounts t)) (cash_trades (completed_trades base))
+cash_back : (base : Base) → AllByRecursion (HasForm (sheets base)) (postings_of_base base)
+    → AllByRecursion (λ t. HasForm (sheets base) (posting_of_trade base.accounts t)) (cash_trades (completed_trades base))
 cash_back base h =
     All-unmapped (HasForm (sheets base)) (posting_of_trade base.accounts) (cash_trades (completed_trades base))
     (All-front (HasForm (sheets base)) (map (posting_of_trade base.accounts) (cash_trades (completed_trades base))) (map posting_of_movement base.movements) h)
@@ -290,7 +319,8 @@ unfolding tables_sorted_by_key tables_of_base_in_schema
 reads_back base books told f =
     let T : Tables = sheets base in
     let done : List Trade = completed_trades base in
-    let S = All-unfilter (λ t. is_well_formed_settlement_row T (settlement_row base.accounts base.rule t) ≡ true) is_completed base.trades (back_mapped (is_well_formed_settlement_row T) settlement_key (settlement_row base.accounts base.rule) done f.settlements) in
+    let S = All-unfilter (λ t. is_well_formed_settlement_row T (settlement_row base.accounts base.rule t) ≡ true) is_completed base.trades
+    (back_mapped (is_well_formed_settlement_row T) settlement_key (settlement_row base.accounts base.rule) done f.settlements) in
     let C = All-unfilter (λ t. t.is_cash ≡ true → HasForm T (posting_of_trade base.accounts t)) is_completed base.trades
     (All-unfilter (λ t. HasForm T (posting_of_trade base.accounts t)) (λ t. t.is_cash) done (cash_back base (posted_back base f.moves))) in
     All-map base.trades (λ t h. record {
@@ -305,7 +335,9 @@ reads_back base books told f =
       moved = h.1.1.1.1.1.1.1.1;
     })
     (both_all _ _ base.trades (back_mapped (is_well_formed_trade_row third_schema T) trade_key trade_row base.trades f.trades)
-    (both_all _ _ base.trades (All-unflat (λ r. is_well_formed_history_row T r ≡ true) history_rows base.trades (back_rows (is_well_formed_history_row T) history_key (flat_map history_rows base.trades) f.history))
+    (both_all _ _ base.trades
+    (All-unflat (λ r. is_well_formed_history_row T r ≡ true) history_rows base.trades
+    (back_rows (is_well_formed_history_row T) history_key (flat_map history_rows base.trades) f.history))
     (both_all _ _ base.trades told.stamps
     (both_all _ _ base.trades told.ways
     (both_all _ _ base.trades told.words
@@ -324,11 +356,15 @@ sound_back base books told form =
     let r : KeyParts T = key_parts T f.keys in
     let brokers = All-map base.brokers (λ b h. and_parts (is_id b.id && is_name b.name) (nat_le (commission_total_of_broker base.accounts done b.id) greatest_amount) h)
     (back_mapped is_well_formed_broker_row broker_key (broker_row base.accounts done) base.brokers f.brokers) in
-    let accounts = All-map base.accounts (λ a h. parts6 (is_id a.id) (is_name a.name) (is_within_amount_limit a.opening) (is_within_amount_limit (balance_of_account base.accounts (postings_of_base base) a.id)) (has_customer T a.customer) (has_broker T a.broker) h)
+    let accounts = All-map base.accounts
+    (λ a h. parts6 (is_id a.id) (is_name a.name) (is_within_amount_limit a.opening)
+    (is_within_amount_limit (balance_of_account base.accounts (postings_of_base base) a.id)) (has_customer T a.customer) (has_broker T a.broker) h)
     (back_mapped (is_well_formed_account_row T) account_key (account_row base.accounts (postings_of_base base)) base.accounts f.accounts) in
     let permissions = All-map base.permissions (λ p h. parts5 (is_acl p.acl) (is_tax_id p.tax_id) (is_name p.last_name) (is_name p.first_name) (has_account T p.account) h)
     (back_rows (is_well_formed_permission_row T) permission_key base.permissions f.permissions) in
-    let securities = All-map base.securities (λ s h. parts5 (is_symbol s.symbol) (is_name s.name) (is_exchange s.exchange) (is_name s.sector) (list_any (λ l. bytes_eq l.symbol s.symbol) T.last_trades) h)
+    let securities = All-map base.securities
+    (λ s h. parts5 (is_symbol s.symbol) (is_name s.name) (is_exchange s.exchange) (is_name s.sector)
+    (list_any (λ l. bytes_eq l.symbol s.symbol) T.last_trades) h)
     (back_mapped (is_well_formed_security_row T) security_key security_row base.securities f.securities) in
     let lasts = All-map base.securities (λ s h. parts4 (has_security T s.symbol) (is_up_to_last_stamp base.last s.moment) (is_price s.last_price) (nat_le s.volume greatest_amount) h)
     (back_mapped (is_well_formed_last_trade_row T) last_trade_key last_trade_row base.securities f.last_trades) in
@@ -349,7 +385,9 @@ sound_back base books told form =
         customer_keys = back_keys customer_key base.customers r.customers;
         tax_ids = apart_unsort customer_tax_id_key (is_row_key_less customer_key) base.customers (tax_ids_each (rows_sorted_by_key customer_key base.customers) f.tax_ids);
         permitted = All-map base.permissions (λ p h. sym (has_account_is base p.account) ∙ h.4) permissions;
-        owned = λ customer. owned_back base customer books (All-map base.customers (λ c h. leb-true _ most_accounts_per_customer (sym (ap (λ n. nat_le n most_accounts_per_customer) (reads_count base c.id)) ∙ h.0)) limits);
+        owned = λ customer. owned_back base customer books
+            (All-map base.customers
+            (λ c h. leb-true _ most_accounts_per_customer (sym (ap (λ n. nat_le n most_accounts_per_customer) (reads_count base c.id)) ∙ h.0)) limits);
       };
       terms = record {
         charges = back_rows is_well_formed_charge_row charge_key base.charges f.charges;
@@ -360,7 +398,8 @@ sound_back base books told form =
         customer_tax_keys = back_keys customer_tax_key base.customer_taxes r.customer_taxes;
         payers = payers;
         taxes = All-map base.customer_taxes (λ x h. sym (has_rate_is base x.tax) ∙ h.1) paid;
-        rates = λ customer. rates_back base customer payers (All-map base.customers (λ c h. leb-true _ greatest_tax_rate (sym (ap (λ n. nat_le n greatest_tax_rate) (rates_same base c.id)) ∙ h.1)) limits);
+        rates = λ customer. rates_back base customer payers
+            (All-map base.customers (λ c h. leb-true _ greatest_tax_rate (sym (ap (λ n. nat_le n greatest_tax_rate) (rates_same base c.id)) ∙ h.1)) limits);
       };
       listed = record {
         securities = All-map base.securities (λ s h. and5 (is_symbol s.symbol) (is_name s.name) (is_exchange s.exchange) (is_name s.sector) (is_price s.last_price) h.0.0 h.0.1 h.0.2 h.0.3 h.1.2)
@@ -376,7 +415,9 @@ sound_back base books told form =
       };
       sums = record {
         summaries = λ account symbol. summaries_back base account symbol books
-            (All-map base.accounts (λ a h. All-map base.securities (λ s g. row_low T done a.id s.symbol g) (All-unflat (λ r. is_well_formed_summary_row third_schema T r ≡ true) (λ s. summary_rows done a.id s.symbol) base.securities h))
+            (All-map base.accounts
+            (λ a h. All-map base.securities (λ s g. row_low T done a.id s.symbol g)
+            (All-unflat (λ r. is_well_formed_summary_row third_schema T r ≡ true) (λ s. summary_rows done a.id s.symbol) base.securities h))
             (All-unflat (λ r. is_well_formed_summary_row third_schema T r ≡ true) (λ a. flat_map (λ s. summary_rows done a.id s.symbol) base.securities) base.accounts
             (back_rows (is_well_formed_summary_row third_schema T) summary_key (flat_map (λ a. flat_map (λ s. summary_rows done a.id s.symbol) base.securities) base.accounts) f.summaries)));
         balances = λ account. balances_back base account books (All-map base.accounts (λ a h. leb-true _ greatest_amount h.3) accounts);

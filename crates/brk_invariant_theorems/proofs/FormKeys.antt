@@ -12,14 +12,18 @@ use Rattle.brk_audit_theorems.proofs.UpgradedForm.{numbered_rises}
 use Rattle.brk_model.specs.Lists.{is_zero, sort_by}
 use Rattle.brk_model.specs.Records.{Account, StatusChange, Security, Trade}
 use Rattle.brk_model.specs.Base.{Base, completed_trades, has_last_status, is_completed, last_status_stamp_of_trade}
-use Rattle.brk_model.specs.Derived.{cash_trades, deal_of_trade, deals_of_position, trades_of_account, trades_of_position, pending_trades, holding_summary_quantity, postings_sorted_by_stamp, postings_of_base}
+use Rattle.brk_model.specs.Derived.{cash_trades, deal_of_trade, deals_of_position, trades_of_account, trades_of_position, pending_trades}
+use Rattle.brk_model.specs.Derived.{holding_summary_quantity, postings_sorted_by_stamp, postings_of_base}
 use Rattle.brk_model.specs.Shares.{Deal, Share, shares_after_deal}
-use Rattle.brk_model.specs.Tables.{HistoryRow, HoldingHistoryRow, SummaryRow, account_row, broker_row, cash_transaction_row, history_rows, holding_row, last_trade_row, request_row, security_row, settlement_row, summary_rows, tables_of_base_in_schema, trade_row}
+use Rattle.brk_model.specs.Tables.{HistoryRow, HoldingHistoryRow, SummaryRow, account_row, broker_row, cash_transaction_row, history_rows, holding_row}
+use Rattle.brk_model.specs.Tables.{last_trade_row, request_row, security_row, settlement_row, summary_rows, tables_of_base_in_schema, trade_row}
 use Rattle.brk_lots.proofs.HistoryRows.{rows_of_lots_are}
 use Rattle.brk_lots.specs.HistoryRows.{changing_rows_of_lot, lot_history_rows_per_deal}
 use Rattle.brk_model.specs.Sheets.{sheets, tables_sorted_by_key}
 use Rattle.brk_model.specs.Form.{has_tables_sorted_by_unique_key, is_sorted_by_unique_key}
-use Rattle.brk_model.specs.Keys.{KeyPart, number, word, rows_sorted_by_key, kept_key, broker_key, customer_key, account_key, permission_key, security_key, last_trade_key, charge_key, band_key, tax_rate_key, customer_tax_key, trade_key, history_key, request_key, holding_key, summary_key, holding_history_key, settlement_key, cash_transaction_key, cash_move_key}
+use Rattle.brk_model.specs.Keys.{KeyPart, number, word, rows_sorted_by_key, kept_key, broker_key, customer_key, account_key, permission_key, security_key}
+use Rattle.brk_model.specs.Keys.{last_trade_key, charge_key, band_key, tax_rate_key, customer_tax_key, trade_key, history_key, request_key, holding_key}
+use Rattle.brk_model.specs.Keys.{summary_key, holding_history_key, settlement_key, cash_transaction_key, cash_move_key}
 use Rattle.brk_model.specs.Ways.{is_valid_status_sequence}
 use Rattle.brk_model_theorems.proofs.FormParts.{keys_whole}
 use Rattle.brk_book_theorems.specs.Books.{HasDistinctAccountIds, HasDistinctSymbols, BooksInvariant}
@@ -32,7 +36,8 @@ use Rattle.brk_audit_theorems.proofs.Sorted.{All-block, All-rows}
 use Rattle.brk_audit_theorems.specs.Told.{account_id_key, broker_id_key}
 use Rattle.brk_invariant_theorems.specs.Sound.{AuditInvariant, HasDistinctKeys}
 use Rattle.brk_invariant_theorems.proofs.OneTrade.{false_true}
-use Rattle.brk_invariant_theorems.proofs.SortedRows.{OtherKeys, OthersApart, accounts_apart, apart_filter, apart_flat_map, apart_map, apart_rises, apart_sort, bands_apart, ids_apart, permissions_apart, symbols_apart}
+use Rattle.brk_invariant_theorems.proofs.SortedRows.{OtherKeys, OthersApart, accounts_apart, apart_filter, apart_flat_map, apart_map, apart_rises, apart_sort}
+use Rattle.brk_invariant_theorems.proofs.SortedRows.{bands_apart, ids_apart, permissions_apart, symbols_apart}
 
 abbrev id_key : Trade → List KeyPart
 id_key t = number t.id ∷ []
@@ -59,7 +64,8 @@ two_codes a b w = false_true w
 
 other_code : (id : ℕ) (m n : StatusChange) → bytes_eq (trade_status_code n.status) (trade_status_code m.status) ≡ false → history_key (row_of id n) ≡ history_key (row_of id m) → ⊥
 other_code id m n h e =
-    not_both (bytes_eq (trade_status_code n.status) (trade_status_code m.status)) (same_bytes (trade_status_code n.status) (trade_status_code m.status) (second_word id id (trade_status_code n.status) (trade_status_code m.status) e)) h
+    not_both (bytes_eq (trade_status_code n.status) (trade_status_code m.status))
+    (same_bytes (trade_status_code n.status) (trade_status_code m.status) (second_word id id (trade_status_code n.status) (trade_status_code m.status) e)) h
 
 marks_apart : (id : ℕ) (ms : List StatusChange) → is_valid_status_sequence (map (λ m. m.status) ms) ≡ true → HasDistinctKeys history_key (map (row_of id) ms)
 marks_apart id [] w = tt
@@ -128,7 +134,8 @@ All-lots P lot shares (d ∷ deals) h = (h.0, All-lots P lot (shares_after_deal 
 pub All-history : (P : ℕ → ℕ → Type 0) (done : List Trade) (t : Trade) → AllByRecursion (λ d. P t.id d.trade) (deals_of_position done t.account t.symbol)
     → AllByRecursion (λ r. P r.lot r.trade) (changing_rows_of_lot done t)
 All-history P done t h =
-    All-filter (λ r. P r.lot r.trade) (λ row. not (is_zero (row.before -ℤ row.after))) (lot_history_rows_per_deal t.id [] (deals_of_position done t.account t.symbol)) (All-lots P t.id [] (deals_of_position done t.account t.symbol) h)
+    All-filter (λ r. P r.lot r.trade) (λ row. not (is_zero (row.before -ℤ row.after)))
+    (lot_history_rows_per_deal t.id [] (deals_of_position done t.account t.symbol)) (All-lots P t.id [] (deals_of_position done t.account t.symbol) h)
 
 lots_apart : (lot : ℕ) (shares : List Share) (deals : List Deal) → HasDistinctKeys (λ d. number d.trade ∷ []) deals → HasDistinctKeys holding_history_key (lot_history_rows_per_deal lot shares deals)
 lots_apart lot shares [] a = tt
@@ -191,7 +198,9 @@ keys_of base books k =
           (apart_filter holding_key (λ row. not (is_zero row.qty)) (map (holding_row done) done) (apart_map id_key holding_key (holding_row done) done (λ t. refl) dones));
       summaries = apart_rises summary_key (flat_map (rows_of done base.securities) base.accounts)
           (apart_flat_map summary_key (rows_of done base.securities) base.accounts
-          (All-of base.accounts (λ a. apart_flat_map summary_key (rows_at done a.id) base.securities (All-of base.securities (λ s. one_apart done a.id s.symbol)) (symbols_other done a.id base.securities books.symbols)))
+          (All-of base.accounts
+          (λ a. apart_flat_map summary_key (rows_at done a.id) base.securities (All-of base.securities (λ s. one_apart done a.id s.symbol))
+          (symbols_other done a.id base.securities books.symbols)))
           (accounts_other done base.securities base.accounts books.owners));
       holding_history = subst (λ (rows : List HoldingHistoryRow). is_sorted_by_unique_key holding_history_key (rows_sorted_by_key holding_history_key rows) ≡ true) (sym (rows_of_lots_are done done))
           (apart_rises holding_history_key (flat_map (changing_rows_of_lot done) done)

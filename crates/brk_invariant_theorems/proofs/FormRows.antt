@@ -16,17 +16,32 @@ use Rattle.brk_model.specs.Schemas.{third_schema}
 use Rattle.brk_model.specs.Limits.{greatest_amount, greatest_charge, greatest_summary, greatest_tax_rate, most_accounts_per_customer, greatest_id}
 use Rattle.brk_model.specs.Lists.{all_distinct, is_zero, sort_by}
 use Rattle.brk_model.specs.Records.{Account, Customer, StatusChange, Permission, Security, Trade, Movement}
-use Rattle.brk_model.specs.Base.{Base, account_with_id, broker_id_in_accounts, broker_with_id, completed_trades, customer_with_id, has_last_status, is_completed, last_status_change, last_status_stamp_of_trade, completion_price, tax_rate_sum_of_customer, security_name, security_with_symbol, tax_rate_record_with_id, trade_with_id}
-use Rattle.brk_model.specs.Derived.{settlement_amount, balance_of_account, cash_trades, commission_total_of_broker, deal_of_trade, due_day, trades_of_account, trades_of_position, pending_trades, holding_summary_quantity, postings_sorted_by_stamp, posting_of_movement, posting_of_trade, postings_of_base, due_day_of_completion_stamp}
-use Rattle.brk_model.specs.Tables.{HistoryRow, HoldingHistoryRow, Tables, account_row, broker_row, history_rows, holding_row, last_trade_row, request_row, security_row, settlement_row, summary_rows, tables_of_base_in_schema, trade_row, numbered_move_rows}
+use Rattle.brk_model.specs.Base.{Base, account_with_id, broker_id_in_accounts, broker_with_id, completed_trades, customer_with_id, has_last_status}
+use Rattle.brk_model.specs.Base.{is_completed, last_status_change, last_status_stamp_of_trade, completion_price, tax_rate_sum_of_customer, security_name}
+use Rattle.brk_model.specs.Base.{security_with_symbol, tax_rate_record_with_id, trade_with_id}
+use Rattle.brk_model.specs.Derived.{settlement_amount, balance_of_account, cash_trades, commission_total_of_broker, deal_of_trade, due_day, trades_of_account}
+use Rattle.brk_model.specs.Derived.{trades_of_position, pending_trades, holding_summary_quantity, postings_sorted_by_stamp, posting_of_movement}
+use Rattle.brk_model.specs.Derived.{posting_of_trade, postings_of_base, due_day_of_completion_stamp}
+use Rattle.brk_model.specs.Tables.{HistoryRow, HoldingHistoryRow, Tables, account_row, broker_row, history_rows, holding_row, last_trade_row, request_row}
+use Rattle.brk_model.specs.Tables.{security_row, settlement_row, summary_rows, tables_of_base_in_schema, trade_row, numbered_move_rows}
 use Rattle.brk_lots.proofs.HistoryRows.{rows_of_lots_are}
 use Rattle.brk_lots.specs.HistoryRows.{changing_rows_of_lot}
 use Rattle.brk_model.specs.Sheets.{sheets, tables_sorted_by_key}
 use Rattle.brk_model.specs.Adopted.{base_of_tables}
 use Rattle.brk_model.specs.Joins.{history_rows_with_trade_id, trade_row_with_id}
-use Rattle.brk_model.specs.Form.{is_well_formed_account_row, is_well_formed_band_row, is_well_formed_broker_row, is_well_formed_cash_transaction_row, is_well_formed_charge_row, is_well_formed_customer_row, is_within_customer_limits, is_well_formed_customer_tax_row, has_account, has_broker, has_customer, satisfies_form_condition, has_security, has_trade, is_well_formed_history_row, is_well_formed_holding_row, is_well_formed_holding_history_row, is_cash_row_name_of_trade, is_cash_type_of_trade, is_id, is_up_to_last_stamp, is_price, is_quantity_in_schema, is_well_formed_kept_row, is_well_formed_last_trade_row, is_well_formed_permission_row, has_price_matching_completion, is_well_formed_request_row, are_equal_number_lists, is_well_formed_security_row, is_well_formed_settlement_row, is_well_formed_summary_row, is_well_formed_tax_rate_row, is_well_formed_trade_row, is_movement_name_and_amount, is_well_formed_cash_move_row, trade_ids_of_cash_rows, has_well_formed_permission_texts}
+use Rattle.brk_model.specs.Form.{is_well_formed_account_row, is_well_formed_band_row, is_well_formed_broker_row, is_well_formed_cash_transaction_row}
+use Rattle.brk_model.specs.Form.{is_well_formed_charge_row, is_well_formed_customer_row, is_within_customer_limits, is_well_formed_customer_tax_row}
+use Rattle.brk_model.specs.Form.{has_account, has_broker, has_customer, satisfies_form_condition, has_security, has_trade, is_well_formed_history_row}
+use Rattle.brk_model.specs.Form.{is_well_formed_holding_row, is_well_formed_holding_history_row, is_cash_row_name_of_trade, is_cash_type_of_trade, is_id}
+use Rattle.brk_model.specs.Form.{is_up_to_last_stamp, is_price, is_quantity_in_schema, is_well_formed_kept_row, is_well_formed_last_trade_row}
+use Rattle.brk_model.specs.Form.{is_well_formed_permission_row, has_price_matching_completion, is_well_formed_request_row, are_equal_number_lists}
+use Rattle.brk_model.specs.Form.{is_well_formed_security_row, is_well_formed_settlement_row, is_well_formed_summary_row, is_well_formed_tax_rate_row}
+use Rattle.brk_model.specs.Form.{is_well_formed_trade_row, is_movement_name_and_amount, is_well_formed_cash_move_row, trade_ids_of_cash_rows}
+use Rattle.brk_model.specs.Form.{has_well_formed_permission_texts}
 use Rattle.brk_model.specs.Forms.{is_acl, is_exchange, is_name, is_symbol, is_tax_id}
-use Rattle.brk_model.specs.Keys.{KeyPart, word, rows_sorted_by_key, is_row_key_less, account_key, band_key, broker_key, cash_transaction_key, charge_key, customer_key, customer_tax_key, history_key, holding_history_key, holding_key, kept_key, last_trade_key, permission_key, request_key, security_key, settlement_key, summary_key, tax_rate_key, trade_key, cash_move_key}
+use Rattle.brk_model.specs.Keys.{KeyPart, word, rows_sorted_by_key, is_row_key_less, account_key, band_key, broker_key, cash_transaction_key, charge_key}
+use Rattle.brk_model.specs.Keys.{customer_key, customer_tax_key, history_key, holding_history_key, holding_key, kept_key, last_trade_key, permission_key}
+use Rattle.brk_model.specs.Keys.{request_key, security_key, settlement_key, summary_key, tax_rate_key, trade_key, cash_move_key}
 use Rattle.brk_model.specs.Ways.{is_valid_status_sequence}
 use Rattle.brk_model.specs.Names.{AccountOfTradeExists, BrokerOfAccountExists, CustomerOfAccountExists, SecurityOfTradeExists, TradesAreNumberedFrom}
 use Rattle.brk_model_theorems.proofs.FormParts.{form_whole}
@@ -47,7 +62,9 @@ use Rattle.brk_audit_theorems.proofs.AgainStatus.{all_list, first_of_two, some_l
 use Rattle.brk_audit_theorems.proofs.Marks.{filtered, last_has, no_more_ways, three_ways}
 use Rattle.brk_audit_theorems.proofs.Members.{All-flat_map}
 use Rattle.brk_audit_theorems.proofs.Sorted.{All-rows}
-use Rattle.brk_invariant_theorems.specs.Sound.{HasDueDayInCalendar, StatusStampIsAtMostLastStamp, AuditInvariant, BaseTradeAuditInvariant, PermissionAccountIsListed, TaxCustomerIsListed, TaxRateIsListed, is_well_formed_account, is_well_formed_security, has_cash_text_with_security_name, is_well_formed_movement}
+use Rattle.brk_invariant_theorems.specs.Sound.{HasDueDayInCalendar, StatusStampIsAtMostLastStamp, AuditInvariant, BaseTradeAuditInvariant}
+use Rattle.brk_invariant_theorems.specs.Sound.{PermissionAccountIsListed, TaxCustomerIsListed, TaxRateIsListed, is_well_formed_account, is_well_formed_security}
+use Rattle.brk_invariant_theorems.specs.Sound.{has_cash_text_with_security_name, is_well_formed_movement}
 use Rattle.brk_invariant_theorems.proofs.OneTrade.{false_true, price_of_done}
 use Rattle.brk_invariant_theorems.proofs.SoundRecords.{sum-same}
 use Rattle.brk_invariant_theorems.proofs.SortedRows.{bands_sort, overlap_none, tax_ids_apart}
@@ -169,9 +186,11 @@ priced_row base t h =
 trade_whole : (base : Base) (t : Trade) → Known base t → is_well_formed_trade_row third_schema (sheets base) (trade_row t) ≡ true
 unfolding tables_sorted_by_key tables_of_base_in_schema
 trade_whole base t h =
-    let f = parts6 (is_id t.id) (is_quantity_in_schema third_schema t.qty) (is_price t.bid) (nat_le t.charge greatest_charge) (nat_le t.commission greatest_amount) (nat_le t.tax greatest_amount) h.sound.fields in
+    let f = parts6 (is_id t.id) (is_quantity_in_schema third_schema t.qty) (is_price t.bid) (nat_le t.charge greatest_charge)
+    (nat_le t.commission greatest_amount) (nat_le t.tax greatest_amount) h.sound.fields in
     and10 (is_id t.id) (is_quantity_in_schema third_schema t.qty) (is_price t.bid) (nat_le t.charge greatest_charge) (nat_le t.commission greatest_amount) (nat_le t.tax greatest_amount)
-    (is_up_to_last_stamp base.last (last_status_stamp_of_trade t)) (has_security (sheets base) t.symbol) (has_account (sheets base) t.account) (has_price_matching_completion (sheets base) (trade_row t))
+    (is_up_to_last_stamp base.last (last_status_stamp_of_trade t)) (has_security (sheets base) t.symbol) (has_account (sheets base) t.account)
+    (has_price_matching_completion (sheets base) (trade_row t))
     f.0 f.1 f.2 f.3 f.4 f.5 (moment_past base t h.sound) (has_security_is base t.symbol ∙ h.security) (has_account_is base t.account ∙ h.account) (priced_row base t h)
 
 numbers_whole : (n : ℕ) (ts : List Trade) → TradesAreNumberedFrom n ts → are_equal_number_lists (map (λ row. row.id) (map trade_row ts)) (range_with_len n (length (map trade_row ts))) ≡ true
@@ -179,22 +198,27 @@ numbers_whole n [] k = refl
 numbers_whole n (t ∷ ts) k =
     and_from (t.id == n) (are_equal_number_lists (map (λ row. row.id) (map trade_row ts)) (range_with_len (n + 1) (length (map trade_row ts)))) (eq-eqb t.id n k.0) (numbers_whole (n + 1) ts k.1)
 
-mark_whole : (base : Base) (t : Trade) (m : StatusChange) → Known base t → StatusStampIsAtMostLastStamp base.last m → HasDueDayInCalendar base.rule m → is_well_formed_history_row (sheets base) (row_of t.id m) ≡ true
+mark_whole : (base : Base) (t : Trade) (m : StatusChange) → Known base t → StatusStampIsAtMostLastStamp base.last m → HasDueDayInCalendar base.rule m
+    → is_well_formed_history_row (sheets base) (row_of t.id m) ≡ true
 unfolding tables_sorted_by_key tables_of_base_in_schema
 mark_whole base t m h p d =
-    and3 (has_trade (sheets base) t.id) (is_up_to_last_stamp base.last m.stamp) (not (is_same_trade_status m.status Completed) || nat_le (due_day_of_completion_stamp base.rule m.stamp) greatest_day) (there base t h) p d
+    and3 (has_trade (sheets base) t.id) (is_up_to_last_stamp base.last m.stamp)
+    (not (is_same_trade_status m.status Completed) || nat_le (due_day_of_completion_stamp base.rule m.stamp) greatest_day) (there base t h) p d
 
 request_whole : (base : Base) (t : Trade) → BooksInvariant base → Known base t → is_well_formed_request_row third_schema (sheets base) (request_row base.accounts t) ≡ true
 request_whole base t books h =
-    let f = parts6 (is_id t.id) (is_quantity_in_schema third_schema t.qty) (is_price t.bid) (nat_le t.charge greatest_charge) (nat_le t.commission greatest_amount) (nat_le t.tax greatest_amount) h.sound.fields in
-    and5 (has_trade (sheets base) t.id) (has_security (sheets base) t.symbol) (is_quantity_in_schema third_schema t.qty) (is_price t.bid) (has_broker (sheets base) (broker_id_in_accounts base.accounts t.account))
+    let f = parts6 (is_id t.id) (is_quantity_in_schema third_schema t.qty) (is_price t.bid) (nat_le t.charge greatest_charge)
+    (nat_le t.commission greatest_amount) (nat_le t.tax greatest_amount) h.sound.fields in
+    and5 (has_trade (sheets base) t.id) (has_security (sheets base) t.symbol) (is_quantity_in_schema third_schema t.qty) (is_price t.bid)
+    (has_broker (sheets base) (broker_id_in_accounts base.accounts t.account))
     (there base t h) (has_security_is base t.symbol ∙ h.security) f.1 f.2
     (has_broker_is base (broker_id_in_accounts base.accounts t.account) ∙ broker_found base t.account (account_with_id base t.account) refl h.account books.brokers)
 
 holding_whole : (base : Base) (done : List Trade) (t : Trade) → Done base t → is_well_formed_holding_row (sheets base) (holding_row done t) ≡ true
 unfolding tables_sorted_by_key tables_of_base_in_schema
 holding_whole base done t h =
-    and5 (has_trade (sheets base) t.id) (has_account (sheets base) t.account) (has_security (sheets base) t.symbol) (is_up_to_last_stamp base.last (last_status_stamp_of_trade t)) (is_price (completion_price t))
+    and5 (has_trade (sheets base) t.id) (has_account (sheets base) t.account) (has_security (sheets base) t.symbol)
+    (is_up_to_last_stamp base.last (last_status_stamp_of_trade t)) (is_price (completion_price t))
     (there base t h.0) (has_account_is base t.account ∙ h.0.account) (has_security_is base t.symbol ∙ h.0.security) (moment_past base t h.0.sound) (price_of_done t h.0.sound.priced h.1)
 
 row_in : (base : Base) (t : Trade) → Known base t → trade_row_with_id (sheets base) t.id ≡ Some (trade_row t)
@@ -202,7 +226,8 @@ row_in base t h = reads_trade base t.id ∙ ap (option_map trade_row) h.found
 
 settlement_whole : (base : Base) (t : Trade) → Done base t → is_well_formed_settlement_row (sheets base) (settlement_row base.accounts base.rule t) ≡ true
 settlement_whole base t h =
-    and3 (option_map_or (λ row. is_cash_type_of_trade row.is_cash t.cash_type) (trade_row_with_id (sheets base) t.id) false) (nat_le (due_day base.rule t) greatest_day) (is_within_amount_limit (settlement_amount base.accounts t))
+    and3 (option_map_or (λ row. is_cash_type_of_trade row.is_cash t.cash_type) (trade_row_with_id (sheets base) t.id) false)
+    (nat_le (due_day base.rule t) greatest_day) (is_within_amount_limit (settlement_amount base.accounts t))
     (ap (λ o. option_map_or (λ row. is_cash_type_of_trade row.is_cash t.cash_type) o false) (row_in base t h.0) ∙ h.0.sound.cash_type h.1) (moment_due base t h.0.sound h.1) (h.0.sound.amount h.1)
 
 pub same_name : (base : Base) (symbol : Text) → BooksInvariant base → HasValidHistories base → security_name (base_of_tables (sheets base)) symbol ≡ security_name base symbol
@@ -227,13 +252,15 @@ made_past None m e = absurd e
 made_past (Some l) m e = le-leb m.stamp l e
 
 -- and so has what a movement posts
-moved_whole : (base : Base) (m : Movement) → is_well_formed_movement m ≡ true → MovementAccountExists base.accounts m → MovementStampIsAtMostLastStamp base.last m → HasForm (sheets base) (posting_of_movement m)
+moved_whole : (base : Base) (m : Movement) → is_well_formed_movement m ≡ true → MovementAccountExists base.accounts m
+    → MovementStampIsAtMostLastStamp base.last m → HasForm (sheets base) (posting_of_movement m)
 unfolding tables_sorted_by_key tables_of_base_in_schema
 moved_whole base m f h e =
     let k = and_parts (is_movement_name_and_amount m.name m.amount) (is_within_amount_limit m.amount) f in
     record { account = has_account_is base m.account ∙ h; name = k.0; stamp = made_past base.last m e; amount = k.1 }
 
-all_posted : (base : Base) → BooksInvariant base → AuditInvariant base → HasValidHistories base → AllByRecursion (Done base) (completed_trades base) → AllByRecursion (HasForm (sheets base)) (postings_of_base base)
+all_posted : (base : Base) → BooksInvariant base → AuditInvariant base → HasValidHistories base → AllByRecursion (Done base) (completed_trades base)
+    → AllByRecursion (HasForm (sheets base)) (postings_of_base base)
 all_posted base books k told dones =
     let P = posting_of_trade base.accounts in
     All-append (HasForm (sheets base)) (map P (cash_trades (completed_trades base))) (map posting_of_movement base.movements)
@@ -246,7 +273,8 @@ all_posted base books k told dones =
 
 ids_low : (base : Base) → AuditInvariant base → AllByRecursion (λ u. u.id ≤ greatest_id) base.trades
 ids_low base k = All-map base.trades (λ t h.
-    let f = parts6 (is_id t.id) (is_quantity_in_schema third_schema t.qty) (is_price t.bid) (nat_le t.charge greatest_charge) (nat_le t.commission greatest_amount) (nat_le t.tax greatest_amount) h.fields in
+    let f = parts6 (is_id t.id) (is_quantity_in_schema third_schema t.qty) (is_price t.bid) (nat_le t.charge greatest_charge)
+    (nat_le t.commission greatest_amount) (nat_le t.tax greatest_amount) h.fields in
     leb-true t.id greatest_id (and_parts (nat_le 1 t.id) (nat_le t.id greatest_id) f.0).1) k.trades
 
 moves_whole : (base : Base) → BooksInvariant base → AuditInvariant base → HasValidHistories base → AllByRecursion (Done base) (completed_trades base)
@@ -260,7 +288,8 @@ moves_whole base books k told dones =
 rows_form : {Row : Type 0} (form : Row → Bool) (key : Row → List KeyPart) (rows : List Row) → AllByRecursion (λ r. form r ≡ true) rows → list_all form (rows_sorted_by_key key rows) ≡ true
 rows_form form key rows h = all_list form (rows_sorted_by_key key rows) (All-sort (λ r. form r ≡ true) (is_row_key_less key) rows h)
 
-mapped_form : {X Row : Type 0} (form : Row → Bool) (key : Row → List KeyPart) (row : X → Row) (xs : List X) → AllByRecursion (λ x. form (row x) ≡ true) xs → list_all form (rows_sorted_by_key key (map row xs)) ≡ true
+mapped_form : {X Row : Type 0} (form : Row → Bool) (key : Row → List KeyPart) (row : X → Row) (xs : List X) → AllByRecursion (λ x. form (row x) ≡ true) xs
+    → list_all form (rows_sorted_by_key key (map row xs)) ≡ true
 mapped_form form key row xs h = rows_form form key (map row xs) (All-mapped (λ r. form r ≡ true) row xs h)
 
 -- ---- the records
@@ -269,7 +298,9 @@ account_whole : (base : Base) (a : Account) → AuditInvariant base → is_well_
     → is_well_formed_account_row (sheets base) (account_row base.accounts (postings_of_base base) a) ≡ true
 account_whole base a k h c b =
     let f = parts3 (is_id a.id) (is_name a.name) (is_within_amount_limit a.opening) h in
-    and6 (is_id a.id) (is_name a.name) (is_within_amount_limit a.opening) (is_within_amount_limit (balance_of_account base.accounts (postings_of_base base) a.id)) (has_customer (sheets base) a.customer) (has_broker (sheets base) a.broker)
+    and6 (is_id a.id) (is_name a.name) (is_within_amount_limit a.opening)
+    (is_within_amount_limit (balance_of_account base.accounts (postings_of_base base) a.id)) (has_customer (sheets base) a.customer)
+    (has_broker (sheets base) a.broker)
     f.0 f.1 f.2 (le-leb _ greatest_amount (k.balances a.id)) (has_customer_is base a.customer ∙ c) (has_broker_is base a.broker ∙ b)
 
 permission_whole : (base : Base) (p : Permission) → has_well_formed_permission_texts p ≡ true → PermissionAccountIsListed base.accounts p → is_well_formed_permission_row (sheets base) p ≡ true
@@ -277,18 +308,21 @@ permission_whole base p h n =
     let f = parts4 (is_acl p.acl) (is_tax_id p.tax_id) (is_name p.last_name) (is_name p.first_name) h in
     and5 (is_acl p.acl) (is_tax_id p.tax_id) (is_name p.last_name) (is_name p.first_name) (has_account (sheets base) p.account) f.0 f.1 f.2 f.3 (has_account_is base p.account ∙ n)
 
-security_whole : (base : Base) (s : Security) → is_well_formed_security s ≡ true → is_some (security_with_symbol base s.symbol) ≡ true → is_well_formed_security_row (sheets base) (security_row s) ≡ true
+security_whole : (base : Base) (s : Security) → is_well_formed_security s ≡ true → is_some (security_with_symbol base s.symbol) ≡ true
+    → is_well_formed_security_row (sheets base) (security_row s) ≡ true
 security_whole base s h n =
     let f = parts5 (is_symbol s.symbol) (is_name s.name) (is_exchange s.exchange) (is_name s.sector) (is_price s.last_price) h in
     and5 (is_symbol s.symbol) (is_name s.name) (is_exchange s.exchange) (is_name s.sector) (list_any (λ l. bytes_eq l.symbol s.symbol) (sheets base).last_trades)
     f.0 f.1 f.2 f.3 (has_last_is base s.symbol ∙ n)
 
-last_trade_whole : (base : Base) (s : Security) → is_well_formed_security s ≡ true → is_some (security_with_symbol base s.symbol) ≡ true → is_up_to_last_stamp base.last s.moment ≡ true → HasVolumeWithinLimit s
+last_trade_whole : (base : Base) (s : Security) → is_well_formed_security s ≡ true → is_some (security_with_symbol base s.symbol) ≡ true
+    → is_up_to_last_stamp base.last s.moment ≡ true → HasVolumeWithinLimit s
     → is_well_formed_last_trade_row (sheets base) (last_trade_row s) ≡ true
 unfolding tables_sorted_by_key tables_of_base_in_schema
 last_trade_whole base s h n m v =
     let f = parts5 (is_symbol s.symbol) (is_name s.name) (is_exchange s.exchange) (is_name s.sector) (is_price s.last_price) h in
-    and4 (has_security (sheets base) s.symbol) (is_up_to_last_stamp base.last s.moment) (is_price s.last_price) (nat_le s.volume greatest_amount) (has_security_is base s.symbol ∙ n) m f.4 (le-leb s.volume greatest_amount v)
+    and4 (has_security (sheets base) s.symbol) (is_up_to_last_stamp base.last s.moment) (is_price s.last_price) (nat_le s.volume greatest_amount)
+    (has_security_is base s.symbol ∙ n) m f.4 (le-leb s.volume greatest_amount v)
 
 pub rates_same : (base : Base) (customer : ℕ) → tax_rate_sum_of_customer (base_of_tables (sheets base)) customer ≡ tax_rate_sum_of_customer base customer
 unfolding base_of_tables
@@ -301,7 +335,8 @@ rates_same base customer =
 
 limits_whole : (base : Base) (c : Customer) → AuditInvariant base → is_within_customer_limits (sheets base) c ≡ true
 limits_whole base c k =
-    and_from (nat_le (length (filter (λ a. a.customer == c.id) (sheets base).accounts)) most_accounts_per_customer) (nat_le (tax_rate_sum_of_customer (base_of_tables (sheets base)) c.id) greatest_tax_rate)
+    and_from (nat_le (length (filter (λ a. a.customer == c.id) (sheets base).accounts)) most_accounts_per_customer)
+    (nat_le (tax_rate_sum_of_customer (base_of_tables (sheets base)) c.id) greatest_tax_rate)
     (ap (λ n. nat_le n most_accounts_per_customer) (reads_count base c.id) ∙ le-leb _ most_accounts_per_customer (k.owned c.id))
     (ap (λ n. nat_le n greatest_tax_rate) (rates_same base c.id) ∙ le-leb _ greatest_tax_rate (k.rates c.id))
 
@@ -334,19 +369,26 @@ form_of base books k =
       tax_ids = tax_ids_apart (rows_sorted_by_key customer_key base.customers) (rows.apart_sort _ (is_row_key_less customer_key) base.customers k.tax_ids);
       kept = rows_form is_well_formed_kept_row kept_key base.kept k.kept;
       brokers = mapped_form is_well_formed_broker_row broker_key (broker_row base.accounts done) base.brokers
-          (All-map base.brokers (λ b h. and_from (is_id b.id && is_name b.name) (nat_le (commission_total_of_broker base.accounts done b.id) greatest_amount) h (le-leb _ greatest_amount (k.commissions b.id))) k.brokers);
+          (All-map base.brokers
+          (λ b h. and_from (is_id b.id && is_name b.name) (nat_le (commission_total_of_broker base.accounts done b.id) greatest_amount) h
+          (le-leb _ greatest_amount (k.commissions b.id))) k.brokers);
       customers = rows_form is_well_formed_customer_row customer_key base.customers k.customers;
       limits = rows_form (is_within_customer_limits T) customer_key base.customers (All-of base.customers (λ c. limits_whole base c k));
       accounts = mapped_form (is_well_formed_account_row T) account_key (account_row base.accounts (postings_of_base base)) base.accounts
           (All-map base.accounts (λ a h. account_whole base a k h.0 h.1.0 h.1.1)
-          (both_all (λ a. is_well_formed_account a ≡ true) (λ a. CustomerOfAccountExists base a × BrokerOfAccountExists base a) base.accounts k.accounts (both_all (CustomerOfAccountExists base) (BrokerOfAccountExists base) base.accounts books.customers books.brokers)));
+          (both_all (λ a. is_well_formed_account a ≡ true) (λ a. CustomerOfAccountExists base a × BrokerOfAccountExists base a) base.accounts k.accounts
+          (both_all (CustomerOfAccountExists base) (BrokerOfAccountExists base) base.accounts books.customers books.brokers)));
       permissions = rows_form (is_well_formed_permission_row T) permission_key base.permissions
-          (All-map base.permissions (λ p h. permission_whole base p h.0 h.1) (both_all (λ p. has_well_formed_permission_texts p ≡ true) (PermissionAccountIsListed base.accounts) base.permissions k.permissions k.permitted));
+          (All-map base.permissions (λ p h. permission_whole base p h.0 h.1)
+          (both_all (λ p. has_well_formed_permission_texts p ≡ true) (PermissionAccountIsListed base.accounts) base.permissions k.permissions k.permitted));
       securities = mapped_form (is_well_formed_security_row T) security_key security_row base.securities
-          (All-map base.securities (λ s h. security_whole base s h.0 h.1) (both_all (λ s. is_well_formed_security s ≡ true) (λ s. is_some (security_with_symbol base s.symbol) ≡ true) base.securities k.securities listed));
+          (All-map base.securities (λ s h. security_whole base s h.0 h.1)
+          (both_all (λ s. is_well_formed_security s ≡ true) (λ s. is_some (security_with_symbol base s.symbol) ≡ true) base.securities k.securities
+          listed));
       last_trades = mapped_form (is_well_formed_last_trade_row T) last_trade_key last_trade_row base.securities
           (All-map base.securities (λ s h. last_trade_whole base s h.0.0 h.0.1 h.1.0 h.1.1)
-          (both_all (λ s. (is_well_formed_security s ≡ true) × (is_some (security_with_symbol base s.symbol) ≡ true)) (λ s. (is_up_to_last_stamp base.last s.moment ≡ true) × HasVolumeWithinLimit s) base.securities
+          (both_all (λ s. (is_well_formed_security s ≡ true) × (is_some (security_with_symbol base s.symbol) ≡ true))
+          (λ s. (is_up_to_last_stamp base.last s.moment ≡ true) × HasVolumeWithinLimit s) base.securities
           (both_all (λ s. is_well_formed_security s ≡ true) (λ s. is_some (security_with_symbol base s.symbol) ≡ true) base.securities k.securities listed)
           (both_all (λ s. is_up_to_last_stamp base.last s.moment ≡ true) HasVolumeWithinLimit base.securities k.moments books.volumes)));
       charges = rows_form is_well_formed_charge_row charge_key base.charges k.charges;
@@ -357,7 +399,8 @@ form_of base books k =
           (All-map base.customer_taxes (λ x h. and_from (has_customer T x.customer) (list_any (λ r. r.id == x.tax) T.tax_rates) (has_customer_is base x.customer ∙ h.0) (has_rate_is base x.tax ∙ h.1))
           (both_all (TaxCustomerIsListed base.customers) (TaxRateIsListed base.tax_rates) base.customer_taxes k.payers k.taxes));
       trades = mapped_form (is_well_formed_trade_row third_schema T) trade_key trade_row base.trades (All-map base.trades (λ t h. trade_whole base t h) known);
-      numbers = subst (λ rows. are_equal_number_lists (map (λ row. row.id) rows) (range_with_len 1 (length rows)) ≡ true) (sym (trades_in_order base books.numbered)) (numbers_whole 1 base.trades books.numbered);
+      numbers = subst (λ rows. are_equal_number_lists (map (λ row. row.id) rows) (range_with_len 1 (length rows)) ≡ true)
+          (sym (trades_in_order base books.numbered)) (numbers_whole 1 base.trades books.numbered);
       history = rows_form (is_well_formed_history_row T) history_key (flat_map history_rows base.trades)
           (All-flat_map (λ r. is_well_formed_history_row T r ≡ true) history_rows base.trades (All-map base.trades (λ t h. All-mapped (λ r. is_well_formed_history_row T r ≡ true) (row_of t.id) t.marks
           (All-map t.marks (λ m p. mark_whole base t m h p.0 p.1) (both_all (StatusStampIsAtMostLastStamp base.last) (HasDueDayInCalendar base.rule) t.marks h.sound.past h.sound.due))) known));
@@ -370,13 +413,17 @@ form_of base books k =
           (All-flat_map (λ r. is_well_formed_summary_row third_schema T r ≡ true) (λ a. flat_map (λ s. summary_rows done a.id s.symbol) base.securities) base.accounts (All-map base.accounts (λ a f.
           All-flat_map (λ r. is_well_formed_summary_row third_schema T r ≡ true) (λ s. summary_rows done a.id s.symbol) base.securities (All-map base.securities (λ s g.
           All-rows (λ r. is_well_formed_summary_row third_schema T r ≡ true) done a.id s.symbol
-          (and3 (has_account T a.id) (has_security T s.symbol) (nat_le (nat_abs (holding_summary_quantity done a.id s.symbol)) greatest_summary) (has_account_is base a.id ∙ f) (has_security_is base s.symbol ∙ g)
+          (and3 (has_account T a.id) (has_security T s.symbol) (nat_le (nat_abs (holding_summary_quantity done a.id s.symbol)) greatest_summary)
+          (has_account_is base a.id ∙ f) (has_security_is base s.symbol ∙ g)
           (le-leb _ greatest_summary (k.summaries a.id s.symbol)))) listed)) (held_each base)));
-      holding_history = subst (λ (rows : List HoldingHistoryRow). list_all (is_well_formed_holding_history_row T) (rows_sorted_by_key holding_history_key rows) ≡ true) (sym (rows_of_lots_are done done))
+      holding_history = subst
+          (λ (rows : List HoldingHistoryRow). list_all (is_well_formed_holding_history_row T) (rows_sorted_by_key holding_history_key rows) ≡ true)
+          (sym (rows_of_lots_are done done))
           (rows_form (is_well_formed_holding_history_row T) holding_history_key (flat_map (changing_rows_of_lot done) done)
           (All-flat_map (λ r. is_well_formed_holding_history_row T r ≡ true) (changing_rows_of_lot done) done (All-map done (λ t h.
           All-history (λ l n. has_trade T l && has_trade T n ≡ true) done t
-          (All-mapped (λ d. has_trade T t.id && has_trade T d.trade ≡ true) deal_of_trade (sort_by (λ x y. nat_lt (last_status_stamp_of_trade x) (last_status_stamp_of_trade y)) (trades_of_position done t.account t.symbol))
+          (All-mapped (λ d. has_trade T t.id && has_trade T d.trade ≡ true) deal_of_trade
+          (sort_by (λ x y. nat_lt (last_status_stamp_of_trade x) (last_status_stamp_of_trade y)) (trades_of_position done t.account t.symbol))
           (All-sort (λ u. has_trade T t.id && has_trade T u.id ≡ true) (λ x y. nat_lt (last_status_stamp_of_trade x) (last_status_stamp_of_trade y)) (trades_of_position done t.account t.symbol)
           (All-filter (λ u. has_trade T t.id && has_trade T u.id ≡ true) (λ u. bytes_eq u.symbol t.symbol) (trades_of_account done t.account)
           (All-filter (λ u. has_trade T t.id && has_trade T u.id ≡ true) (λ u. u.account == t.account) done

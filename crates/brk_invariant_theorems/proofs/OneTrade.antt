@@ -49,7 +49,9 @@ rising_more (m ∷ o ∷ ms) n e h =
     and_from (nat_lt m o) (is_strictly_ascending (o ∷ ms ++ n ∷ [])) p.0 (rising_more (o ∷ ms) n p.1 h.1)
 
 -- the stamps of a trade that comes to a status at the next stamp
-pub stamps_more : (base : Base) (now : ℕ) (status : Status) (t : Trade) → HasAscendingStatusStamps t → AllByRecursion (StatusStampIsAtMostLastStamp base.last) t.marks → HasAscendingStatusStamps (trade_with_status_change (stamp_of_next_command base now) status t)
+pub stamps_more : (base : Base) (now : ℕ) (status : Status) (t : Trade) → HasAscendingStatusStamps t
+    → AllByRecursion (StatusStampIsAtMostLastStamp base.last) t.marks
+    → HasAscendingStatusStamps (trade_with_status_change (stamp_of_next_command base now) status t)
 stamps_more base now status t r h =
     ap is_strictly_ascending (map-last (λ m. m.stamp) t.marks (record { stamp = stamp_of_next_command base now; status = status }))
     ∙ rising_more (map (λ m. m.stamp) t.marks) (stamp_of_next_command base now) r
@@ -86,7 +88,8 @@ open_way s (m ∷ n ∷ o ∷ p ∷ ms) k w h = absurd (no_more_ways m.status n.
 pub completes_way : (stamp : ℕ) (t : Trade) → HasValidStatusSequence t → has_last_status Submitted t ≡ true → HasValidStatusSequence (trade_with_status_change stamp Completed t)
 completes_way stamp t w h = ap is_valid_status_sequence (map-last (λ m. m.status) t.marks (record { stamp = stamp; status = Completed })) ∙ done_way t.marks w h
 
-pub leaves_way : (stamp : ℕ) (status : Status) (t : Trade) → is_valid_status_sequence (Pending ∷ status ∷ []) ≡ true → HasValidStatusSequence t → has_last_status Pending t ≡ true → HasValidStatusSequence (trade_with_status_change stamp status t)
+pub leaves_way : (stamp : ℕ) (status : Status) (t : Trade) → is_valid_status_sequence (Pending ∷ status ∷ []) ≡ true → HasValidStatusSequence t
+    → has_last_status Pending t ≡ true → HasValidStatusSequence (trade_with_status_change stamp status t)
 leaves_way stamp status t k w h = ap is_valid_status_sequence (map-last (λ m. m.status) t.marks (record { stamp = stamp; status = status })) ∙ open_way status t.marks k w h
 
 -- ---- prices and quantities
@@ -106,12 +109,14 @@ price_of_done t h e = by_price t.price (sym (ap (λ b. cond b (option_map_or is_
     by_price (Some n) k = k
 
 -- each share of a position was dealt at a price within its limit
-pub cheap_shares : (base : Base) (account : ℕ) (symbol : Text) → AllByRecursion (BaseTradeAuditInvariant base) base.trades → AllByRecursion IsCheap (shares_of_position (completed_trades base) account symbol)
+pub cheap_shares : (base : Base) (account : ℕ) (symbol : Text) → AllByRecursion (BaseTradeAuditInvariant base) base.trades
+    → AllByRecursion IsCheap (shares_of_position (completed_trades base) account symbol)
 unfolding shares_of_position
 cheap_shares base account symbol h =
     let L : Trade → Type 0 = λ t. completion_price t ≤ 9999999 in
     replay_all IsCheap [] (deals_of_position (completed_trades base) account symbol) tt
-    (All-mapped (λ d. d.price ≤ 9999999) deal_of_trade (sort_by (λ x y. nat_lt (last_status_stamp_of_trade x) (last_status_stamp_of_trade y)) (trades_of_position (completed_trades base) account symbol))
+    (All-mapped (λ d. d.price ≤ 9999999) deal_of_trade
+    (sort_by (λ x y. nat_lt (last_status_stamp_of_trade x) (last_status_stamp_of_trade y)) (trades_of_position (completed_trades base) account symbol))
     (All-sort L (λ x y. nat_lt (last_status_stamp_of_trade x) (last_status_stamp_of_trade y)) (trades_of_position (completed_trades base) account symbol)
     (All-filter L (λ t. bytes_eq t.symbol symbol) (trades_of_account (completed_trades base) account)
     (All-filter L (λ t. t.account == account) (completed_trades base)

@@ -15,10 +15,20 @@ use Rattle.brk_money.specs.Moments.{greatest_day}
 use Rattle.brk_model.specs.Schemas.{third_schema}
 use Rattle.brk_model.specs.Limits.{greatest_charge, greatest_commission_rate, greatest_tax_rate}
 use Rattle.brk_model.specs.Records.{Account, Band, Broker, Charge, Customer, Executor, Permission, TaxRate}
-use Rattle.brk_model.specs.Commands.{Command, Listing, Order, Tick, AddBroker, AddCustomer, AddAccount, AddPermission, AddSecurity, AddCharge, AddBand, AddTaxRate, AddCustomerTax, PlaceOrder, FeedTicks, CancelTrade, CompleteTrade, ChangeExecutors, ChangeCashTypes, ChangeCashNames, DepositCash, WithdrawCash, SetOneDay}
+use Rattle.brk_model.specs.Commands.{Command, Listing, Order, Tick, AddBroker, AddCustomer, AddAccount, AddPermission, AddSecurity, AddCharge, AddBand}
+use Rattle.brk_model.specs.Commands.{AddTaxRate, AddCustomerTax, PlaceOrder, FeedTicks, CancelTrade, CompleteTrade, ChangeExecutors, ChangeCashTypes}
+use Rattle.brk_model.specs.Commands.{ChangeCashNames, DepositCash, WithdrawCash, SetOneDay}
 use Rattle.brk_model.specs.Form.{is_well_formed_charge_row, is_well_formed_customer_row, is_id, is_price, is_quantity_in_schema, is_tier, is_well_formed_tax_rate_row, has_well_formed_permission_texts}
-use Rattle.brk_model.specs.Forms.{ReadResult, ◌⊛◌, is_acl, is_exchange, is_name, is_symbol, is_tax_id, order_type_with_price, market_type_if_price_is_empty, refusal_of_unknown_type_by_price_text, priced_order_type, read_acl, read_cash_or_margin, read_charge_amount, read_commission_rate, read_lifo_or_fifo, read_exchange, read_id, value_if_valid, read_distinct_ids, read_name, read_number_in_range, read_opening_balance, read_order_type, read_price, read_quantity, read_tax_rate_number, read_stamp, read_symbol, read_tax_id, read_tax_status, read_valid_text, read_tier, read_trade_type, one_to_twenty_elements, check_read_value, trade_type_with_code, nonnegative_amount, read_movement_amount, read_day}
-use Rattle.brk_model.specs.Parse.{NamedParser, bounds_if_ascending, parse_row, read_account, read_commission_band, read_quantity_bounds, read_broker, read_with_parser, read_id_of_trade_to_cancel, read_charge, read_customer, read_customer_tax, read_executor, read_feed, read_order, read_permission, read_result_command, read_listing, read_tax_rate, read_ticks, read_cash_type_update, read_cash_name_update, row_parsers, read_movement_command, read_settlement_day}
+use Rattle.brk_model.specs.Forms.{ReadResult, ◌⊛◌, is_acl, is_exchange, is_name, is_symbol, is_tax_id, order_type_with_price, market_type_if_price_is_empty}
+use Rattle.brk_model.specs.Forms.{refusal_of_unknown_type_by_price_text, priced_order_type, read_acl, read_cash_or_margin, read_charge_amount}
+use Rattle.brk_model.specs.Forms.{read_commission_rate, read_lifo_or_fifo, read_exchange, read_id, value_if_valid, read_distinct_ids, read_name}
+use Rattle.brk_model.specs.Forms.{read_number_in_range, read_opening_balance, read_order_type, read_price, read_quantity, read_tax_rate_number, read_stamp}
+use Rattle.brk_model.specs.Forms.{read_symbol, read_tax_id, read_tax_status, read_valid_text, read_tier, read_trade_type, one_to_twenty_elements}
+use Rattle.brk_model.specs.Forms.{check_read_value, trade_type_with_code, nonnegative_amount, read_movement_amount, read_day}
+use Rattle.brk_model.specs.Parse.{NamedParser, bounds_if_ascending, parse_row, read_account, read_commission_band, read_quantity_bounds, read_broker}
+use Rattle.brk_model.specs.Parse.{read_with_parser, read_id_of_trade_to_cancel, read_charge, read_customer, read_customer_tax, read_executor, read_feed}
+use Rattle.brk_model.specs.Parse.{read_order, read_permission, read_result_command, read_listing, read_tax_rate, read_ticks, read_cash_type_update}
+use Rattle.brk_model.specs.Parse.{read_cash_name_update, row_parsers, read_movement_command, read_settlement_day}
 use Rattle.brk_book_theorems.proofs.Same.{find-All}
 use Rattle.brk_invariant_theorems.specs.Sound.{is_well_formed_account, is_well_formed_broker}
 use Rattle.brk_invariant_theorems.specs.InForm.{MeetsAuditFormats, OrderMeetsAuditFormats, TickMeetsAuditFormats, is_well_formed_band, is_well_formed_listing, is_movement_amount}
@@ -98,10 +108,13 @@ on_bounds low high =
     let P : ℕ × ℕ → Type 0 = λ b. (is_quantity_in_schema third_schema b.0 ≡ true) × (is_quantity_in_schema third_schema b.1 ≡ true) in
     on_then P P bounds_if_ascending (Ok (λ a b. (a, b)) ⊛ read_quantity low ⊛ read_quantity high)
     (on_apply (λ n. is_quantity_in_schema third_schema n ≡ true) P (Ok (λ a b. (a, b)) ⊛ read_quantity low) (read_quantity high)
-    (on_apply (λ n. is_quantity_in_schema third_schema n ≡ true) (λ g. (b : ℕ) → is_quantity_in_schema third_schema b ≡ true → P (g b)) (Ok (λ a b. (a, b))) (read_quantity low) (λ a e b f. (e, f)) (on_qty low)) (on_qty high))
+    (on_apply (λ n. is_quantity_in_schema third_schema n ≡ true) (λ g. (b : ℕ) → is_quantity_in_schema third_schema b ≡ true → P (g b)) (Ok (λ a b. (a, b)))
+    (read_quantity low) (λ a e b f. (e, f)) (on_qty low)) (on_qty high))
     (λ b h. by_order b (nat_le b.0 b.1) h)
   where
-    by_order : (b : ℕ × ℕ) (c : Bool) → (is_quantity_in_schema third_schema b.0 ≡ true) × (is_quantity_in_schema third_schema b.1 ≡ true) → IfOk {T = ℕ × ℕ} {E = Refusal} (cond c (Ok b) (Err BadQty)) (λ b. (is_quantity_in_schema third_schema b.0 ≡ true) × (is_quantity_in_schema third_schema b.1 ≡ true))
+    by_order : (b : ℕ × ℕ) (c : Bool) → (is_quantity_in_schema third_schema b.0 ≡ true) × (is_quantity_in_schema third_schema b.1 ≡ true)
+        → IfOk {T = ℕ × ℕ} {E = Refusal} (cond c (Ok b) (Err BadQty))
+        (λ b. (is_quantity_in_schema third_schema b.0 ≡ true) × (is_quantity_in_schema third_schema b.1 ≡ true))
     by_order b true h = h
     by_order b false h = tt
 
@@ -118,46 +131,84 @@ broker_on _ = tt
 customer_on : (fields : List Text) → IfOk (read_customer fields) (λ x. is_well_formed_customer_row x ≡ true)
 customer_on (id ∷ tier ∷ tax_id ∷ last ∷ first ∷ []) =
     let P : Customer → Type 0 = λ x. is_well_formed_customer_row x ≡ true in
-    on_apply (λ f. is_name f ≡ true) P (Ok (λ i t x l f. record { id = i; tier = t; tax_id = x; last_name = l; first_name = f }) ⊛ read_id id ⊛ read_tier tier ⊛ read_tax_id tax_id ⊛ read_name last) (read_name first)
-    (on_apply (λ l. is_name l ≡ true) (λ z. (f : Text) → is_name f ≡ true → P (z f)) (Ok (λ i t x l f. record { id = i; tier = t; tax_id = x; last_name = l; first_name = f }) ⊛ read_id id ⊛ read_tier tier ⊛ read_tax_id tax_id) (read_name last)
-    (on_apply (λ x. is_tax_id x ≡ true) (λ z. (l : Text) → is_name l ≡ true → (f : Text) → is_name f ≡ true → P (z l f)) (Ok (λ i t x l f. record { id = i; tier = t; tax_id = x; last_name = l; first_name = f }) ⊛ read_id id ⊛ read_tier tier) (read_tax_id tax_id)
-    (on_apply (λ t. is_tier t ≡ true) (λ z. (x : Text) → is_tax_id x ≡ true → (l : Text) → is_name l ≡ true → (f : Text) → is_name f ≡ true → P (z x l f)) (Ok (λ i t x l f. record { id = i; tier = t; tax_id = x; last_name = l; first_name = f }) ⊛ read_id id) (read_tier tier)
-    (on_apply (λ i. is_id i ≡ true) (λ z. (t : ℕ) → is_tier t ≡ true → (x : Text) → is_tax_id x ≡ true → (l : Text) → is_name l ≡ true → (f : Text) → is_name f ≡ true → P (z t x l f)) (Ok (λ i t x l f. record { id = i; tier = t; tax_id = x; last_name = l; first_name = f })) (read_id id)
-    (λ i i' t t' x x' l l' f f'. and5 (is_id i) (is_tier t) (is_tax_id x) (is_name l) (is_name f) i' t' x' l' f') (on_id id)) (on_tier tier)) (on_text is_tax_id tax_id)) (on_text is_name last)) (on_text is_name first)
+    on_apply (λ f. is_name f ≡ true) P
+    (Ok (λ i t x l f. record { id = i; tier = t; tax_id = x; last_name = l; first_name = f }) ⊛ read_id id ⊛ read_tier tier ⊛ read_tax_id tax_id ⊛ read_name
+    last) (read_name first)
+    (on_apply (λ l. is_name l ≡ true) (λ z. (f : Text) → is_name f ≡ true → P (z f))
+    (Ok (λ i t x l f. record { id = i; tier = t; tax_id = x; last_name = l; first_name = f }) ⊛ read_id id ⊛ read_tier tier ⊛ read_tax_id tax_id)
+    (read_name last)
+    (on_apply (λ x. is_tax_id x ≡ true) (λ z. (l : Text) → is_name l ≡ true → (f : Text) → is_name f ≡ true → P (z l f))
+    (Ok (λ i t x l f. record { id = i; tier = t; tax_id = x; last_name = l; first_name = f }) ⊛ read_id id ⊛ read_tier tier) (read_tax_id tax_id)
+    (on_apply (λ t. is_tier t ≡ true) (λ z. (x : Text) → is_tax_id x ≡ true → (l : Text) → is_name l ≡ true → (f : Text) → is_name f ≡ true → P (z x l f))
+    (Ok (λ i t x l f. record { id = i; tier = t; tax_id = x; last_name = l; first_name = f }) ⊛ read_id id) (read_tier tier)
+    (on_apply (λ i. is_id i ≡ true)
+    (λ z. (t : ℕ) → is_tier t ≡ true → (x : Text) → is_tax_id x ≡ true → (l : Text) → is_name l ≡ true → (f : Text) → is_name f ≡ true → P (z t x l f))
+    (Ok (λ i t x l f. record { id = i; tier = t; tax_id = x; last_name = l; first_name = f })) (read_id id)
+    (λ i i' t t' x x' l l' f f'. and5 (is_id i) (is_tier t) (is_tax_id x) (is_name l) (is_name f) i' t' x' l' f') (on_id id)) (on_tier tier))
+    (on_text is_tax_id tax_id)) (on_text is_name last)) (on_text is_name first)
 customer_on _ = tt
 
 account_on : (fields : List Text) → IfOk (read_account fields) (λ x. is_well_formed_account x ≡ true)
 account_on (id ∷ customer ∷ broker ∷ name ∷ status ∷ opening ∷ []) =
     let P : Account → Type 0 = λ x. is_well_formed_account x ≡ true in
-    on_apply (λ o. is_within_amount_limit o ≡ true) P (Ok (λ i c b n t o. record { id = i; customer = c; broker = b; name = n; tax_status = t; opening = o }) ⊛ read_id id ⊛ read_id customer ⊛ read_id broker ⊛ read_name name ⊛ read_tax_status status) (read_opening_balance opening)
-    (on_apply (λ t. ⊤) (λ z. (o : ℤ) → is_within_amount_limit o ≡ true → P (z o)) (Ok (λ i c b n t o. record { id = i; customer = c; broker = b; name = n; tax_status = t; opening = o }) ⊛ read_id id ⊛ read_id customer ⊛ read_id broker ⊛ read_name name) (read_tax_status status)
-    (on_apply (λ n. is_name n ≡ true) (λ z. (t : TaxStatus) → ⊤ → (o : ℤ) → is_within_amount_limit o ≡ true → P (z t o)) (Ok (λ i c b n t o. record { id = i; customer = c; broker = b; name = n; tax_status = t; opening = o }) ⊛ read_id id ⊛ read_id customer ⊛ read_id broker) (read_name name)
-    (on_apply (λ b. ⊤) (λ z. (n : Text) → is_name n ≡ true → (t : TaxStatus) → ⊤ → (o : ℤ) → is_within_amount_limit o ≡ true → P (z n t o)) (Ok (λ i c b n t o. record { id = i; customer = c; broker = b; name = n; tax_status = t; opening = o }) ⊛ read_id id ⊛ read_id customer) (read_id broker)
-    (on_apply (λ c. ⊤) (λ z. (b : ℕ) → ⊤ → (n : Text) → is_name n ≡ true → (t : TaxStatus) → ⊤ → (o : ℤ) → is_within_amount_limit o ≡ true → P (z b n t o)) (Ok (λ i c b n t o. record { id = i; customer = c; broker = b; name = n; tax_status = t; opening = o }) ⊛ read_id id) (read_id customer)
-    (on_apply (λ i. is_id i ≡ true) (λ z. (c : ℕ) → ⊤ → (b : ℕ) → ⊤ → (n : Text) → is_name n ≡ true → (t : TaxStatus) → ⊤ → (o : ℤ) → is_within_amount_limit o ≡ true → P (z c b n t o)) (Ok (λ i c b n t o. record { id = i; customer = c; broker = b; name = n; tax_status = t; opening = o })) (read_id id)
-    (λ i i' c c' b b' n n' t t' o o'. and3 (is_id i) (is_name n) (is_within_amount_limit o) i' n' o') (on_id id)) (on_any (read_id customer))) (on_any (read_id broker))) (on_text is_name name)) (on_any (read_tax_status status))) (on_opening opening)
+    on_apply (λ o. is_within_amount_limit o ≡ true) P
+    (Ok (λ i c b n t o. record { id = i; customer = c; broker = b; name = n; tax_status = t; opening = o }) ⊛ read_id id ⊛ read_id customer ⊛ read_id broker
+    ⊛ read_name name ⊛ read_tax_status status) (read_opening_balance opening)
+    (on_apply (λ t. ⊤) (λ z. (o : ℤ) → is_within_amount_limit o ≡ true → P (z o))
+    (Ok (λ i c b n t o. record { id = i; customer = c; broker = b; name = n; tax_status = t; opening = o }) ⊛ read_id id ⊛ read_id customer ⊛ read_id broker
+    ⊛ read_name name) (read_tax_status status)
+    (on_apply (λ n. is_name n ≡ true) (λ z. (t : TaxStatus) → ⊤ → (o : ℤ) → is_within_amount_limit o ≡ true → P (z t o))
+    (Ok (λ i c b n t o. record { id = i; customer = c; broker = b; name = n; tax_status = t; opening = o }) ⊛ read_id id ⊛ read_id customer ⊛ read_id
+    broker) (read_name name)
+    (on_apply (λ b. ⊤) (λ z. (n : Text) → is_name n ≡ true → (t : TaxStatus) → ⊤ → (o : ℤ) → is_within_amount_limit o ≡ true → P (z n t o))
+    (Ok (λ i c b n t o. record { id = i; customer = c; broker = b; name = n; tax_status = t; opening = o }) ⊛ read_id id ⊛ read_id customer)
+    (read_id broker)
+    (on_apply (λ c. ⊤) (λ z. (b : ℕ) → ⊤ → (n : Text) → is_name n ≡ true → (t : TaxStatus) → ⊤ → (o : ℤ) → is_within_amount_limit o ≡ true → P (z b n t o))
+    (Ok (λ i c b n t o. record { id = i; customer = c; broker = b; name = n; tax_status = t; opening = o }) ⊛ read_id id) (read_id customer)
+    (on_apply (λ i. is_id i ≡ true)
+    (λ z. (c : ℕ) → ⊤ → (b : ℕ) → ⊤ → (n : Text) → is_name n ≡ true → (t : TaxStatus) → ⊤ → (o : ℤ) → is_within_amount_limit o ≡ true → P (z c b n t o))
+    (Ok (λ i c b n t o. record { id = i; customer = c; broker = b; name = n; tax_status = t; opening = o })) (read_id id)
+    (λ i i' c c' b b' n n' t t' o o'. and3 (is_id i) (is_name n) (is_within_amount_limit o) i' n' o') (on_id id)) (on_any (read_id customer)))
+    (on_any (read_id broker))) (on_text is_name name)) (on_any (read_tax_status status))) (on_opening opening)
 account_on _ = tt
 
 permission_on : (fields : List Text) → IfOk (read_permission fields) (λ x. has_well_formed_permission_texts x ≡ true)
 permission_on (account ∷ acl ∷ tax_id ∷ last ∷ first ∷ []) =
     let P : Permission → Type 0 = λ x. has_well_formed_permission_texts x ≡ true in
-    on_apply (λ f. is_name f ≡ true) P (Ok (λ a c x l f. record { account = a; acl = c; tax_id = x; last_name = l; first_name = f }) ⊛ read_id account ⊛ read_acl acl ⊛ read_tax_id tax_id ⊛ read_name last) (read_name first)
-    (on_apply (λ l. is_name l ≡ true) (λ z. (f : Text) → is_name f ≡ true → P (z f)) (Ok (λ a c x l f. record { account = a; acl = c; tax_id = x; last_name = l; first_name = f }) ⊛ read_id account ⊛ read_acl acl ⊛ read_tax_id tax_id) (read_name last)
-    (on_apply (λ x. is_tax_id x ≡ true) (λ z. (l : Text) → is_name l ≡ true → (f : Text) → is_name f ≡ true → P (z l f)) (Ok (λ a c x l f. record { account = a; acl = c; tax_id = x; last_name = l; first_name = f }) ⊛ read_id account ⊛ read_acl acl) (read_tax_id tax_id)
-    (on_apply (λ c. is_acl c ≡ true) (λ z. (x : Text) → is_tax_id x ≡ true → (l : Text) → is_name l ≡ true → (f : Text) → is_name f ≡ true → P (z x l f)) (Ok (λ a c x l f. record { account = a; acl = c; tax_id = x; last_name = l; first_name = f }) ⊛ read_id account) (read_acl acl)
-    (on_apply (λ a. ⊤) (λ z. (c : Text) → is_acl c ≡ true → (x : Text) → is_tax_id x ≡ true → (l : Text) → is_name l ≡ true → (f : Text) → is_name f ≡ true → P (z c x l f)) (Ok (λ a c x l f. record { account = a; acl = c; tax_id = x; last_name = l; first_name = f })) (read_id account)
-    (λ a a' c c' x x' l l' f f'. and4 (is_acl c) (is_tax_id x) (is_name l) (is_name f) c' x' l' f') (on_any (read_id account))) (on_text is_acl acl)) (on_text is_tax_id tax_id)) (on_text is_name last)) (on_text is_name first)
+    on_apply (λ f. is_name f ≡ true) P
+    (Ok (λ a c x l f. record { account = a; acl = c; tax_id = x; last_name = l; first_name = f }) ⊛ read_id account ⊛ read_acl acl ⊛ read_tax_id tax_id ⊛
+    read_name last) (read_name first)
+    (on_apply (λ l. is_name l ≡ true) (λ z. (f : Text) → is_name f ≡ true → P (z f))
+    (Ok (λ a c x l f. record { account = a; acl = c; tax_id = x; last_name = l; first_name = f }) ⊛ read_id account ⊛ read_acl acl ⊛ read_tax_id tax_id)
+    (read_name last)
+    (on_apply (λ x. is_tax_id x ≡ true) (λ z. (l : Text) → is_name l ≡ true → (f : Text) → is_name f ≡ true → P (z l f))
+    (Ok (λ a c x l f. record { account = a; acl = c; tax_id = x; last_name = l; first_name = f }) ⊛ read_id account ⊛ read_acl acl) (read_tax_id tax_id)
+    (on_apply (λ c. is_acl c ≡ true) (λ z. (x : Text) → is_tax_id x ≡ true → (l : Text) → is_name l ≡ true → (f : Text) → is_name f ≡ true → P (z x l f))
+    (Ok (λ a c x l f. record { account = a; acl = c; tax_id = x; last_name = l; first_name = f }) ⊛ read_id account) (read_acl acl)
+    (on_apply (λ a. ⊤) (λ z. (c : Text) → is_acl c ≡ true → (x : Text) → is_tax_id x ≡ true → (l : Text) → is_name l ≡ true → (f : Text) → is_name f ≡ true
+    → P (z c x l f)) (Ok (λ a c x l f. record { account = a; acl = c; tax_id = x; last_name = l; first_name = f })) (read_id account)
+    (λ a a' c c' x x' l l' f f'. and4 (is_acl c) (is_tax_id x) (is_name l) (is_name f) c' x' l' f') (on_any (read_id account))) (on_text is_acl acl))
+    (on_text is_tax_id tax_id)) (on_text is_name last)) (on_text is_name first)
 permission_on _ = tt
 
 security_on : (fields : List Text) → IfOk (read_listing fields) (λ x. is_well_formed_listing x ≡ true)
 security_on (symbol ∷ name ∷ exchange ∷ sector ∷ price ∷ []) =
     let P : Listing → Type 0 = λ x. is_well_formed_listing x ≡ true in
-    on_apply (λ p. is_price p ≡ true) P (Ok (λ s n e c p. record { symbol = s; name = n; exchange = e; sector = c; price = p }) ⊛ read_symbol symbol ⊛ read_name name ⊛ read_exchange exchange ⊛ read_name sector) (read_price price)
-    (on_apply (λ c. is_name c ≡ true) (λ z. (p : ℕ) → is_price p ≡ true → P (z p)) (Ok (λ s n e c p. record { symbol = s; name = n; exchange = e; sector = c; price = p }) ⊛ read_symbol symbol ⊛ read_name name ⊛ read_exchange exchange) (read_name sector)
-    (on_apply (λ e. is_exchange e ≡ true) (λ z. (c : Text) → is_name c ≡ true → (p : ℕ) → is_price p ≡ true → P (z c p)) (Ok (λ s n e c p. record { symbol = s; name = n; exchange = e; sector = c; price = p }) ⊛ read_symbol symbol ⊛ read_name name) (read_exchange exchange)
-    (on_apply (λ n. is_name n ≡ true) (λ z. (e : Text) → is_exchange e ≡ true → (c : Text) → is_name c ≡ true → (p : ℕ) → is_price p ≡ true → P (z e c p)) (Ok (λ s n e c p. record { symbol = s; name = n; exchange = e; sector = c; price = p }) ⊛ read_symbol symbol) (read_name name)
-    (on_apply (λ s. is_symbol s ≡ true) (λ z. (n : Text) → is_name n ≡ true → (e : Text) → is_exchange e ≡ true → (c : Text) → is_name c ≡ true → (p : ℕ) → is_price p ≡ true → P (z n e c p)) (Ok (λ s n e c p. record { symbol = s; name = n; exchange = e; sector = c; price = p })) (read_symbol symbol)
-    (λ s s' n n' e e' c c' p p'. and5 (is_symbol s) (is_name n) (is_exchange e) (is_name c) (is_price p) s' n' e' c' p') (on_text is_symbol symbol)) (on_text is_name name)) (on_text is_exchange exchange)) (on_text is_name sector)) (on_price price)
+    on_apply (λ p. is_price p ≡ true) P
+    (Ok (λ s n e c p. record { symbol = s; name = n; exchange = e; sector = c; price = p }) ⊛ read_symbol symbol ⊛ read_name name ⊛ read_exchange exchange ⊛
+    read_name sector) (read_price price)
+    (on_apply (λ c. is_name c ≡ true) (λ z. (p : ℕ) → is_price p ≡ true → P (z p))
+    (Ok (λ s n e c p. record { symbol = s; name = n; exchange = e; sector = c; price = p }) ⊛ read_symbol symbol ⊛ read_name name ⊛ read_exchange exchange)
+    (read_name sector)
+    (on_apply (λ e. is_exchange e ≡ true) (λ z. (c : Text) → is_name c ≡ true → (p : ℕ) → is_price p ≡ true → P (z c p))
+    (Ok (λ s n e c p. record { symbol = s; name = n; exchange = e; sector = c; price = p }) ⊛ read_symbol symbol ⊛ read_name name) (read_exchange exchange)
+    (on_apply (λ n. is_name n ≡ true) (λ z. (e : Text) → is_exchange e ≡ true → (c : Text) → is_name c ≡ true → (p : ℕ) → is_price p ≡ true → P (z e c p))
+    (Ok (λ s n e c p. record { symbol = s; name = n; exchange = e; sector = c; price = p }) ⊛ read_symbol symbol) (read_name name)
+    (on_apply (λ s. is_symbol s ≡ true)
+    (λ z. (n : Text) → is_name n ≡ true → (e : Text) → is_exchange e ≡ true → (c : Text) → is_name c ≡ true → (p : ℕ) → is_price p ≡ true → P (z n e c p))
+    (Ok (λ s n e c p. record { symbol = s; name = n; exchange = e; sector = c; price = p })) (read_symbol symbol)
+    (λ s s' n n' e e' c c' p p'. and5 (is_symbol s) (is_name n) (is_exchange e) (is_name c) (is_price p) s' n' e' c' p') (on_text is_symbol symbol))
+    (on_text is_name name)) (on_text is_exchange exchange)) (on_text is_name sector)) (on_price price)
 security_on _ = tt
 
 charge_on : (fields : List Text) → IfOk (read_charge fields) (λ x. is_well_formed_charge_row x ≡ true)
@@ -172,12 +223,31 @@ charge_on _ = tt
 band_on : (fields : List Text) → IfOk (read_commission_band fields) (λ x. is_well_formed_band x ≡ true)
 band_on (tier ∷ kind ∷ exchange ∷ low ∷ high ∷ rate ∷ []) =
     let P : Band → Type 0 = λ x. is_well_formed_band x ≡ true in
-    on_apply (λ r. nat_le r greatest_commission_rate ≡ true) P (Ok (λ t k e b r. record { tier = t; kind = k; exchange = e; from_qty = b.0; to_qty = b.1; rate = r }) ⊛ read_tier tier ⊛ read_trade_type kind ⊛ read_exchange exchange ⊛ read_quantity_bounds low high) (read_commission_rate rate)
-    (on_apply (λ b. ((is_quantity_in_schema third_schema b.0 ≡ true) × (is_quantity_in_schema third_schema b.1 ≡ true))) (λ z. (r : ℕ) → nat_le r greatest_commission_rate ≡ true → P (z r)) (Ok (λ t k e b r. record { tier = t; kind = k; exchange = e; from_qty = b.0; to_qty = b.1; rate = r }) ⊛ read_tier tier ⊛ read_trade_type kind ⊛ read_exchange exchange) (read_quantity_bounds low high)
-    (on_apply (λ e. is_exchange e ≡ true) (λ z. (b : (ℕ × ℕ)) → ((is_quantity_in_schema third_schema b.0 ≡ true) × (is_quantity_in_schema third_schema b.1 ≡ true)) → (r : ℕ) → nat_le r greatest_commission_rate ≡ true → P (z b r)) (Ok (λ t k e b r. record { tier = t; kind = k; exchange = e; from_qty = b.0; to_qty = b.1; rate = r }) ⊛ read_tier tier ⊛ read_trade_type kind) (read_exchange exchange)
-    (on_apply (λ k. ⊤) (λ z. (e : Text) → is_exchange e ≡ true → (b : (ℕ × ℕ)) → ((is_quantity_in_schema third_schema b.0 ≡ true) × (is_quantity_in_schema third_schema b.1 ≡ true)) → (r : ℕ) → nat_le r greatest_commission_rate ≡ true → P (z e b r)) (Ok (λ t k e b r. record { tier = t; kind = k; exchange = e; from_qty = b.0; to_qty = b.1; rate = r }) ⊛ read_tier tier) (read_trade_type kind)
-    (on_apply (λ t. is_tier t ≡ true) (λ z. (k : TradeType) → ⊤ → (e : Text) → is_exchange e ≡ true → (b : (ℕ × ℕ)) → ((is_quantity_in_schema third_schema b.0 ≡ true) × (is_quantity_in_schema third_schema b.1 ≡ true)) → (r : ℕ) → nat_le r greatest_commission_rate ≡ true → P (z k e b r)) (Ok (λ t k e b r. record { tier = t; kind = k; exchange = e; from_qty = b.0; to_qty = b.1; rate = r })) (read_tier tier)
-    (λ t t' k k' e e' b b' r r'. and5 (is_tier t) (is_exchange e) (is_quantity_in_schema third_schema b.0) (is_quantity_in_schema third_schema b.1) (nat_le r greatest_commission_rate) t' e' b'.0 b'.1 r') (on_tier tier)) (on_any (read_trade_type kind))) (on_text is_exchange exchange)) (on_bounds low high)) (on_rate rate)
+    on_apply (λ r. nat_le r greatest_commission_rate ≡ true) P
+    (Ok (λ t k e b r. record { tier = t; kind = k; exchange = e; from_qty = b.0; to_qty = b.1; rate = r }) ⊛ read_tier tier ⊛ read_trade_type kind ⊛
+    read_exchange exchange ⊛ read_quantity_bounds low high) (read_commission_rate rate)
+    (on_apply (λ b. ((is_quantity_in_schema third_schema b.0 ≡ true) × (is_quantity_in_schema third_schema b.1 ≡ true)))
+    (λ z. (r : ℕ) → nat_le r greatest_commission_rate ≡ true → P (z r))
+    (Ok (λ t k e b r. record { tier = t; kind = k; exchange = e; from_qty = b.0; to_qty = b.1; rate = r }) ⊛ read_tier tier ⊛ read_trade_type kind ⊛
+    read_exchange exchange) (read_quantity_bounds low high)
+    (on_apply (λ e. is_exchange e ≡ true)
+    (λ z. (b : (ℕ × ℕ)) → ((is_quantity_in_schema third_schema b.0 ≡ true) × (is_quantity_in_schema third_schema b.1 ≡ true)) → (r : ℕ)
+    → nat_le r greatest_commission_rate ≡ true
+    → P (z b r)) (Ok (λ t k e b r. record { tier = t; kind = k; exchange = e; from_qty = b.0; to_qty = b.1; rate = r }) ⊛ read_tier tier ⊛ read_trade_type
+    kind) (read_exchange exchange)
+    (on_apply (λ k. ⊤) (λ z. (e : Text) → is_exchange e ≡ true → (b : (ℕ × ℕ))
+    → ((is_quantity_in_schema third_schema b.0 ≡ true) × (is_quantity_in_schema third_schema b.1 ≡ true)) → (r : ℕ)
+    → nat_le r greatest_commission_rate ≡ true
+    → P (z e b r)) (Ok (λ t k e b r. record { tier = t; kind = k; exchange = e; from_qty = b.0; to_qty = b.1; rate = r }) ⊛ read_tier tier)
+    (read_trade_type kind)
+    (on_apply (λ t. is_tier t ≡ true)
+    (λ z. (k : TradeType) → ⊤ → (e : Text) → is_exchange e ≡ true → (b : (ℕ × ℕ))
+    → ((is_quantity_in_schema third_schema b.0 ≡ true) × (is_quantity_in_schema third_schema b.1 ≡ true)) → (r : ℕ)
+    → nat_le r greatest_commission_rate ≡ true
+    → P (z k e b r)) (Ok (λ t k e b r. record { tier = t; kind = k; exchange = e; from_qty = b.0; to_qty = b.1; rate = r })) (read_tier tier)
+    (λ t t' k k' e e' b b' r r'. and5 (is_tier t) (is_exchange e) (is_quantity_in_schema third_schema b.0) (is_quantity_in_schema third_schema b.1)
+    (nat_le r greatest_commission_rate) t' e' b'.0 b'.1 r') (on_tier tier)) (on_any (read_trade_type kind))) (on_text is_exchange exchange))
+    (on_bounds low high)) (on_rate rate)
 band_on _ = tt
 
 tax_rate_on : (fields : List Text) → IfOk (read_tax_rate fields) (λ x. is_well_formed_tax_rate_row x ≡ true)
@@ -189,7 +259,8 @@ tax_rate_on (id ∷ name ∷ rate ∷ []) =
     (λ i i' n n' r r'. and3 (is_id i) (is_name n) (nat_le r greatest_tax_rate) i' n' r') (on_id id)) (on_text is_name name)) (on_tax rate)
 tax_rate_on _ = tt
 
-without_price_on : (t : OrderType) (text : Text) → IfSome (price_of_order_type t) (λ n. is_price n ≡ true) → IfOk (market_type_if_price_is_empty t text) (λ o. IfSome (price_of_order_type o) (λ n. is_price n ≡ true))
+without_price_on : (t : OrderType) (text : Text) → IfSome (price_of_order_type t) (λ n. is_price n ≡ true)
+    → IfOk (market_type_if_price_is_empty t text) (λ o. IfSome (price_of_order_type o) (λ n. is_price n ≡ true))
 without_price_on t [] h = h
 without_price_on t (c ∷ text) h = tt
 
@@ -216,14 +287,32 @@ order_type_on kind price = known_type_on (trade_type_with_code kind) price
 order_on : (fields : List Text) → IfOk (read_order fields) (λ x. OrderMeetsAuditFormats x)
 order_on (account ∷ kind ∷ symbol ∷ qty ∷ price ∷ cash ∷ end ∷ first ∷ last ∷ tax_id ∷ []) =
     let P : Order → Type 0 = λ x. OrderMeetsAuditFormats x in
-    on_apply (λ e. ⊤) P (Ok (λ a s q t c l e. record { account = a; order_type = t; symbol = s; qty = q; is_cash = c; is_lifo = l; executor = e }) ⊛ read_id account ⊛ read_symbol symbol ⊛ read_quantity qty ⊛ read_order_type kind price ⊛ read_cash_or_margin cash ⊛ read_lifo_or_fifo end) (read_executor first last tax_id)
-    (on_apply (λ l. ⊤) (λ z. (e : Executor) → ⊤ → P (z e)) (Ok (λ a s q t c l e. record { account = a; order_type = t; symbol = s; qty = q; is_cash = c; is_lifo = l; executor = e }) ⊛ read_id account ⊛ read_symbol symbol ⊛ read_quantity qty ⊛ read_order_type kind price ⊛ read_cash_or_margin cash) (read_lifo_or_fifo end)
-    (on_apply (λ c. ⊤) (λ z. (l : Bool) → ⊤ → (e : Executor) → ⊤ → P (z l e)) (Ok (λ a s q t c l e. record { account = a; order_type = t; symbol = s; qty = q; is_cash = c; is_lifo = l; executor = e }) ⊛ read_id account ⊛ read_symbol symbol ⊛ read_quantity qty ⊛ read_order_type kind price) (read_cash_or_margin cash)
-    (on_apply (λ t. IfSome (price_of_order_type t) (λ n. is_price n ≡ true)) (λ z. (c : Bool) → ⊤ → (l : Bool) → ⊤ → (e : Executor) → ⊤ → P (z c l e)) (Ok (λ a s q t c l e. record { account = a; order_type = t; symbol = s; qty = q; is_cash = c; is_lifo = l; executor = e }) ⊛ read_id account ⊛ read_symbol symbol ⊛ read_quantity qty) (read_order_type kind price)
-    (on_apply (λ q. is_quantity_in_schema third_schema q ≡ true) (λ z. (t : OrderType) → IfSome (price_of_order_type t) (λ n. is_price n ≡ true) → (c : Bool) → ⊤ → (l : Bool) → ⊤ → (e : Executor) → ⊤ → P (z t c l e)) (Ok (λ a s q t c l e. record { account = a; order_type = t; symbol = s; qty = q; is_cash = c; is_lifo = l; executor = e }) ⊛ read_id account ⊛ read_symbol symbol) (read_quantity qty)
-    (on_apply (λ s. ⊤) (λ z. (q : ℕ) → is_quantity_in_schema third_schema q ≡ true → (t : OrderType) → IfSome (price_of_order_type t) (λ n. is_price n ≡ true) → (c : Bool) → ⊤ → (l : Bool) → ⊤ → (e : Executor) → ⊤ → P (z q t c l e)) (Ok (λ a s q t c l e. record { account = a; order_type = t; symbol = s; qty = q; is_cash = c; is_lifo = l; executor = e }) ⊛ read_id account) (read_symbol symbol)
-    (on_apply (λ a. ⊤) (λ z. (s : Text) → ⊤ → (q : ℕ) → is_quantity_in_schema third_schema q ≡ true → (t : OrderType) → IfSome (price_of_order_type t) (λ n. is_price n ≡ true) → (c : Bool) → ⊤ → (l : Bool) → ⊤ → (e : Executor) → ⊤ → P (z s q t c l e)) (Ok (λ a s q t c l e. record { account = a; order_type = t; symbol = s; qty = q; is_cash = c; is_lifo = l; executor = e })) (read_id account)
-    (λ a a' s s' q q' t t' c c' l l' e e'. record { qty = q'; price = t' }) (on_any (read_id account))) (on_any (read_symbol symbol))) (on_qty qty)) (order_type_on kind price)) (on_any (read_cash_or_margin cash))) (on_any (read_lifo_or_fifo end))) (on_any (read_executor first last tax_id))
+    on_apply (λ e. ⊤) P (Ok (λ a s q t c l e. record { account = a; order_type = t; symbol = s; qty = q; is_cash = c; is_lifo = l; executor = e }) ⊛ read_id
+    account ⊛ read_symbol symbol ⊛ read_quantity qty ⊛ read_order_type kind price ⊛ read_cash_or_margin cash ⊛ read_lifo_or_fifo end)
+    (read_executor first last tax_id)
+    (on_apply (λ l. ⊤) (λ z. (e : Executor) → ⊤ → P (z e))
+    (Ok (λ a s q t c l e. record { account = a; order_type = t; symbol = s; qty = q; is_cash = c; is_lifo = l; executor = e }) ⊛ read_id account ⊛
+    read_symbol symbol ⊛ read_quantity qty ⊛ read_order_type kind price ⊛ read_cash_or_margin cash) (read_lifo_or_fifo end)
+    (on_apply (λ c. ⊤) (λ z. (l : Bool) → ⊤ → (e : Executor) → ⊤ → P (z l e))
+    (Ok (λ a s q t c l e. record { account = a; order_type = t; symbol = s; qty = q; is_cash = c; is_lifo = l; executor = e }) ⊛ read_id account ⊛
+    read_symbol symbol ⊛ read_quantity qty ⊛ read_order_type kind price) (read_cash_or_margin cash)
+    (on_apply (λ t. IfSome (price_of_order_type t) (λ n. is_price n ≡ true)) (λ z. (c : Bool) → ⊤ → (l : Bool) → ⊤ → (e : Executor) → ⊤ → P (z c l e))
+    (Ok (λ a s q t c l e. record { account = a; order_type = t; symbol = s; qty = q; is_cash = c; is_lifo = l; executor = e }) ⊛ read_id account ⊛
+    read_symbol symbol ⊛ read_quantity qty) (read_order_type kind price)
+    (on_apply (λ q. is_quantity_in_schema third_schema q ≡ true)
+    (λ z. (t : OrderType) → IfSome (price_of_order_type t) (λ n. is_price n ≡ true) → (c : Bool) → ⊤ → (l : Bool) → ⊤ → (e : Executor) → ⊤ → P (z t c l e))
+    (Ok (λ a s q t c l e. record { account = a; order_type = t; symbol = s; qty = q; is_cash = c; is_lifo = l; executor = e }) ⊛ read_id account ⊛
+    read_symbol symbol) (read_quantity qty)
+    (on_apply (λ s. ⊤) (λ z. (q : ℕ) → is_quantity_in_schema third_schema q ≡ true → (t : OrderType) → IfSome (price_of_order_type t) (λ n. is_price n ≡ true)
+    → (c : Bool) → ⊤ → (l : Bool) → ⊤ → (e : Executor) → ⊤
+    → P (z q t c l e)) (Ok (λ a s q t c l e. record { account = a; order_type = t; symbol = s; qty = q; is_cash = c; is_lifo = l; executor = e }) ⊛ read_id
+    account) (read_symbol symbol)
+    (on_apply (λ a. ⊤) (λ z. (s : Text) → ⊤ → (q : ℕ) → is_quantity_in_schema third_schema q ≡ true → (t : OrderType)
+    → IfSome (price_of_order_type t) (λ n. is_price n ≡ true) → (c : Bool) → ⊤ → (l : Bool) → ⊤ → (e : Executor) → ⊤
+    → P (z s q t c l e)) (Ok (λ a s q t c l e. record { account = a; order_type = t; symbol = s; qty = q; is_cash = c; is_lifo = l; executor = e }))
+    (read_id account)
+    (λ a a' s s' q q' t t' c c' l l' e e'. record { qty = q'; price = t' }) (on_any (read_id account))) (on_any (read_symbol symbol))) (on_qty qty))
+    (order_type_on kind price)) (on_any (read_cash_or_margin cash))) (on_any (read_lifo_or_fifo end))) (on_any (read_executor first last tax_id))
 order_on _ = tt
 
 result_on : (fields : List Text) → IfOk (read_result_command fields) (λ x. MeetsAuditFormats x)
@@ -268,7 +357,8 @@ ticks_on (symbol ∷ price ∷ qty ∷ fields) =
 feed_on : (fields : List Text) → IfOk (read_feed fields) (λ ticks. AllByRecursion TickMeetsAuditFormats ticks)
 feed_on fields = on_then (AllByRecursion TickMeetsAuditFormats) (AllByRecursion TickMeetsAuditFormats) one_to_twenty_elements (read_ticks fields) (ticks_on fields) some
   where
-    by_length : (ticks : List Tick) (b : Bool) → AllByRecursion TickMeetsAuditFormats ticks → IfOk {T = List Tick} {E = Refusal} (cond b (Ok ticks) (Err TooMany)) (λ ticks. AllByRecursion TickMeetsAuditFormats ticks)
+    by_length : (ticks : List Tick) (b : Bool) → AllByRecursion TickMeetsAuditFormats ticks
+        → IfOk {T = List Tick} {E = Refusal} (cond b (Ok ticks) (Err TooMany)) (λ ticks. AllByRecursion TickMeetsAuditFormats ticks)
     by_length ticks true h = h
     by_length ticks false h = tt
 
@@ -276,7 +366,8 @@ feed_on fields = on_then (AllByRecursion TickMeetsAuditFormats) (AllByRecursion 
     some [] h = tt
     some (t ∷ ticks) h = by_length (t ∷ ticks) (nat_le (length (t ∷ ticks)) 20) h
 
-movement_on : (moved : ℕ → ℕ → Command) → ((account n : ℕ) → is_movement_amount n ≡ true → MeetsAuditFormats (moved account n)) → (fields : List Text) → IfOk (read_movement_command moved fields) (λ x. MeetsAuditFormats x)
+movement_on : (moved : ℕ → ℕ → Command) → ((account n : ℕ) → is_movement_amount n ≡ true → MeetsAuditFormats (moved account n)) → (fields : List Text)
+    → IfOk (read_movement_command moved fields) (λ x. MeetsAuditFormats x)
 movement_on moved form [] = tt
 movement_on moved form (account ∷ []) = tt
 movement_on moved form (account ∷ amount ∷ []) =

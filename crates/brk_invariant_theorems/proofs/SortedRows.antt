@@ -63,7 +63,8 @@ apart_ahead : {X Row : Type 0} (key : X → List KeyPart) (key' : Row → List K
 apart_ahead key key' f x [] e n = tt
 apart_ahead key key' f x (y ∷ ys) e n = ((λ p. n.0 (sym (e y) ∙ p ∙ e x)), apart_ahead key key' f x ys e n.1)
 
-pub apart_map : {X Row : Type 0} (key : X → List KeyPart) (key' : Row → List KeyPart) (f : X → Row) (xs : List X) → ((z : X) → key' (f z) ≡ key z) → HasDistinctKeys key xs → HasDistinctKeys key' (map f xs)
+pub apart_map : {X Row : Type 0} (key : X → List KeyPart) (key' : Row → List KeyPart) (f : X → Row) (xs : List X) → ((z : X) → key' (f z) ≡ key z)
+    → HasDistinctKeys key xs → HasDistinctKeys key' (map f xs)
 apart_map key key' f [] e a = tt
 apart_map key key' f (x ∷ xs) e a = (apart_ahead key key' f x xs e a.0, apart_map key key' f xs e a.1)
 

@@ -65,7 +65,8 @@ one_more ms m e = let k = grown ms in few (length ms) (length (ms ++ m ∷ [])) 
 
 -- the tests of a movement, of which none found anything wrong
 abbrev Tested : Base → Movement → Type 0
-Tested base m = (nat_lt greatest_amount (nat_abs (balance_of_account base.accounts (postings_of_base (base_after_movement base m)) m.account)) ≡ false) × (nat_le greatest_id (length base.movements) ≡ false)
+Tested base m = (nat_lt greatest_amount (nat_abs (balance_of_account base.accounts (postings_of_base (base_after_movement base m)) m.account)) ≡ false)
+    × (nat_le greatest_id (length base.movements) ≡ false)
 
 sound_movement : (base : Base) (now : ℕ) (m : Movement) → m.stamp ≡ stamp_of_next_command base now → is_well_formed_movement m ≡ true → Tested base m → AuditInvariant base → BooksInvariant base
     → AuditInvariant (record (base_after_movement base m) { last = Some (stamp_of_next_command base now) })

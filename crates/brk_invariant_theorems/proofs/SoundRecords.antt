@@ -11,9 +11,11 @@ use Rattle.brk_model.specs.Lists.{total_by}
 use Rattle.brk_model.specs.Limits.{greatest_amount, greatest_commission_rate, greatest_tax_rate, most_accounts_per_customer}
 use Rattle.brk_model.specs.Records.{Account, Band, Broker, Charge, Customer, CustomerTax, Kept, Key, Permission, Security, TaxRate, Trade}
 use Rattle.brk_model.specs.Base.{Base, account_with_id, broker_id_in_accounts, completed_trades, customer_with_id, tax_rate_sum_of_customer, tax_rate_record_with_id}
-use Rattle.brk_model.specs.Derived.{settlement_amount, balance_of_account, cash_trades, commission_total_of_broker, trades_of_account, trades_of_broker, postings_to_account, postings, postings_of_base}
+use Rattle.brk_model.specs.Derived.{settlement_amount, balance_of_account, cash_trades, commission_total_of_broker, trades_of_account, trades_of_broker}
+use Rattle.brk_model.specs.Derived.{postings_to_account, postings, postings_of_base}
 use Rattle.brk_model.specs.Commands.{Command, Listing, Reply, AddBroker, AddCustomer, AddAccount, AddPermission, AddSecurity, AddCharge, AddBand, AddTaxRate, AddCustomerTax}
-use Rattle.brk_model.specs.Form.{is_well_formed_band_row, is_well_formed_charge_row, is_well_formed_customer_row, is_id, is_up_to_last_stamp, is_quantity_in_schema, is_tier, is_well_formed_kept_row, is_well_formed_tax_rate_row, has_well_formed_permission_texts}
+use Rattle.brk_model.specs.Form.{is_well_formed_band_row, is_well_formed_charge_row, is_well_formed_customer_row, is_id, is_up_to_last_stamp}
+use Rattle.brk_model.specs.Form.{is_quantity_in_schema, is_tier, is_well_formed_kept_row, is_well_formed_tax_rate_row, has_well_formed_permission_texts}
 use Rattle.brk_model.specs.Forms.{is_exchange, is_name}
 use Rattle.brk_model.specs.Keys.{KeyPart, number, word, charge_key, customer_key, customer_tax_key, kept_key, tax_rate_key}
 use Rattle.brk_model.specs.Keyed.{base_with_stored_reply, stored_row_with_key}
@@ -34,7 +36,9 @@ use Rattle.brk_book_theorems.proofs.Steps.{in_order}
 use Rattle.brk_audit_theorems.proofs.Again.{both_all}
 use Rattle.brk_model_theorems.proofs.Conjunctions.{parts3, parts5}
 use Rattle.brk_audit_theorems.specs.Told.{broker_id_key}
-use Rattle.brk_invariant_theorems.specs.Sound.{AuditInvariant, TradeAuditInvariant, BaseTradeAuditInvariant, HasDistinctKeys, PermissionAccountIsListed, TaxCustomerIsListed, TaxRateIsListed, is_well_formed_account, is_well_formed_broker, has_cash_text_with_security_name, is_well_formed_security, customer_tax_id_key}
+use Rattle.brk_invariant_theorems.specs.Sound.{AuditInvariant, TradeAuditInvariant, BaseTradeAuditInvariant, HasDistinctKeys, PermissionAccountIsListed}
+use Rattle.brk_invariant_theorems.specs.Sound.{TaxCustomerIsListed, TaxRateIsListed, is_well_formed_account, is_well_formed_broker}
+use Rattle.brk_invariant_theorems.specs.Sound.{has_cash_text_with_security_name, is_well_formed_security, customer_tax_id_key}
 use Rattle.brk_invariant_theorems.specs.InForm.{MeetsAuditFormats, IsWellFormedKey}
 use Rattle.brk_invariant_theorems.proofs.OneTrade.{past_itself, sound_last}
 
@@ -168,7 +172,8 @@ sound_charge base now x k books form e =
 
 band_whole : (b : Band) → MeetsAuditFormats (AddBand b) → nat_le b.from_qty b.to_qty ≡ true → is_well_formed_band_row third_schema b ≡ true
 band_whole b form o =
-    let f = parts5 (is_tier b.tier) (is_exchange b.exchange) (is_quantity_in_schema third_schema b.from_qty) (is_quantity_in_schema third_schema b.to_qty) (nat_le b.rate greatest_commission_rate) form in
+    let f = parts5 (is_tier b.tier) (is_exchange b.exchange) (is_quantity_in_schema third_schema b.from_qty) (is_quantity_in_schema third_schema b.to_qty)
+    (nat_le b.rate greatest_commission_rate) form in
     let t = is_tier b.tier in
     let x = is_exchange b.exchange in
     let m = is_quantity_in_schema third_schema b.from_qty in
@@ -243,7 +248,8 @@ sound_tax_rate base now x k books form e =
 abbrev rate_in : Base → CustomerTax → ℕ
 rate_in base x = option_map_or (λ r. r.rate) (tax_rate_record_with_id base x.tax) 0
 
-paid_more : (base : Base) (x : CustomerTax) → tax_rate_sum_of_customer base x.customer + rate_in base x ≤ greatest_tax_rate → ((customer : ℕ) → tax_rate_sum_of_customer base customer ≤ greatest_tax_rate)
+paid_more : (base : Base) (x : CustomerTax) → tax_rate_sum_of_customer base x.customer + rate_in base x ≤ greatest_tax_rate
+    → ((customer : ℕ) → tax_rate_sum_of_customer base customer ≤ greatest_tax_rate)
     → (customer : ℕ) → tax_rate_sum_of_customer (record base { customer_taxes = base.customer_taxes ++ x ∷ [] }) customer ≤ greatest_tax_rate
 paid_more base x h k customer = by_test (x.customer == customer) refl
   where
@@ -253,14 +259,16 @@ paid_more base x h k customer = by_test (x.customer == customer) refl
     paid : List CustomerTax
     paid = filter (λ y. y.customer == customer) base.customer_taxes
 
-    apart : sum_by (rate_in base) (filter (λ y. y.customer == customer) (base.customer_taxes ++ x ∷ [])) ≡ sum_by (rate_in base) paid + sum_by (rate_in base) (filter (λ y. y.customer == customer) (x ∷ []))
+    apart : sum_by (rate_in base) (filter (λ y. y.customer == customer) (base.customer_taxes ++ x ∷ [])) ≡ sum_by (rate_in base) paid
+        + sum_by (rate_in base) (filter (λ y. y.customer == customer) (x ∷ []))
     apart = ap (sum_by (rate_in base)) (filter-append (λ y. y.customer == customer) base.customer_taxes (x ∷ [])) ∙ sum_by-append (rate_in base) paid (filter (λ y. y.customer == customer) (x ∷ []))
 
     by_test : (b : Bool) → (x.customer == customer) ≡ b → sum_by (rate_in base) (filter (λ y. y.customer == customer) (base.customer_taxes ++ x ∷ [])) ≤ greatest_tax_rate
     by_test true e =
         let one : sum_by (rate_in base) (cond (x.customer == customer) (x ∷ []) []) ≡ sum_by (rate_in base) (x ∷ []) = ap (λ b. sum_by (rate_in base) (cond b (x ∷ []) [])) e in
         let c : sum_by (rate_in base) (x ∷ []) ≡ rate_in base x + 0 = sum_by-cons (rate_in base) x [] in
-        let m : tax_rate_sum_of_customer base customer + rate_in base x ≤ greatest_tax_rate = subst (λ n. tax_rate_sum_of_customer base n + rate_in base x ≤ greatest_tax_rate) (eqb-true x.customer customer e) h in
+        let m : tax_rate_sum_of_customer base customer + rate_in base x ≤ greatest_tax_rate =
+        subst (λ n. tax_rate_sum_of_customer base n + rate_in base x ≤ greatest_tax_rate) (eqb-true x.customer customer e) h in
         let a = apart in
         omega (arith, a, one, c, m)
     by_test false e =
@@ -283,7 +291,9 @@ sound_customer_tax base now x k books form e =
         tax_rates = l.tax_rates;
         charge_keys = l.charge_keys;
         tax_rate_keys = l.tax_rate_keys;
-        customer_tax_keys = apart_more customer_tax_key base.customer_taxes x (customer_tax_new x base.customer_taxes (any-none (λ y. (y.customer == x.customer) && (y.tax == x.tax)) base.customer_taxes p.1.1.0)) k.customer_tax_keys;
+        customer_tax_keys = apart_more customer_tax_key base.customer_taxes x
+            (customer_tax_new x base.customer_taxes (any-none (λ y. (y.customer == x.customer) && (y.tax == x.tax)) base.customer_taxes p.1.1.0))
+            k.customer_tax_keys;
         payers = All-append (TaxCustomerIsListed base.customers) base.customer_taxes (x ∷ []) k.payers (not_not (is_some (customer_with_id base x.customer)) p.0, tt);
         taxes = All-append (TaxRateIsListed base.tax_rates) base.customer_taxes (x ∷ []) k.taxes (not_not (is_some (tax_rate_record_with_id base x.tax)) p.1.0, tt);
         rates = paid_more base x (ltb-false greatest_tax_rate _ p.1.1.1.0) k.rates;
@@ -353,7 +363,8 @@ same_broker base a id books =
     filter-same (λ t. broker_id_in_accounts (more base a) t.account == id) (λ t. broker_id_in_accounts base.accounts t.account == id) (completed_trades base)
     (All-map (completed_trades base) (λ t k. ap (λ o. option_map_or (λ a. a.broker) o 0 == id) (as_before base a t.account k)) (known_completed base books))
 
-same_commissions : (base : Base) (a : Account) (id : ℕ) → BooksInvariant base → commission_total_of_broker (more base a) (completed_trades base) id ≡ commission_total_of_broker base.accounts (completed_trades base) id
+same_commissions : (base : Base) (a : Account) (id : ℕ) → BooksInvariant base
+    → commission_total_of_broker (more base a) (completed_trades base) id ≡ commission_total_of_broker base.accounts (completed_trades base) id
 unfolding commission_total_of_broker
 same_commissions base a id books = ap (sum_by (λ t. t.commission)) (same_broker base a id books)
 
@@ -362,7 +373,8 @@ length-append [] ys = omega arith
 length-append (x ∷ xs) ys = let h = length-append xs ys in omega (arith, h)
 
 owned_more : (accounts : List Account) (a : Account) → length (filter (λ b. b.customer == a.customer) accounts) < most_accounts_per_customer
-    → ((customer : ℕ) → length (filter (λ b. b.customer == customer) accounts) ≤ most_accounts_per_customer) → (customer : ℕ) → length (filter (λ b. b.customer == customer) (accounts ++ a ∷ [])) ≤ most_accounts_per_customer
+    → ((customer : ℕ) → length (filter (λ b. b.customer == customer) accounts) ≤ most_accounts_per_customer) → (customer : ℕ)
+    → length (filter (λ b. b.customer == customer) (accounts ++ a ∷ [])) ≤ most_accounts_per_customer
 owned_more accounts a h k customer = by_test (a.customer == customer) refl
   where
     apart : length (filter (λ b. b.customer == customer) (accounts ++ a ∷ [])) ≡ length (filter (λ b. b.customer == customer) accounts) + length (filter (λ b. b.customer == customer) (a ∷ []))
@@ -371,7 +383,8 @@ owned_more accounts a h k customer = by_test (a.customer == customer) refl
     by_test : (b : Bool) → (a.customer == customer) ≡ b → length (filter (λ b. b.customer == customer) (accounts ++ a ∷ [])) ≤ most_accounts_per_customer
     by_test true e =
         let one : length (cond (a.customer == customer) (a ∷ []) []) ≡ 1 = ap (λ b. length (cond b (a ∷ []) [])) e in
-        let m : length (filter (λ b. b.customer == customer) accounts) < most_accounts_per_customer = subst (λ n. length (filter (λ b. b.customer == n) accounts) < most_accounts_per_customer) (eqb-true a.customer customer e) h in
+        let m : length (filter (λ b. b.customer == customer) accounts) < most_accounts_per_customer =
+        subst (λ n. length (filter (λ b. b.customer == n) accounts) < most_accounts_per_customer) (eqb-true a.customer customer e) h in
         let p = apart in
         omega (arith, p, one, m)
     by_test false e =
@@ -428,7 +441,8 @@ kept_new key row ks s h = All-map ks (λ k n e.
 none_is : (o : Option Kept) → o ≡ None → is_some o ≡ false
 none_is o e = ap is_some e
 
-pub sound_kept : (base : Base) (key : Key) (command : Command) (reply : Reply) → AuditInvariant base → IsWellFormedKey key → stored_row_with_key base key ≡ None → AuditInvariant (base_with_stored_reply (Some key) command reply base)
+pub sound_kept : (base : Base) (key : Key) (command : Command) (reply : Reply) → AuditInvariant base → IsWellFormedKey key → stored_row_with_key base key ≡ None
+    → AuditInvariant (base_with_stored_reply (Some key) command reply base)
 sound_kept base key command reply k form e =
     let row : Kept = record { key = key; row_text = row_text command; line = line_text reply } in
     record {

@@ -12,7 +12,8 @@ use Rattle.brk_money.specs.declared.status.Status.TheVariants.{Completed, Submit
 use Rattle.brk_model.specs.Schemas.{third_schema}
 use Rattle.brk_model.specs.Limits.{greatest_amount, greatest_charge, greatest_commission_rate, greatest_summary}
 use Rattle.brk_model.specs.Records.{Account, Band, Trade, Movement}
-use Rattle.brk_model.specs.Base.{Base, commission_band_for_quantity, broker_id_in_accounts, completed_trades, customer_id_of_account, exchange_of_security, has_last_status, is_completed, is_withholding_status, tax_status_in_accounts, tier_of_account, trade_with_id}
+use Rattle.brk_model.specs.Base.{Base, commission_band_for_quantity, broker_id_in_accounts, completed_trades, customer_id_of_account, exchange_of_security}
+use Rattle.brk_model.specs.Base.{has_last_status, is_completed, is_withholding_status, tax_status_in_accounts, tier_of_account, trade_with_id}
 use Rattle.brk_model.specs.Derived.{balance_of_account, commission_total_of_broker, shares_of_position, holding_summary_quantity, postings, due_day_of_completion_stamp}
 use Rattle.brk_model.specs.Commands.{CompleteTrade}
 use Rattle.brk_model.specs.Orders.{commission_by_band}
@@ -37,7 +38,8 @@ use Rattle.brk_invariant_theorems.proofs.OneTrade.{cheap_shares, completes_way, 
 -- ---- sums with one trade more
 
 summary_then : (xs : List Trade) (u : Trade) (ys : List Trade) → ((account : ℕ) → (symbol : Text) → nat_abs (holding_summary_quantity (xs ++ ys) account symbol) ≤ greatest_summary)
-    → nat_abs (holding_summary_quantity (xs ++ u ∷ ys) u.account u.symbol) ≤ greatest_summary → (account : ℕ) → (symbol : Text) → nat_abs (holding_summary_quantity (xs ++ u ∷ ys) account symbol) ≤ greatest_summary
+    → nat_abs (holding_summary_quantity (xs ++ u ∷ ys) u.account u.symbol) ≤ greatest_summary → (account : ℕ) → (symbol : Text)
+    → nat_abs (holding_summary_quantity (xs ++ u ∷ ys) account symbol) ≤ greatest_summary
 summary_then xs u ys h new account symbol = by_test ((u.account == account) && bytes_eq u.symbol symbol) refl
   where
     by_test : (b : Bool) → ((u.account == account) && bytes_eq u.symbol symbol) ≡ b → nat_abs (holding_summary_quantity (xs ++ u ∷ ys) account symbol) ≤ greatest_summary
@@ -47,7 +49,8 @@ summary_then xs u ys h new account symbol = by_test ((u.account == account) && b
         (subst (λ s. nat_abs (holding_summary_quantity (xs ++ u ∷ ys) u.account s) ≤ greatest_summary) (same_text u.symbol symbol p.1) new)
     by_test false e = subst (λ z. nat_abs z ≤ greatest_summary) (sym (summary_other xs u ys account symbol e)) (h account symbol)
 
-balance_then : (accounts : List Account) (xs : List Trade) (u : Trade) (ys : List Trade) (ms : List Movement) → ((account : ℕ) → nat_abs (balance_of_account accounts (postings accounts (xs ++ ys) ms) account) ≤ greatest_amount)
+balance_then : (accounts : List Account) (xs : List Trade) (u : Trade) (ys : List Trade) (ms : List Movement)
+    → ((account : ℕ) → nat_abs (balance_of_account accounts (postings accounts (xs ++ ys) ms) account) ≤ greatest_amount)
     → (u.is_cash && nat_lt greatest_amount (nat_abs (balance_of_account accounts (postings accounts (xs ++ u ∷ ys) ms) u.account))) ≡ false
     → (account : ℕ) → nat_abs (balance_of_account accounts (postings accounts (xs ++ u ∷ ys) ms) account) ≤ greatest_amount
 balance_then accounts xs u ys ms h tested account = by_test (account == u.account) refl
@@ -65,7 +68,8 @@ balance_then accounts xs u ys ms h tested account = by_test (account == u.accoun
     by_test false e = subst (λ z. nat_abs z ≤ greatest_amount) (sym (other_account accounts xs u ys ms account e)) (h account)
 
 commissions_then : (accounts : List Account) (xs : List Trade) (u : Trade) (ys : List Trade) → ((broker : ℕ) → commission_total_of_broker accounts (xs ++ ys) broker ≤ greatest_amount)
-    → commission_total_of_broker accounts (xs ++ u ∷ ys) (broker_id_in_accounts accounts u.account) ≤ greatest_amount → (broker : ℕ) → commission_total_of_broker accounts (xs ++ u ∷ ys) broker ≤ greatest_amount
+    → commission_total_of_broker accounts (xs ++ u ∷ ys) (broker_id_in_accounts accounts u.account) ≤ greatest_amount → (broker : ℕ)
+    → commission_total_of_broker accounts (xs ++ u ∷ ys) broker ≤ greatest_amount
 unfolding commission_total_of_broker
 commissions_then accounts xs u ys h new broker = by_test (broker == broker_id_in_accounts accounts u.account) refl
   where
@@ -80,9 +84,12 @@ commissions_then accounts xs u ys h new broker = by_test (broker == broker_id_in
 
 pub rate_low : (b : Band) → is_well_formed_band_row third_schema b ≡ true → b.rate ≤ 10000
 rate_low b e =
-    leb-true b.rate greatest_commission_rate (parts6 (is_tier b.tier) (is_exchange b.exchange) (is_quantity_in_schema third_schema b.from_qty) (is_quantity_in_schema third_schema b.to_qty) (nat_le b.from_qty b.to_qty) (nat_le b.rate greatest_commission_rate) e).5
+    leb-true b.rate greatest_commission_rate
+    (parts6 (is_tier b.tier) (is_exchange b.exchange) (is_quantity_in_schema third_schema b.from_qty) (is_quantity_in_schema third_schema b.to_qty)
+    (nat_le b.from_qty b.to_qty) (nat_le b.rate greatest_commission_rate) e).5
 
-pub commission_within : (base : Base) (account : ℕ) (kind : TradeType) (symbol : Text) (qty price : ℕ) → AllByRecursion (λ b. is_well_formed_band_row third_schema b ≡ true) base.bands → qty ≤ 9999999 → price ≤ 9999999
+pub commission_within : (base : Base) (account : ℕ) (kind : TradeType) (symbol : Text) (qty price : ℕ)
+    → AllByRecursion (λ b. is_well_formed_band_row third_schema b ≡ true) base.bands → qty ≤ 9999999 → price ≤ 9999999
     → unwrap_or (commission_by_band base account kind symbol qty price) 0 ≤ 10 ^ 14
 commission_within base account kind symbol qty price h q p = by_band (commission_band_for_quantity base (tier_of_account base account) kind (exchange_of_security base symbol) qty) refl
   where
@@ -105,7 +112,8 @@ no_words b text e = ap (λ b. cond b text []) e
 
 completed_sound : (base : Base) (now id price : ℕ) (t : Trade) → AuditInvariant base → BooksInvariant base → is_price price ≡ true → trade_with_id base id ≡ Some t
     → refusal_of_command base now (CompleteTrade id price) ≡ None → BaseTradeAuditInvariant base t
-    → BaseTradeAuditInvariant (record (base_after_result base (stamp_of_next_command base now) price t) { last = Some (stamp_of_next_command base now) }) (completed_trade base (stamp_of_next_command base now) price t)
+    → BaseTradeAuditInvariant (record (base_after_result base (stamp_of_next_command base now) price t) { last = Some (stamp_of_next_command base now) })
+    (completed_trade base (stamp_of_next_command base now) price t)
 unfolding completed_trade
 completed_sound base now id price t k books form e accepted h =
     let stamp : ℕ = stamp_of_next_command base now in
@@ -113,16 +121,19 @@ completed_sound base now id price t k books form e accepted h =
     let s : has_last_status Submitted t ≡ true = submitted base now id price t e accepted in
     let p = result_passed base now id price t e accepted in
     let done : is_completed u ≡ true = status_then base stamp price t Completed in
-    let f = parts6 (is_id t.id) (is_quantity_in_schema third_schema t.qty) (is_price t.bid) (nat_le t.charge greatest_charge) (nat_le t.commission greatest_amount) (nat_le t.tax greatest_amount) h.fields in
+    let f = parts6 (is_id t.id) (is_quantity_in_schema third_schema t.qty) (is_price t.bid) (nat_le t.charge greatest_charge)
+    (nat_le t.commission greatest_amount) (nat_le t.tax greatest_amount) h.fields in
     let q : t.qty ≤ 9999999 = qty_low t.qty f.1 in
     let r : price ≤ 9999999 = price_low price form in
     let c : u.commission ≤ 10 ^ 14 = commission_within base t.account t.kind t.symbol t.qty price k.bands q r in
     let x : u.tax ≤ 10 ^ 14 =
-    tax_within base t.account (deal_of_result stamp price t) (shares_of_position (completed_trades base) t.account t.symbol) q r (cheap_shares base t.account t.symbol k.trades) (k.rates (customer_id_of_account base t.account)) in
+    tax_within base t.account (deal_of_result stamp price t) (shares_of_position (completed_trades base) t.account t.symbol) q r
+    (cheap_shares base t.account t.symbol k.trades) (k.rates (customer_id_of_account base t.account)) in
     let due = ltb-false greatest_day (due_day_of_completion_stamp base.rule stamp) p.1.1.1.1.1.0 in
     record {
       alone = record {
-        fields = and6 (is_id t.id) (is_quantity_in_schema third_schema t.qty) (is_price t.bid) (nat_le t.charge greatest_charge) (nat_le u.commission greatest_amount) (nat_le u.tax greatest_amount) f.0 f.1 f.2 f.3
+        fields = and6 (is_id t.id) (is_quantity_in_schema third_schema t.qty) (is_price t.bid) (nat_le t.charge greatest_charge)
+            (nat_le u.commission greatest_amount) (nat_le u.tax greatest_amount) f.0 f.1 f.2 f.3
             (high u.commission c) (high u.tax x);
         stamps = stamps_more base now Completed t h.stamps h.past;
         way = completes_way stamp t h.way s;
@@ -133,19 +144,23 @@ completed_sound base now id price t k books form e accepted h =
         };
         cash_type = λ d. first_type t.is_cash;
       };
-      past = All-append (StatusStampIsAtMostLastStamp (Some stamp)) t.marks (record { stamp = stamp; status = Completed } ∷ []) (All-map t.marks (λ m e. past_then base.last now m.stamp e) h.past) (past_itself stamp, tt);
+      past = All-append (StatusStampIsAtMostLastStamp (Some stamp)) t.marks (record { stamp = stamp; status = Completed } ∷ [])
+          (All-map t.marks (λ m e. past_then base.last now m.stamp e) h.past) (past_itself stamp, tt);
       due = All-append (HasDueDayInCalendar base.rule) t.marks (record { stamp = stamp; status = Completed } ∷ []) h.due (le-leb (due_day_of_completion_stamp base.rule stamp) greatest_day due, tt);
       cash_name = λ d.
           let cash : t.is_cash ≡ true = (and_parts (is_completed u) t.is_cash d).1 in
           let text : Text = cash_row_name (codes " shares of ") base t in
           or_left (bytes_eq u.cash_name text) (bytes_eq u.cash_name (cash_row_name (codes " Shares of ") base t)) (same_bytes u.cash_name text (ap (λ b. cond b text []) cash));
-      amount = λ d. le-leb _ greatest_amount (amount_within (side_of_trade_type t.kind) t.qty price t.charge u.commission u.tax (is_withholding_status (tax_status_in_accounts base.accounts t.account)) q r (leb-true t.charge greatest_charge f.3) c x);
+      amount = λ d. le-leb _ greatest_amount
+          (amount_within (side_of_trade_type t.kind) t.qty price t.charge u.commission u.tax
+          (is_withholding_status (tax_status_in_accounts base.accounts t.account)) q r (leb-true t.charge greatest_charge f.3) c x);
     }
 
 -- ---- the base after it
 
 pub sound_then : (base : Base) (now id price : ℕ) (t : Trade) → AuditInvariant base → BooksInvariant base → is_price price ≡ true → trade_with_id base id ≡ Some t
-    → refusal_of_command base now (CompleteTrade id price) ≡ None → AuditInvariant (record (base_after_result base (stamp_of_next_command base now) price t) { last = Some (stamp_of_next_command base now) })
+    → refusal_of_command base now (CompleteTrade id price) ≡ None
+    → AuditInvariant (record (base_after_result base (stamp_of_next_command base now) price t) { last = Some (stamp_of_next_command base now) })
 unfolding completed_trade
 sound_then base now id price t k books form e accepted =
     let stamp : ℕ = stamp_of_next_command base now in
@@ -175,7 +190,9 @@ sound_then base now id price t k books form e accepted =
             (summary_then A u Z (subst (λ ts. (account : ℕ) → (symbol : Text) → nat_abs (holding_summary_quantity ts account symbol) ≤ greatest_summary) was k.summaries)
             (subst (λ ts. nat_abs (holding_summary_quantity ts t.account t.symbol) ≤ greatest_summary) is (ltb-false greatest_summary _ p.1.1.0)));
         balances = subst (λ ts. (account : ℕ) → nat_abs (balance_of_account base.accounts (postings base.accounts ts base.movements) account) ≤ greatest_amount) (sym is)
-            (balance_then base.accounts A u Z base.movements (subst (λ ts. (account : ℕ) → nat_abs (balance_of_account base.accounts (postings base.accounts ts base.movements) account) ≤ greatest_amount) was k.balances)
+            (balance_then base.accounts A u Z base.movements
+            (subst (λ ts. (account : ℕ) → nat_abs (balance_of_account base.accounts (postings base.accounts ts base.movements) account) ≤ greatest_amount)
+            was k.balances)
             (subst (λ ts. (t.is_cash && nat_lt greatest_amount (nat_abs (balance_of_account base.accounts (postings base.accounts ts base.movements) t.account))) ≡ false) is p.1.1.1.0));
         commissions = subst (λ ts. (broker : ℕ) → commission_total_of_broker base.accounts ts broker ≤ greatest_amount) (sym is)
             (commissions_then base.accounts A u Z (subst (λ ts. (broker : ℕ) → commission_total_of_broker base.accounts ts broker ≤ greatest_amount) was k.commissions)

@@ -9,7 +9,9 @@ use Rattle.brk_model.specs.Base.{Base, empty_base, trade_with_id}
 use Rattle.brk_model.specs.Derived.{balance_of_account, commission_total_of_broker, holding_summary_quantity}
 use Rattle.brk_model.specs.Feed.{base_after_tick, base_after_ticks}
 use Rattle.brk_model.specs.Results.{base_after_result}
-use Rattle.brk_model.specs.Commands.{Command, Reply, Tick, AddBroker, AddCustomer, AddAccount, AddPermission, AddSecurity, AddCharge, AddBand, AddTaxRate, AddCustomerTax, PlaceOrder, FeedTicks, CancelTrade, CompleteTrade, ChangeExecutors, ChangeCashTypes, ChangeCashNames, DepositCash, WithdrawCash, SetOneDay}
+use Rattle.brk_model.specs.Commands.{Command, Reply, Tick, AddBroker, AddCustomer, AddAccount, AddPermission, AddSecurity, AddCharge, AddBand, AddTaxRate}
+use Rattle.brk_model.specs.Commands.{AddCustomerTax, PlaceOrder, FeedTicks, CancelTrade, CompleteTrade, ChangeExecutors, ChangeCashTypes, ChangeCashNames}
+use Rattle.brk_model.specs.Commands.{DepositCash, WithdrawCash, SetOneDay}
 use Rattle.brk_model.specs.Keyed.{answer_and_base_of_step, stored_row_with_optional_key, answer_and_base_by_stored_row, keyed_step}
 use Rattle.brk_model.specs.Step.{base_after_command_unstamped, reply_to_command, step, value_unless_refused}
 use Rattle.brk_model.specs.Tests.{stamp_of_next_command, refusal_of_command}
@@ -19,7 +21,8 @@ use Rattle.brk_book_theorems.specs.Steps.{base_after_command}
 use Rattle.brk_book_theorems.proofs.ResultKeeping.{result_named}
 use Rattle.brk_invariant_theorems.specs.Sound.{AuditInvariant}
 use Rattle.brk_invariant_theorems.specs.InForm.{MeetsAuditFormats, IsWellFormedKey}
-use Rattle.brk_invariant_theorems.proofs.SoundRecords.{LeavesSound, sound_account, sound_band, sound_broker, sound_charge, sound_customer, sound_customer_tax, sound_kept, sound_permission, sound_security, sound_tax_rate}
+use Rattle.brk_invariant_theorems.proofs.SoundRecords.{LeavesSound, sound_account, sound_band, sound_broker, sound_charge, sound_customer, sound_customer_tax}
+use Rattle.brk_invariant_theorems.proofs.SoundRecords.{sound_kept, sound_permission, sound_security, sound_tax_rate}
 use Rattle.brk_invariant_theorems.proofs.SoundResult.{sound_then}
 use Rattle.brk_invariant_theorems.proofs.SoundMovements.{sound_deposit, sound_one_day, sound_withdrawal}
 use Rattle.brk_invariant_theorems.proofs.SoundTrades.{sound_cancel, sound_cash_names, sound_cash_types, sound_executors, sound_feed, sound_order}
@@ -107,12 +110,14 @@ records_kept base stamp (WithdrawCash account amount) = refl
 records_kept base stamp (SetOneDay day) = refl
 
 -- where its key is free
-free_sound : (base : Base) (now : ℕ) (command : Command) (key : Option Key) → AuditInvariant base → BooksInvariant base → MeetsAuditFormats command → IfSome key IsWellFormedKey → stored_row_with_optional_key base key ≡ None
+free_sound : (base : Base) (now : ℕ) (command : Command) (key : Option Key) → AuditInvariant base → BooksInvariant base → MeetsAuditFormats command
+    → IfSome key IsWellFormedKey → stored_row_with_optional_key base key ≡ None
     → AuditInvariant (answer_and_base_of_step base key command (step base now command)).1
 unfolding step
 free_sound base now command key k books form named free = by_refusal (refusal_of_command base now command) refl
   where
-    put : (key : Option Key) (reply : Reply) (after : Base) → IfSome key IsWellFormedKey → stored_row_with_optional_key after key ≡ None → AuditInvariant after → AuditInvariant (answer_and_base_of_step base key command (Ok (reply, after))).1
+    put : (key : Option Key) (reply : Reply) (after : Base) → IfSome key IsWellFormedKey → stored_row_with_optional_key after key ≡ None → AuditInvariant after
+        → AuditInvariant (answer_and_base_of_step base key command (Ok (reply, after))).1
     put None reply after n f h = h
     put (Some key) reply after n f h = sound_kept after key command reply h n f
 
@@ -121,8 +126,10 @@ free_sound base now command key k books form named free = by_refusal (refusal_of
     same (Some key) f = ap (find (λ k. bytes_eq k.key.batch key.batch && (k.key.row == key.row))) (records_kept base (stamp_of_next_command base now) command) ∙ f
 
     by_refusal : (o : Option Refusal) → refusal_of_command base now command ≡ o
-        → AuditInvariant (answer_and_base_of_step base key command (value_unless_refused {A = Reply × Base} o (reply_to_command base (stamp_of_next_command base now) command, base_after_command base now command))).1
-    by_refusal None f = put key (reply_to_command base (stamp_of_next_command base now) command) (base_after_command base now command) named (same key free) (leaves_sound base now command k books form f)
+        → AuditInvariant (answer_and_base_of_step base key command
+        (value_unless_refused {A = Reply × Base} o (reply_to_command base (stamp_of_next_command base now) command, base_after_command base now command))).1
+    by_refusal None f = put key (reply_to_command base (stamp_of_next_command base now) command) (base_after_command base now command) named (same key free)
+        (leaves_sound base now command k books form f)
     by_refusal (Some refusal) f = k
 
 pub keyed_sound : (base : Base) (now : ℕ) (command : Command) (key : Option Key) → AuditInvariant base → BooksInvariant base → MeetsAuditFormats command → IfSome key IsWellFormedKey

@@ -18,14 +18,18 @@ use Rattle.brk_model.specs.Schemas.{third_schema}
 use Rattle.brk_model.specs.Limits.{greatest_amount, greatest_charge, greatest_summary, greatest_id}
 use Rattle.brk_model.specs.Lists.{contains_number, contains_text, is_pair_less, total_by, update_where}
 use Rattle.brk_model.specs.Records.{Account, Charge, StatusChange, Security, Trade, Movement}
-use Rattle.brk_model.specs.Base.{Base, broker_id_in_accounts, charge_for_type_and_tier, completed_trades, has_last_status, is_completed, last_price, trade_with_status_change, last_status_stamp_of_trade, opening_balance_in_accounts, security_with_symbol, tier_of_account, trade_with_id}
-use Rattle.brk_model.specs.Derived.{settlement_amount, balance_of_account, commission_total_of_broker, holding_summary_quantity, postings_to_account, posting_of_movement, postings, due_day_of_completion_stamp}
+use Rattle.brk_model.specs.Base.{Base, broker_id_in_accounts, charge_for_type_and_tier, completed_trades, has_last_status, is_completed, last_price}
+use Rattle.brk_model.specs.Base.{trade_with_status_change, last_status_stamp_of_trade, opening_balance_in_accounts, security_with_symbol, tier_of_account}
+use Rattle.brk_model.specs.Base.{trade_with_id}
+use Rattle.brk_model.specs.Derived.{settlement_amount, balance_of_account, commission_total_of_broker, holding_summary_quantity, postings_to_account}
+use Rattle.brk_model.specs.Derived.{posting_of_movement, postings, due_day_of_completion_stamp}
 use Rattle.brk_model.specs.Commands.{Order, Tick, PlaceOrder, FeedTicks, CancelTrade, ChangeExecutors, ChangeCashTypes, ChangeCashNames}
 use Rattle.brk_model.specs.Orders.{estimate, first_status, trade_of_order, bid_price_of_order}
 use Rattle.brk_model.specs.Feed.{is_triggered_by_tick, security_after_tick, base_after_tick, base_after_ticks}
 use Rattle.brk_model.specs.Results.{cash_row_name}
 use Rattle.brk_model.specs.Shares.{signed_by_side}
-use Rattle.brk_model.specs.Updates.{updated_cash_row_name, updated_cash_type, updated_executor_name, selected_trade_ids, selected_trade_ids_of_account, selected_trade_ids_of_symbol, trade_stamp_is_between, trades_oldest_first, toggled_word}
+use Rattle.brk_model.specs.Updates.{updated_cash_row_name, updated_cash_type, updated_executor_name, selected_trade_ids, selected_trade_ids_of_account}
+use Rattle.brk_model.specs.Updates.{selected_trade_ids_of_symbol, trade_stamp_is_between, trades_oldest_first, toggled_word}
 use Rattle.brk_model.specs.Form.{is_well_formed_charge_row, is_cash_type_of_trade, is_up_to_last_stamp, is_price, is_quantity_in_schema, is_tier, is_id}
 use Rattle.brk_model.specs.Forms.{is_exchange, is_name, is_symbol}
 use Rattle.brk_model.specs.Step.{base_after_command_unstamped}
@@ -56,7 +60,8 @@ use Rattle.brk_invariant_theorems.proofs.SoundRecords.{LeavesSound, trade_listed
 
 -- ---- other trades and securities, and the same completed trades
 
-sound_moved : (c : Base) (ss : List Security) (ts : List Trade) → AuditInvariant c → AllByRecursion (λ s. is_well_formed_security s ≡ true) ss → AllByRecursion (λ s. is_up_to_last_stamp c.last s.moment ≡ true) ss
+sound_moved : (c : Base) (ss : List Security) (ts : List Trade) → AuditInvariant c → AllByRecursion (λ s. is_well_formed_security s ≡ true) ss
+    → AllByRecursion (λ s. is_up_to_last_stamp c.last s.moment ≡ true) ss
     → AllByRecursion (BaseTradeAuditInvariant (record c { securities = ss; trades = ts })) ts → filter is_completed ts ≡ completed_trades c → AuditInvariant (record c { securities = ss; trades = ts })
 sound_moved c ss ts k f m h e =
     record {
@@ -79,18 +84,21 @@ charge_within : (base : Base) (o : Order) → AllByRecursion (λ c. is_well_form
     → nat_le (option_map_or (λ c. c.amount) (charge_for_type_and_tier base (trade_type_of_order_type o.order_type) (tier_of_account base o.account)) 0) greatest_charge ≡ true
 charge_within base o h = by_charge (charge_for_type_and_tier base (trade_type_of_order_type o.order_type) (tier_of_account base o.account)) refl
   where
-    by_charge : (c : Option Charge) → charge_for_type_and_tier base (trade_type_of_order_type o.order_type) (tier_of_account base o.account) ≡ c → nat_le (option_map_or (λ c. c.amount) c 0) greatest_charge ≡ true
+    by_charge : (c : Option Charge) → charge_for_type_and_tier base (trade_type_of_order_type o.order_type) (tier_of_account base o.account) ≡ c
+        → nat_le (option_map_or (λ c. c.amount) c 0) greatest_charge ≡ true
     by_charge None e = le-leb 0 greatest_charge (omega arith)
     by_charge (Some c) e = (and_parts (is_tier c.tier) (nat_le c.amount greatest_charge) (find-All (λ c. is_well_formed_charge_row c ≡ true) _ base.charges c h e)).1
 
-last_is_price : (base : Base) (symbol : Text) → AllByRecursion (λ s. is_well_formed_security s ≡ true) base.securities → is_some (security_with_symbol base symbol) ≡ true → is_price (last_price base symbol) ≡ true
+last_is_price : (base : Base) (symbol : Text) → AllByRecursion (λ s. is_well_formed_security s ≡ true) base.securities
+    → is_some (security_with_symbol base symbol) ≡ true → is_price (last_price base symbol) ≡ true
 last_is_price base symbol h known =
     let s : (s : Security) × (security_with_symbol base symbol ≡ Some s) = some_of (security_with_symbol base symbol) known in
     let f = find-All (λ s. is_well_formed_security s ≡ true) (λ u. bytes_eq u.symbol symbol) base.securities s.0 h s.1 in
     ap (λ o. is_price (option_map_or (λ s. s.last_price) o 0)) s.1
     ∙ (parts5 (is_symbol s.0.symbol) (is_name s.0.name) (is_exchange s.0.exchange) (is_name s.0.sector) (is_price s.0.last_price) f).4
 
-requested_is_price : (base : Base) (o : Order) → IfSome (price_of_order_type o.order_type) (λ p. is_price p ≡ true) → is_price (last_price base o.symbol) ≡ true → is_price (bid_price_of_order base o) ≡ true
+requested_is_price : (base : Base) (o : Order) → IfSome (price_of_order_type o.order_type) (λ p. is_price p ≡ true) → is_price (last_price base o.symbol) ≡ true
+    → is_price (bid_price_of_order base o) ≡ true
 requested_is_price base o form last = by_price (price_of_order_type o.order_type) form
   where
     by_price : (p : Option ℕ) → IfSome p (λ p. is_price p ≡ true) → is_price (unwrap_or p (last_price base o.symbol)) ≡ true
@@ -108,7 +116,8 @@ first_way o = by_market (is_market_type (trade_type_of_order_type o.order_type))
 next_is_id : (n : ℕ) → nat_le greatest_id n ≡ false → is_id (n + 1) ≡ true
 next_is_id n e = grind (arith, nat_tests)
 
-ordered_sound : (base : Base) (stamp : ℕ) (o : Order) (ts : List Trade) → is_id (length base.trades + 1) ≡ true → AuditInvariant base → MeetsAuditFormats (PlaceOrder o) → is_some (security_with_symbol base o.symbol) ≡ true
+ordered_sound : (base : Base) (stamp : ℕ) (o : Order) (ts : List Trade) → is_id (length base.trades + 1) ≡ true → AuditInvariant base
+    → MeetsAuditFormats (PlaceOrder o) → is_some (security_with_symbol base o.symbol) ≡ true
     → BaseTradeAuditInvariant (record base { trades = ts; last = Some stamp }) (trade_of_order base stamp o)
 unfolding estimate
 ordered_sound base stamp o ts number k form known =
@@ -118,7 +127,8 @@ ordered_sound base stamp o ts number k form known =
     let c : u.commission ≤ 10 ^ 14 = commission_within base o.account (trade_type_of_order_type o.order_type) o.symbol o.qty u.bid k.bands (qty_low o.qty form.qty) (price_low u.bid bid) in
     record {
       alone = record {
-        fields = and6 (is_id u.id) (is_quantity_in_schema third_schema u.qty) (is_price u.bid) (nat_le u.charge greatest_charge) (nat_le u.commission greatest_amount) (nat_le 0 greatest_amount) number form.qty bid
+        fields = and6 (is_id u.id) (is_quantity_in_schema third_schema u.qty) (is_price u.bid) (nat_le u.charge greatest_charge)
+            (nat_le u.commission greatest_amount) (nat_le 0 greatest_amount) number form.qty bid
             (charge_within base o k.charges) (high u.commission c) (le-leb 0 greatest_amount (omega arith));
         stamps = refl;
         way = first_way o;
@@ -148,7 +158,8 @@ sound_order base now o k books form e =
 
 -- ---- a trade that waited comes to another status
 
-stamps_below : (stamp : ℕ) (status : Status) (t : Trade) → HasAscendingStatusStamps t → AllByRecursion (λ m. m.stamp < stamp) t.marks → HasAscendingStatusStamps (trade_with_status_change stamp status t)
+stamps_below : (stamp : ℕ) (status : Status) (t : Trade) → HasAscendingStatusStamps t → AllByRecursion (λ m. m.stamp < stamp) t.marks
+    → HasAscendingStatusStamps (trade_with_status_change stamp status t)
 stamps_below stamp status t r h =
     ap is_strictly_ascending (map-last (λ m. m.stamp) t.marks (record { stamp = stamp; status = status }))
     ∙ rising_more (map (λ m. m.stamp) t.marks) stamp r (All-mapped (λ n. n < stamp) (λ m. m.stamp) t.marks h)
@@ -223,7 +234,8 @@ abbrev Waits : ℕ → Trade → Type 0
 Waits stamp t = has_last_status Pending t ≡ true → AllByRecursion (λ m. m.stamp < stamp) t.marks
 
 names_stay : (stamp : ℕ) (tick : Tick) (symbol : Text) (q : Security → Bool) (ss : List Security)
-    → option_map_or (λ s. s.name) (find (λ s. bytes_eq s.symbol symbol) (update_where q (security_after_tick stamp tick) ss)) [] ≡ option_map_or (λ s. s.name) (find (λ s. bytes_eq s.symbol symbol) ss) []
+    → option_map_or (λ s. s.name) (find (λ s. bytes_eq s.symbol symbol) (update_where q (security_after_tick stamp tick) ss)) []
+    ≡ option_map_or (λ s. s.name) (find (λ s. bytes_eq s.symbol symbol) ss) []
 names_stay stamp tick symbol q [] = refl
 names_stay stamp tick symbol q (s ∷ ss) = by_tick (q s) ∙ by_symbol (bytes_eq s.symbol symbol) (names_stay stamp tick symbol q ss)
   where
@@ -262,8 +274,10 @@ tick_sound b stamp tick form k waits =
     let ts : List Trade = update_where (is_triggered_by_tick tick) (trade_with_status_change stamp Submitted) b.trades in
     let P : Trade → Type 0 = λ t. BaseTradeAuditInvariant c t × Waits stamp t in (
       sound_moved c ss ts k
-          (updated_all (λ s. is_well_formed_security s ≡ true) (λ s. is_well_formed_security s ≡ true) (λ s. bytes_eq s.symbol tick.symbol) (security_after_tick stamp tick) b.securities (λ s i h. ticked_fields stamp tick s form h) (λ s h. h) k.securities)
-          (updated_all (λ s. is_up_to_last_stamp (Some stamp) s.moment ≡ true) (λ s. is_up_to_last_stamp (Some stamp) s.moment ≡ true) (λ s. bytes_eq s.symbol tick.symbol) (security_after_tick stamp tick) b.securities
+          (updated_all (λ s. is_well_formed_security s ≡ true) (λ s. is_well_formed_security s ≡ true) (λ s. bytes_eq s.symbol tick.symbol)
+          (security_after_tick stamp tick) b.securities (λ s i h. ticked_fields stamp tick s form h) (λ s h. h) k.securities)
+          (updated_all (λ s. is_up_to_last_stamp (Some stamp) s.moment ≡ true) (λ s. is_up_to_last_stamp (Some stamp) s.moment ≡ true)
+          (λ s. bytes_eq s.symbol tick.symbol) (security_after_tick stamp tick) b.securities
           (λ s i h. past_itself stamp) (λ s h. h) k.moments)
           (updated_all P (BaseTradeAuditInvariant (record c { securities = ss; trades = ts })) (is_triggered_by_tick tick) (trade_with_status_change stamp Submitted) b.trades
           (λ t i h. trade_listed c ss (trade_with_status_change stamp Submitted t) (names_stay stamp tick t.symbol q b.securities)
@@ -345,7 +359,8 @@ same_summary p x y z ts account symbol =
     ∙ total-unseen g p f (S (A (filter is_completed ts))) (λ t. refl)
 
 same_balance : (accounts : List Account) (p : Trade → Bool) (x y z : Trade → Text) (ts : List Trade) (ms : List Movement) (account : ℕ)
-    → balance_of_account accounts (postings accounts (filter is_completed (update_where p (reworded x y z) ts)) ms) account ≡ balance_of_account accounts (postings accounts (filter is_completed ts) ms) account
+    → balance_of_account accounts (postings accounts (filter is_completed (update_where p (reworded x y z) ts)) ms) account
+    ≡ balance_of_account accounts (postings accounts (filter is_completed ts) ms) account
 same_balance accounts p x y z ts ms account =
     let f : Trade → Trade = reworded x y z in
     let g : Trade → ℤ = settlement_amount accounts in
@@ -444,7 +459,8 @@ chosen_all base test first last n =
     let us : List Trade = take 20 (trades_oldest_first (filter (λ t. test t && trade_stamp_is_between first last t) (completed_trades base))) in
     let all : AllByRecursion R us =
     All-take R 20 (trades_oldest_first (filter (λ t. test t && trade_stamp_is_between first last t) (completed_trades base)))
-    (All-sort R (λ t u. is_pair_less (last_status_stamp_of_trade t) (last_status_stamp_of_trade u) t.id u.id) (filter (λ t. test t && trade_stamp_is_between first last t) (completed_trades base)) right) in
+    (All-sort R (λ t u. is_pair_less (last_status_stamp_of_trade t) (last_status_stamp_of_trade u) t.id u.id)
+    (filter (λ t. test t && trade_stamp_is_between first last t) (completed_trades base)) right) in
     All-map base.trades (λ v m c. chosen_one (Chosen test) base.trades us v m all c) (each_in base.trades)
 
 -- ---- the words of settlements and cash rows
@@ -515,7 +531,11 @@ sound_cash_names base now symbol first last k books form e =
         stamps = k.stamps;
         way = k.way;
         priced = k.priced;
-        words = record { settled = k.words.settled; moved = λ waits. false_true (sym waits ∙ and_from (is_completed t) t.is_cash (h.1 i).0 (and_parts t.is_cash (bytes_eq t.symbol symbol) (h.1 i).1).0) };
+        words = record {
+          settled = k.words.settled;
+          moved =
+              λ waits. false_true (sym waits ∙ and_from (is_completed t) t.is_cash (h.1 i).0 (and_parts t.is_cash (bytes_eq t.symbol symbol) (h.1 i).1).0);
+        };
         cash_type = k.cash_type;
       };
       past = k.past;

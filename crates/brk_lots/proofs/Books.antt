@@ -1,5 +1,6 @@
 -- Sums over whole histories.
-use Rattle.std.proofs.Common.{◌≡◌, ℕ, zero, suc, ℤ, pos, negsuc, ◌+ℤ◌, ◌-ℤ◌, ◌*ℤ◌, ◌+◌, ◌*◌, ◌-◌, ◌≤◌, min, Bool, true, false, not, cond, List, [], ◌∷◌, ◌++◌, length, take, replicate, unsigned_abs, refl, sym, ap, ◌∙◌, arith}
+use Rattle.std.proofs.Common.{◌≡◌, ℕ, zero, suc, ℤ, pos, negsuc, ◌+ℤ◌, ◌-ℤ◌, ◌*ℤ◌, ◌+◌, ◌*◌, ◌-◌, ◌≤◌, min, Bool, true, false, not, cond, List, [], ◌∷◌, ◌++◌}
+use Rattle.std.proofs.Common.{length, take, replicate, unsigned_abs, refl, sym, ap, ◌∙◌, arith}
 use Rattle.std.specs.Prelude.{fold}
 use Rattle.std.proofs.lemmas.Int.{ints}
 use Rattle.std.proofs.lemmas.List.{length-replicate, append-nil, nil_from_length}
@@ -53,7 +54,9 @@ net_step Sell Sell l w k r q a b c = omega (arith, ints, a, b, c refl, owes w, o
 net_step Buy Sell l w k r q a b c = omega (arith, ints, a, b, owes r, owes q)
 net_step Sell Buy l w k r q a b c = omega (arith, ints, a, b, owes w, owes l)
 
-cost_step : (s t : Side) (all left closed value rest total : ℕ) → left + closed ≡ all → total ≡ value + rest → (s ≡ t → (closed ≡ 0) × (value ≡ 0)) → signed_by_side s left +ℤ signed_by_side t rest ≡ signed_by_side s all +ℤ ((pos (sell_value_by_side t value closed) -ℤ pos (buy_value_by_side t value closed)) +ℤ signed_by_side t total)
+cost_step : (s t : Side) (all left closed value rest total : ℕ) → left + closed ≡ all → total ≡ value + rest → (s ≡ t → (closed ≡ 0) × (value ≡ 0))
+    → signed_by_side s left +ℤ signed_by_side t rest
+    ≡ signed_by_side s all +ℤ ((pos (sell_value_by_side t value closed) -ℤ pos (buy_value_by_side t value closed)) +ℤ signed_by_side t total)
 cost_step Buy Buy all left closed value rest total a b c = let h = c refl in omega (arith, ints, a, b, h.0, h.1)
 cost_step Sell Sell all left closed value rest total a b c = let h = c refl in omega (arith, ints, a, b, h.0, h.1, owes left, owes rest, owes all, owes total)
 cost_step Buy Sell all left closed value rest total a b c = omega (arith, ints, a, b, owes rest, owes total)
@@ -97,15 +100,21 @@ net_after_one s d us h =
     let k = closed_share_count_of_deal d us in
     let f = count_fits d us in
     let w : net_share_count (without d.is_lifo k us) ≡ signed_by_side s (length us - k) = net_of s (without d.is_lifo k us) (stays s d us h) ∙ ap (signed_by_side s) (length_without d.is_lifo k us) in
-    let r : net_share_count (replicate (d.qty - k) (opened_share d)) ≡ signed_by_side d.side (d.qty - k) = net_of d.side (replicate (d.qty - k) (opened_share d)) (opens d (d.qty - k)) ∙ ap (signed_by_side d.side) (length-replicate (d.qty - k) (opened_share d)) in
-    let e : signed_by_side s (length us - k) +ℤ signed_by_side d.side (d.qty - k) ≡ signed_by_side s (length us) +ℤ signed_by_side d.side d.qty = net_step s d.side (length us) (length us - k) k (d.qty - k) d.qty (omega (arith, f.1)) (omega (arith, f.0)) (count_own d s us h) in
+    let r : net_share_count (replicate (d.qty - k) (opened_share d)) ≡ signed_by_side d.side (d.qty - k) =
+    net_of d.side (replicate (d.qty - k) (opened_share d)) (opens d (d.qty - k))
+    ∙ ap (signed_by_side d.side) (length-replicate (d.qty - k) (opened_share d)) in
+    let e : signed_by_side s (length us - k) +ℤ signed_by_side d.side (d.qty - k) ≡ signed_by_side s (length us) +ℤ signed_by_side d.side d.qty =
+    net_step s d.side (length us) (length us - k) k (d.qty - k) d.qty (omega (arith, f.1)) (omega (arith, f.0)) (count_own d s us h) in
     ap net_share_count (after_is d us) ∙ net_join (without d.is_lifo k us) (replicate (d.qty - k) (opened_share d)) ∙ rw (w, r, net_of s us h) e
 
 gain_is : (d : Deal) (us : List Share) → let k = closed_share_count_of_deal d us in let x = cost (take k (list_reversed_if_lifo d.is_lifo us)) in
     realised_gain d us ≡ pos (sell_value_by_side d.side (k * d.price) x) -ℤ pos (buy_value_by_side d.side (k * d.price) x)
-gain_is d us = ap (λ n. pos n -ℤ pos (buy_value d us)) (sold_is d us) ∙ ap (λ n. pos (sell_value_by_side d.side (closed_share_count_of_deal d us * d.price) (cost (take (closed_share_count_of_deal d us) (list_reversed_if_lifo d.is_lifo us)))) -ℤ pos n) (bought_is d us)
+gain_is d us = ap (λ n. pos n -ℤ pos (buy_value d us)) (sold_is d us)
+    ∙ ap (λ n. pos (sell_value_by_side d.side (closed_share_count_of_deal d us * d.price)
+    (cost (take (closed_share_count_of_deal d us) (list_reversed_if_lifo d.is_lifo us)))) -ℤ pos n) (bought_is d us)
 
-cost_after_one : (s : Side) (d : Deal) (us : List Share) → OneSide s us → share_cost_basis (shares_after_deal us d) ≡ share_cost_basis us +ℤ (realised_gain d us +ℤ signed_by_side d.side (d.qty * d.price))
+cost_after_one : (s : Side) (d : Deal) (us : List Share) → OneSide s us
+    → share_cost_basis (shares_after_deal us d) ≡ share_cost_basis us +ℤ (realised_gain d us +ℤ signed_by_side d.side (d.qty * d.price))
 cost_after_one s d us h =
     let k = closed_share_count_of_deal d us in
     let u = opened_share d in
@@ -113,7 +122,8 @@ cost_after_one s d us h =
     let f = count_fits d us in
     let w : share_cost_basis (without d.is_lifo k us) ≡ signed_by_side s (cost (without d.is_lifo k us)) = cost_of s (without d.is_lifo k us) (stays s d us h) in
     let rc : cost (replicate (d.qty - k) u) ≡ (d.qty - k) * d.price = ap cost (sym (append-nil (replicate (d.qty - k) u))) ∙ cost_run (d.qty - k) u [] ∙ omega arith in
-    let r : share_cost_basis (replicate (d.qty - k) u) ≡ signed_by_side d.side ((d.qty - k) * d.price) = cost_of d.side (replicate (d.qty - k) u) (opens d (d.qty - k)) ∙ ap (signed_by_side d.side) rc in
+    let r : share_cost_basis (replicate (d.qty - k) u) ≡ signed_by_side d.side ((d.qty - k) * d.price) =
+    cost_of d.side (replicate (d.qty - k) u) (opens d (d.qty - k)) ∙ ap (signed_by_side d.side) rc in
     let total : d.qty * d.price ≡ k * d.price + (d.qty - k) * d.price = parts d.qty k d.price f.0 in
     let e = cost_step s d.side (cost us) (cost (without d.is_lifo k us)) x (k * d.price) ((d.qty - k) * d.price) (d.qty * d.price) (cost_parts d.is_lifo k us) total
     (λ z. (ap (λ n. cost (take n (list_reversed_if_lifo d.is_lifo us))) (count_own d s us h z), ap (λ n. n * d.price) (count_own d s us h z) ∙ omega arith)) in
@@ -152,7 +162,8 @@ net_after s (d ∷ ds) us h =
     let a = side_after s d us h in
     omega (arith, ints, net_after a.0 ds (shares_after_deal us d) a.1, net_after_one s d us h)
 
-cost_after : (s : Side) (ds : List Deal) (us : List Share) → OneSide s us → share_cost_basis (fold shares_after_deal us ds) ≡ share_cost_basis us +ℤ (realised_gain_sum ds us +ℤ purchase_value_minus_sale_value ds)
+cost_after : (s : Side) (ds : List Deal) (us : List Share) → OneSide s us
+    → share_cost_basis (fold shares_after_deal us ds) ≡ share_cost_basis us +ℤ (realised_gain_sum ds us +ℤ purchase_value_minus_sale_value ds)
 unfolding total_by
 cost_after s [] us h = omega (arith, ints)
 cost_after s (d ∷ ds) us h =
@@ -167,7 +178,8 @@ lots_net [] = refl
 lots_net (l ∷ ls) =
     let n = unsigned_abs l.qty in
     let run : OneSide (side_of_qty l.qty) (replicate n (share_of_lot l)) = all_run (λ v. v.side ≡ side_of_qty l.qty) n (share_of_lot l) refl in
-    let r : net_share_count (replicate n (share_of_lot l)) ≡ l.qty = net_of (side_of_qty l.qty) (replicate n (share_of_lot l)) run ∙ ap (signed_by_side (side_of_qty l.qty)) (length-replicate n (share_of_lot l)) ∙ signed_back l.qty in
+    let r : net_share_count (replicate n (share_of_lot l)) ≡ l.qty = net_of (side_of_qty l.qty) (replicate n (share_of_lot l)) run
+    ∙ ap (signed_by_side (side_of_qty l.qty)) (length-replicate n (share_of_lot l)) ∙ signed_back l.qty in
     ap (λ z. l.qty +ℤ z) (lots_net ls) ∙ ap (λ z. z +ℤ net_share_count (shares_of_lots ls)) (sym r) ∙ sym (net_join (replicate n (share_of_lot l)) (shares_of_lots ls))
 
 signed_times : (z : ℤ) (p : ℕ) → z *ℤ pos p ≡ signed_by_side (side_of_qty z) (unsigned_abs z * p)

@@ -1,5 +1,6 @@
 -- The history of a lot is a chain.
-use Rattle.std.proofs.Common.{◌≡◌, ◌≢◌, ℕ, zero, suc, ℤ, pos, negsuc, ◌-ℤ◌, ◌-◌, ◌≤◌, eqb, Bool, true, false, not, cond, List, [], ◌∷◌, filter, length, map, refl, sym, ap, ◌∙◌, subst, arith, ◌⊎◌, inl, inr}
+use Rattle.std.proofs.Common.{◌≡◌, ◌≢◌, ℕ, zero, suc, ℤ, pos, negsuc, ◌-ℤ◌, ◌-◌, ◌≤◌, eqb, Bool, true, false, not, cond, List, [], ◌∷◌, filter, length, map}
+use Rattle.std.proofs.Common.{refl, sym, ap, ◌∙◌, subst, arith, ◌⊎◌, inl, inr}
 use Rattle.std.specs.Prelude.{fold}
 use Rattle.std.specs.List.{AllByRecursion}
 use Rattle.std.proofs.lemmas.Int.{ints}
@@ -31,7 +32,8 @@ count_after t d us h =
     omega (arith, e, count_without t d.is_lifo k us)
 
 -- where a deal does not open the lot, it changes it where it changes its count
-change_by : (t : ℕ) (d : Deal) (s : Side) (us : List Share) → OneSide s us → d.trade ≢ t → changes_lot_quantity (touch_of_lot t d us) ≡ not (is_zero (signed_by_side s (count_of t us) -ℤ signed_by_side s (count_of t (shares_after_deal us d))))
+change_by : (t : ℕ) (d : Deal) (s : Side) (us : List Share) → OneSide s us → d.trade ≢ t
+    → changes_lot_quantity (touch_of_lot t d us) ≡ not (is_zero (signed_by_side s (count_of t us) -ℤ signed_by_side s (count_of t (shares_after_deal us d))))
 change_by t d s us one h =
     ap (λ z. not (is_zero (z -ℤ lot_quantity (shares_after_deal us d) t))) (lot_counts s t us one)
     ∙ ap (λ z. not (is_zero (signed_by_side s (count_of t us) -ℤ z))) (lot_after d s us t (stays s d us one) h)
@@ -42,7 +44,8 @@ abbrev moved : ℕ → List Deal → List Share → List HoldingHistoryRow
 moved t ds us = filter has_quantity_change (lot_history_rows_per_deal t us ds)
 
 -- where no deal opens the lot again, it falls
-falls : (t : ℕ) (ds : List Deal) (s : Side) (us : List Share) → OneSide s us → AllByRecursion (λ d. d.trade ≢ t) ds → ShrinksTowardZero (lot_quantity us t) (changes_of_lot t ds us) (lot_quantity (fold shares_after_deal us ds) t)
+falls : (t : ℕ) (ds : List Deal) (s : Side) (us : List Share) → OneSide s us → AllByRecursion (λ d. d.trade ≢ t) ds
+    → ShrinksTowardZero (lot_quantity us t) (changes_of_lot t ds us) (lot_quantity (fold shares_after_deal us ds) t)
 falls t [] s us one h = refl
 falls t (d ∷ ds) s us one h = let a = side_after s d us one in step (falls t ds a.0 (shares_after_deal us d) a.1 h.1) where
   after : List Share
@@ -61,8 +64,11 @@ falls t (d ∷ ds) s us one h = let a = side_after s d us one in step (falls t d
   step rest = elim (cases_eq (count_of t us) (count_of t after)) [
     | inl e ↦
         let same : lot_quantity us t ≡ lot_quantity after t = before_is ∙ ap (signed_by_side s) e ∙ sym after_was in
-        let no : changes_lot_quantity (touch_of_lot t d us) ≡ false = change_by t d s us one h.0 ∙ ap (λ n. not (is_zero (signed_by_side s n -ℤ signed_by_side s (count_of t after)))) e ∙ ap not (differ_none s (count_of t after)) in
-        subst (λ b. ShrinksTowardZero (lot_quantity us t) (map touch_of_row (cond b (holding_history_row d.trade (touch_of_lot t d us) ∷ moved t ds after) (moved t ds after))) to) (sym no) (subst (λ z. ShrinksTowardZero z (changes_of_lot t ds after) to) (sym same) rest)
+        let no : changes_lot_quantity (touch_of_lot t d us) ≡ false = change_by t d s us one h.0
+        ∙ ap (λ n. not (is_zero (signed_by_side s n -ℤ signed_by_side s (count_of t after)))) e ∙ ap not (differ_none s (count_of t after)) in
+        subst (λ b. ShrinksTowardZero (lot_quantity us t)
+        (map touch_of_row (cond b (holding_history_row d.trade (touch_of_lot t d us) ∷ moved t ds after) (moved t ds after))) to) (sym no)
+        (subst (λ z. ShrinksTowardZero z (changes_of_lot t ds after) to) (sym same) rest)
     | inr n ↦
         let yes : changes_lot_quantity (touch_of_lot t d us) ≡ true = change_by t d s us one h.0 ∙ ap not (differ s (count_of t us) (count_of t after) n) in
         let fewer = count_after t d us h.0 in
@@ -92,7 +98,8 @@ zero_is (pos (suc n)) e = cc
 zero_is (negsuc n) e = cc
 
 -- from no share of it, a lot has a life
-life : (t : ℕ) (ds : List Deal) (s : Side) (us : List Share) → OneSide s us → AreDistinctAscendingDeals ds → count_of t us ≡ 0 → IsLotHistory (changes_of_lot t ds us) (lot_quantity (fold shares_after_deal us ds) t)
+life : (t : ℕ) (ds : List Deal) (s : Side) (us : List Share) → OneSide s us → AreDistinctAscendingDeals ds → count_of t us ≡ 0
+    → IsLotHistory (changes_of_lot t ds us) (lot_quantity (fold shares_after_deal us ds) t)
 life t [] s us one a z = sym (lot_counts s t us one ∙ ap (signed_by_side s) z ∙ none_signed s)
 life t (d ∷ ds) s us one a z = let b = side_after s d us one in step b.0 b.1 (cases_eq d.trade t) (life t ds b.0 (shares_after_deal us d) b.1 a.1) where
   after : List Share
@@ -107,10 +114,12 @@ life t (d ∷ ds) s us one a z = let b = side_after s d us one in step b.0 b.1 (
   none : lot_quantity us t ≡ pos 0
   none = lot_counts s t us one ∙ ap (signed_by_side s) z ∙ none_signed s
 
-  opened : (b : Bool) → changes_lot_quantity (touch_of_lot t d us) ≡ b → ShrinksTowardZero (lot_quantity after t) rows to → IsLotHistory (map touch_of_row (cond b (holding_history_row d.trade (touch_of_lot t d us) ∷ moved t ds after) (moved t ds after))) to
+  opened : (b : Bool) → changes_lot_quantity (touch_of_lot t d us) ≡ b → ShrinksTowardZero (lot_quantity after t) rows to
+      → IsLotHistory (map touch_of_row (cond b (holding_history_row d.trade (touch_of_lot t d us) ∷ moved t ds after) (moved t ds after))) to
   opened true e fall = (none, fall)
   opened false e fall =
-      let same : is_zero (lot_quantity us t -ℤ lot_quantity after t) ≡ true = elim (cases_Bool (is_zero (lot_quantity us t -ℤ lot_quantity after t))) [ inl y ↦ y | inr n ↦ let f : true ≡ false = sym (ap not n) ∙ e in cc ] in
+      let same : is_zero (lot_quantity us t -ℤ lot_quantity after t) ≡ true =
+      elim (cases_Bool (is_zero (lot_quantity us t -ℤ lot_quantity after t))) [ inl y ↦ y | inr n ↦ let f : true ≡ false = sym (ap not n) ∙ e in cc ] in
       let d0 : lot_quantity us t -ℤ lot_quantity after t ≡ pos 0 = zero_is (lot_quantity us t -ℤ lot_quantity after t) same in
       let e0 : lot_quantity after t ≡ pos 0 = omega (arith, ints, d0, none) in
       from_none rows to (subst (λ y. ShrinksTowardZero y rows to) e0 fall)

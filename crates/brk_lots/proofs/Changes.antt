@@ -1,5 +1,6 @@
 -- What the drop of shares changes, lot by lot.
-use Rattle.std.proofs.Common.{◌≡◌, ◌≢◌, ℕ, zero, suc, ◌+◌, ◌*◌, ◌-◌, ◌<◌, min, eqb, Bool, true, false, not, cond, List, [], ◌∷◌, ◌++◌, take, drop, map, replicate, unsigned_abs, refl, sym, ap, ◌∙◌, arith}
+use Rattle.std.proofs.Common.{◌≡◌, ◌≢◌, ℕ, zero, suc, ◌+◌, ◌*◌, ◌-◌, ◌<◌, min, eqb, Bool, true, false, not, cond, List, [], ◌∷◌, ◌++◌, take, drop, map}
+use Rattle.std.proofs.Common.{replicate, unsigned_abs, refl, sym, ap, ◌∙◌, arith}
 use Rattle.std.specs.Bool.{⊤}
 use Rattle.std.specs.List.{filter, AllByRecursion}
 use Rattle.std.proofs.lemmas.Bool.{eq-eqb, ne_eqb}
@@ -81,7 +82,8 @@ new_beside l ls h = all_from (HasSameSideAndOtherTrade l) (HasSameSideAndOtherTr
 pub firsts_walk : (ls : List Lot) → IsPositionInAnyOrder ls → first_shares_of_lots (shares_of_lots ls) ≡ map share_of_lot ls
 firsts_walk [] h = refl
 firsts_walk (l ∷ ls) h = one (unsigned_abs l.qty) (size_positive l.qty h.0) (firsts_walk ls h.2) where
-  one : (n : ℕ) → 0 < n → first_shares_of_lots (shares_of_lots ls) ≡ map share_of_lot ls → first_shares_of_lots (replicate n (share_of_lot l) ++ shares_of_lots ls) ≡ share_of_lot l ∷ map share_of_lot ls
+  one : (n : ℕ) → 0 < n → first_shares_of_lots (shares_of_lots ls) ≡ map share_of_lot ls
+      → first_shares_of_lots (replicate n (share_of_lot l) ++ shares_of_lots ls) ≡ share_of_lot l ∷ map share_of_lot ls
   one zero p rest = absurd (omega arith)
   one (suc n) p rest =
       firsts_run n (share_of_lot l) (shares_of_lots ls)
@@ -106,7 +108,8 @@ row before after u = record { lot = u.trade; before = signed_by_side u.side (bef
 abbrev pub changes : List Share → List Share → List Touch
 changes before after = map (row (λ t. count_of t before) (λ t. count_of t after)) (filter (λ u. not (eqb (count_of u.trade before) (count_of u.trade after))) (first_shares_of_lots before))
 
-rows_touched : (before after : ℕ → ℕ) (k : ℕ) (ls : List Lot) → IsPositionInAnyOrder ls → Counts before after k ls → map (row before after) (filter (λ u. not (eqb (before u.trade) (after u.trade))) (map share_of_lot ls)) ≡ touches_of_first_shares k ls
+rows_touched : (before after : ℕ → ℕ) (k : ℕ) (ls : List Lot) → IsPositionInAnyOrder ls → Counts before after k ls
+    → map (row before after) (filter (λ u. not (eqb (before u.trade) (after u.trade))) (map share_of_lot ls)) ≡ touches_of_first_shares k ls
 rows_touched before after k [] w h = refl
 rows_touched before after zero (l ∷ ls) w h =
     let a : after l.trade ≡ before l.trade = omega arith in
@@ -130,7 +133,8 @@ agrees_rest : (before after : ℕ → ℕ) (k : ℕ) (l : Lot) (ls : List Lot) (
 agrees_rest before after k l ls m b h =
     let ne : l.trade ≢ m.trade = λ e. b.1 (sym e) in (
       h.0 ∙ shares_run_other m.trade (unsigned_abs l.qty) (share_of_lot l) (shares_of_lots ls) ne,
-      h.1 ∙ ap (count_of m.trade) (drop_run k (unsigned_abs l.qty) (share_of_lot l) (shares_of_lots ls)) ∙ shares_run_other m.trade (unsigned_abs l.qty - k) (share_of_lot l) (drop (k - unsigned_abs l.qty) (shares_of_lots ls)) ne,
+      h.1 ∙ ap (count_of m.trade) (drop_run k (unsigned_abs l.qty) (share_of_lot l) (shares_of_lots ls))
+          ∙ shares_run_other m.trade (unsigned_abs l.qty - k) (share_of_lot l) (drop (k - unsigned_abs l.qty) (shares_of_lots ls)) ne,
     )
 
 counts_walk : (before after : ℕ → ℕ) (k : ℕ) (ls : List Lot) → IsPositionInAnyOrder ls → AllByRecursion (Agrees before after k ls) ls → Counts before after k ls
@@ -155,7 +159,8 @@ shares_appended t r us u h =
 
 -- the history rows of a trade, but for the one of the lot that it opens, are those that the walk
 -- writes lot by lot
-pub changes_walk : (k r : ℕ) (u : Share) (ls : List Lot) → IsPositionInAnyOrder ls → AreOpenedByOtherTrades u.trade ls → changes (shares_of_lots ls) (drop k (shares_of_lots ls) ++ replicate r u) ≡ touches_of_first_shares k ls
+pub changes_walk : (k r : ℕ) (u : Share) (ls : List Lot) → IsPositionInAnyOrder ls → AreOpenedByOtherTrades u.trade ls
+    → changes (shares_of_lots ls) (drop k (shares_of_lots ls) ++ replicate r u) ≡ touches_of_first_shares k ls
 changes_walk k r u ls w fresh =
     let before = λ (t : ℕ). count_of t (shares_of_lots ls) in
     let after = λ (t : ℕ). count_of t (drop k (shares_of_lots ls) ++ replicate r u) in

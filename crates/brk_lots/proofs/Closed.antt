@@ -19,7 +19,8 @@ use Rattle.brk_lots.specs.Values.{closing_values_by_side, closing_values_of_deal
 
 -- the shares that the walk takes cost what the shares that the deal closes cost
 paid_is : (d : Deal) (ls : List Lot) → IsPositionInAnyOrder ls
-    → cost_of_first_shares (closed_share_count d.side d.qty (list_reversed_if_lifo d.is_lifo ls)) (list_reversed_if_lifo d.is_lifo ls) ≡ cost (take (closed_share_count_of_deal d (shares_of_lots ls)) (list_reversed_if_lifo d.is_lifo (shares_of_lots ls)))
+    → cost_of_first_shares (closed_share_count d.side d.qty (list_reversed_if_lifo d.is_lifo ls)) (list_reversed_if_lifo d.is_lifo ls)
+    ≡ cost (take (closed_share_count_of_deal d (shares_of_lots ls)) (list_reversed_if_lifo d.is_lifo (shares_of_lots ls)))
 paid_is d ls w =
     let walk = list_reversed_if_lifo d.is_lifo ls in
     let k = closed_share_count d.side d.qty walk in
@@ -52,7 +53,8 @@ length_end false xs = refl
 
 -- the walk takes of as many lots as the deal touches
 pub touched_are : (d : Deal) (ls : List Lot) → IsPositionInAnyOrder ls → AreOpenedByOtherTrades d.trade ls
-    → length (touches_of_first_shares (closed_share_count d.side d.qty (list_reversed_if_lifo d.is_lifo ls)) (list_reversed_if_lifo d.is_lifo ls)) ≡ length (touches_of_existing_lots d (shares_of_lots ls))
+    → length (touches_of_first_shares (closed_share_count d.side d.qty (list_reversed_if_lifo d.is_lifo ls)) (list_reversed_if_lifo d.is_lifo ls))
+    ≡ length (touches_of_existing_lots d (shares_of_lots ls))
 touched_are d ls w fresh =
     sym (length-map (touches_of_first_shares (closed_share_count d.side d.qty (list_reversed_if_lifo d.is_lifo ls)) (list_reversed_if_lifo d.is_lifo ls)) abstract_touch)
     ∙ ap length (rows_are d ls w fresh) ∙ length_end d.is_lifo (touches_of_existing_lots d (shares_of_lots ls))

@@ -1,5 +1,6 @@
 -- The rows of a closing cut lots off one end, and leave at most one lot smaller.
-use Rattle.std.proofs.Common.{◌≡◌, ◌≢◌, ℕ, zero, suc, ℤ, pos, ◌-◌, ◌≤◌, ◌<◌, eqb, Bool, true, false, cond, List, [], ◌∷◌, ◌++◌, length, get_or, take, drop, reverse, unsigned_abs, refl, sym, ap, ◌∙◌, subst, arith}
+use Rattle.std.proofs.Common.{◌≡◌, ◌≢◌, ℕ, zero, suc, ℤ, pos, ◌-◌, ◌≤◌, ◌<◌, eqb, Bool, true, false, cond, List, [], ◌∷◌, ◌++◌, length, get_or, take, drop}
+use Rattle.std.proofs.Common.{reverse, unsigned_abs, refl, sym, ap, ◌∙◌, subst, arith}
 use Rattle.std.specs.List.{AllByRecursion}
 use Rattle.std.specs.Ordering.{int_eq}
 use Rattle.std.proofs.lemmas.Bool.{ne_eqb}
@@ -17,7 +18,10 @@ use Rattle.brk_lots.proofs.Left.{kept, with_shares, smaller_with, left_kept, lef
 pub rows_fit : (k : ℕ) (ls : List Lot) → length (touches_of_first_shares k ls) ≤ length ls
 rows_fit k [] = omega arith
 rows_fit k (l ∷ ls) = at (eqb k 0) (rows_fit (k - unsigned_abs l.qty) ls) where
-  at : (b : Bool) → length (touches_of_first_shares (k - unsigned_abs l.qty) ls) ≤ length ls → length (cond {A = List Touch} b [] (record { lot = l.trade; before = l.qty; after = signed_by_side (side_of_qty l.qty) (unsigned_abs l.qty - k) } ∷ touches_of_first_shares (k - unsigned_abs l.qty) ls)) ≤ suc (length ls)
+  at : (b : Bool) → length (touches_of_first_shares (k - unsigned_abs l.qty) ls) ≤ length ls
+      → length (cond {A = List Touch} b []
+      (record { lot = l.trade; before = l.qty; after = signed_by_side (side_of_qty l.qty) (unsigned_abs l.qty - k) }
+      ∷ touches_of_first_shares (k - unsigned_abs l.qty) ls)) ≤ suc (length ls)
   at true h = omega arith
   at false h = omega arith
 
@@ -75,7 +79,10 @@ cut (suc k) (m ∷ ls) w t l p e f = at (length (touches_of_first_shares (suc k 
   f' : l ≡ get_or (m ∷ ls) (suc (length later) - 1) l
   f' = rw rows at f
 
-  at : (j : ℕ) → length later ≡ j → (0 < length later → t ≡ get_or later (length later - 1) t → l ≡ get_or ls (length later - 1) l → kept (suc k - n) ls ≡ lot_with_nonzero_quantity t.after l ++ drop (length later) ls) → kept (suc k) (m ∷ ls) ≡ lot_with_nonzero_quantity t.after l ++ drop (length (touches_of_first_shares (suc k) (m ∷ ls))) (m ∷ ls)
+  at : (j : ℕ) → length later ≡ j
+      → (0 < length later → t ≡ get_or later (length later - 1) t → l ≡ get_or ls (length later - 1) l
+      → kept (suc k - n) ls ≡ lot_with_nonzero_quantity t.after l ++ drop (length later) ls) → kept (suc k) (m ∷ ls) ≡ lot_with_nonzero_quantity t.after l
+      ++ drop (length (touches_of_first_shares (suc k) (m ∷ ls))) (m ∷ ls)
   at zero z rec =
       let i : suc (length later) - 1 ≡ 0 = omega (arith, z) in
       let t0 : t ≡ row = rw i at e' in
@@ -106,7 +113,8 @@ cut (suc k) (m ∷ ls) w t l p e f = at (length (touches_of_first_shares (suc k 
 -- ---- from either end
 
 -- from the front
-cut_front : (k : ℕ) (ls : List Lot) → IsPositionInAnyOrder ls → (ts : List Touch) → ts ≡ touches_of_first_shares k ls → 0 < length ts → (t : Touch) (l : Lot) → t ≡ get_or ts (length ts - 1) t → l ≡ get_or ls (length ts - 1) l
+cut_front : (k : ℕ) (ls : List Lot) → IsPositionInAnyOrder ls → (ts : List Touch) → ts ≡ touches_of_first_shares k ls → 0 < length ts → (t : Touch) (l : Lot)
+    → t ≡ get_or ts (length ts - 1) t → l ≡ get_or ls (length ts - 1) l
     → lots_after_touches ts ls ≡ lot_with_nonzero_quantity t.after l ++ drop (length ts) ls
 cut_front k ls w ts e p t l te le =
     let t0 : t ≡ get_or (touches_of_first_shares k ls) (length (touches_of_first_shares k ls) - 1) t = subst (λ (rs : List Touch). t ≡ get_or rs (length rs - 1) t) e te in
@@ -117,12 +125,14 @@ cut_front k ls w ts e p t l te le =
 
 smaller_reverse : (q : ℤ) (l : Lot) → reverse (lot_with_nonzero_quantity q l) ≡ lot_with_nonzero_quantity q l
 smaller_reverse q l = at (int_eq q (pos 0)) where
-  at : (b : Bool) → reverse (cond {A = List Lot} b [] (record { trade = l.trade; price = l.price; qty = q; stamp = l.stamp } ∷ [])) ≡ cond {A = List Lot} b [] (record { trade = l.trade; price = l.price; qty = q; stamp = l.stamp } ∷ [])
+  at : (b : Bool) → reverse (cond {A = List Lot} b [] (record { trade = l.trade; price = l.price; qty = q; stamp = l.stamp } ∷ []))
+      ≡ cond {A = List Lot} b [] (record { trade = l.trade; price = l.price; qty = q; stamp = l.stamp } ∷ [])
   at true = refl
   at false = refl
 
 -- from the back
-cut_back : (k : ℕ) (ls : List Lot) → IsPositionInAnyOrder ls → (ts : List Touch) → ts ≡ touches_of_first_shares k (reverse ls) → 0 < length ts → (t : Touch) (l : Lot) → t ≡ get_or ts (length ts - 1) t → l ≡ get_or ls (length ls - length ts) l
+cut_back : (k : ℕ) (ls : List Lot) → IsPositionInAnyOrder ls → (ts : List Touch) → ts ≡ touches_of_first_shares k (reverse ls) → 0 < length ts
+    → (t : Touch) (l : Lot) → t ≡ get_or ts (length ts - 1) t → l ≡ get_or ls (length ls - length ts) l
     → lots_after_touches ts ls ≡ take (length ls - length ts) ls ++ lot_with_nonzero_quantity t.after l
 cut_back k ls w ts e p t l te le =
     let walk = reverse ls in
@@ -158,7 +168,9 @@ first_row (suc k) (l ∷ ls) t f p e =
 
 -- the first row names the oldest lot where the lots were taken from the front, and of one lot
 -- either way
-pub left_front : (lifo : Bool) (k : ℕ) (ls : List Lot) → IsPositionInAnyOrder ls → (ts : List Touch) → ts ≡ touches_of_first_shares k (list_reversed_if_lifo lifo ls) → 0 < length ts → (s : Touch) (f : Lot) → s ≡ get_or ts 0 s → f ≡ get_or ls 0 f → s.lot ≡ f.trade
+pub left_front : (lifo : Bool) (k : ℕ) (ls : List Lot) → IsPositionInAnyOrder ls → (ts : List Touch)
+    → ts ≡ touches_of_first_shares k (list_reversed_if_lifo lifo ls) → 0 < length ts → (s : Touch) (f : Lot) → s ≡ get_or ts 0 s → f ≡ get_or ls 0 f
+    → s.lot ≡ f.trade
     → (t : Touch) (l : Lot) → t ≡ get_or ts (length ts - 1) t → l ≡ get_or ls (length ts - 1) l → lots_after_touches ts ls ≡ lot_with_nonzero_quantity t.after l ++ drop (length ts) ls
 left_front false k ls w ts e p s f se fe same t l te le = cut_front k ls w ts e p t l te le
 left_front true k ls w ts e p s f se fe same t l te le =
@@ -168,15 +180,19 @@ left_front true k ls w ts e p s f se fe same t l te le =
     let one : reverse ls ≡ ls = only_one ls w f some (sym r ∙ same ∙ ap (λ (x : Lot). x.trade) fe) in
     cut_front k ls w ts (e ∙ ap (touches_of_first_shares k) one) p t l te le
 
-pub left_back : (lifo : Bool) (k : ℕ) (ls : List Lot) → IsPositionInAnyOrder ls → (ts : List Touch) → ts ≡ touches_of_first_shares k (list_reversed_if_lifo lifo ls) → 0 < length ts → (s : Touch) (f : Lot) → s ≡ get_or ts 0 s → f ≡ get_or ls 0 f → s.lot ≢ f.trade
-    → (t : Touch) (l : Lot) → t ≡ get_or ts (length ts - 1) t → l ≡ get_or ls (length ls - length ts) l → lots_after_touches ts ls ≡ take (length ls - length ts) ls ++ lot_with_nonzero_quantity t.after l
+pub left_back : (lifo : Bool) (k : ℕ) (ls : List Lot) → IsPositionInAnyOrder ls → (ts : List Touch)
+    → ts ≡ touches_of_first_shares k (list_reversed_if_lifo lifo ls) → 0 < length ts → (s : Touch) (f : Lot) → s ≡ get_or ts 0 s → f ≡ get_or ls 0 f
+    → s.lot ≢ f.trade
+    → (t : Touch) (l : Lot) → t ≡ get_or ts (length ts - 1) t → l ≡ get_or ls (length ls - length ts) l
+    → lots_after_touches ts ls ≡ take (length ls - length ts) ls ++ lot_with_nonzero_quantity t.after l
 left_back true k ls w ts e p s f se fe other t l te le = cut_back k ls w ts e p t l te le
 left_back false k ls w ts e p s f se fe other t l te le =
     let s0 : s ≡ get_or (touches_of_first_shares k ls) 0 s = subst (λ (rs : List Touch). s ≡ get_or rs 0 s) e se in
     absurd (other (first_row k ls s f (subst (λ (rs : List Touch). 0 < length rs) e p) s0 ∙ ap (λ (x : Lot). x.trade) (sym fe)))
 
 -- where there are no rows, all lots are left
-pub left_whole : (lifo : Bool) (k : ℕ) (ls : List Lot) → IsPositionInAnyOrder ls → (ts : List Touch) → ts ≡ touches_of_first_shares k (list_reversed_if_lifo lifo ls) → length ts ≡ 0 → lots_after_touches ts ls ≡ ls
+pub left_whole : (lifo : Bool) (k : ℕ) (ls : List Lot) → IsPositionInAnyOrder ls → (ts : List Touch)
+    → ts ≡ touches_of_first_shares k (list_reversed_if_lifo lifo ls) → length ts ≡ 0 → lots_after_touches ts ls ≡ ls
 left_whole lifo k ls w ts e z =
     let z0 : length (touches_of_first_shares k (list_reversed_if_lifo lifo ls)) ≡ 0 = subst (λ (rs : List Touch). length rs ≡ 0) e z in
     left_end lifo ts ls ∙ ap (λ (rs : List Touch). list_reversed_if_lifo lifo (lots_after_touches rs (list_reversed_if_lifo lifo ls))) e

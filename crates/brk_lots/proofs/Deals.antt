@@ -52,6 +52,7 @@ old_lots d (l ∷ ls) p h =
     ((one.0, rest.0), (one.1, rest.1))
 
 -- the shares after a deal are older than each later deal
-pub older_after : (d : Deal) (ds : List Deal) (us : List Share) → AllByRecursion (IsLaterDealOfOtherTrade d) ds → AllByRecursion (λ e. AllByRecursion (IsOlder e) us) ds → AllByRecursion (λ e. AllByRecursion (IsOlder e) (shares_after_deal us d)) ds
+pub older_after : (d : Deal) (ds : List Deal) (us : List Share) → AllByRecursion (IsLaterDealOfOtherTrade d) ds
+    → AllByRecursion (λ e. AllByRecursion (IsOlder e) us) ds → AllByRecursion (λ e. AllByRecursion (IsOlder e) (shares_after_deal us d)) ds
 older_after d ds us l h =
     all_from (IsLaterDealOfOtherTrade d) (λ e. AllByRecursion (IsOlder e) us) (λ e. AllByRecursion (IsOlder e) (shares_after_deal us d)) (λ e b c. all_after (IsOlder e) d us b c) ds l h

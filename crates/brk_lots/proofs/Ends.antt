@@ -1,5 +1,6 @@
 -- A position from its other end.
-use Rattle.std.proofs.Common.{◌≡◌, ◌≢◌, ℕ, zero, suc, pos, ◌+◌, ◌-◌, ◌≤◌, min, eqb, Bool, true, false, cond, List, [], ◌∷◌, ◌++◌, length, take, drop, replicate, reverse, unsigned_abs, refl, sym, ap, ◌∙◌, subst, arith, append-nil}
+use Rattle.std.proofs.Common.{◌≡◌, ◌≢◌, ℕ, zero, suc, pos, ◌+◌, ◌-◌, ◌≤◌, min, eqb, Bool, true, false, cond, List, [], ◌∷◌, ◌++◌, length, take, drop, replicate}
+use Rattle.std.proofs.Common.{reverse, unsigned_abs, refl, sym, ap, ◌∙◌, subst, arith, append-nil}
 use Rattle.std.specs.List.{AllByRecursion}
 use Rattle.std.proofs.lemmas.List.{length-reverse, reverse-append, reverse-reverse, replicate_more}
 use Rattle.std.proofs.lemmas.List.Sums.{sum_by-append, sum_by-cons, sum_by-take-drop}
@@ -99,7 +100,8 @@ without_end false k us = refl
 
 -- ---- as many are met from either end
 
-pub met_all : (side s : Side) (q : ℕ) (ls : List Lot) → AllByRecursion (λ l. side_of_qty l.qty ≡ s) ls → closed_share_count side q ls ≡ cond (is_same_side s side) 0 (min q (length (shares_of_lots ls)))
+pub met_all : (side s : Side) (q : ℕ) (ls : List Lot) → AllByRecursion (λ l. side_of_qty l.qty ≡ s) ls
+    → closed_share_count side q ls ≡ cond (is_same_side s side) 0 (min q (length (shares_of_lots ls)))
 met_all side s q [] h = elim (is_same_side s side) as (λ b. 0 ≡ cond b 0 (min q 0)) [ true ↦ refl | false ↦ omega arith ]
 met_all side s q (l ∷ ls) h =
     met_first side q l ls
@@ -110,7 +112,8 @@ pub met_reverse : (side : Side) (q : ℕ) (ls : List Lot) → IsPositionInAnyOrd
 met_reverse side q [] w = refl
 met_reverse side q (l ∷ ls) w =
     let s = side_of_qty l.qty in
-    let same : AllByRecursion (λ m. side_of_qty m.qty ≡ s) (l ∷ ls) = (refl, all_from (HasSameSideAndOtherTrade l) (HasSameSideAndOtherTrade l) (λ m. side_of_qty m.qty ≡ s) (λ m p r. p.0) ls w.1 w.1) in
+    let same : AllByRecursion (λ m. side_of_qty m.qty ≡ s) (l ∷ ls) =
+    (refl, all_from (HasSameSideAndOtherTrade l) (HasSameSideAndOtherTrade l) (λ m. side_of_qty m.qty ≡ s) (λ m p r. p.0) ls w.1 w.1) in
     let len : length (shares_of_lots (reverse (l ∷ ls))) ≡ length (shares_of_lots (l ∷ ls)) = ap length (reverse_shares (l ∷ ls)) ∙ length-reverse (shares_of_lots (l ∷ ls)) in
     met_all side s q (reverse (l ∷ ls)) (all_reverse (λ m. side_of_qty m.qty ≡ s) (l ∷ ls) same)
     ∙ ap (λ n. cond (is_same_side s side) 0 (min q n)) len

@@ -9,7 +9,9 @@ use Rattle.brk_money.specs.declared.side.Side.{Side}
 use Rattle.brk_money.specs.declared.side.Side.TheVariants.{Buy, Sell}
 use Rattle.brk_model.specs.Lists.{is_zero, total_by}
 use Rattle.brk_model.specs.Shares as model
-use Rattle.brk_model.specs.Shares.{Share, Deal, signed_by_side, net_share_count, first_shares_of_lots, lots_of_shares, lot_quantity, shares_opened_by_trade, lot_touches_of_deal, touches_of_existing_lots, touch_of_lot_with_share, changes_lot_quantity, opened_share, opened_shares, closed_share_count_of_deal, shares_after_deal}
+use Rattle.brk_model.specs.Shares.{Share, Deal, signed_by_side, net_share_count, first_shares_of_lots, lots_of_shares, lot_quantity, shares_opened_by_trade}
+use Rattle.brk_model.specs.Shares.{lot_touches_of_deal, touches_of_existing_lots, touch_of_lot_with_share, changes_lot_quantity, opened_share, opened_shares}
+use Rattle.brk_model.specs.Shares.{closed_share_count_of_deal, shares_after_deal}
 use Rattle.brk_lots.specs.Chains.{opening_touch}
 use Rattle.brk_lots.proofs.Runs.{count_of, without, shares_run_own}
 use Rattle.brk_lots.proofs.Changes.{all_from, all_firsts, other_than, firsts_alike, count_alike}
@@ -44,7 +46,8 @@ firsts_join [] vs = sym (all_pass (first_shares_of_lots vs)) where
 firsts_join (u ∷ us) vs =
     ap (λ (ws : List Share). u ∷ filter (other_than u.trade) ws) (firsts_join us vs)
     ∙ ap (λ (ws : List Share). u ∷ ws) (filter-append (other_than u.trade) (first_shares_of_lots us) (filter (new_to us) (first_shares_of_lots vs))
-    ∙ ap (λ (ws : List Share). filter (other_than u.trade) (first_shares_of_lots us) ++ ws) (filter_both (other_than u.trade) (new_to us) (new_to (u ∷ us)) (new_to_more u us) (first_shares_of_lots vs)))
+    ∙ ap (λ (ws : List Share). filter (other_than u.trade) (first_shares_of_lots us) ++ ws)
+    (filter_both (other_than u.trade) (new_to us) (new_to (u ∷ us)) (new_to_more u us) (first_shares_of_lots vs)))
 
 none_pass : (p : Share → Bool) (us : List Share) → AllByRecursion (λ v. p v ≡ false) us → filter p us ≡ []
 none_pass p [] h = refl
@@ -73,7 +76,8 @@ opened_none t [] h = refl
 opened_none t (u ∷ us) h = rw (ne_eqb u.trade t h.0) (opened_none t us h.1)
 
 -- the first shares of those before and after: those before, and the one that is new
-firsts_after : (us kept : List Share) (r : ℕ) (u : Share) → Without u.trade us → Without u.trade kept → AllByRecursion (λ v. new_to us v ≡ false) kept → first_shares_of_lots (us ++ (kept ++ replicate r u)) ≡ first_shares_of_lots us ++ first_shares_of_lots (replicate r u)
+firsts_after : (us kept : List Share) (r : ℕ) (u : Share) → Without u.trade us → Without u.trade kept → AllByRecursion (λ v. new_to us v ≡ false) kept
+    → first_shares_of_lots (us ++ (kept ++ replicate r u)) ≡ first_shares_of_lots us ++ first_shares_of_lots (replicate r u)
 firsts_after us kept r u fresh left old =
     let none : filter (new_to us) (first_shares_of_lots kept) ≡ [] = none_pass (new_to us) (first_shares_of_lots kept) (all_firsts (λ v. new_to us v ≡ false) kept old) in
     firsts_join us (kept ++ replicate r u)
@@ -125,7 +129,8 @@ history_rows d us fresh =
     let kept = without d.is_lifo k us in
     let u = opened_share d in
     let old : AllByRecursion (λ v. new_to us v ≡ false) us =
-    all_from (λ v. 0 < count_of v.trade us) (λ v. 0 < count_of v.trade us) (λ v. new_to us v ≡ false) (λ v h g. ne_eqb (count_of v.trade us) 0 (λ z. absurd (omega (arith, z, h)))) us (known us) (known us) in
+    all_from (λ v. 0 < count_of v.trade us) (λ v. 0 < count_of v.trade us) (λ v. new_to us v ≡ false)
+    (λ v h g. ne_eqb (count_of v.trade us) 0 (λ z. absurd (omega (arith, z, h)))) us (known us) (known us) in
     ap (λ (vs : List Share). filter changes_lot_quantity (map (touch_of_lot_with_share d us) (first_shares_of_lots (us ++ vs)))) (after_is d us)
     ∙ ap (λ (vs : List Share). filter changes_lot_quantity (map (touch_of_lot_with_share d us) vs))
     (firsts_after us kept (d.qty - k) u fresh (all_without (λ v. v.trade ≢ d.trade) d.is_lifo k us fresh) (all_without (λ v. new_to us v ≡ false) d.is_lifo k us old))

@@ -1,5 +1,6 @@
 -- What the rows of a closing leave of a position.
-use Rattle.std.proofs.Common.{◌≡◌, ◌≢◌, ℕ, zero, suc, ℤ, pos, ◌-◌, ◌<◌, min, eqb, Bool, true, false, cond, List, [], ◌∷◌, ◌++◌, length, drop, replicate, reverse, unsigned_abs, refl, sym, ap, ◌∙◌, subst, arith, append-nil, inl, inr}
+use Rattle.std.proofs.Common.{◌≡◌, ◌≢◌, ℕ, zero, suc, ℤ, pos, ◌-◌, ◌<◌, min, eqb, Bool, true, false, cond, List, [], ◌∷◌, ◌++◌, length, drop, replicate}
+use Rattle.std.proofs.Common.{reverse, unsigned_abs, refl, sym, ap, ◌∙◌, subst, arith, append-nil, inl, inr}
 use Rattle.std.specs.List.{AllByRecursion}
 use Rattle.std.specs.Option.{option_to_list}
 use Rattle.std.specs.Ordering.{int_eq}
@@ -43,7 +44,8 @@ qty_first (suc k) l ls =
     let more : eqb (suc k) 0 ≡ false = ne_eqb (suc k) 0 (λ e. absurd (omega arith)) in
     rw (more, eq-eqb l.trade l.trade refl) refl
 
-qty_rest : (k : ℕ) (l m : Lot) (ls : List Lot) → m.trade ≢ l.trade → quantity_after_touches (touches_of_first_shares k (l ∷ ls)) m ≡ quantity_after_touches (touches_of_first_shares (k - unsigned_abs l.qty) ls) m
+qty_rest : (k : ℕ) (l m : Lot) (ls : List Lot) → m.trade ≢ l.trade
+    → quantity_after_touches (touches_of_first_shares k (l ∷ ls)) m ≡ quantity_after_touches (touches_of_first_shares (k - unsigned_abs l.qty) ls) m
 qty_rest zero l m ls h = let e : 0 - unsigned_abs l.qty ≡ 0 = omega arith in rw (e, touches_none ls) refl
 qty_rest (suc k) l m ls h =
     let more : eqb (suc k) 0 ≡ false = ne_eqb (suc k) 0 (λ e. absurd (omega arith)) in
@@ -54,7 +56,9 @@ int_differ x y h = elim (cases_Bool (int_eq x y)) [ inl e ↦ absurd (h ((Decide
 
 pub smaller_with : (l : Lot) (m : ℕ) → lot_with_nonzero_quantity (signed_by_side (side_of_qty l.qty) m) l ≡ with_shares m l
 smaller_with l m = each (side_of_qty l.qty) m refl where
-  each : (s : Side) (n : ℕ) → s ≡ side_of_qty l.qty → cond (int_eq (signed_by_side s n) (pos 0)) [] (record { trade = l.trade; price = l.price; qty = signed_by_side s n; stamp = l.stamp } ∷ []) ≡ with_shares n l
+  each : (s : Side) (n : ℕ) → s ≡ side_of_qty l.qty
+      → cond (int_eq (signed_by_side s n) (pos 0)) [] (record { trade = l.trade; price = l.price; qty = signed_by_side s n; stamp = l.stamp } ∷ [])
+      ≡ with_shares n l
   each Buy zero e = refl
   each Sell zero e = refl
   each Buy (suc n) e = let d : int_eq (pos (suc n)) (pos 0) ≡ false = int_differ (pos (suc n)) (pos 0) (λ z. omega (arith, ints, z)) in rw (d, ← e) refl
@@ -76,7 +80,9 @@ left_kept k (l ∷ ls) w =
     ap (λ (ms : List Lot). ms ++ lots_after_touches (touches_of_first_shares k (l ∷ ls)) ls) (left_with (touches_of_first_shares k (l ∷ ls)) l (unsigned_abs l.qty - k) (qty_first k l ls))
     ∙ ap (λ (ms : List Lot). with_shares (unsigned_abs l.qty - k) l ++ ms) (
     left_agree (touches_of_first_shares k (l ∷ ls)) (touches_of_first_shares (k - unsigned_abs l.qty) ls) ls
-    (all_from (HasSameSideAndOtherTrade l) (HasSameSideAndOtherTrade l) (λ m. quantity_after_touches (touches_of_first_shares k (l ∷ ls)) m ≡ quantity_after_touches (touches_of_first_shares (k - unsigned_abs l.qty) ls) m) (λ m b q. qty_rest k l m ls b.1) ls w.1 w.1)
+    (all_from (HasSameSideAndOtherTrade l) (HasSameSideAndOtherTrade l)
+    (λ m. quantity_after_touches (touches_of_first_shares k (l ∷ ls)) m ≡ quantity_after_touches (touches_of_first_shares (k - unsigned_abs l.qty) ls) m)
+    (λ m b q. qty_rest k l m ls b.1) ls w.1 w.1)
     ∙ left_kept (k - unsigned_abs l.qty) ls w.2)
 
 -- ---- the shares of what is left
@@ -84,7 +90,10 @@ left_kept k (l ∷ ls) w =
 shares_with : (m : ℕ) (l : Lot) (ls : List Lot) → shares_of_lots (with_shares m l ++ ls) ≡ replicate m (share_of_lot l) ++ shares_of_lots ls
 shares_with zero l ls = refl
 shares_with (suc m) l ls = each (side_of_qty l.qty) refl where
-  each : (s : Side) → s ≡ side_of_qty l.qty → replicate (unsigned_abs (signed_by_side s (suc m))) (record { side = side_of_qty (signed_by_side s (suc m)); trade = l.trade; price = l.price; stamp = l.stamp }) ++ shares_of_lots ls ≡ replicate (suc m) (record { side = s; trade = l.trade; price = l.price; stamp = l.stamp }) ++ shares_of_lots ls
+  each : (s : Side) → s ≡ side_of_qty l.qty
+      → replicate (unsigned_abs (signed_by_side s (suc m)))
+      (record { side = side_of_qty (signed_by_side s (suc m)); trade = l.trade; price = l.price; stamp = l.stamp }) ++ shares_of_lots ls
+      ≡ replicate (suc m) (record { side = s; trade = l.trade; price = l.price; stamp = l.stamp }) ++ shares_of_lots ls
   each Buy e = refl
   each Sell e = refl
 
@@ -104,7 +113,8 @@ left_reverse ts (l ∷ ls) =
     ∙ ap (λ (ms : List Lot). ms ++ (rest_of_lot_after_touches ts l ++ [])) (left_reverse ts ls)
     ∙ ap (λ (ms : List Lot). reverse (lots_after_touches ts ls) ++ ms) (append-nil (rest_of_lot_after_touches ts l) ∙ one (int_eq (quantity_after_touches ts l) (pos 0)))
     ∙ sym (reverse-append (rest_of_lot_after_touches ts l) (lots_after_touches ts ls)) where
-      one : (b : Bool) → cond {A = List Lot} b [] (record { trade = l.trade; price = l.price; qty = quantity_after_touches ts l; stamp = l.stamp } ∷ []) ≡ reverse (cond {A = List Lot} b [] (record { trade = l.trade; price = l.price; qty = quantity_after_touches ts l; stamp = l.stamp } ∷ []))
+      one : (b : Bool) → cond {A = List Lot} b [] (record { trade = l.trade; price = l.price; qty = quantity_after_touches ts l; stamp = l.stamp } ∷ [])
+          ≡ reverse (cond {A = List Lot} b [] (record { trade = l.trade; price = l.price; qty = quantity_after_touches ts l; stamp = l.stamp } ∷ []))
       one true = refl
       one false = refl
 
@@ -113,7 +123,8 @@ left_end true ts ls = sym (reverse-reverse (lots_after_touches ts ls)) ∙ ap re
 left_end false ts ls = refl
 
 -- the shares of what is left are the shares without those that were closed, from whichever end
-pub shares_left : (lifo : Bool) (k : ℕ) (ls : List Lot) → IsPositionInAnyOrder ls → shares_of_lots (lots_after_touches (touches_of_first_shares k (list_reversed_if_lifo lifo ls)) ls) ≡ without lifo k (shares_of_lots ls)
+pub shares_left : (lifo : Bool) (k : ℕ) (ls : List Lot) → IsPositionInAnyOrder ls
+    → shares_of_lots (lots_after_touches (touches_of_first_shares k (list_reversed_if_lifo lifo ls)) ls) ≡ without lifo k (shares_of_lots ls)
 shares_left lifo k ls w =
     let walk = list_reversed_if_lifo lifo ls in
     ap shares_of_lots (left_end lifo (touches_of_first_shares k walk) ls ∙ ap (list_reversed_if_lifo lifo) (left_kept k walk (walk_end lifo ls w)))
@@ -136,7 +147,9 @@ walk_shrinks k (l ∷ ls) w = (
 )
 
 end_shrinks : (lifo : Bool) (k : ℕ) (ls : List Lot) → IsPositionInAnyOrder ls → AllByRecursion (Shrinks (touches_of_first_shares k (list_reversed_if_lifo lifo ls))) ls
-end_shrinks true k ls w = subst (AllByRecursion (Shrinks (touches_of_first_shares k (reverse ls)))) (reverse-reverse ls) (all_reverse (Shrinks (touches_of_first_shares k (reverse ls))) (reverse ls) (walk_shrinks k (reverse ls) (walk_end true ls w)))
+end_shrinks true k ls w =
+    subst (AllByRecursion (Shrinks (touches_of_first_shares k (reverse ls)))) (reverse-reverse ls)
+    (all_reverse (Shrinks (touches_of_first_shares k (reverse ls))) (reverse ls) (walk_shrinks k (reverse ls) (walk_end true ls w)))
 end_shrinks false k ls w = walk_shrinks k ls w
 
 -- `P` holds for the lot `l` with any number of shares above 0.
@@ -200,7 +213,10 @@ new_lot u n = record { trade = u.trade; price = u.price; qty = signed_by_side u.
 shares_opened : (n : ℕ) (u : Share) → shares_of_lots (run_lots n u) ≡ replicate n u
 shares_opened zero u = refl
 shares_opened (suc n) u = each u.side refl ∙ append-nil (replicate (suc n) u) where
-  each : (s : Side) → s ≡ u.side → replicate {A = Share} (unsigned_abs (signed_by_side s (suc n))) (record { side = side_of_qty (signed_by_side s (suc n)); trade = u.trade; price = u.price; stamp = u.stamp }) ++ [] ≡ replicate {A = Share} (suc n) (record { side = s; trade = u.trade; price = u.price; stamp = u.stamp }) ++ []
+  each : (s : Side) → s ≡ u.side
+      → replicate {A = Share} (unsigned_abs (signed_by_side s (suc n)))
+      (record { side = side_of_qty (signed_by_side s (suc n)); trade = u.trade; price = u.price; stamp = u.stamp }) ++ []
+      ≡ replicate {A = Share} (suc n) (record { side = s; trade = u.trade; price = u.price; stamp = u.stamp }) ++ []
   each Buy e = refl
   each Sell e = refl
 
@@ -209,7 +225,10 @@ length_without true k us = omega (arith, length-take (length us - k) us)
 length_without false k us = length-drop k us
 
 -- where a lot is opened, it may stand after what is left
-opened_after : (lifo : Bool) (q n : ℕ) (u : Share) (ls : List Lot) → IsPosition ls → AreOpenedByOtherTrades u.trade ls → AllByRecursion (λ l. l.stamp < u.stamp) ls → q - closed_share_count u.side q ls ≡ suc n → AllByRecursion (λ m. IsLaterInPosition m (new_lot u n)) (lots_after_touches (touches_of_first_shares (closed_share_count u.side q ls) (list_reversed_if_lifo lifo ls)) ls)
+opened_after : (lifo : Bool) (q n : ℕ) (u : Share) (ls : List Lot) → IsPosition ls → AreOpenedByOtherTrades u.trade ls
+    → AllByRecursion (λ l. l.stamp < u.stamp) ls → q - closed_share_count u.side q ls ≡ suc n
+    → AllByRecursion (λ m. IsLaterInPosition m (new_lot u n))
+    (lots_after_touches (touches_of_first_shares (closed_share_count u.side q ls) (list_reversed_if_lifo lifo ls)) ls)
 opened_after lifo q n u [] p f a e = tt
 opened_after lifo q n u (l ∷ ls) p f a e = each (is_same_side (side_of_qty l.qty) u.side) refl where
   k : ℕ
@@ -227,10 +246,13 @@ opened_after lifo q n u (l ∷ ls) p f a e = each (is_same_side (side_of_qty l.q
   shrinks : AllByRecursion (Shrinks (touches_of_first_shares k (list_reversed_if_lifo lifo (l ∷ ls)))) (l ∷ ls)
   shrinks = end_shrinks lifo k (l ∷ ls) w
 
-  each : (b : Bool) → is_same_side (side_of_qty l.qty) u.side ≡ b → AllByRecursion (λ m. IsLaterInPosition m (new_lot u n)) (lots_after_touches (touches_of_first_shares k (list_reversed_if_lifo lifo (l ∷ ls))) (l ∷ ls))
+  each : (b : Bool) → is_same_side (side_of_qty l.qty) u.side ≡ b
+      → AllByRecursion (λ m. IsLaterInPosition m (new_lot u n)) (lots_after_touches (touches_of_first_shares k (list_reversed_if_lifo lifo (l ∷ ls))) (l ∷ ls))
   each true s =
       let side : side_of_qty l.qty ≡ u.side = same_is (side_of_qty l.qty) u.side s in
-      let sides : AllByRecursion (λ m. (side_of_qty m.qty ≡ u.side) × (m.stamp < u.stamp)) (l ∷ ls) = all_from (λ m. side_of_qty m.qty ≡ side_of_qty l.qty) (λ m. m.stamp < u.stamp) (λ m. (side_of_qty m.qty ≡ u.side) × (m.stamp < u.stamp)) (λ m b c. (b ∙ side, c)) (l ∷ ls) one_side a in
+      let sides : AllByRecursion (λ m. (side_of_qty m.qty ≡ u.side) × (m.stamp < u.stamp)) (l ∷ ls) =
+      all_from (λ m. side_of_qty m.qty ≡ side_of_qty l.qty) (λ m. m.stamp < u.stamp) (λ m. (side_of_qty m.qty ≡ u.side) × (m.stamp < u.stamp))
+      (λ m b c. (b ∙ side, c)) (l ∷ ls) one_side a in
       all_left (λ m. IsLaterInPosition m (new_lot u n)) (touches_of_first_shares k (list_reversed_if_lifo lifo (l ∷ ls))) (l ∷ ls) shrinks
       (all_from (λ m. (side_of_qty m.qty ≡ u.side) × (m.stamp < u.stamp)) (λ m. m.trade ≢ u.trade) (OfShares (λ m. IsLaterInPosition m (new_lot u n)))
       (λ m b c. before m b.0 b.1 c) (l ∷ ls) sides f) where
@@ -238,15 +260,23 @@ opened_after lifo q n u (l ∷ ls) p f a e = each (is_same_side (side_of_qty l.q
         before m b c d zero = tt
         before m b c d (suc i) = (((side_signed u.side n ∙ sym (side_signed (side_of_qty m.qty) i ∙ b), λ e. d (sym e)), c), tt)
   each false s =
-      let len : length (shares_of_lots (lots_after_touches (touches_of_first_shares k (list_reversed_if_lifo lifo (l ∷ ls))) (l ∷ ls))) ≡ length (shares_of_lots (l ∷ ls)) - k = ap length (shares_left lifo k (l ∷ ls) w) ∙ length_without lifo k (shares_of_lots (l ∷ ls)) in
+      let len : length (shares_of_lots (lots_after_touches (touches_of_first_shares k (list_reversed_if_lifo lifo (l ∷ ls))) (l ∷ ls)))
+      ≡ length (shares_of_lots (l ∷ ls)) - k = ap length (shares_left lifo k (l ∷ ls) w) ∙ length_without lifo k (shares_of_lots (l ∷ ls)) in
       let all : k ≡ min q (length (shares_of_lots (l ∷ ls))) = met_is ∙ ap (λ b. cond b 0 (min q (length (shares_of_lots (l ∷ ls))))) s in
-      let none : lots_after_touches (touches_of_first_shares k (list_reversed_if_lifo lifo (l ∷ ls))) (l ∷ ls) ≡ [] = nothing_left (lots_after_touches (touches_of_first_shares k (list_reversed_if_lifo lifo (l ∷ ls))) (l ∷ ls)) (position_left (touches_of_first_shares k (list_reversed_if_lifo lifo (l ∷ ls))) (l ∷ ls) p shrinks) (omega (arith, len, all, e)) in
+      let none : lots_after_touches (touches_of_first_shares k (list_reversed_if_lifo lifo (l ∷ ls))) (l ∷ ls) ≡ [] =
+      nothing_left (lots_after_touches (touches_of_first_shares k (list_reversed_if_lifo lifo (l ∷ ls))) (l ∷ ls))
+      (position_left (touches_of_first_shares k (list_reversed_if_lifo lifo (l ∷ ls))) (l ∷ ls) p shrinks) (omega (arith, len, all, e)) in
       subst (AllByRecursion (λ m. IsLaterInPosition m (new_lot u n))) (sym none) tt
 
 -- ---- a deal upon lots leaves lots
 
-lawful : (lifo : Bool) (q : ℕ) (u : Share) (ls : List Lot) → IsPosition ls → AreOpenedByOtherTrades u.trade ls → AreOpenedBeforeStamp u.stamp ls → (n : ℕ) → q - closed_share_count u.side q ls ≡ n → IsPosition (lots_after_touches (touches_of_first_shares (closed_share_count u.side q ls) (list_reversed_if_lifo lifo ls)) ls ++ run_lots n u)
-lawful lifo q u ls p f a zero e = rw (append-nil (lots_after_touches (touches_of_first_shares (closed_share_count u.side q ls) (list_reversed_if_lifo lifo ls)) ls)) (position_left (touches_of_first_shares (closed_share_count u.side q ls) (list_reversed_if_lifo lifo ls)) ls p (end_shrinks lifo (closed_share_count u.side q ls) ls (walk_of ls p)))
+lawful : (lifo : Bool) (q : ℕ) (u : Share) (ls : List Lot) → IsPosition ls → AreOpenedByOtherTrades u.trade ls → AreOpenedBeforeStamp u.stamp ls → (n : ℕ)
+    → q - closed_share_count u.side q ls ≡ n
+    → IsPosition (lots_after_touches (touches_of_first_shares (closed_share_count u.side q ls) (list_reversed_if_lifo lifo ls)) ls ++ run_lots n u)
+lawful lifo q u ls p f a zero e =
+    rw (append-nil (lots_after_touches (touches_of_first_shares (closed_share_count u.side q ls) (list_reversed_if_lifo lifo ls)) ls))
+    (position_left (touches_of_first_shares (closed_share_count u.side q ls) (list_reversed_if_lifo lifo ls)) ls p
+    (end_shrinks lifo (closed_share_count u.side q ls) ls (walk_of ls p)))
 lawful lifo q u ls p f a (suc n) e =
     position_push (lots_after_touches (touches_of_first_shares (closed_share_count u.side q ls) (list_reversed_if_lifo lifo ls)) ls) (new_lot u n)
     (position_left (touches_of_first_shares (closed_share_count u.side q ls) (list_reversed_if_lifo lifo ls)) ls p (end_shrinks lifo (closed_share_count u.side q ls) ls (walk_of ls p)))
@@ -255,10 +285,12 @@ lawful lifo q u ls p f a (suc n) e =
 
 -- The lots of the position `ls` after the deal `d`, with the lot that the deal opens.
 abbrev pub lots_after : Deal → List Lot → List Lot
-lots_after d ls = lots_after_touches (touches_of_first_shares (closed_share_count d.side d.qty ls) (list_reversed_if_lifo d.is_lifo ls)) ls ++ run_lots (d.qty - closed_share_count d.side d.qty ls) (opened_share d)
+lots_after d ls = lots_after_touches (touches_of_first_shares (closed_share_count d.side d.qty ls) (list_reversed_if_lifo d.is_lifo ls)) ls
+    ++ run_lots (d.qty - closed_share_count d.side d.qty ls) (opened_share d)
 
 -- they are a position, and their shares are those of the deal upon the shares before
-pub booked_lots : (d : Deal) (ls : List Lot) → IsPosition ls → AreOpenedByOtherTrades d.trade ls → AreOpenedBeforeStamp d.stamp ls → IsPosition (lots_after d ls) × (shares_of_lots (lots_after d ls) ≡ shares_after_deal (shares_of_lots ls) d)
+pub booked_lots : (d : Deal) (ls : List Lot) → IsPosition ls → AreOpenedByOtherTrades d.trade ls → AreOpenedBeforeStamp d.stamp ls
+    → IsPosition (lots_after d ls) × (shares_of_lots (lots_after d ls) ≡ shares_after_deal (shares_of_lots ls) d)
 booked_lots d ls p f a =
     let u = opened_share d in
     let k : ℕ = closed_share_count d.side d.qty ls in
@@ -272,10 +304,13 @@ booked_lots d ls p f a =
     )
 
 -- what the rows of a closing leave, with the lot that it opens, are the lots after its deal
-pub booked : (d : Deal) (ls : List Lot) (closing : Closing) → IsPosition ls → IsApplicableClosing d ls closing → lots_after_touches closing.touched.items ls ++ option_to_list closing.opened ≡ lots_after d ls
+pub booked : (d : Deal) (ls : List Lot) (closing : Closing) → IsPosition ls → IsApplicableClosing d ls closing
+    → lots_after_touches closing.touched.items ls ++ option_to_list closing.opened ≡ lots_after d ls
 booked d ls closing p h =
     let w = walk_of ls p in
     let same : closed_share_count d.side d.qty (list_reversed_if_lifo d.is_lifo ls) ≡ closed_share_count d.side d.qty ls = met_end d.is_lifo d.side d.qty ls w in
-    let rows : closing.touched.items ≡ touches_of_first_shares (closed_share_count d.side d.qty ls) (list_reversed_if_lifo d.is_lifo ls) = rows_back d ls closing w h.fresh h.closes ∙ ap (λ n. touches_of_first_shares n (list_reversed_if_lifo d.is_lifo ls)) same in
-    let opened : option_to_list closing.opened ≡ run_lots (d.qty - closed_share_count d.side d.qty ls) (opened_share d) = opened_back d ls closing h.closes ∙ ap (λ n. run_lots (d.qty - n) (opened_share d)) (sym (met_is d ls w)) in
+    let rows : closing.touched.items ≡ touches_of_first_shares (closed_share_count d.side d.qty ls) (list_reversed_if_lifo d.is_lifo ls) =
+    rows_back d ls closing w h.fresh h.closes ∙ ap (λ n. touches_of_first_shares n (list_reversed_if_lifo d.is_lifo ls)) same in
+    let opened : option_to_list closing.opened ≡ run_lots (d.qty - closed_share_count d.side d.qty ls) (opened_share d) = opened_back d ls closing h.closes
+    ∙ ap (λ n. run_lots (d.qty - n) (opened_share d)) (sym (met_is d ls w)) in
     rw (rows, opened) refl

@@ -30,8 +30,11 @@ first_of_all P (l ∷ ls) h = h.0
 
 higher_all : (l : Lot) (ls : List Lot) → FirstLotSatisfies (PrecedesOnSameSide l) ls → IsOneSidedAndAscending ls → AllByRecursion (PrecedesOnSameSide l) ls
 higher_all l [] h c = tt
-higher_all l (m ∷ ls) h c =
-    (h, all_from (PrecedesOnSameSide m) (PrecedesOnSameSide m) (PrecedesOnSameSide l) (λ k p q. (p.0 ∙ h.0, let a = h.1 in let b = p.1 in omega (arith, a, b))) ls (higher_all m ls c.1 c.2) (higher_all m ls c.1 c.2))
+higher_all l (m ∷ ls) h c = (
+  h,
+  all_from (PrecedesOnSameSide m) (PrecedesOnSameSide m) (PrecedesOnSameSide l) (λ k p q. (p.0 ∙ h.0, let a = h.1 in let b = p.1 in omega (arith, a, b)))
+      ls (higher_all m ls c.1 c.2) (higher_all m ls c.1 c.2),
+)
 
 pub climbs_of : (ls : List Lot) → IsPosition ls → IsOneSidedAndAscending ls
 climbs_of [] p = tt
@@ -162,9 +165,17 @@ one_order (x ∷ xs) [] c a h = let e = h (λ l. 1) in absurd (omega (arith, e, 
 one_order (x ∷ xs) (y ∷ ys) c a h =
     let up : AllByRecursion (PrecedesOnSameSide x) xs = higher_all x xs c.1 c.2 in
     let none_older : sum_by (older x.stamp) (x ∷ xs) ≡ 0 =
-    sum_none (older x.stamp) (x ∷ xs) (ap (λ b. cond b 1 0) (le-ltb x.stamp x.stamp (omega arith)), all_from (PrecedesOnSameSide x) (PrecedesOnSameSide x) (λ l. older x.stamp l ≡ 0) (λ l p q. ap (λ b. cond b 1 0) (le-ltb l.stamp x.stamp (let r = p.1 in omega (arith, r)))) xs up up) in
+    sum_none (older x.stamp) (x ∷ xs) (
+      ap (λ b. cond b 1 0) (le-ltb x.stamp x.stamp (omega arith)),
+      all_from (PrecedesOnSameSide x) (PrecedesOnSameSide x) (λ l. older x.stamp l ≡ 0)
+          (λ l p q. ap (λ b. cond b 1 0) (le-ltb l.stamp x.stamp (let r = p.1 in omega (arith, r)))) xs up up,
+    ) in
     let none_beside : sum_by (beside x) (x ∷ xs) ≡ 0 =
-    sum_none (beside x) (x ∷ xs) (rw (eq-eqb x.stamp x.stamp refl, same_self x) refl, all_from (PrecedesOnSameSide x) (PrecedesOnSameSide x) (λ l. beside x l ≡ 0) (λ l p q. ap (λ b. cond b (cond (same_lot l x) 0 1) 0) (ne_eqb l.stamp x.stamp (λ e. let r = p.1 in absurd (omega (arith, r, e))))) xs up up) in
+    sum_none (beside x) (x ∷ xs) (
+      rw (eq-eqb x.stamp x.stamp refl, same_self x) refl,
+      all_from (PrecedesOnSameSide x) (PrecedesOnSameSide x) (λ l. beside x l ≡ 0)
+          (λ l p q. ap (λ b. cond b (cond (same_lot l x) 0 1) 0) (ne_eqb l.stamp x.stamp (λ e. let r = p.1 in absurd (omega (arith, r, e))))) xs up up,
+    ) in
     let low : x.stamp ≤ y.stamp = elim (cases_Bool (ltb y.stamp x.stamp)) [
       | inl e ↦
           let one : older x.stamp y ≡ 1 = ap (λ b. cond b 1 0) e in
@@ -176,7 +187,11 @@ one_order (x ∷ xs) (y ∷ ys) c a h =
       | inl e ↦
           let p : x.stamp < y.stamp = ltb-true x.stamp y.stamp e in
           let none : sum_by (no_later x.stamp) (y ∷ ys) ≡ 0 =
-          sum_none (no_later x.stamp) (y ∷ ys) (ap (λ b. cond b 0 1) e, all_from (λ l. y.stamp ≤ l.stamp) (λ l. y.stamp ≤ l.stamp) (λ l. no_later x.stamp l ≡ 0) (λ l q r. ap (λ b. cond b 0 1) (lt-ltb x.stamp l.stamp (omega (arith, p, q)))) ys a.0 a.0) in
+          sum_none (no_later x.stamp) (y ∷ ys) (
+            ap (λ b. cond b 0 1) e,
+            all_from (λ l. y.stamp ≤ l.stamp) (λ l. y.stamp ≤ l.stamp) (λ l. no_later x.stamp l ≡ 0)
+                (λ l q r. ap (λ b. cond b 0 1) (lt-ltb x.stamp l.stamp (omega (arith, p, q)))) ys a.0 a.0,
+          ) in
           let one : no_later x.stamp x ≡ 1 = ap (λ b. cond b 0 1) (le-ltb x.stamp x.stamp (omega arith)) in
           let s = h (no_later x.stamp) in
           absurd (omega (arith, one, s, none, sum_by-cons (no_later x.stamp) x xs))

@@ -1,12 +1,15 @@
 -- The lots, touches and values of the definitions, lot by lot.
-use Rattle.std.proofs.Common.{◌≡◌, ◌≢◌, ℕ, zero, suc, ◌*◌, ◌-◌, ◌<◌, min, eqb, Bool, true, false, not, cond, List, [], ◌∷◌, ◌++◌, length, take, map, replicate, unsigned_abs, refl, sym, ap, ◌∙◌, arith, inl, inr}
+use Rattle.std.proofs.Common.{◌≡◌, ◌≢◌, ℕ, zero, suc, ◌*◌, ◌-◌, ◌<◌, min, eqb, Bool, true, false, not, cond, List, [], ◌∷◌, ◌++◌, length, take, map, replicate}
+use Rattle.std.proofs.Common.{unsigned_abs, refl, sym, ap, ◌∙◌, arith, inl, inr}
 use Rattle.std.specs.List.{filter, AllByRecursion}
 use Rattle.std.proofs.lemmas.Bool.{eq-eqb, ne_eqb, cases_eq}
 use Rattle.brk_money.specs.Kinds.{is_same_side}
 use Rattle.brk_money.specs.declared.side.Side.{Side}
 use Rattle.brk_money.specs.declared.side.Side.TheVariants.{Buy, Sell}
 use Rattle.brk_model.specs.Shares as model
-use Rattle.brk_model.specs.Shares.{Share, Deal, signed_by_side, first_shares_of_lots, lots_of_shares, lot_quantity, touches_of_existing_lots, touch_of_lot_with_share, changes_lot_quantity, opened_share, closed_share_count_of_deal, shares_after_deal, closed_value_at_opening_prices, buy_value, sell_value}
+use Rattle.brk_model.specs.Shares.{Share, Deal, signed_by_side, first_shares_of_lots, lots_of_shares, lot_quantity, touches_of_existing_lots}
+use Rattle.brk_model.specs.Shares.{touch_of_lot_with_share, changes_lot_quantity, opened_share, closed_share_count_of_deal, shares_after_deal}
+use Rattle.brk_model.specs.Shares.{closed_value_at_opening_prices, buy_value, sell_value}
 use Rattle.brk_lots.specs.declared.lot.Lot.{Lot}
 use Rattle.brk_lots.specs.Lots.{side_of_qty, share_of_lot, shares_of_lots, list_reversed_if_lifo, abstract_lot, abstract_touch}
 use Rattle.brk_lots.specs.Position.{IsPositionInAnyOrder}
@@ -18,7 +21,8 @@ use Rattle.brk_lots.proofs.Counts.{OneSide, lot_counts, lot_appended, all_run, a
 
 -- ---- the lots of shares
 
-lots_each : (s : Side) (us : List Share) (ls : List Lot) → OneSide s us → AllByRecursion (λ l. side_of_qty l.qty ≡ s) ls → AllByRecursion (λ l. count_of l.trade us ≡ unsigned_abs l.qty) ls → map (model.lot_of_share us) (map share_of_lot ls) ≡ map abstract_lot ls
+lots_each : (s : Side) (us : List Share) (ls : List Lot) → OneSide s us → AllByRecursion (λ l. side_of_qty l.qty ≡ s) ls
+    → AllByRecursion (λ l. count_of l.trade us ≡ unsigned_abs l.qty) ls → map (model.lot_of_share us) (map share_of_lot ls) ≡ map abstract_lot ls
 lots_each s us [] one sides counts = refl
 lots_each s us (l ∷ ls) one sides counts =
     let qty : lot_quantity us l.trade ≡ l.qty =
@@ -52,7 +56,8 @@ unfolding shares_after_deal
 after_is d us = refl
 
 -- what is left of a lot that the deal does not open
-pub lot_after : (d : Deal) (s : Side) (us : List Share) (t : ℕ) → OneSide s (without d.is_lifo (closed_share_count_of_deal d us) us) → d.trade ≢ t → lot_quantity (shares_after_deal us d) t ≡ signed_by_side s (count_of t (shares_after_deal us d))
+pub lot_after : (d : Deal) (s : Side) (us : List Share) (t : ℕ) → OneSide s (without d.is_lifo (closed_share_count_of_deal d us) us) → d.trade ≢ t
+    → lot_quantity (shares_after_deal us d) t ≡ signed_by_side s (count_of t (shares_after_deal us d))
 lot_after d s us t left other =
     let kept = without d.is_lifo (closed_share_count_of_deal d us) us in
     let n = d.qty - closed_share_count_of_deal d us in
@@ -109,23 +114,30 @@ touches_are d s us one left fresh = each (first_shares_of_lots us) (all_firsts F
 pub met_is : (d : Deal) (ls : List Lot) → IsPositionInAnyOrder ls → closed_share_count d.side d.qty ls ≡ closed_share_count_of_deal d (shares_of_lots ls)
 met_is d [] w = refl
 met_is d (l ∷ ls) w = one (unsigned_abs l.qty) (size_positive l.qty w.0) where
-  one : (n : ℕ) → 0 < n → cond (is_same_side (side_of_qty l.qty) d.side) 0 (min d.qty (length (replicate n (share_of_lot l) ++ shares_of_lots ls))) ≡ closed_share_count_of_deal d (replicate n (share_of_lot l) ++ shares_of_lots ls)
+  one : (n : ℕ) → 0 < n
+      → cond (is_same_side (side_of_qty l.qty) d.side) 0 (min d.qty (length (replicate n (share_of_lot l) ++ shares_of_lots ls)))
+      ≡ closed_share_count_of_deal d (replicate n (share_of_lot l) ++ shares_of_lots ls)
   one zero p = absurd (omega arith)
   one (suc n) p = at (is_same_side (side_of_qty l.qty) d.side) where
-    at : (b : Bool) → cond b 0 (min d.qty (length (replicate (suc n) (share_of_lot l) ++ shares_of_lots ls))) ≡ cond (not b) (min d.qty (length (replicate (suc n) (share_of_lot l) ++ shares_of_lots ls))) 0
+    at : (b : Bool) → cond b 0 (min d.qty (length (replicate (suc n) (share_of_lot l) ++ shares_of_lots ls)))
+        ≡ cond (not b) (min d.qty (length (replicate (suc n) (share_of_lot l) ++ shares_of_lots ls))) 0
     at true = refl
     at false = refl
 
 -- ---- the values of a deal
 
-pub bought_is : (d : Deal) (us : List Share) → buy_value d us ≡ buy_value_by_side d.side (closed_share_count_of_deal d us * d.price) (cost (take (closed_share_count_of_deal d us) (list_reversed_if_lifo d.is_lifo us)))
+pub bought_is : (d : Deal) (us : List Share)
+    → buy_value d us ≡ buy_value_by_side d.side (closed_share_count_of_deal d us * d.price)
+    (cost (take (closed_share_count_of_deal d us) (list_reversed_if_lifo d.is_lifo us)))
 unfolding buy_value
 bought_is d us = at d.side ∙ ap (buy_value_by_side d.side (closed_share_count_of_deal d us * d.price)) (sym (cost_end d.is_lifo (closed_share_count_of_deal d us) us)) where
   at : (s : Side) → model.buy_value_for_side s d us ≡ buy_value_by_side s (closed_share_count_of_deal d us * d.price) (closed_value_at_opening_prices d us)
   at Buy = refl
   at Sell = refl
 
-pub sold_is : (d : Deal) (us : List Share) → sell_value d us ≡ sell_value_by_side d.side (closed_share_count_of_deal d us * d.price) (cost (take (closed_share_count_of_deal d us) (list_reversed_if_lifo d.is_lifo us)))
+pub sold_is : (d : Deal) (us : List Share)
+    → sell_value d us ≡ sell_value_by_side d.side (closed_share_count_of_deal d us * d.price)
+    (cost (take (closed_share_count_of_deal d us) (list_reversed_if_lifo d.is_lifo us)))
 unfolding sell_value
 sold_is d us = at d.side ∙ ap (sell_value_by_side d.side (closed_share_count_of_deal d us * d.price)) (sym (cost_end d.is_lifo (closed_share_count_of_deal d us) us)) where
   at : (s : Side) → model.sell_value_for_side s d us ≡ sell_value_by_side s (closed_share_count_of_deal d us * d.price) (closed_value_at_opening_prices d us)

@@ -33,14 +33,16 @@ none_met side q ls w e =
     let total : lot_quantity_sum ls ≡ signed_by_side s.0 (length (shares_of_lots ls)) = lots_net ls ∙ net_of s.0 (shares_of_lots ls) (all_shares (λ v. v.side ≡ s.0) ls s.1) in
     met_all side s.0 q ls s.1 ∙ none_against side s.0 q (length (shares_of_lots ls)) (sym (ap (is_trade_closing_lots side) total) ∙ e)
 
-pub none_met_from : (lifo : Bool) (side : Side) (q : ℕ) (ls : List Lot) → IsPositionInAnyOrder ls → is_trade_closing_lots side (lot_quantity_sum ls) ≡ false → closed_share_count side q (list_reversed_if_lifo lifo ls) ≡ 0
+pub none_met_from : (lifo : Bool) (side : Side) (q : ℕ) (ls : List Lot) → IsPositionInAnyOrder ls → is_trade_closing_lots side (lot_quantity_sum ls) ≡ false
+    → closed_share_count side q (list_reversed_if_lifo lifo ls) ≡ 0
 none_met_from lifo side q ls w e = met_end lifo side q ls w ∙ none_met side q ls w e
 
 no_worth : (side : Side) → closing_values_by_side side 0 0 ≡ record { buy_value = 0; sell_value = 0 }
 no_worth Buy = refl
 no_worth Sell = refl
 
-pub no_values_are : (d : Deal) (ls : List Lot) → IsPositionInAnyOrder ls → is_trade_closing_lots d.side (lot_quantity_sum ls) ≡ false → closing_values_of_deal d (shares_of_lots ls) ≡ record { buy_value = 0; sell_value = 0 }
+pub no_values_are : (d : Deal) (ls : List Lot) → IsPositionInAnyOrder ls → is_trade_closing_lots d.side (lot_quantity_sum ls) ≡ false
+    → closing_values_of_deal d (shares_of_lots ls) ≡ record { buy_value = 0; sell_value = 0 }
 no_values_are d ls w e =
     let walk = list_reversed_if_lifo d.is_lifo ls in
     let none = none_met_from d.is_lifo d.side d.qty ls w e in

@@ -28,7 +28,9 @@ changed before after u = not (eqb (before u.trade) (after u.trade))
 rows_same : (b b' a a' : ℕ → ℕ) → ((t : ℕ) → b t ≡ b' t) → ((t : ℕ) → a t ≡ a' t) → (us : List Share) → map (row b a) (filter (changed b a) us) ≡ map (row b' a') (filter (changed b' a') us)
 rows_same b b' a a' e f [] = refl
 rows_same b b' a a' e f (u ∷ us) = rw (e u.trade, f u.trade) (step (changed b' a' u) (rows_same b b' a a' e f us)) where
-  step : (c : Bool) → map (row b a) (filter (changed b a) us) ≡ map (row b' a') (filter (changed b' a') us) → map (row b a) (cond c (u ∷ filter (changed b a) us) (filter (changed b a) us)) ≡ map (row b' a') (cond c (u ∷ filter (changed b' a') us) (filter (changed b' a') us))
+  step : (c : Bool) → map (row b a) (filter (changed b a) us) ≡ map (row b' a') (filter (changed b' a') us)
+      → map (row b a) (cond c (u ∷ filter (changed b a) us) (filter (changed b a) us))
+      ≡ map (row b' a') (cond c (u ∷ filter (changed b' a') us) (filter (changed b' a') us))
   step true h = let r : row b a u ≡ row b' a' u = rw (e u.trade, f u.trade) refl in rw (r, h) refl
   step false h = h
 
@@ -48,7 +50,9 @@ map_reverse {X} {Y} f (u ∷ us) =
     ∙ ap (λ (vs : List Y). vs ++ f u ∷ []) (map_reverse f us) ∙ sym (reverse_first (f u) (map f us))
 
 -- a walk from an end has the rows of the position, from that end
-pub changes_end : (lifo : Bool) (k r : ℕ) (u : Share) (ls : List Lot) → IsPositionInAnyOrder ls → changes (shares_of_lots (list_reversed_if_lifo lifo ls)) (drop k (shares_of_lots (list_reversed_if_lifo lifo ls)) ++ replicate r u) ≡ list_reversed_if_lifo lifo (changes (shares_of_lots ls) (without lifo k (shares_of_lots ls) ++ replicate r u))
+pub changes_end : (lifo : Bool) (k r : ℕ) (u : Share) (ls : List Lot) → IsPositionInAnyOrder ls
+    → changes (shares_of_lots (list_reversed_if_lifo lifo ls)) (drop k (shares_of_lots (list_reversed_if_lifo lifo ls)) ++ replicate r u)
+    ≡ list_reversed_if_lifo lifo (changes (shares_of_lots ls) (without lifo k (shares_of_lots ls) ++ replicate r u))
 changes_end false k r u ls w = refl
 changes_end true k r u ls w =
     let us = shares_of_lots ls in
@@ -58,7 +62,8 @@ changes_end true k r u ls w =
     let b' = λ (t : ℕ). count_of t us in
     let a' = λ (t : ℕ). count_of t (without true k us ++ replicate r u) in
     let e : (t : ℕ) → b t ≡ b' t = λ t. ap (count_of t) (shares_end true ls) ∙ shares_reverse t us in
-    let d : (t : ℕ) → count_of t (drop k vs) ≡ count_of t (without true k us) = λ t. sym (shares_reverse t (drop k vs)) ∙ ap (λ (ws : List Share). count_of t (reverse (drop k ws))) (shares_end true ls) ∙ ap (count_of t) (without_end true k us) in
+    let d : (t : ℕ) → count_of t (drop k vs) ≡ count_of t (without true k us) = λ t. sym (shares_reverse t (drop k vs))
+    ∙ ap (λ (ws : List Share). count_of t (reverse (drop k ws))) (shares_end true ls) ∙ ap (count_of t) (without_end true k us) in
     let f : (t : ℕ) → a t ≡ a' t = λ t.
     sum_by-append (λ (v : Share). cond (eqb v.trade t) 1 0) (drop k vs) (replicate r u)
     ∙ ap (λ n. n + count_of t (replicate r u)) (d t)
@@ -100,7 +105,8 @@ met_closes d ls w = met_end d.is_lifo d.side d.qty ls w ∙ met_is d ls w
 
 -- the rows that the walk writes are the touches of the deal
 pub rows_are : (d : Deal) (ls : List Lot) → IsPositionInAnyOrder ls → AreOpenedByOtherTrades d.trade ls
-    → map abstract_touch (touches_of_first_shares (closed_share_count d.side d.qty (list_reversed_if_lifo d.is_lifo ls)) (list_reversed_if_lifo d.is_lifo ls)) ≡ list_reversed_if_lifo d.is_lifo (touches_of_existing_lots d (shares_of_lots ls))
+    → map abstract_touch (touches_of_first_shares (closed_share_count d.side d.qty (list_reversed_if_lifo d.is_lifo ls)) (list_reversed_if_lifo d.is_lifo ls))
+    ≡ list_reversed_if_lifo d.is_lifo (touches_of_existing_lots d (shares_of_lots ls))
 rows_are d ls w fresh =
     let us = shares_of_lots ls in
     let k = closed_share_count d.side d.qty (list_reversed_if_lifo d.is_lifo ls) in
@@ -133,5 +139,6 @@ pub rows_back : (d : Deal) (ls : List Lot) (closing : Closing) → IsPositionInA
     → closing.touched.items ≡ touches_of_first_shares (closed_share_count d.side d.qty (list_reversed_if_lifo d.is_lifo ls)) (list_reversed_if_lifo d.is_lifo ls)
 rows_back d ls closing w fresh h = touches_same _ _ (h.lots.touched ∙ sym (rows_are d ls w fresh))
 
-pub opened_back : (d : Deal) (ls : List Lot) (closing : Closing) → IsClosingOfDeal d ls closing → option_to_list closing.opened ≡ run_lots (d.qty - closed_share_count_of_deal d (shares_of_lots ls)) (opened_share d)
+pub opened_back : (d : Deal) (ls : List Lot) (closing : Closing) → IsClosingOfDeal d ls closing
+    → option_to_list closing.opened ≡ run_lots (d.qty - closed_share_count_of_deal d (shares_of_lots ls)) (opened_share d)
 opened_back d ls closing h = lots_same _ _ (h.lots.opened ∙ lots_alike (d.qty - closed_share_count_of_deal d (shares_of_lots ls)) (opened_share d))

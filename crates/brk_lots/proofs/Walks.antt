@@ -27,17 +27,20 @@ pub met_none : (side : Side) (ls : List Lot) → closed_share_count side 0 ls �
 met_none side [] = refl
 met_none side (l ∷ ls) = elim (is_same_side (side_of_qty l.qty) side) as (λ b. cond b 0 (min 0 (length (shares_of_lots (l ∷ ls)))) ≡ 0) [ true ↦ refl | false ↦ omega arith ]
 
-pub met_first : (side : Side) (q : ℕ) (l : Lot) (ls : List Lot) → closed_share_count side q (l ∷ ls) ≡ cond (is_same_side (side_of_qty l.qty) side) 0 (min q (unsigned_abs l.qty + length (shares_of_lots ls)))
+pub met_first : (side : Side) (q : ℕ) (l : Lot) (ls : List Lot)
+    → closed_share_count side q (l ∷ ls) ≡ cond (is_same_side (side_of_qty l.qty) side) 0 (min q (unsigned_abs l.qty + length (shares_of_lots ls)))
 met_first side q l ls = ap (λ n. cond (is_same_side (side_of_qty l.qty) side) 0 (min q n)) (length_run (unsigned_abs l.qty) (share_of_lot l) (shares_of_lots ls))
 
 pub met_own : (side : Side) (q : ℕ) (l : Lot) (ls : List Lot) → is_same_side (side_of_qty l.qty) side ≡ true → closed_share_count side q (l ∷ ls) ≡ 0
 met_own side q l ls e = ap (λ b. cond b 0 (min q (length (shares_of_lots (l ∷ ls))))) e
 
-pub met_other : (side : Side) (q : ℕ) (l : Lot) (ls : List Lot) → is_same_side (side_of_qty l.qty) side ≡ false → closed_share_count side q (l ∷ ls) ≡ min q (unsigned_abs l.qty + length (shares_of_lots ls))
+pub met_other : (side : Side) (q : ℕ) (l : Lot) (ls : List Lot) → is_same_side (side_of_qty l.qty) side ≡ false
+    → closed_share_count side q (l ∷ ls) ≡ min q (unsigned_abs l.qty + length (shares_of_lots ls))
 met_other side q l ls e = met_first side q l ls ∙ ap (λ b. cond b 0 (min q (unsigned_abs l.qty + length (shares_of_lots ls)))) e
 
 -- beside a lot of the other side, all that is left is of the other side
-pub met_rest : (side : Side) (q : ℕ) (l : Lot) (ls : List Lot) → IsPositionInAnyOrder (l ∷ ls) → is_same_side (side_of_qty l.qty) side ≡ false → closed_share_count side q ls ≡ min q (length (shares_of_lots ls))
+pub met_rest : (side : Side) (q : ℕ) (l : Lot) (ls : List Lot) → IsPositionInAnyOrder (l ∷ ls) → is_same_side (side_of_qty l.qty) side ≡ false
+    → closed_share_count side q ls ≡ min q (length (shares_of_lots ls))
 met_rest side q l [] h e = omega arith
 met_rest side q l (m ∷ ls) h e =
     let one : side_of_qty m.qty ≡ side_of_qty l.qty = h.1.0.0 in
@@ -46,10 +49,14 @@ met_rest side q l (m ∷ ls) h e =
 
 -- ---- one lot more
 
-pub met_more : (side : Side) (q : ℕ) (l : Lot) (ls : List Lot) → IsPositionInAnyOrder (l ∷ ls) → is_same_side (side_of_qty l.qty) side ≡ false → closed_share_count side q (l ∷ ls) ≡ min q (unsigned_abs l.qty) + closed_share_count side (q - min q (unsigned_abs l.qty)) ls
+pub met_more : (side : Side) (q : ℕ) (l : Lot) (ls : List Lot) → IsPositionInAnyOrder (l ∷ ls) → is_same_side (side_of_qty l.qty) side ≡ false
+    → closed_share_count side q (l ∷ ls) ≡ min q (unsigned_abs l.qty) + closed_share_count side (q - min q (unsigned_abs l.qty)) ls
 met_more side q l ls h e = omega (arith, met_other side q l ls e, met_rest side (q - min q (unsigned_abs l.qty)) l ls h e)
 
-pub touches_more : (side : Side) (q : ℕ) (l : Lot) (ls : List Lot) → IsPositionInAnyOrder (l ∷ ls) → is_same_side (side_of_qty l.qty) side ≡ false → 0 < q → touches_of_first_shares (closed_share_count side q (l ∷ ls)) (l ∷ ls) ≡ record { lot = l.trade; before = l.qty; after = signed_by_side (side_of_qty l.qty) (unsigned_abs l.qty - min q (unsigned_abs l.qty)) } ∷ touches_of_first_shares (closed_share_count side (q - min q (unsigned_abs l.qty)) ls) ls
+pub touches_more : (side : Side) (q : ℕ) (l : Lot) (ls : List Lot) → IsPositionInAnyOrder (l ∷ ls) → is_same_side (side_of_qty l.qty) side ≡ false → 0 < q
+    → touches_of_first_shares (closed_share_count side q (l ∷ ls)) (l ∷ ls)
+    ≡ record { lot = l.trade; before = l.qty; after = signed_by_side (side_of_qty l.qty) (unsigned_abs l.qty - min q (unsigned_abs l.qty)) }
+    ∷ touches_of_first_shares (closed_share_count side (q - min q (unsigned_abs l.qty)) ls) ls
 touches_more side q l ls h e p =
     let k = met_other side q l ls e in
     let r = met_rest side (q - min q (unsigned_abs l.qty)) l ls h e in
@@ -59,7 +66,9 @@ touches_more side q l ls h e p =
     let d : closed_share_count side q (l ∷ ls) - unsigned_abs l.qty ≡ closed_share_count side (q - min q (unsigned_abs l.qty)) ls = omega arith in
     rw (a, b, d) refl
 
-pub paid_more : (side : Side) (q : ℕ) (l : Lot) (ls : List Lot) → IsPositionInAnyOrder (l ∷ ls) → is_same_side (side_of_qty l.qty) side ≡ false → cost_of_first_shares (closed_share_count side q (l ∷ ls)) (l ∷ ls) ≡ min q (unsigned_abs l.qty) * l.price + cost_of_first_shares (closed_share_count side (q - min q (unsigned_abs l.qty)) ls) ls
+pub paid_more : (side : Side) (q : ℕ) (l : Lot) (ls : List Lot) → IsPositionInAnyOrder (l ∷ ls) → is_same_side (side_of_qty l.qty) side ≡ false
+    → cost_of_first_shares (closed_share_count side q (l ∷ ls)) (l ∷ ls) ≡ min q (unsigned_abs l.qty) * l.price
+    + cost_of_first_shares (closed_share_count side (q - min q (unsigned_abs l.qty)) ls) ls
 paid_more side q l ls h e =
     let k = met_other side q l ls e in
     let r = met_rest side (q - min q (unsigned_abs l.qty)) l ls h e in

@@ -11,10 +11,12 @@ use Rattle.brk_model.specs.Forms.{ReadResult}
 use Rattle.brk_model.specs.Commands.{Command, Answer, Refused}
 use Rattle.brk_model.specs.Keyed.{keyed_step}
 use Rattle.brk_model.specs.Answers.{Fields}
-use Rattle.brk_model_theorems.specs.RowCalls.{RowCall, CallsHaveAnswers, result_of_row_call, prepended_if_well_formed, well_formed_rows_from, calls_of_rows, answers_interleaved_with_refusals, answers_to_row_and_rest, RowsAreAnsweredByCalls}
+use Rattle.brk_model_theorems.specs.RowCalls.{RowCall, CallsHaveAnswers, result_of_row_call, prepended_if_well_formed, well_formed_rows_from, calls_of_rows}
+use Rattle.brk_model_theorems.specs.RowCalls.{answers_interleaved_with_refusals, answers_to_row_and_rest, RowsAreAnsweredByCalls}
 use Rattle.brk_model.specs.Input.{input_text, IsBatchName, IsEndRecord, batch_header, correct_end_record}
 use Rattle.brk_model.specs.Lines.{answer_lines_from, batch_end_line, is_refused_answer, refused_answer_count}
-use Rattle.brk_model.specs.Batch.{BatchResult, BatchEnding, CorrectEnd, BadHeader, NoEnd, BadEnd, BatchRowsAreDecided, IsResultOfBatch, HasNoHeader, MatchesEnding, IsResultOfTextWithHeader, step_of_row}
+use Rattle.brk_model.specs.Batch.{BatchResult, BatchEnding, CorrectEnd, BadHeader, NoEnd, BadEnd, BatchRowsAreDecided, IsResultOfBatch, HasNoHeader}
+use Rattle.brk_model.specs.Batch.{MatchesEnding, IsResultOfTextWithHeader, step_of_row}
 use Rattle.brk_model.specs.Computed.{result_of_complete_batch}
 use Rattle.brk_model_theorems.specs.Laws.{SomeRunLeadsTo, IsCompleteBatchWithoutRefusals, answer_to_retry}
 use Rattle.brk_model_theorems.proofs.KeptLaws.{Grows, grows-on, run-grows, still, remembers, answers-again}
@@ -69,7 +71,8 @@ in-turn-again name (row ∷ rows) (moment ∷ moments) (o ∷ others) (reply ∷
 -- ---- the answers of form between them
 
 -- a row that form refuses is refused again
-pub woven-again : {C : Type 0} (form : Fields → ReadResult C) (rows : List Fields) (replies : List Answer) → answers_interleaved_with_refusals form rows (map answer_to_retry replies) ≡ map answer_to_retry (answers_interleaved_with_refusals form rows replies)
+pub woven-again : {C : Type 0} (form : Fields → ReadResult C) (rows : List Fields) (replies : List Answer)
+    → answers_interleaved_with_refusals form rows (map answer_to_retry replies) ≡ map answer_to_retry (answers_interleaved_with_refusals form rows replies)
 woven-again form [] replies = refl
 woven-again form (row ∷ rows) replies = one (form row) (answers_interleaved_with_refusals form rows) replies (woven-again form rows)
   where
@@ -102,7 +105,8 @@ none-woven form n (row ∷ rows) replies l h = one (form row) n (well_formed_row
     one (Err refusal) n rest more replies each l h = let k = none-first (Refused refusal) (more replies) h in absurd (cc)
 
 -- the rows of a batch settled again
-pub settled-again : (form : Fields → ReadResult Command) (name : Text) (moments others : List ℕ) (rows : List Fields) (answers told : List Answer) (base after later last : Base) → refused_answer_count answers ≡ 0
+pub settled-again : (form : Fields → ReadResult Command) (name : Text) (moments others : List ℕ) (rows : List Fields) (answers told : List Answer)
+    (base after later last : Base) → refused_answer_count answers ≡ 0
     → BatchRowsAreDecided form step_of_row name base moments rows answers after → Grows after later → BatchRowsAreDecided form step_of_row name later others rows told last
     → (told ≡ map answer_to_retry answers) × (last ≡ later)
 settled-again form name moments others rows answers told base after later last none first g second =
@@ -152,7 +156,8 @@ no-end-within : (rows others : List Fields) (end : Fields) (more : List Fields) 
 no-end-within rows others end more h e only = (All-back (λ row. ¬ (IsEndRecord row)) rows (end ∷ more) (subst NoRowIsEndRecord (sym e) only)).0 h
 
 -- the first end record parts the rows in one way
-pub ends-first : (rows others : List Fields) (end last : Fields) (more rest : List Fields) → NoRowIsEndRecord rows → NoRowIsEndRecord others → IsEndRecord end → IsEndRecord last → rows ++ end ∷ more ≡ others ++ last ∷ rest → (rows ≡ others) × (end ≡ last)
+pub ends-first : (rows others : List Fields) (end last : Fields) (more rest : List Fields) → NoRowIsEndRecord rows → NoRowIsEndRecord others → IsEndRecord end
+    → IsEndRecord last → rows ++ end ∷ more ≡ others ++ last ∷ rest → (rows ≡ others) × (end ≡ last)
 ends-first [] [] end last more rest only all h k e = (refl, first-same end last more rest e)
 ends-first [] (other ∷ others) end last more rest only all h k e = absurd (all.0 (subst IsEndRecord (first-same end other more (others ++ last ∷ rest) e) h))
 ends-first (row ∷ rows) [] end last more rest only all h k e = absurd (only.0 (subst IsEndRecord (sym (first-same row last (rows ++ end ∷ more) rest e)) k))
@@ -221,7 +226,8 @@ by_ending input name other rows others answers told NoEnd out only all has (inr 
 by_ending input name other rows others answers told BadHeader out only all has ends = absurd ends
 
 -- the records of the first one
-pub by_first : (input name : Text) (rows : List Fields) (answers told : List Answer) (ending : BatchEnding) (out : Text) → ending ≡ CorrectEnd → MatchesEnding (Some (input_text input)) ending name rows answers told out
+pub by_first : (input name : Text) (rows : List Fields) (answers told : List Answer) (ending : BatchEnding) (out : Text) → ending ≡ CorrectEnd
+    → MatchesEnding (Some (input_text input)) ending name rows answers told out
     → HasRecords input name rows
 by_first input name rows answers told CorrectEnd out well ends = (ends.0.0, ends.0.1 ∙ ap (λ rs. batch_header name ∷ rs) (append_assoc rows (correct_end_record (length rows) ∷ []) ends.0.0))
 by_first input name rows answers told BadHeader out well ends = absurd ends
@@ -255,7 +261,8 @@ by_kind form base later moments others input answers first second one these none
     same : two.answers ≡ map answer_to_retry answers
     same = again.0 ∙ ap (map answer_to_retry) these
 
-pub comes-again : (form : Fields → ReadResult Command) (base later : Base) (moments others : List ℕ) (input : Text) (answers : List Answer) (first second : BatchResult Base) → IsCompleteBatchWithoutRefusals form base moments input answers first
+pub comes-again : (form : Fields → ReadResult Command) (base later : Base) (moments others : List ℕ) (input : Text) (answers : List Answer)
+    (first second : BatchResult Base) → IsCompleteBatchWithoutRefusals form base moments input answers first
     → SomeRunLeadsTo first.base later → IsResultOfBatch form step_of_row later others input second → second ≡ result_of_complete_batch {B = Base} (map answer_to_retry answers, later)
 comes-again form base later moments others input answers first second went leads two =
     let one : IsResultOfTextWithHeader form step_of_row base moments (Some (input_text input)) first = went.answered in

@@ -12,10 +12,13 @@ use Rattle.brk_model.specs.Forms.{ReadResult, is_batch_name}
 use Rattle.brk_model.specs.Parse.{parse_row}
 use Rattle.brk_model.specs.Commands.{Answer, Refused}
 use Rattle.brk_model.specs.Answers.{Fields, RowStep}
-use Rattle.brk_model_theorems.specs.RowCalls.{RowCall, CallsHaveAnswers, result_of_row_call, RowsAreAnsweredByCalls, well_formed_rows_from, prepended_if_well_formed, calls_of_rows, answers_interleaved_with_refusals, answers_to_row_and_rest}
+use Rattle.brk_model_theorems.specs.RowCalls.{RowCall, CallsHaveAnswers, result_of_row_call, RowsAreAnsweredByCalls, well_formed_rows_from}
+use Rattle.brk_model_theorems.specs.RowCalls.{prepended_if_well_formed, calls_of_rows, answers_interleaved_with_refusals, answers_to_row_and_rest}
 use Rattle.brk_model.specs.Input.{input_text, BeginsWithRecords, HasExactlyRecords, IsBatchName, IsEndRecord, batch_header, correct_end_record}
 use Rattle.brk_model.specs.Batch.{BatchResult, BadEnd, BatchRowsAreDecided, IsResultOfTextWithHeader, IsResultOfTextWithoutHeader, IsResultOfBatch, step_of_row}
-use Rattle.brk_model.specs.Computed.{AnswersAndBase, answers_and_base_of_rows, is_end_record, RowsAndEndRecord, split_with_row_in_front, split_at_end_record, batch_name_of_header, has_correct_row_count, result_without_end_line, result_of_complete_batch, result_with_end_record, result_without_end_record, result_of_batch_rows, result_with_optional_name, result_of_batch_records, result_of_batch_input}
+use Rattle.brk_model.specs.Computed.{AnswersAndBase, answers_and_base_of_rows, is_end_record, RowsAndEndRecord, split_with_row_in_front, split_at_end_record}
+use Rattle.brk_model.specs.Computed.{batch_name_of_header, has_correct_row_count, result_without_end_line, result_of_complete_batch, result_with_end_record}
+use Rattle.brk_model.specs.Computed.{result_without_end_record, result_of_batch_rows, result_with_optional_name, result_of_batch_records, result_of_batch_input}
 use Rattle.brk_model_theorems.proofs.RowLaws.{takes-first}
 
 -- ---- the calls of rows
@@ -39,10 +42,13 @@ formed-few form n (row ∷ rows) = one (form row) n (well_formed_rows_from form 
 pub length-woven : {C : Type 0} (form : Fields → ReadResult C) (n : ℕ) (rows : List Fields) (answers : List Answer)
     → length answers ≡ length (well_formed_rows_from form n rows) → length (answers_interleaved_with_refusals form rows answers) ≡ length rows
 length-woven form n [] answers h = refl
-length-woven form n (row ∷ rows) answers h = one (form row) n (well_formed_rows_from form (n + 1) rows) (answers_interleaved_with_refusals form rows) (length rows) answers (length-woven form (n + 1) rows) h
+length-woven form n (row ∷ rows) answers h =
+    one (form row) n (well_formed_rows_from form (n + 1) rows) (answers_interleaved_with_refusals form rows) (length rows) answers
+    (length-woven form (n + 1) rows) h
   where
     one : {C : Type 0} (r : ReadResult C) (n : ℕ) (rest : List (ℕ × C)) (more : List Answer → List Answer) (k : ℕ) (answers : List Answer)
-        → ((others : List Answer) → length others ≡ length rest → length (more others) ≡ k) → length answers ≡ length (prepended_if_well_formed r n rest) → length (answers_to_row_and_rest r more answers) ≡ suc k
+        → ((others : List Answer) → length others ≡ length rest → length (more others) ≡ k) → length answers ≡ length (prepended_if_well_formed r n rest)
+        → length (answers_to_row_and_rest r more answers) ≡ suc k
     one (Ok command) n rest more k [] each h = absurd (omega (h, arith))
     one (Ok command) n rest more k (answer ∷ answers) each h = ap suc (each answers (omega (h, arith)))
     one (Err refusal) n rest more k answers each h = ap suc (each answers h)
@@ -159,7 +165,8 @@ right_says n (word ∷ count ∷ []) h = at (bytes_eq count (decimal n)) refl
 -- rows that are none of them an end record, settled
 pub settles : {B C : Type 0} (form : Fields → ReadResult C) (step : RowStep B C) (name : Text) (base : B) (moments : List ℕ) (rows : List Fields)
     → IsBatchName name → AllByRecursion (λ row. ¬ (IsEndRecord row)) rows → length rows ≤ length moments
-    → BatchRowsAreDecided form step name base (take (length (well_formed_rows_from form 1 rows)) moments) rows (answers_and_base_of_rows form step name base moments rows).0 (answers_and_base_of_rows form step name base moments rows).1
+    → BatchRowsAreDecided form step name base (take (length (well_formed_rows_from form 1 rows)) moments) rows
+    (answers_and_base_of_rows form step name base moments rows).0 (answers_and_base_of_rows form step name base moments rows).1
 settles form step name base moments rows named only h =
     let few = formed-few form 1 rows in
     let enough : length (well_formed_rows_from form 1 rows) ≤ length moments = omega (few, h, arith) in

@@ -36,11 +36,15 @@ parts5 a b c d e z = let p = parts a (b ∷ c ∷ d ∷ e ∷ []) z in (p.0, p.1
 pub parts6 : (a b c d e f : Bool) → a && b && c && d && e && f ≡ true → (a ≡ true) × (b ≡ true) × (c ≡ true) × (d ≡ true) × (e ≡ true) × (f ≡ true)
 parts6 a b c d e f z = let p = parts a (b ∷ c ∷ d ∷ e ∷ f ∷ []) z in (p.0, p.1.0, p.1.1.0, p.1.1.1.0, p.1.1.1.1.0, p.1.1.1.1.1.0)
 
-pub parts9 : (a b c d e f g h i : Bool) → a && b && c && d && e && f && g && h && i ≡ true → (a ≡ true) × (b ≡ true) × (c ≡ true) × (d ≡ true) × (e ≡ true) × (f ≡ true) × (g ≡ true) × (h ≡ true) × (i ≡ true)
-parts9 a b c d e f g h i z = let p = parts a (b ∷ c ∷ d ∷ e ∷ f ∷ g ∷ h ∷ i ∷ []) z in (p.0, p.1.0, p.1.1.0, p.1.1.1.0, p.1.1.1.1.0, p.1.1.1.1.1.0, p.1.1.1.1.1.1.0, p.1.1.1.1.1.1.1.0, p.1.1.1.1.1.1.1.1.0)
+pub parts9 : (a b c d e f g h i : Bool) → a && b && c && d && e && f && g && h && i ≡ true → (a ≡ true) × (b ≡ true) × (c ≡ true) × (d ≡ true) × (e ≡ true)
+    × (f ≡ true) × (g ≡ true) × (h ≡ true) × (i ≡ true)
+parts9 a b c d e f g h i z = let p = parts a (b ∷ c ∷ d ∷ e ∷ f ∷ g ∷ h ∷ i ∷ []) z in
+    (p.0, p.1.0, p.1.1.0, p.1.1.1.0, p.1.1.1.1.0, p.1.1.1.1.1.0, p.1.1.1.1.1.1.0, p.1.1.1.1.1.1.1.0, p.1.1.1.1.1.1.1.1.0)
 
-pub parts10 : (a b c d e f g h i j : Bool) → a && b && c && d && e && f && g && h && i && j ≡ true → (a ≡ true) × (b ≡ true) × (c ≡ true) × (d ≡ true) × (e ≡ true) × (f ≡ true) × (g ≡ true) × (h ≡ true) × (i ≡ true) × (j ≡ true)
-parts10 a b c d e f g h i j z = let p = parts a (b ∷ c ∷ d ∷ e ∷ f ∷ g ∷ h ∷ i ∷ j ∷ []) z in (p.0, p.1.0, p.1.1.0, p.1.1.1.0, p.1.1.1.1.0, p.1.1.1.1.1.0, p.1.1.1.1.1.1.0, p.1.1.1.1.1.1.1.0, p.1.1.1.1.1.1.1.1.0, p.1.1.1.1.1.1.1.1.1.0)
+pub parts10 : (a b c d e f g h i j : Bool) → a && b && c && d && e && f && g && h && i && j ≡ true → (a ≡ true) × (b ≡ true) × (c ≡ true) × (d ≡ true)
+    × (e ≡ true) × (f ≡ true) × (g ≡ true) × (h ≡ true) × (i ≡ true) × (j ≡ true)
+parts10 a b c d e f g h i j z = let p = parts a (b ∷ c ∷ d ∷ e ∷ f ∷ g ∷ h ∷ i ∷ j ∷ []) z in
+    (p.0, p.1.0, p.1.1.0, p.1.1.1.0, p.1.1.1.1.0, p.1.1.1.1.1.0, p.1.1.1.1.1.1.0, p.1.1.1.1.1.1.1.0, p.1.1.1.1.1.1.1.1.0, p.1.1.1.1.1.1.1.1.1.0)
 
 pub and3 : (a b c : Bool) → a ≡ true → b ≡ true → c ≡ true → a && b && c ≡ true
 and3 a b c ha hb hc = whole a (b ∷ c ∷ []) ha (hb, (hc, tt))
@@ -57,5 +61,6 @@ and6 a b c d e f ha hb hc hd he hf = whole a (b ∷ c ∷ d ∷ e ∷ f ∷ []) 
 pub and9 : (a b c d e f g h i : Bool) → a ≡ true → b ≡ true → c ≡ true → d ≡ true → e ≡ true → f ≡ true → g ≡ true → h ≡ true → i ≡ true → a && b && c && d && e && f && g && h && i ≡ true
 and9 a b c d e f g h i ha hb hc hd he hf hg hh hi = whole a (b ∷ c ∷ d ∷ e ∷ f ∷ g ∷ h ∷ i ∷ []) ha (hb, (hc, (hd, (he, (hf, (hg, (hh, (hi, tt))))))))
 
-pub and10 : (a b c d e f g h i j : Bool) → a ≡ true → b ≡ true → c ≡ true → d ≡ true → e ≡ true → f ≡ true → g ≡ true → h ≡ true → i ≡ true → j ≡ true → a && b && c && d && e && f && g && h && i && j ≡ true
+pub and10 : (a b c d e f g h i j : Bool) → a ≡ true → b ≡ true → c ≡ true → d ≡ true → e ≡ true → f ≡ true → g ≡ true → h ≡ true → i ≡ true → j ≡ true
+    → a && b && c && d && e && f && g && h && i && j ≡ true
 and10 a b c d e f g h i j ha hb hc hd he hf hg hh hi hj = whole a (b ∷ c ∷ d ∷ e ∷ f ∷ g ∷ h ∷ i ∷ j ∷ []) ha (hb, (hc, (hd, (he, (hf, (hg, (hh, (hi, (hj, tt)))))))))

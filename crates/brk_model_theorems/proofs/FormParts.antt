@@ -8,8 +8,17 @@ use Rattle.brk_model.specs.Limits.{greatest_id}
 use Rattle.brk_model.specs.Lists.{all_distinct}
 use Rattle.brk_model.specs.Schemas.{Schema}
 use Rattle.brk_model.specs.Tables.{Tables}
-use Rattle.brk_model.specs.Form.{is_well_formed_kept_row, is_well_formed_broker_row, is_well_formed_customer_row, is_within_customer_limits, is_well_formed_account_row, is_well_formed_permission_row, is_well_formed_security_row, is_well_formed_last_trade_row, is_well_formed_charge_row, is_well_formed_band_row, has_disjoint_bands, is_well_formed_tax_rate_row, is_well_formed_customer_tax_row, is_well_formed_trade_row, are_equal_number_lists, is_well_formed_history_row, is_well_formed_request_row, is_well_formed_holding_row, is_well_formed_summary_row, is_well_formed_holding_history_row, is_well_formed_settlement_row, is_well_formed_cash_transaction_row, is_well_formed_cash_move_row, trade_ids_of_cash_rows, has_rows_only_in_tables_of_schema, has_tables_sorted_by_unique_key, satisfies_form_condition, has_distinct_tax_ids, is_sorted_by_unique_key}
-use Rattle.brk_model.specs.Keys.{kept_key, broker_key, customer_key, account_key, permission_key, security_key, last_trade_key, charge_key, band_key, tax_rate_key, customer_tax_key, trade_key, history_key, request_key, holding_key, summary_key, holding_history_key, settlement_key, cash_transaction_key, cash_move_key}
+use Rattle.brk_model.specs.Form.{is_well_formed_kept_row, is_well_formed_broker_row, is_well_formed_customer_row, is_within_customer_limits}
+use Rattle.brk_model.specs.Form.{is_well_formed_account_row, is_well_formed_permission_row, is_well_formed_security_row, is_well_formed_last_trade_row}
+use Rattle.brk_model.specs.Form.{is_well_formed_charge_row, is_well_formed_band_row, has_disjoint_bands, is_well_formed_tax_rate_row}
+use Rattle.brk_model.specs.Form.{is_well_formed_customer_tax_row, is_well_formed_trade_row, are_equal_number_lists, is_well_formed_history_row}
+use Rattle.brk_model.specs.Form.{is_well_formed_request_row, is_well_formed_holding_row, is_well_formed_summary_row, is_well_formed_holding_history_row}
+use Rattle.brk_model.specs.Form.{is_well_formed_settlement_row, is_well_formed_cash_transaction_row, is_well_formed_cash_move_row, trade_ids_of_cash_rows}
+use Rattle.brk_model.specs.Form.{has_rows_only_in_tables_of_schema, has_tables_sorted_by_unique_key, satisfies_form_condition, has_distinct_tax_ids}
+use Rattle.brk_model.specs.Form.{is_sorted_by_unique_key}
+use Rattle.brk_model.specs.Keys.{kept_key, broker_key, customer_key, account_key, permission_key, security_key, last_trade_key, charge_key, band_key}
+use Rattle.brk_model.specs.Keys.{tax_rate_key, customer_tax_key, trade_key, history_key, request_key, holding_key, summary_key, holding_history_key}
+use Rattle.brk_model.specs.Keys.{settlement_key, cash_transaction_key, cash_move_key}
 use Rattle.brk_model_theorems.specs.FormParts.{SatisfiesFormParts, HasSortedTables}
 use Rattle.brk_model_theorems.proofs.Conjunctions.{parts, whole}
 
@@ -88,8 +97,67 @@ form_parts schema t h =
 pub form_whole : (schema : Schema) (t : Tables) → SatisfiesFormParts schema t → satisfies_form_condition schema t ≡ true
 unfolding satisfies_form_condition
 form_whole schema t h =
-    whole (option_map_or (λ last. nat_le last greatest_stamp) t.last true) (forms schema t) h.clock
-    (h.keys, (h.tax_ids, (h.kept, (h.brokers, (h.customers, (h.limits, (h.accounts, (h.permissions, (h.securities, (h.last_trades, (h.charges, (h.bands, (h.apart, (h.tax_rates, (h.customer_taxes, (h.trades, (h.numbers, (h.history, (h.requests, (h.holdings, (h.summaries, (h.holding_history, (h.settlements, (h.cash, (h.moves, (h.own_moves, (h.counted, (h.rule, (h.fits, tt)))))))))))))))))))))))))))))
+    whole (option_map_or (λ last. nat_le last greatest_stamp) t.last true) (forms schema t) h.clock (
+      h.keys,
+      (
+        h.tax_ids,
+        (
+          h.kept,
+          (
+            h.brokers,
+            (
+              h.customers,
+              (
+                h.limits,
+                (
+                  h.accounts,
+                  (
+                    h.permissions,
+                    (
+                      h.securities,
+                      (
+                        h.last_trades,
+                        (
+                          h.charges,
+                          (
+                            h.bands,
+                            (
+                              h.apart,
+                              (
+                                h.tax_rates,
+                                (
+                                  h.customer_taxes,
+                                  (
+                                    h.trades,
+                                    (
+                                      h.numbers,
+                                      (
+                                        h.history,
+                                        (
+                                          h.requests,
+                                          (
+                                            h.holdings,
+                                            (h.summaries, (h.holding_history, (h.settlements, (h.cash, (h.moves, (h.own_moves, (h.counted, (h.rule, (h.fits, tt))))))))),
+                                          ),
+                                        ),
+                                      ),
+                                    ),
+                                  ),
+                                ),
+                              ),
+                            ),
+                          ),
+                        ),
+                      ),
+                    ),
+                  ),
+                ),
+              ),
+            ),
+          ),
+        ),
+      ),
+    )
 
 -- ---- keys
 
@@ -145,4 +213,34 @@ keys_rise t h =
 
 pub keys_whole : (t : Tables) → HasSortedTables t → has_tables_sorted_by_unique_key t ≡ true
 unfolding has_tables_sorted_by_unique_key
-keys_whole t h = whole (is_sorted_by_unique_key kept_key t.kept) (rests t) h.kept (h.brokers, (h.customers, (h.accounts, (h.permissions, (h.securities, (h.last_trades, (h.charges, (h.bands, (h.tax_rates, (h.customer_taxes, (h.trades, (h.history, (h.requests, (h.holdings, (h.summaries, (h.holding_history, (h.settlements, (h.cash, (h.moves, tt)))))))))))))))))))
+keys_whole t h = whole (is_sorted_by_unique_key kept_key t.kept) (rests t) h.kept (
+  h.brokers,
+  (
+    h.customers,
+    (
+      h.accounts,
+      (
+        h.permissions,
+        (
+          h.securities,
+          (
+            h.last_trades,
+            (
+              h.charges,
+              (
+                h.bands,
+                (
+                  h.tax_rates,
+                  (
+                    h.customer_taxes,
+                    (h.trades, (h.history, (h.requests, (h.holdings, (h.summaries, (h.holding_history, (h.settlements, (h.cash, (h.moves, tt))))))))),
+                  ),
+                ),
+              ),
+            ),
+          ),
+        ),
+      ),
+    ),
+  ),
+)

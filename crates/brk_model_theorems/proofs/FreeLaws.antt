@@ -31,7 +31,8 @@ refusal_in d (Done reply) = d
 refusal_in d (Again line) = d
 refusal_in d (Refused refusal) = refusal
 
-by_row : (base : Base) (line : Text) (refusal : Refusal) (after : Base) (b : Bool) → ◌≡◌ {A = Answer × Base} (cond b (Again line) (Refused KeyReused), base) (Refused refusal, after) → refusal ≡ KeyReused
+by_row : (base : Base) (line : Text) (refusal : Refusal) (after : Base) (b : Bool)
+    → ◌≡◌ {A = Answer × Base} (cond b (Again line) (Refused KeyReused), base) (Refused refusal, after) → refusal ≡ KeyReused
 unfolding refusal_in
 by_row base line refusal after true e = let no : false ≡ true = ap (λ r. is_refused_answer r.0) e in absurd (cc)
 by_row base line refusal after false e = sym (ap (λ r. refusal_in refusal r.0) e)

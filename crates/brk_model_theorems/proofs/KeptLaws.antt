@@ -99,7 +99,8 @@ by_again base command key k line after h true s e = record {
 }
 by_again base command key k line after h false s e = let no : None ≡ Some line = ap (λ r. line_in r.0) e in absurd (cc)
 
-acted-again : (base : Base) (command : Command) (key : Key) (line : Text) (after : Base) (r : Result (Reply × Base) Refusal) → answer_and_base_of_step base (Some key) command r ≡ (Again line, after) → ⊥
+acted-again : (base : Base) (command : Command) (key : Key) (line : Text) (after : Base) (r : Result (Reply × Base) Refusal)
+    → answer_and_base_of_step base (Some key) command r ≡ (Again line, after) → ⊥
 unfolding line_in
 acted-again base command key line after (Ok booked) e = let no : None ≡ Some line = ap (λ r. line_in r.0) e in absurd (cc)
 acted-again base command key line after (Err refusal) e = let no : None ≡ Some line = ap (λ r. line_in r.0) e in absurd (cc)
@@ -126,7 +127,8 @@ pub still : (base after : Base) (key : Key) (command : Command) (answer : Answer
 still base after key command answer g r = record { kept = r.kept; found = stays base after key r.kept g r.found; same = r.same; line = r.line }
 
 -- so it is answered with that line
-pub answers-again : (base : Base) (now : ℕ) (command : Command) (key : Key) (answer : Answer) → Remembers base key command answer → keyed_step base now command (Some key) ≡ (answer_to_retry answer, base)
+pub answers-again : (base : Base) (now : ℕ) (command : Command) (key : Key) (answer : Answer) → Remembers base key command answer
+    → keyed_step base now command (Some key) ≡ (answer_to_retry answer, base)
 unfolding keyed_step
 answers-again base now command key answer r =
     ap (answer_and_base_by_stored_row base now command (Some key)) r.found ∙ ap (λ b. (cond b (Again r.kept.line) (Refused KeyReused), base)) r.same ∙ ap (λ a. (a, base)) (sym r.line)

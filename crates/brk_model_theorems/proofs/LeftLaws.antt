@@ -9,7 +9,8 @@ use Rattle.brk_model.specs.Keyed.{stored_row_with_key, answer_and_base_by_stored
 use Rattle.brk_model_theorems.specs.RowCalls.{RowCall, CallsHaveAnswers, result_of_row_call}
 use Rattle.brk_model.specs.Batch.{step_of_row}
 use Rattle.brk_model.specs.Run.{Did}
-use Rattle.brk_model_theorems.specs.Laws.{AnswersMatchStoredReplies, AcceptedCallsAreStored, AnswerMatchesStoredReply, IsStoredIfAccepted, answers_for_new_keys, call_of_batch_row, calls_with_new_keys, accepted_answers, accepted_calls}
+use Rattle.brk_model_theorems.specs.Laws.{AnswersMatchStoredReplies, AcceptedCallsAreStored, AnswerMatchesStoredReply, IsStoredIfAccepted, answers_for_new_keys}
+use Rattle.brk_model_theorems.specs.Laws.{call_of_batch_row, calls_with_new_keys, accepted_answers, accepted_calls}
 use Rattle.brk_model_theorems.proofs.KeyLaws.{found_again, keeps, row_kept}
 use Rattle.brk_model_theorems.proofs.KeptLaws.{Grows, grows-on, keyed_step-grows, run-grows, stays}
 use Rattle.brk_model_theorems.proofs.PartLaws.{in-turn-joined}
@@ -36,7 +37,8 @@ left first base after (call ∷ calls) (answer ∷ answers) g r =
 
     by_found : ((mid : Base) → Grows first mid → CallsHaveAnswers step_of_row mid calls answers after → CallsHaveAnswers step_of_row mid L A after × AnswersMatchStoredReplies first calls answers)
         → (o : Option Kept) → stored_row_with_key first call.key ≡ o
-        → CallsHaveAnswers step_of_row base (cond (is_none o) (call ∷ L) L) (cond (is_none o) (answer ∷ A) A) after × (AnswerMatchesStoredReply base o call answer × AnswersMatchStoredReplies first calls answers)
+        → CallsHaveAnswers step_of_row base (cond (is_none o) (call ∷ L) L) (cond (is_none o) (answer ∷ A) A) after
+        × (AnswerMatchesStoredReply base o call answer × AnswersMatchStoredReplies first calls answers)
     by_found onward None e =
         let mid : Base = (result_of_row_call step_of_row base call).1 in
         let rest = onward mid (grows-on first base mid g (keyed_step-grows base call.now call.command (Some call.key))) r.1 in
@@ -73,7 +75,8 @@ done-alone base after (call ∷ calls) (answer ∷ answers) r =
     by_answer (Again line) onward says r = onward base (subst (λ b. CallsHaveAnswers step_of_row b calls answers after) says r.1)
     by_answer (Refused refusal) onward says r = onward base (subst (λ b. CallsHaveAnswers step_of_row b calls answers after) says r.1)
 
-pub one-run : (base mid last : Base) (first again : List (RowCall Command)) (answers told : List Answer) → CallsHaveAnswers step_of_row base first answers mid → CallsHaveAnswers step_of_row mid again told last
+pub one-run : (base mid last : Base) (first again : List (RowCall Command)) (answers told : List Answer) → CallsHaveAnswers step_of_row base first answers mid
+    → CallsHaveAnswers step_of_row mid again told last
     → CallsHaveAnswers step_of_row base (accepted_calls first answers ++ calls_with_new_keys mid again) (accepted_answers answers ++ answers_for_new_keys mid again told) last
 one-run base mid last first again answers told r s =
     in-turn-joined base mid last (accepted_calls first answers) (calls_with_new_keys mid again) (accepted_answers answers) (answers_for_new_keys mid again told)

@@ -104,7 +104,8 @@ abbrev pub IsOnce : ℕ → List Trade → Type 0
 IsOnce n [] = ⊥
 IsOnce n (t ∷ ts) = (((n == t.id) ≡ true) × AllByRecursion (λ u. (n == u.id) ≡ false) ts) ⊎ (((n == t.id) ≡ false) × IsOnce n ts)
 
-once-behind : (t : Trade) (ts : List Trade) (us : List Trade) → AllByRecursion (λ u. (t.id == u.id) ≡ false) us → AllByRecursion (λ u. IsOnce u.id ts) us → AllByRecursion (λ u. IsOnce u.id (t ∷ ts)) us
+once-behind : (t : Trade) (ts : List Trade) (us : List Trade) → AllByRecursion (λ u. (t.id == u.id) ≡ false) us → AllByRecursion (λ u. IsOnce u.id ts) us
+    → AllByRecursion (λ u. IsOnce u.id (t ∷ ts)) us
 once-behind t ts [] a h = tt
 once-behind t ts (u ∷ us) a h = (inr (turned t.id u.id a.0, h.0), once-behind t ts us a.1 h.1)
 
@@ -127,7 +128,8 @@ lot_qty-cons : (share : Share) (shares : List Share) (trade : ℕ) → lot_quant
 unfolding total_by
 lot_qty-cons share shares trade = at (share.trade == trade)
   where
-    at : (b : Bool) → net_share_count (cond b (share ∷ shares_opened_by_trade trade shares) (shares_opened_by_trade trade shares)) ≡ cond b (signed_by_side share.side 1) (pos 0) +ℤ lot_quantity shares trade
+    at : (b : Bool) → net_share_count (cond b (share ∷ shares_opened_by_trade trade shares) (shares_opened_by_trade trade shares))
+        ≡ cond b (signed_by_side share.side 1) (pos 0) +ℤ lot_quantity shares trade
     at true = refl
     at false = omega (arith, ints)
 
@@ -151,7 +153,9 @@ map-All P [] h = tt
 map-All P (t ∷ ts) h = (h.0, map-All P ts h.1)
 
 -- the lots of a position's trades add up to what the trades did
-pub position-total : (ps : List Trade) → Apart ps → total_by (λ t. lot_quantity (replay (map deal_of_trade (sort_by_key last_status_stamp_of_trade ps))) t.id) ps ≡ total_by (λ t. signed_by_side (side_of_trade_type t.kind) t.qty) ps
+pub position-total : (ps : List Trade) → Apart ps
+    → total_by (λ t. lot_quantity (replay (map deal_of_trade (sort_by_key last_status_stamp_of_trade ps))) t.id) ps
+    ≡ total_by (λ t. signed_by_side (side_of_trade_type t.kind) t.qty) ps
 position-total ps h =
     sym (total_by-sort (λ t. lot_quantity shares t.id) _ ps)
     ∙ lots-net sorted shares (fold-All (λ n. IsOnce n sorted) (map deal_of_trade sorted) [] (map-All (λ n. IsOnce n sorted) sorted (each-once sorted (sort-Apart _ ps h))) tt)
@@ -192,7 +196,8 @@ pub holdings-total : (done : List Trade) (account : ℕ) (symbol : Text) → Apa
 unfolding shares_of_position holding_summary_quantity
 holdings-total done account symbol h =
     total_by-filter (λ row. row.qty) (is_row_of_position account symbol) (filter (λ row. not (is_zero row.qty)) (map (holding_row done) done))
-    ∙ total_by-left_out (λ row. cond (is_row_of_position account symbol row) row.qty (pos 0)) (λ row. not (is_zero row.qty)) (left-out (is_row_of_position account symbol)) (map (holding_row done) done)
+    ∙ total_by-left_out (λ row. cond (is_row_of_position account symbol row) row.qty (pos 0)) (λ row. not (is_zero row.qty))
+    (left-out (is_row_of_position account symbol)) (map (holding_row done) done)
     ∙ total_by-map (λ row. cond (is_row_of_position account symbol row) row.qty (pos 0)) (holding_row done) done
     ∙ total_by-same _ (λ t. cond (t.account == account) (cond (bytes_eq t.symbol symbol) (lot_quantity shares t.id) (pos 0)) (pos 0)) (one done account symbol) done
     ∙ sym (total_by-filter (λ t. cond (bytes_eq t.symbol symbol) (lot_quantity shares t.id) (pos 0)) (λ t. t.account == account) done)

@@ -8,7 +8,9 @@ use Rattle.brk_model.specs.Lists.{update_where}
 use Rattle.brk_model.specs.Records.{Account, Permission, CustomerTax, Trade, Movement, Key}
 use Rattle.brk_model.specs.Base.{Base, empty_base, broker_with_id, customer_with_id, account_with_id, security_with_symbol, tax_rate_record_with_id, trade_with_id}
 use Rattle.brk_model.specs.Keyed.{base_with_stored_reply}
-use Rattle.brk_model.specs.Commands.{Command, Reply, Tick, AddBroker, AddCustomer, AddAccount, AddPermission, AddSecurity, AddCharge, AddBand, AddTaxRate, AddCustomerTax, PlaceOrder, FeedTicks, CancelTrade, CompleteTrade, ChangeExecutors, ChangeCashTypes, ChangeCashNames, DepositCash, WithdrawCash, SetOneDay}
+use Rattle.brk_model.specs.Commands.{Command, Reply, Tick, AddBroker, AddCustomer, AddAccount, AddPermission, AddSecurity, AddCharge, AddBand, AddTaxRate}
+use Rattle.brk_model.specs.Commands.{AddCustomerTax, PlaceOrder, FeedTicks, CancelTrade, CompleteTrade, ChangeExecutors, ChangeCashTypes, ChangeCashNames}
+use Rattle.brk_model.specs.Commands.{DepositCash, WithdrawCash, SetOneDay}
 use Rattle.brk_model.specs.Feed.{security_after_tick, base_after_tick, base_after_ticks}
 use Rattle.brk_model.specs.Results.{base_after_result, completed_trade}
 use Rattle.brk_model.specs.Movements.{base_after_movement}
@@ -106,7 +108,8 @@ numbered-update test change l n (t ∷ ts) h = (at (test t), numbered-update tes
     at true = l.id t ∙ h.0
     at false = h.0
 
-traded-update : (base : Base) (test : Trade → Bool) (change : Trade → Trade) → Leaves change → (ts : List Trade) → AllByRecursion (TradeReferencesResolve base) ts → AllByRecursion (TradeReferencesResolve base) (update_where test change ts)
+traded-update : (base : Base) (test : Trade → Bool) (change : Trade → Trade) → Leaves change → (ts : List Trade)
+    → AllByRecursion (TradeReferencesResolve base) ts → AllByRecursion (TradeReferencesResolve base) (update_where test change ts)
 traded-update base test change l [] h = tt
 traded-update base test change l (t ∷ ts) h = (at (test t), traded-update base test change l ts h.1)
   where
@@ -114,7 +117,8 @@ traded-update base test change l (t ∷ ts) h = (at (test t), traded-update base
     at true = (ap (λ a. is_some (account_with_id base a)) (l.account t) ∙ h.0.0, ap (λ s. is_some (security_with_symbol base s)) (l.symbol t) ∙ h.0.1)
     at false = h.0
 
-pub updated : (base : Base) (accounts : List Account) (permissions : List Permission) (taxes : List CustomerTax) (trades : List Trade) (movements : List Movement) (test : Trade → Bool) (change : Trade → Trade) → Leaves change
+pub updated : (base : Base) (accounts : List Account) (permissions : List Permission) (taxes : List CustomerTax) (trades : List Trade)
+    (movements : List Movement) (test : Trade → Bool) (change : Trade → Trade) → Leaves change
     → ReferencesResolve base accounts permissions taxes trades movements → ReferencesResolve base accounts permissions taxes (update_where test change trades) movements
 updated base accounts permissions taxes trades movements test change l n = record {
   parties = n.parties;
@@ -157,7 +161,8 @@ with-last base stamp n = grown base (record base { last = Some stamp }) base.acc
   securities = λ symbol h. h;
 }) n
 
-trades-named : (base : Base) (test : Trade → Bool) (change : Trade → Trade) → Leaves change → BaseReferencesResolve base → BaseReferencesResolve (record base { trades = update_where test change base.trades })
+trades-named : (base : Base) (test : Trade → Bool) (change : Trade → Trade) → Leaves change → BaseReferencesResolve base
+    → BaseReferencesResolve (record base { trades = update_where test change base.trades })
 trades-named base test change l n =
     grown base (record base { trades = update_where test change base.trades }) base.accounts base.permissions base.customer_taxes (update_where test change base.trades) base.movements
     (record { brokers = λ id h. h; customers = λ id h. h; accounts = λ id h. h; rates = λ id h. h; securities = λ symbol h. h })
@@ -170,7 +175,8 @@ result-named base stamp price (Some t) n = trades-named base (λ u. u.id == t.id
 -- a movement of an account that is there
 movement-named : (base : Base) (m : Movement) → is_none (account_with_id base m.account) ≡ false → BaseReferencesResolve base → BaseReferencesResolve (base_after_movement base m)
 movement-named base m k n =
-    let g = grown base (base_after_movement base m) base.accounts base.permissions base.customer_taxes base.trades base.movements (record { brokers = λ id h. h; customers = λ id h. h; accounts = λ id h. h; rates = λ id h. h; securities = λ symbol h. h }) n in
+    let g = grown base (base_after_movement base m) base.accounts base.permissions base.customer_taxes base.trades base.movements
+    (record { brokers = λ id h. h; customers = λ id h. h; accounts = λ id h. h; rates = λ id h. h; securities = λ symbol h. h }) n in
     record {
       held = All-last (AccountOfMovementExists (base_after_movement base m)) base.movements m g.held (there (account_with_id base m.account) k);
       parties = g.parties;
@@ -182,7 +188,8 @@ movement-named base m k n =
 
 -- ---- the commands
 
-names-kept : (base : Base) (stamp : ℕ) (command : Command) → AllByRecursion (λ t. t.0 ≡ false) (checks_of_command base stamp command) → BaseReferencesResolve base → BaseReferencesResolve (base_after_command_unstamped base stamp command)
+names-kept : (base : Base) (stamp : ℕ) (command : Command) → AllByRecursion (λ t. t.0 ≡ false) (checks_of_command base stamp command)
+    → BaseReferencesResolve base → BaseReferencesResolve (base_after_command_unstamped base stamp command)
 unfolding base_after_command_unstamped checks_of_command base_after_ticks
 names-kept base stamp (AddBroker b) k n =
     grown base (base_after_command_unstamped base stamp (AddBroker b)) base.accounts base.permissions base.customer_taxes base.trades base.movements
@@ -191,7 +198,15 @@ names-kept base stamp (AddCustomer c) k n =
     grown base (base_after_command_unstamped base stamp (AddCustomer c)) base.accounts base.permissions base.customer_taxes base.trades base.movements
     (record { brokers = λ id h. h; customers = λ id h. some-last (λ d. d.id == id) base.customers c h; accounts = λ id h. h; rates = λ id h. h; securities = λ symbol h. h }) n
 names-kept base stamp (AddAccount a) k n =
-    let g : Grows base (base_after_command_unstamped base stamp (AddAccount a)) = record { brokers = λ id h. h; customers = λ id h. h; accounts = λ id h. some-last (λ b. b.id == id) base.accounts a h; rates = λ id h. h; securities = λ symbol h. h } in
+    let g : Grows base (base_after_command_unstamped base stamp (AddAccount a)) =
+    record {
+      brokers = λ id h. h;
+      customers = λ id h. h;
+      accounts = λ id h. some-last (λ b. b.id == id) base.accounts a h;
+      rates = λ id h. h;
+      securities =
+          λ symbol h. h;
+    } in
     let m = grown base (base_after_command_unstamped base stamp (AddAccount a)) base.accounts base.permissions base.customer_taxes base.trades base.movements g n in
     record {
       parties = All-last (AccountReferencesResolve (base_after_command_unstamped base stamp (AddAccount a))) base.accounts a m.parties
@@ -203,18 +218,32 @@ names-kept base stamp (AddAccount a) k n =
       held = m.held;
     }
 names-kept base stamp (AddPermission p) k n =
-    let m = grown base (base_after_command_unstamped base stamp (AddPermission p)) base.accounts base.permissions base.customer_taxes base.trades base.movements (record { brokers = λ id h. h; customers = λ id h. h; accounts = λ id h. h; rates = λ id h. h; securities = λ symbol h. h }) n in
-    record { permitted = All-last (AccountOfPermissionExists (base_after_command_unstamped base stamp (AddPermission p))) base.permissions p m.permitted (there (account_with_id base p.account) k.0); parties = m.parties; taxed = m.taxed; traded = m.traded; numbered = m.numbered; held = m.held }
+    let m = grown base (base_after_command_unstamped base stamp (AddPermission p)) base.accounts base.permissions base.customer_taxes base.trades base.movements
+    (record { brokers = λ id h. h; customers = λ id h. h; accounts = λ id h. h; rates = λ id h. h; securities = λ symbol h. h }) n in
+    record {
+      permitted = All-last (AccountOfPermissionExists (base_after_command_unstamped base stamp (AddPermission p))) base.permissions p m.permitted
+          (there (account_with_id base p.account) k.0);
+      parties = m.parties;
+      taxed = m.taxed;
+      traded = m.traded;
+      numbered = m.numbered;
+      held = m.held;
+    }
 names-kept base stamp (AddSecurity l) k n =
     grown base (base_after_command_unstamped base stamp (AddSecurity l)) base.accounts base.permissions base.customer_taxes base.trades base.movements
     (record { brokers = λ id h. h; customers = λ id h. h; accounts = λ id h. h; rates = λ id h. h; securities = λ symbol h. some-last (λ s. bytes_eq s.symbol symbol) base.securities _ h }) n
-names-kept base stamp (AddCharge c) k n = grown base (base_after_command_unstamped base stamp (AddCharge c)) base.accounts base.permissions base.customer_taxes base.trades base.movements (record { brokers = λ id h. h; customers = λ id h. h; accounts = λ id h. h; rates = λ id h. h; securities = λ symbol h. h }) n
-names-kept base stamp (AddBand b) k n = grown base (base_after_command_unstamped base stamp (AddBand b)) base.accounts base.permissions base.customer_taxes base.trades base.movements (record { brokers = λ id h. h; customers = λ id h. h; accounts = λ id h. h; rates = λ id h. h; securities = λ symbol h. h }) n
+names-kept base stamp (AddCharge c) k n =
+    grown base (base_after_command_unstamped base stamp (AddCharge c)) base.accounts base.permissions base.customer_taxes base.trades base.movements
+    (record { brokers = λ id h. h; customers = λ id h. h; accounts = λ id h. h; rates = λ id h. h; securities = λ symbol h. h }) n
+names-kept base stamp (AddBand b) k n =
+    grown base (base_after_command_unstamped base stamp (AddBand b)) base.accounts base.permissions base.customer_taxes base.trades base.movements
+    (record { brokers = λ id h. h; customers = λ id h. h; accounts = λ id h. h; rates = λ id h. h; securities = λ symbol h. h }) n
 names-kept base stamp (AddTaxRate r) k n =
     grown base (base_after_command_unstamped base stamp (AddTaxRate r)) base.accounts base.permissions base.customer_taxes base.trades base.movements
     (record { brokers = λ id h. h; customers = λ id h. h; accounts = λ id h. h; rates = λ id h. some-last (λ s. s.id == id) base.tax_rates r h; securities = λ symbol h. h }) n
 names-kept base stamp (AddCustomerTax x) k n =
-    let m = grown base (base_after_command_unstamped base stamp (AddCustomerTax x)) base.accounts base.permissions base.customer_taxes base.trades base.movements (record { brokers = λ id h. h; customers = λ id h. h; accounts = λ id h. h; rates = λ id h. h; securities = λ symbol h. h }) n in
+    let m = grown base (base_after_command_unstamped base stamp (AddCustomerTax x)) base.accounts base.permissions base.customer_taxes base.trades
+    base.movements (record { brokers = λ id h. h; customers = λ id h. h; accounts = λ id h. h; rates = λ id h. h; securities = λ symbol h. h }) n in
     record {
       taxed = All-last (CustomerTaxReferencesResolve (base_after_command_unstamped base stamp (AddCustomerTax x))) base.customer_taxes x m.taxed
           (there (customer_with_id base x.customer) k.0, there (tax_rate_record_with_id base x.tax) k.1.0);
@@ -225,9 +254,11 @@ names-kept base stamp (AddCustomerTax x) k n =
       held = m.held;
     }
 names-kept base stamp (PlaceOrder o) k n =
-    let m = grown base (base_after_command_unstamped base stamp (PlaceOrder o)) base.accounts base.permissions base.customer_taxes base.trades base.movements (record { brokers = λ id h. h; customers = λ id h. h; accounts = λ id h. h; rates = λ id h. h; securities = λ symbol h. h }) n in
+    let m = grown base (base_after_command_unstamped base stamp (PlaceOrder o)) base.accounts base.permissions base.customer_taxes base.trades base.movements
+    (record { brokers = λ id h. h; customers = λ id h. h; accounts = λ id h. h; rates = λ id h. h; securities = λ symbol h. h }) n in
     record {
-      traded = All-last (TradeReferencesResolve (base_after_command_unstamped base stamp (PlaceOrder o))) base.trades _ m.traded (there (account_with_id base o.account) k.0, there (security_with_symbol base o.symbol) k.1.0);
+      traded = All-last (TradeReferencesResolve (base_after_command_unstamped base stamp (PlaceOrder o))) base.trades _ m.traded
+          (there (account_with_id base o.account) k.0, there (security_with_symbol base o.symbol) k.1.0);
       numbered = numbered-last 1 base.trades _ m.numbered (omega arith);
       parties = m.parties;
       permitted = m.permitted;
@@ -242,11 +273,15 @@ names-kept base stamp (ChangeCashTypes account first last) k n = trades-named ba
 names-kept base stamp (ChangeCashNames symbol first last) k n = trades-named base _ _ (record { id = λ t. refl; account = λ t. refl; symbol = λ t. refl }) n
 names-kept base stamp (DepositCash account amount) k n = movement-named base _ k.0 n
 names-kept base stamp (WithdrawCash account amount) k n = movement-named base _ k.0 n
-names-kept base stamp (SetOneDay day) k n = grown base (base_after_command_unstamped base stamp (SetOneDay day)) base.accounts base.permissions base.customer_taxes base.trades base.movements (record { brokers = λ id h. h; customers = λ id h. h; accounts = λ id h. h; rates = λ id h. h; securities = λ symbol h. h }) n
+names-kept base stamp (SetOneDay day) k n =
+    grown base (base_after_command_unstamped base stamp (SetOneDay day)) base.accounts base.permissions base.customer_taxes base.trades base.movements
+    (record { brokers = λ id h. h; customers = λ id h. h; accounts = λ id h. h; rates = λ id h. h; securities = λ symbol h. h }) n
 
-names-step : (base : Base) (now : ℕ) (command : Command) → refusal_of_command base now command ≡ None → BaseReferencesResolve base → BaseReferencesResolve (base_after_accepted_command base (stamp_of_next_command base now) command)
+names-step : (base : Base) (now : ℕ) (command : Command) → refusal_of_command base now command ≡ None → BaseReferencesResolve base
+    → BaseReferencesResolve (base_after_accepted_command base (stamp_of_next_command base now) command)
 names-step base now command h n =
-    with-last (base_after_command_unstamped base (stamp_of_next_command base now) command) (stamp_of_next_command base now) (names-kept base (stamp_of_next_command base now) command (passed base now command h) n)
+    with-last (base_after_command_unstamped base (stamp_of_next_command base now) command) (stamp_of_next_command base now)
+    (names-kept base (stamp_of_next_command base now) command (passed base now command h) n)
 
 names-rows : (key : Option Key) (command : Command) (reply : Reply) (base : Base) → BaseReferencesResolve base → BaseReferencesResolve (base_with_stored_reply key command reply base)
 names-rows None command reply base n = n

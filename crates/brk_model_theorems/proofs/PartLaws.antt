@@ -7,7 +7,8 @@ use Rattle.brk_model.specs.Base.{Base}
 use Rattle.brk_model.specs.Forms.{ReadResult}
 use Rattle.brk_model.specs.Commands.{Command, Answer, Refused}
 use Rattle.brk_model.specs.Answers.{Fields}
-use Rattle.brk_model_theorems.specs.RowCalls.{RowCall, CallsHaveAnswers, result_of_row_call, prepended_if_well_formed, well_formed_rows_from, calls_of_rows, answers_interleaved_with_refusals, answers_to_row_and_rest, RowsAreAnsweredByCalls}
+use Rattle.brk_model_theorems.specs.RowCalls.{RowCall, CallsHaveAnswers, result_of_row_call, prepended_if_well_formed, well_formed_rows_from, calls_of_rows}
+use Rattle.brk_model_theorems.specs.RowCalls.{answers_interleaved_with_refusals, answers_to_row_and_rest, RowsAreAnsweredByCalls}
 use Rattle.brk_model.specs.Batch.{BatchRowsAreDecided, BatchResult, IsResultOfTextWithHeader, step_of_row}
 use Rattle.brk_model.specs.Input.{BeginsWithRecords, IsEndRecord, correct_end_record, batch_header, input_text}
 use Rattle.brk_model.specs.Lines.{refused_answer_count, is_refused_answer}
@@ -58,7 +59,8 @@ calls-joined : {C : Type 0} (name : Text) (early late : List ℕ) (xs ys : List 
 calls-joined name [] late [] ys e = refl
 calls-joined name [] late (x ∷ xs) ys e = absurd (omega (e, arith))
 calls-joined name (m ∷ early) late [] ys e = absurd (omega (e, arith))
-calls-joined name (m ∷ early) late (x ∷ xs) ys e = ap (λ calls. record { key = record { batch = name; row = x.0 }; now = m; command = x.1 } ∷ calls) (calls-joined name early late xs ys (omega (e, arith)))
+calls-joined name (m ∷ early) late (x ∷ xs) ys e =
+    ap (λ calls. record { key = record { batch = name; row = x.0 }; now = m; command = x.1 } ∷ calls) (calls-joined name early late xs ys (omega (e, arith)))
 
 -- The answers to the calls in two parts, and the base between them.
 record Turned (base : Base) (front more : List (RowCall Command)) (answers : List Answer) (after : Base) : Type 0 where
@@ -69,14 +71,16 @@ record Turned (base : Base) (front more : List (RowCall Command)) (answers : Lis
   pub before : CallsHaveAnswers step_of_row base front first mid
   pub then : CallsHaveAnswers step_of_row mid more rest after
 
-turned : (base : Base) (front more : List (RowCall Command)) (answers : List Answer) (after : Base) → CallsHaveAnswers step_of_row base (front ++ more) answers after → Turned base front more answers after
+turned : (base : Base) (front more : List (RowCall Command)) (answers : List Answer) (after : Base)
+    → CallsHaveAnswers step_of_row base (front ++ more) answers after → Turned base front more answers after
 turned base [] more answers after r = record { mid = base; first = []; rest = answers; are = refl; before = refl; then = r }
 turned base (call ∷ front) more [] after r = absurd r
 turned base (call ∷ front) more (answer ∷ answers) after r =
     let t = turned (result_of_row_call step_of_row base call).1 front more answers after r.1 in
     record { mid = t.mid; first = answer ∷ t.first; rest = t.rest; are = ap (λ l. answer ∷ l) t.are; before = (r.0, t.before); then = t.then }
 
-pub in-turn-joined : (base mid after : Base) (front more : List (RowCall Command)) (first rest : List Answer) → CallsHaveAnswers step_of_row base front first mid → CallsHaveAnswers step_of_row mid more rest after
+pub in-turn-joined : (base mid after : Base) (front more : List (RowCall Command)) (first rest : List Answer)
+    → CallsHaveAnswers step_of_row base front first mid → CallsHaveAnswers step_of_row mid more rest after
     → CallsHaveAnswers step_of_row base (front ++ more) (first ++ rest) after
 in-turn-joined base mid after [] more [] rest r s = subst (λ b. CallsHaveAnswers step_of_row b more rest after) r s
 in-turn-joined base mid after [] more (answer ∷ first) rest r s = absurd r
@@ -88,7 +92,9 @@ woven-joined : {C : Type 0} (form : Fields → ReadResult C) (n : ℕ) (front mo
 woven-joined form n [] more [] rest e = refl
 woven-joined form n [] more (answer ∷ first) rest e = absurd (omega (e, arith))
 woven-joined form n (row ∷ front) more first rest e =
-    one (form row) n (well_formed_rows_from form (n + 1) front) (answers_interleaved_with_refusals form (front ++ more)) (answers_interleaved_with_refusals form front) (answers_interleaved_with_refusals form more rest) first rest (λ answers. woven-joined form (n + 1) front more answers rest) e
+    one (form row) n (well_formed_rows_from form (n + 1) front) (answers_interleaved_with_refusals form (front ++ more))
+    (answers_interleaved_with_refusals form front) (answers_interleaved_with_refusals form more rest) first rest
+    (λ answers. woven-joined form (n + 1) front more answers rest) e
   where
     one : {C : Type 0} (r : ReadResult C) (n : ℕ) (formed : List (ℕ × C)) (whole part : List Answer → List Answer) (back first rest : List Answer)
         → ((answers : List Answer) → length answers ≡ length formed → whole (answers ++ rest) ≡ part answers ++ back)
@@ -229,11 +235,14 @@ none-front (x ∷ xs) ys h = let k = none-first x (xs ++ ys) h in none-with x xs
 
 -- the first rows of those that were settled before
 pub part-again : (form : Fields → ReadResult Command) (name : Text) (base after later last : Base) (moments others : List ℕ) (front more : List Fields) (answers told : List Answer)
-    → refused_answer_count answers ≡ 0 → BatchRowsAreDecided form step_of_row name base moments (front ++ more) answers after → Grows after later → BatchRowsAreDecided form step_of_row name later others front told last
+    → refused_answer_count answers ≡ 0 → BatchRowsAreDecided form step_of_row name base moments (front ++ more) answers after → Grows after later
+    → BatchRowsAreDecided form step_of_row name later others front told last
     → (told ≡ map answer_to_retry (take (length front) answers)) × (last ≡ later)
 part-again form name base after later last moments others front more answers told none one g two =
     let p = parted form name base moments front more answers after one in
-    let grown : Grows p.mid later = grows-on p.mid after later (run-grows _ _ p.mid after (rows-run p.mid (calls_of_rows name p.late (well_formed_rows_from form (1 + length front) more)) p.replies after p.run)) g in
+    let grown : Grows p.mid later =
+    grows-on p.mid after later
+    (run-grows _ _ p.mid after (rows-run p.mid (calls_of_rows name p.late (well_formed_rows_from form (1 + length front) more)) p.replies after p.run)) g in
     let again = settled-again form name p.early others front p.first told base p.mid later last (none-front p.first p.rest (ap refused_answer_count (sym p.answers_are) ∙ none)) p.settled grown two in
     let same : take (length front) answers ≡ p.first =
     ap (λ (n : ℕ). take n answers) (sym p.settled.each) ∙ ap (take (length p.first)) p.answers_are ∙ take-front p.first p.rest in
@@ -282,7 +291,8 @@ prefix (row ∷ rows) (other ∷ others) rest end more only h e =
     (p.0, (λ i. sym (first-same row other (rows ++ rest) (others ++ end ∷ more) e) i ∷ p.1 i))
 
 -- whatever rows of a batch that went through are settled again change nothing
-pub rows-again : (form : Fields → ReadResult Command) (base later last : Base) (moments others : List ℕ) (input : Text) (answers told : List Answer) (first : BatchResult Base) (name : Text) (rows : List Fields)
+pub rows-again : (form : Fields → ReadResult Command) (base later last : Base) (moments others : List ℕ) (input : Text) (answers told : List Answer)
+    (first : BatchResult Base) (name : Text) (rows : List Fields)
     → IsCompleteBatchWithoutRefusals form base moments input answers first → SomeRunLeadsTo first.base later → BeginsWithRecords (Some (input_text input)) (batch_header name ∷ rows)
     → BatchRowsAreDecided form step_of_row name later others rows told last → (told ≡ map answer_to_retry (take (length rows) answers)) × (last ≡ later)
 rows-again form base later last moments others input answers told first name rows went leads begins two =

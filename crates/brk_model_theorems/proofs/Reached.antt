@@ -26,7 +26,8 @@ acted-kept P k base now key command (Ok booked) h p =
     let a : Accepted base now command booked.0 booked.1 = accepted base now command booked.0 booked.1 h in
     k.rows key command booked.0 booked.1 (subst P (sym a.moved) (k.steps base now command a.passes p))
 
-keyed-kept : (P : Base → Type 0) → IsKept P → (base : Base) (now : ℕ) (command : Command) (key : Option Key) (found : Option Kept) → P base → P (answer_and_base_by_stored_row base now command key found).1
+keyed-kept : (P : Base → Type 0) → IsKept P → (base : Base) (now : ℕ) (command : Command) (key : Option Key) (found : Option Kept) → P base
+    → P (answer_and_base_by_stored_row base now command key found).1
 keyed-kept P k base now command key None p = acted-kept P k base now key command (step base now command) refl p
 keyed-kept P k base now command key (Some row) p = at (bytes_eq row.row_text (row_text command))
   where
@@ -75,6 +76,7 @@ All-front P [] ys h = tt
 All-front P (x ∷ xs) ys h = (h.0, All-front P xs ys h.1)
 
 -- no test of an accepted command found anything wrong
-pub passed : (base : Base) (now : ℕ) (command : Command) → refusal_of_command base now command ≡ None → AllByRecursion (λ t. t.0 ≡ false) (checks_of_command base (stamp_of_next_command base now) command)
+pub passed : (base : Base) (now : ℕ) (command : Command) → refusal_of_command base now command ≡ None
+    → AllByRecursion (λ t. t.0 ≡ false) (checks_of_command base (stamp_of_next_command base now) command)
 unfolding refusal_of_command
 passed base now command h = All-front (λ t. t.0 ≡ false) (checks_of_command base (stamp_of_next_command base now) command) _ (none-passed _ (found-none _ h))

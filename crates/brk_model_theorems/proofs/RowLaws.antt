@@ -5,7 +5,8 @@ use Rattle.brk_model.specs.Forms.{ReadResult}
 use Rattle.brk_model.specs.Commands.{Answer, Refused}
 use Rattle.brk_model.specs.Answers.{Fields, RowStep, ResultOfRows, result_with_answer_in_front, result_of_row_and_later_rows, result_of_rows, RowsAreAnswered}
 use Rattle.brk_model.specs.Batch.{BatchRowsAreDecided}
-use Rattle.brk_model_theorems.specs.RowCalls.{CallsHaveAnswers, prepended_if_well_formed, well_formed_rows_from, calls_of_rows, answers_to_row_and_rest, answers_interleaved_with_refusals, RowsAreAnsweredByCalls}
+use Rattle.brk_model_theorems.specs.RowCalls.{CallsHaveAnswers, prepended_if_well_formed, well_formed_rows_from, calls_of_rows, answers_to_row_and_rest}
+use Rattle.brk_model_theorems.specs.RowCalls.{answers_interleaved_with_refusals, RowsAreAnsweredByCalls}
 
 -- The result with these answers and this base, of rows that take all clock readings.
 abbrev whole_result : {B : Type 0} → List Answer → B → ResultOfRows B
@@ -24,7 +25,8 @@ module _ {B C : Type 0} (form : Fields → ReadResult C) (step : RowStep B C) (b
       (λ b left others l h. result-by-calls rows (n + 1) b after left others l h) e r
     where
       one : (r : ReadResult C) (rest : List (ℕ × C)) (more : B → List ℕ → ResultOfRows B) (woven : List Answer → List Answer) (base : B) (moments : List ℕ) (replies : List Answer)
-          → ((b : B) (left : List ℕ) (others : List Answer) → length left ≡ length rest → CallsHaveAnswers step b (calls_of_rows batch left rest) others after → more b left ≡ whole_result (woven others) after)
+          → ((b : B) (left : List ℕ) (others : List Answer) → length left ≡ length rest → CallsHaveAnswers step b (calls_of_rows batch left rest) others after
+          → more b left ≡ whole_result (woven others) after)
           → length moments ≡ length (prepended_if_well_formed r n rest) → CallsHaveAnswers step base (calls_of_rows batch moments (prepended_if_well_formed r n rest)) replies after
           → result_of_row_and_later_rows step r (record { batch = batch; row = n }) base moments more ≡ whole_result (answers_to_row_and_rest r woven replies) after
       one (Err refusal) rest more woven base moments replies each e r = ap (result_with_answer_in_front (Refused refusal)) (each base moments replies e r)
@@ -97,7 +99,8 @@ module _ {B C : Type 0} (form : Fields → ReadResult C) (step : RowStep B C) (b
       → TakesFirst (length (well_formed_rows_from form n rows)) (λ ms. result_of_rows form step batch n base ms rows) moments (length rows)
   takes-first [] n base moments h = (refl, refl)
   takes-first (row ∷ rows) n base moments h =
-      one (form row) (well_formed_rows_from form (n + 1) rows) (λ b left. result_of_rows form step batch (n + 1) b left rows) (length rows) base moments (λ b left k. takes-first rows (n + 1) b left k) h
+      one (form row) (well_formed_rows_from form (n + 1) rows) (λ b left. result_of_rows form step batch (n + 1) b left rows) (length rows) base moments
+      (λ b left k. takes-first rows (n + 1) b left k) h
     where
       one : (r : ReadResult C) (rest : List (ℕ × C)) (more : B → List ℕ → ResultOfRows B) (size : ℕ) (base : B) (moments : List ℕ)
           → ((b : B) (left : List ℕ) → length rest ≤ length left → TakesFirst (length rest) (more b) left size)

@@ -37,7 +37,8 @@ acted-says base now key command (Ok booked) h =
     let s : stamp_of_reply booked.0 ≡ stamp_of_next_command base now = ap stamp_of_reply k.told ∙ reply-stamp base _ command in
     (keeping-last key command booked.0 booked.1 ∙ ap (λ b. b.last) k.moved ∙ ap Some (sym s), subst (λ n. IfSome base.last (λ l. l < n)) (sym s) (next-above base now))
 
-keyed-says : (base : Base) (now : ℕ) (command : Command) (key : Option Key) (found : Option Kept) → Says base (answer_and_base_by_stored_row base now command key found).0 (answer_and_base_by_stored_row base now command key found).1
+keyed-says : (base : Base) (now : ℕ) (command : Command) (key : Option Key) (found : Option Kept)
+    → Says base (answer_and_base_by_stored_row base now command key found).0 (answer_and_base_by_stored_row base now command key found).1
 keyed-says base now command key None = acted-says base now key command (step base now command) refl
 keyed-says base now command key (Some k) = at (bytes_eq k.row_text (row_text command))
   where

@@ -1,5 +1,6 @@
 -- Shares of one side, and what a deal adds to them.
-use Rattle.std.proofs.Common.{◌≡◌, ◌<◌, ◌≤◌, ◌⊎◌, inl, inr, ℕ, ◌+◌, ◌-◌, Bool, true, false, not, cond, List, [], ◌∷◌, ◌++◌, refl, sym, ◌∙◌, ap, length, take, drop, arith, length-drop, pos, zero, suc, min, replicate, ◌+ℤ◌}
+use Rattle.std.proofs.Common.{◌≡◌, ◌<◌, ◌≤◌, ◌⊎◌, inl, inr, ℕ, ◌+◌, ◌-◌, Bool, true, false, not, cond, List, [], ◌∷◌, ◌++◌, refl, sym, ◌∙◌, ap, length, take}
+use Rattle.std.proofs.Common.{drop, arith, length-drop, pos, zero, suc, min, replicate, ◌+ℤ◌}
 use Rattle.std.specs.Prelude.{fold}
 use Rattle.std.specs.List.{AllByRecursion}
 use Rattle.std.proofs.lemmas.List.{length-take, length-replicate}
@@ -59,12 +60,14 @@ unfolding total_by
 net-one_side Buy [] h = refl
 net-one_side Sell [] h = refl
 net-one_side side (share ∷ shares) h =
-    ap (λ s. signed_by_side s 1 +ℤ net_share_count shares) h.0 ∙ ap (λ y. signed_by_side side 1 +ℤ y) (net-one_side side shares h.1) ∙ signed_sum side 1 (length shares) ∙ ap (signed_by_side side) (omega arith)
+    ap (λ s. signed_by_side s 1 +ℤ net_share_count shares) h.0 ∙ ap (λ y. signed_by_side side 1 +ℤ y) (net-one_side side shares h.1)
+    ∙ signed_sum side 1 (length shares) ∙ ap (signed_by_side side) (omega arith)
 
 length-kept : (d : Deal) (shares : List Share) → length (remaining_shares d shares) ≡ length shares - closed_share_count_of_deal d shares
 length-kept d shares = at d.is_lifo
   where
-    at : (b : Bool) → length (cond b (take (length shares - closed_share_count_of_deal d shares) shares) (drop (closed_share_count_of_deal d shares) shares)) ≡ length shares - closed_share_count_of_deal d shares
+    at : (b : Bool) → length (cond b (take (length shares - closed_share_count_of_deal d shares) shares) (drop (closed_share_count_of_deal d shares) shares))
+        ≡ length shares - closed_share_count_of_deal d shares
     at true = length-take (length shares - closed_share_count_of_deal d shares) shares ∙ omega arith
     at false = length-drop (closed_share_count_of_deal d shares) shares
 
@@ -77,11 +80,15 @@ net-after : (side : Side) (d : Deal) (shares : List Share) → AllSharesHaveSide
 unfolding shares_after_deal
 net-after side d shares h =
     total_by-append (λ share. signed_by_side share.side 1) (remaining_shares d shares) (opened_shares d shares)
-    ∙ ap (λ x. x +ℤ net_share_count (opened_shares d shares)) (net-one_side side (remaining_shares d shares) (kept-All (λ share. share.side ≡ side) d shares h) ∙ ap (signed_by_side side) (length-kept d shares))
-    ∙ ap (λ y. signed_by_side side (length shares - closed_share_count_of_deal d shares) +ℤ y) (net-one_side d.side (opened_shares d shares) (opened-All d shares) ∙ ap (signed_by_side d.side) (length-replicate _ _))
+    ∙ ap (λ x. x +ℤ net_share_count (opened_shares d shares))
+    (net-one_side side (remaining_shares d shares) (kept-All (λ share. share.side ≡ side) d shares h) ∙ ap (signed_by_side side) (length-kept d shares))
+    ∙ ap (λ y. signed_by_side side (length shares - closed_share_count_of_deal d shares) +ℤ y)
+    (net-one_side d.side (opened_shares d shares) (opened-All d shares) ∙ ap (signed_by_side d.side) (length-replicate _ _))
 
 -- what closes and what opens add up to the deal
-counts : (side other : Side) (n q : ℕ) → signed_by_side side (n - cond (not (is_same_side side other)) (min q n) 0) +ℤ signed_by_side other (q - cond (not (is_same_side side other)) (min q n) 0) ≡ signed_by_side side n +ℤ signed_by_side other q
+counts : (side other : Side) (n q : ℕ)
+    → signed_by_side side (n - cond (not (is_same_side side other)) (min q n) 0) +ℤ signed_by_side other (q - cond (not (is_same_side side other)) (min q n) 0)
+    ≡ signed_by_side side n +ℤ signed_by_side other q
 counts Buy Buy n q = omega (arith, ints)
 counts Sell Sell n q = omega (arith, ints)
 counts Buy Sell n q = omega (arith, ints)
@@ -97,7 +104,8 @@ net-step side d [] h = net-after d.side d [] tt ∙ empty d.side d.qty
     empty Sell q = omega (arith, ints)
 net-step side d (share ∷ shares) h =
     net-after side d (share ∷ shares) h
-    ∙ ap (λ s. signed_by_side side (length (share ∷ shares) - cond (not (is_same_side s d.side)) (min d.qty (length (share ∷ shares))) 0) +ℤ signed_by_side d.side (d.qty - cond (not (is_same_side s d.side)) (min d.qty (length (share ∷ shares))) 0)) h.0
+    ∙ ap (λ s. signed_by_side side (length (share ∷ shares) - cond (not (is_same_side s d.side)) (min d.qty (length (share ∷ shares))) 0) +ℤ signed_by_side
+    d.side (d.qty - cond (not (is_same_side s d.side)) (min d.qty (length (share ∷ shares))) 0)) h.0
     ∙ counts side d.side (length (share ∷ shares)) d.qty
     ∙ ap (λ y. y +ℤ signed_by_side d.side d.qty) (sym (net-one_side side (share ∷ shares) h))
 
@@ -126,7 +134,8 @@ kept-none P d shares e = at d.is_lifo
     at true = take-none P (length shares - closed_share_count_of_deal d shares) shares (omega (e, arith))
     at false = drop-all P (closed_share_count_of_deal d shares) shares (omega (e, arith))
 
-by_count : (side : Side) (d : Deal) (shares : List Share) → AllSharesHaveSide side shares → closed_share_count_of_deal d shares ≡ min d.qty (length shares) → AllSharesHaveSameSide (shares_after_deal shares d)
+by_count : (side : Side) (d : Deal) (shares : List Share) → AllSharesHaveSide side shares → closed_share_count_of_deal d shares ≡ min d.qty (length shares)
+    → AllSharesHaveSameSide (shares_after_deal shares d)
 unfolding shares_after_deal
 by_count side d shares h e = at (cases_lt d.qty (length shares))
   where
@@ -164,7 +173,8 @@ one_sided-fold (d ∷ deals) shares h = one_sided-fold deals (shares_after_deal 
 pub one_sided : (deals : List Deal) → AllSharesHaveSameSide (replay deals)
 one_sided deals = one_sided-fold deals [] (Buy, tt)
 
-net-fold : (deals : List Deal) (shares : List Share) → AllSharesHaveSameSide shares → net_share_count (fold shares_after_deal shares deals) ≡ net_share_count shares +ℤ total_by (λ d. signed_by_side d.side d.qty) deals
+net-fold : (deals : List Deal) (shares : List Share) → AllSharesHaveSameSide shares
+    → net_share_count (fold shares_after_deal shares deals) ≡ net_share_count shares +ℤ total_by (λ d. signed_by_side d.side d.qty) deals
 unfolding total_by
 net-fold [] shares h = omega (arith, ints)
 net-fold (d ∷ deals) shares h =

@@ -4,7 +4,9 @@ use Rattle.std.specs.Option.{option_map_or}
 use Rattle.brk_money.specs.declared.refusal.Refusal.{Refusal}
 use Rattle.brk_model.specs.Records.{Trade}
 use Rattle.brk_model.specs.Base.{Base, trade_with_id}
-use Rattle.brk_model.specs.Commands.{Command, Tick, Reply, Booked, CompletedTrade, AddBroker, AddCustomer, AddAccount, AddPermission, AddSecurity, AddCharge, AddBand, AddTaxRate, AddCustomerTax, PlaceOrder, FeedTicks, CancelTrade, CompleteTrade, ChangeExecutors, ChangeCashTypes, ChangeCashNames, DepositCash, WithdrawCash, SetOneDay}
+use Rattle.brk_model.specs.Commands.{Command, Tick, Reply, Booked, CompletedTrade, AddBroker, AddCustomer, AddAccount, AddPermission, AddSecurity, AddCharge}
+use Rattle.brk_model.specs.Commands.{AddBand, AddTaxRate, AddCustomerTax, PlaceOrder, FeedTicks, CancelTrade, CompleteTrade, ChangeExecutors, ChangeCashTypes}
+use Rattle.brk_model.specs.Commands.{ChangeCashNames, DepositCash, WithdrawCash, SetOneDay}
 use Rattle.brk_model.specs.Feed.{base_after_tick, base_after_ticks}
 use Rattle.brk_model.specs.Results.{base_after_result, completion_of_trade}
 use Rattle.brk_model.specs.Tests.{stamp_of_next_command, refusal_of_command}
@@ -90,7 +92,9 @@ pub record Accepted (base : Base) (now : ℕ) (command : Command) (reply : Reply
   pub moved : after ≡ base_after_accepted_command base (stamp_of_next_command base now) command
 
 by_refusal : (base : Base) (now : ℕ) (command : Command) (reply : Reply) (after : Base) (refusal : Option Refusal) → refusal_of_command base now command ≡ refusal
-    → value_unless_refused {A = Reply × Base} refusal (reply_to_command base (stamp_of_next_command base now) command, base_after_accepted_command base (stamp_of_next_command base now) command) ≡ Ok (reply, after) → Accepted base now command reply after
+    → value_unless_refused {A = Reply × Base} refusal
+    (reply_to_command base (stamp_of_next_command base now) command, base_after_accepted_command base (stamp_of_next_command base now) command)
+    ≡ Ok (reply, after) → Accepted base now command reply after
 by_refusal base now command reply after None h e = record { passes = h; told = sym (ap (told_of reply) e); moved = sym (ap (base_of after) e) }
   where
     told_of : Reply → Result (Reply × Base) Refusal → Reply

@@ -40,7 +40,8 @@ module _ (form : Fields → ReadResult Command) (name : Text) (base mid stood : 
     (moment : ℕ) (answer : Answer) (row : Fields) (command : Command) (formed : form row ≡ Ok command)
     (booked : step_of_row mid moment command (record { batch = name; row = length front + 1 }) ≡ (answer, stood)) where
   -- the first rows and the one that was booked, as if it had been answered
-  with-booked : AllByRecursion (λ row. ¬ (IsEndRecord row)) (front ++ row ∷ []) → BatchRowsAreDecided form step_of_row name base (moments ++ moment ∷ []) (front ++ row ∷ []) (answers ++ answer ∷ []) stood
+  with-booked : AllByRecursion (λ row. ¬ (IsEndRecord row)) (front ++ row ∷ [])
+      → BatchRowsAreDecided form step_of_row name base (moments ++ moment ∷ []) (front ++ row ∷ []) (answers ++ answer ∷ []) stood
   with-booked only =
       subst (λ told. BatchRowsAreDecided form step_of_row name base (moments ++ moment ∷ []) (front ++ row ∷ []) (answers ++ told) stood) told
       (joined form name base mid stood moments (moment ∷ []) front (row ∷ []) answers (answer ∷ []) one only lates run)
@@ -65,16 +66,19 @@ module _ (form : Fields → ReadResult Command) (name : Text) (base mid stood : 
       told = ap (λ (r : ReadResult Command). answers_to_row_and_rest r (answers_interleaved_with_refusals form []) (answer ∷ [])) formed
 
 -- a row that was refused left what stood
-refused-leaves : (mid stood : Base) (moment : ℕ) (command : Command) (key : Key) (answer : Answer) → step_of_row mid moment command key ≡ (answer, stood) → is_refused_answer answer ≡ true → stood ≡ mid
+refused-leaves : (mid stood : Base) (moment : ℕ) (command : Command) (key : Key) (answer : Answer) → step_of_row mid moment command key ≡ (answer, stood)
+    → is_refused_answer answer ≡ true → stood ≡ mid
 refused-leaves mid stood moment command key (Done reply) e h = absurd (cc)
 refused-leaves mid stood moment command key (Again line) e h = absurd (cc)
 refused-leaves mid stood moment command key (Refused refusal) e h = keyed_step-says mid moment command _ (Refused refusal) stood e
 
 -- where the next row was booked too
-pub booked-completed : (form : Fields → ReadResult Command) (name : Text) (base mid stood last : Base) (moments others : List ℕ) (front more : List Fields) (answers told : List Answer) (moment : ℕ) (answer : Answer)
+pub booked-completed : (form : Fields → ReadResult Command) (name : Text) (base mid stood last : Base) (moments others : List ℕ) (front more : List Fields)
+    (answers told : List Answer) (moment : ℕ) (answer : Answer)
     → refused_answer_count answers ≡ 0 → BatchRowsAreDecided form step_of_row name base moments front answers mid → NextRowLeadsTo form name mid front more moment answer stood
     → BatchRowsAreDecided form step_of_row name stood others (front ++ more) told last
-    → IsCompletedByRetry form name base moments others (front ++ more) answers told last ⊎ IsCompletedByRetry form name base (moments ++ moment ∷ []) others (front ++ more) (answers ++ answer ∷ []) told last
+    → IsCompletedByRetry form name base moments others (front ++ more) answers told last
+    ⊎ IsCompletedByRetry form name base (moments ++ moment ∷ []) others (front ++ more) (answers ++ answer ∷ []) told last
 booked-completed form name base mid stood last moments others front more answers told moment answer none one w two = by_answer (is_refused_answer answer) refl
   where
     rows : front ++ more ≡ (front ++ w.row ∷ []) ++ w.rest
@@ -88,7 +92,8 @@ booked-completed form name base mid stood last moments others front more answers
         (All-front (λ row. ¬ (IsEndRecord row)) (front ++ w.row ∷ []) w.rest all.rows_only)
 
     by_answer : (b : Bool) → is_refused_answer answer ≡ b
-        → IsCompletedByRetry form name base moments others (front ++ more) answers told last ⊎ IsCompletedByRetry form name base (moments ++ moment ∷ []) others (front ++ more) (answers ++ answer ∷ []) told last
+        → IsCompletedByRetry form name base moments others (front ++ more) answers told last
+        ⊎ IsCompletedByRetry form name base (moments ++ moment ∷ []) others (front ++ more) (answers ++ answer ∷ []) told last
     by_answer true h =
         inl (completed form name base mid last moments others front more answers told none one
         (subst (λ b. BatchRowsAreDecided form step_of_row name b others (front ++ more) told last) (refused-leaves mid stood moment w.command _ answer w.booked h) two))
@@ -112,7 +117,11 @@ stopped-completed form name base mid stood last moments others front more answer
 -- the rows that were settled, and those that follow up to the end
 pub rows-go-on : (text name other : Text) (rows others : List Fields) → AllByRecursion (λ row. ¬ (IsEndRecord row)) rows → BeginsWithRecords (Some text) (batch_header name ∷ rows)
     → BeginsWithRecords (Some text) (batch_header other ∷ (others ++ correct_end_record (length others) ∷ [])) → (name ≡ other) × ((back : List Fields) × (others ≡ rows ++ back))
-rows-go-on text name other rows others only begins whole = (name-same name other _ _ same, prefix rows others begins.0 (correct_end_record (length others)) whole.0 only (right_end (length others)) (others-same (batch_header name) (batch_header other) _ _ same))
+rows-go-on text name other rows others only begins whole = (
+  name-same name other _ _ same,
+  prefix rows others begins.0 (correct_end_record (length others)) whole.0 only (right_end (length others))
+      (others-same (batch_header name) (batch_header other) _ _ same),
+)
   where
     same : batch_header name ∷ (rows ++ begins.0) ≡ batch_header other ∷ (others ++ correct_end_record (length others) ∷ whole.0)
     same = sym begins.1 ∙ whole.1 ∙ ap (λ (l : List Fields). batch_header other ∷ l) (append_assoc others (correct_end_record (length others) ∷ []) whole.0)
@@ -122,8 +131,10 @@ after-front [] x y xs ys e = first-same x y xs ys e
 after-front (row ∷ front) x y xs ys e = after-front front x y xs ys (others-same row row _ _ e)
 
 -- a row behind them that is not the end is the next of them
-pub next-goes-on : (text name other : Text) (rows others : List Fields) (row : Fields) → AllByRecursion (λ row. ¬ (IsEndRecord row)) rows → BeginsWithRecords (Some text) (batch_header name ∷ (rows ++ row ∷ []))
-    → BeginsWithRecords (Some text) (batch_header other ∷ (others ++ correct_end_record (length others) ∷ [])) → ((n : ℕ) → row ≡ correct_end_record n → ⊥) → (name ≡ other) × ((rest : List Fields) × (others ≡ rows ++ row ∷ rest))
+pub next-goes-on : (text name other : Text) (rows others : List Fields) (row : Fields) → AllByRecursion (λ row. ¬ (IsEndRecord row)) rows
+    → BeginsWithRecords (Some text) (batch_header name ∷ (rows ++ row ∷ []))
+    → BeginsWithRecords (Some text) (batch_header other ∷ (others ++ correct_end_record (length others) ∷ [])) → ((n : ℕ) → row ≡ correct_end_record n → ⊥)
+    → (name ≡ other) × ((rest : List Fields) × (others ≡ rows ++ row ∷ rest))
 next-goes-on text name other rows others row only begins whole apart = (on.0, by_back on.1.0 on.1.1)
   where
     records_are : records default_config text ≡ batch_header name ∷ (rows ++ row ∷ begins.0)
@@ -133,7 +144,8 @@ next-goes-on text name other rows others row only begins whole apart = (on.0, by
     on = rows-go-on text name other rows others only (row ∷ begins.0, records_are) whole
 
     same : rows ++ row ∷ begins.0 ≡ others ++ correct_end_record (length others) ∷ whole.0
-    same = others-same (batch_header name) (batch_header other) _ _ (sym records_are ∙ whole.1 ∙ ap (λ (l : List Fields). batch_header other ∷ l) (append_assoc others (correct_end_record (length others) ∷ []) whole.0))
+    same = others-same (batch_header name) (batch_header other) _ _
+        (sym records_are ∙ whole.1 ∙ ap (λ (l : List Fields). batch_header other ∷ l) (append_assoc others (correct_end_record (length others) ∷ []) whole.0))
 
     by_back : (back : List Fields) → others ≡ rows ++ back → (rest : List Fields) × (others ≡ rows ++ row ∷ rest)
     by_back [] e =

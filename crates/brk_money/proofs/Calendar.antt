@@ -6,7 +6,8 @@ use Rattle.jiff.proofs.Family.{epoch_day_injective, epoch_day_range}
 use Rattle.jiff.proofs.SpanFacts.{signed_arith}
 use Rattle.jiff_core.specs.Calendar.{day_count}
 use Rattle.jiff_core.specs.declared.civil.date.Date.{Date}
-use Rattle.jiff_core.proofs.CalendarLemmas.{day_count-day, day_count-day_of_year, day_count-end, day_count-epoch, day_count-last_of_year, day_count-later_year, day_count-next_month, day_count-next_year, days_from_civil-day_count, days_in_month_bounds, days_in_year_bounds}
+use Rattle.jiff_core.proofs.CalendarLemmas.{day_count-day, day_count-day_of_year, day_count-end, day_count-epoch, day_count-last_of_year, day_count-later_year}
+use Rattle.jiff_core.proofs.CalendarLemmas.{day_count-next_month, day_count-next_year, days_from_civil-day_count, days_in_month_bounds, days_in_year_bounds}
 use Rattle.brk_money.specs.Moments.{CivilDate, civil_date_of_day, date_after_year_start, date_after_month_start}
 
 -- The civil date `c` has a month from 1 to 12, a day of that month, and a year that is not before
@@ -64,7 +65,8 @@ from_year (suc k) y n h = at (from_year k (y + 1)) (nat_lt n (days_in_year (pos 
         let rest = n - days_in_year (pos y) in
         let same : day_count (pos (y + 1)) 1 1 + rest ≡ day_count (pos y) 1 1 + n = omega (arith, beyond, next) in
         let later = more rest (omega (arith, h, beyond, days_in_year_bounds (pos y))) in
-        let d : IsDateAt (date_after_year_start k (y + 1) rest) y (day_count (pos y) 1 1 + n) = record { year_from = omega (arith, later.year_from); month_in = later.month_in; day_in = later.day_in; counted = later.counted ∙ same } in
+        let d : IsDateAt (date_after_year_start k (y + 1) rest) y (day_count (pos y) 1 1 + n) =
+        record { year_from = omega (arith, later.year_from); month_in = later.month_in; day_in = later.day_in; counted = later.counted ∙ same } in
         rw (date_after_year_start, t) d
 
 pub civil_at : (n : ℕ) → IsDateAt (civil_date_of_day n) 1970 (4_371_953 + n)
@@ -141,9 +143,11 @@ is_short n h =
     (omega (arith, high), omega (arith, d.month_in), omega (arith, d.day_in, long))
 
 -- days with one date are one day
-pub same_day : (m n : ℕ) → (civil_date_of_day m).year ≡ (civil_date_of_day n).year → (civil_date_of_day m).month ≡ (civil_date_of_day n).month → (civil_date_of_day m).day ≡ (civil_date_of_day n).day → m ≡ n
+pub same_day : (m n : ℕ) → (civil_date_of_day m).year ≡ (civil_date_of_day n).year → (civil_date_of_day m).month ≡ (civil_date_of_day n).month
+    → (civil_date_of_day m).day ≡ (civil_date_of_day n).day → m ≡ n
 same_day m n year month day =
     let a = (civil_at m).counted in
     let b = (civil_at n).counted in
-    let same : day_count (pos (civil_date_of_day m).year) (civil_date_of_day m).month (civil_date_of_day m).day ≡ day_count (pos (civil_date_of_day n).year) (civil_date_of_day n).month (civil_date_of_day n).day = rw (year, month, day) refl in
+    let same : day_count (pos (civil_date_of_day m).year) (civil_date_of_day m).month (civil_date_of_day m).day
+    ≡ day_count (pos (civil_date_of_day n).year) (civil_date_of_day n).month (civil_date_of_day n).day = rw (year, month, day) refl in
     omega (arith, a, b, same)

@@ -17,7 +17,8 @@ own : IsNumeralModel (λ ds. all_ascii_digits ds ≡ true) (number_with_more_dig
 own = numerals_by_fold _ (search rules) number_with_more_digits (search rules)
 
 -- digits with no needless zero in front are what their number is written as
-pub whole_found : (bs : List ℕ) → all_ascii_digits bs ≡ true → number_with_more_digits 0 bs ≤ 10 ^ 17 → 0 < length bs → (get_or bs 0 0 ≡ 48 → length bs ≡ 1) → bs ≡ decimal (number_with_more_digits 0 bs)
+pub whole_found : (bs : List ℕ) → all_ascii_digits bs ≡ true → number_with_more_digits 0 bs ≤ 10 ^ 17 → 0 < length bs → (get_or bs 0 0 ≡ 48 → length bs ≡ 1)
+    → bs ≡ decimal (number_with_more_digits 0 bs)
 whole_found bs p small some first = sym (decimal-digits_value own bs p some first (omega arith))
 
 -- The bytes `bs` are one or more decimal digits, without a leading zero unless there is only one,

@@ -9,7 +9,8 @@ use Rattle.std.proofs.lemmas.Bool.{leb-true, le-leb, ne_eqb}
 use Rattle.std.proofs.lemmas.List.Elements.{filter-append}
 use Rattle.std.proofs.lemmas.List.Sums.{fold-append}
 use Rattle.std.specs.List.{AllByRecursion}
-use Rattle.brk_money.specs.Spelling.{Text, value_if_canonical, number_from_ascii_digits, decimal_number_of_text, number_within_limit, number_with_more_digits, cents_of_text, cents_text, cents_from_ascii_digits, unsigned_cents_text, IsWithinAmountLimit, amount_within_limit}
+use Rattle.brk_money.specs.Spelling.{Text, value_if_canonical, number_from_ascii_digits, decimal_number_of_text, number_within_limit, number_with_more_digits}
+use Rattle.brk_money.specs.Spelling.{cents_of_text, cents_text, cents_from_ascii_digits, unsigned_cents_text, IsWithinAmountLimit, amount_within_limit}
 use Rattle.brk_money.proofs.Digits.{whole_only}
 use Rattle.brk_money.proofs.Plain.{plain_first}
 

@@ -29,8 +29,10 @@ unfolding earlier
 earlier_assoc r s t = by_both (nat_le (format_refusal_rank r) (format_refusal_rank s)) refl (nat_le (format_refusal_rank s) (format_refusal_rank t)) refl
   where
     by_both : (b : Bool) → nat_le (format_refusal_rank r) (format_refusal_rank s) ≡ b → (d : Bool) → nat_le (format_refusal_rank s) (format_refusal_rank t) ≡ d
-        → cond (nat_le (format_refusal_rank r) (format_refusal_rank (cond (nat_le (format_refusal_rank s) (format_refusal_rank t)) s t))) r (cond (nat_le (format_refusal_rank s) (format_refusal_rank t)) s t)
-        ≡ cond (nat_le (format_refusal_rank (cond (nat_le (format_refusal_rank r) (format_refusal_rank s)) r s)) (format_refusal_rank t)) (cond (nat_le (format_refusal_rank r) (format_refusal_rank s)) r s) t
+        → cond (nat_le (format_refusal_rank r) (format_refusal_rank (cond (nat_le (format_refusal_rank s) (format_refusal_rank t)) s t))) r
+        (cond (nat_le (format_refusal_rank s) (format_refusal_rank t)) s t)
+        ≡ cond (nat_le (format_refusal_rank (cond (nat_le (format_refusal_rank r) (format_refusal_rank s)) r s)) (format_refusal_rank t))
+        (cond (nat_le (format_refusal_rank r) (format_refusal_rank s)) r s) t
     by_both true e true f =
         let low = leb-true (format_refusal_rank r) (format_refusal_rank s) e in
         let high = leb-true (format_refusal_rank s) (format_refusal_rank t) f in

@@ -10,7 +10,8 @@ use Rattle.brk_money.specs.declared.trade_type.TradeType.TheVariants.{MarketBuy,
 use Rattle.brk_money.specs.declared.refusal.Refusal.{Refusal}
 use Rattle.brk_money.specs.declared.refusal.Refusal.TheVariants.{BadText, BadQty, BadPrice, BadType}
 use Rattle.brk_model.specs.Limits.{greatest_price}
-use Rattle.brk_model.specs.Forms.{ReadResult, ◌⊛◌, nonnegative_amount, value_if_valid, trade_type_with_code, read_price, market_type_if_price_is_empty, refusal_of_unknown_type_by_price_text, order_type_with_price, read_order_type}
+use Rattle.brk_model.specs.Forms.{ReadResult, ◌⊛◌, nonnegative_amount, value_if_valid, trade_type_with_code, read_price, market_type_if_price_is_empty}
+use Rattle.brk_model.specs.Forms.{refusal_of_unknown_type_by_price_text, order_type_with_price, read_order_type}
 use Rattle.brk_ref.proofs.Applied.{text_left, text_right}
 
 -- a refusal is of one kind

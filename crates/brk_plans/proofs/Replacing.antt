@@ -48,7 +48,8 @@ pub one_replaced : (part new text written rest before after : Text) (i j : ℕ) 
 unfolding replace_text
 one_replaced part new text written rest before after i j h found b a n so_far =
     let cut : rest ≡ before ++ part ++ after =
-    sym (take-append-drop i rest) ∙ ap (λ (front : Text). front ++ drop i rest) (sym b) ∙ ap (λ (t : Text). before ++ t) (found.1.split ∙ ap (λ (t : Text). part ++ t) (sym a)) ∙ sym (append_assoc before part after) in
+    sym (take-append-drop i rest) ∙ ap (λ (front : Text). front ++ drop i rest) (sym b)
+    ∙ ap (λ (t : Text). before ++ t) (found.1.split ∙ ap (λ (t : Text). part ++ t) (sym a)) ∙ sym (append_assoc before part after) in
     let lacking : (k : ℕ) → k < length before → LacksTextAt part (before ++ part ++ after) k =
     λ k l. let P : Text → Type 0 = λ t. LacksTextAt part t k in subst P cut (found.0 k (omega (arith, l, n))) in
     so_far ∙ ap (λ (t : Text). written ++ skip_and_replace_text 0 part new t) cut

@@ -42,7 +42,8 @@ stays_after_tick stamp tick (q ∷ quotes) h = by_first (stays_after_tick stamp 
     by_first rest true e = rw (stays_beyond stamp tick q e) refl
     by_first rest false e = let k : list_any has_volume_above_limit quotes ≡ true = rw e at h in rw (rest k) (or_true _)
 
-stays_after : (stamp : ℕ) (ticks : List Tick) (quotes : List SymbolState) → list_any has_volume_above_limit quotes ≡ true → list_any has_volume_above_limit (states_after_ticks stamp ticks quotes) ≡ true
+stays_after : (stamp : ℕ) (ticks : List Tick) (quotes : List SymbolState) → list_any has_volume_above_limit quotes ≡ true
+    → list_any has_volume_above_limit (states_after_ticks stamp ticks quotes) ≡ true
 stays_after stamp [] quotes h = h
 stays_after stamp (tick ∷ ticks) quotes h = stays_after stamp ticks (states_after_tick stamp quotes tick) (stays_after_tick stamp tick quotes h)
 

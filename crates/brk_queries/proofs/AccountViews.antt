@@ -56,7 +56,8 @@ position_seen id x worths sorted view is shown t e w =
           answered (is_none (customer_with_id base id)) NoCustomer (customer_position_view (tables_of_base base) test)
           (is_there x (customer_with_id base id) (e ∙ ap (λ y. find test y.customers) s ∙ reads_customer base id))
           ∙ ap Ok (sym (is t test (w ∙ ap (map (worth_of_account t)) (same_rows (λ a. a.customer == x.id) (λ a. list_any (λ c. test c && (c.id == a.customer)) t.customers) t.accounts
-          (λ a. ap (λ n. a.customer == n) (eqb-true x.id id (find-at test t.customers x (sym e)).passes) ∙ owned_by_id t.customers id a.customer x e))) ∙ ap (λ y. customer_position_view y test) s ∙ same_position base test books)),
+          (λ a. ap (λ n. a.customer == n) (eqb-true x.id id (find-at test t.customers x (sym e)).passes) ∙ owned_by_id t.customers id a.customer x e)))
+          ∙ ap (λ y. customer_position_view y test) s ∙ same_position base test books)),
       λ base books sound s. carried_as (PositionOf id) view (views.Position sorted) t shown tt,
     )
 

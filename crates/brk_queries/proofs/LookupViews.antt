@@ -66,7 +66,8 @@ follows trade settled moved came t f base books sound s = record {
 -- trades that satisfy `test`, with their related rows.
 abbrev pub IsViewOfSelectedTrades : (Tables → TradeRow → Bool) → List LookedUp → View → Type 0
 IsViewOfSelectedTrades test found view =
-    (t : Tables) → map records_of_looked_up_trade found ≡ map (trade_lookup_records t) (take 20 (trade_rows_oldest_first (filter (test t) t.trades))) → records_of_view view ≡ trade_lookup_view t (test t)
+    (t : Tables) → map records_of_looked_up_trade found ≡ map (trade_lookup_records t) (take 20 (trade_rows_oldest_first (filter (test t) t.trades)))
+    → records_of_view view ≡ trade_lookup_view t (test t)
 
 -- what was looked up shows the first twenty of the trades that pass a test
 seen_by : (test : TradeRow → Bool) (rows : List TradeRow) (found : List LookedUp) (view : View)
@@ -88,8 +89,12 @@ abbrev pub is_trade_of_account_in_span : ℕ → ℕ → ℕ → TradeRow → Bo
 is_trade_of_account_in_span account first last r = (r.account == account) && row_stamp_is_between first last r
 
 pub account_trades_seen : (id first last : ℕ) (a : AccountRow) (rows : List TradeRow) (found : Vec LookedUp) (view : View) → view ≡ views.Lookup found
-    → ((t : Tables) (account first last : ℕ) → map records_of_looked_up_trade found.items ≡ map (trade_lookup_records t) (take 20 (trade_rows_oldest_first (filter (is_trade_of_account_in_span account first last) t.trades))) → records_of_view view ≡ trade_lookup_view t (is_trade_of_account_in_span account first last))
-    → (t : Tables) → Some a ≡ find (λ r. r.id == id) t.accounts → rows ≡ take 20 (trade_rows_oldest_first (filter (is_trade_of_account_in_span id first last) t.trades)) → HaveAllRowsOfTrades rows found.items t
+    → ((t : Tables) (account first last : ℕ)
+    → map records_of_looked_up_trade found.items
+    ≡ map (trade_lookup_records t) (take 20 (trade_rows_oldest_first (filter (is_trade_of_account_in_span account first last) t.trades)))
+    → records_of_view view ≡ trade_lookup_view t (is_trade_of_account_in_span account first last))
+    → (t : Tables) → Some a ≡ find (λ r. r.id == id) t.accounts
+    → rows ≡ take 20 (trade_rows_oldest_first (filter (is_trade_of_account_in_span id first last) t.trades)) → HaveAllRowsOfTrades rows found.items t
     → AnswersQueryAsModel (TradesOfAccount id first last) (Ok view) t
 unfolding ask checks_of_query view_of_base view_of_tables
 account_trades_seen id first last a rows found view shown is t e w looked = (
@@ -106,12 +111,14 @@ security_missing base symbol t s e =
     sym (is_none-map security_row (security_with_symbol base symbol))
     ∙ is_missing (option_map security_row (security_with_symbol base symbol)) (e ∙ ap (λ (x : Tables). find (λ r. bytes_eq r.symbol symbol) x.securities) s ∙ reads_security base symbol)
 
-security_there : (base : Base) (symbol : Text) (r : SecurityRow) (t : Tables) → t ≡ sheets base → Some r ≡ find (λ r. bytes_eq r.symbol symbol) t.securities → is_none (security_with_symbol base symbol) ≡ false
+security_there : (base : Base) (symbol : Text) (r : SecurityRow) (t : Tables) → t ≡ sheets base → Some r ≡ find (λ r. bytes_eq r.symbol symbol) t.securities
+    → is_none (security_with_symbol base symbol) ≡ false
 security_there base symbol r t s e =
     sym (is_none-map security_row (security_with_symbol base symbol))
     ∙ is_there r (option_map security_row (security_with_symbol base symbol)) (e ∙ ap (λ (x : Tables). find (λ r. bytes_eq r.symbol symbol) x.securities) s ∙ reads_security base symbol)
 
-pub no_symbol_trades : (symbol : Text) (first last : ℕ) (t : Tables) → None ≡ find (λ r. bytes_eq r.symbol symbol) t.securities → AnswersQueryAsModel (TradesOfSymbol symbol first last) (Err NoSecurity) t
+pub no_symbol_trades : (symbol : Text) (first last : ℕ) (t : Tables) → None ≡ find (λ r. bytes_eq r.symbol symbol) t.securities
+    → AnswersQueryAsModel (TradesOfSymbol symbol first last) (Err NoSecurity) t
 unfolding ask checks_of_query
 no_symbol_trades symbol first last t e =
     (λ base books sound s. refused (is_none (security_with_symbol base symbol)) NoSecurity (view_of_base base (TradesOfSymbol symbol first last)) (security_missing base symbol t s e), tt)
@@ -121,8 +128,12 @@ abbrev pub is_trade_of_symbol_in_span : Text → ℕ → ℕ → TradeRow → Bo
 is_trade_of_symbol_in_span symbol first last r = bytes_eq r.symbol symbol && row_stamp_is_between first last r
 
 pub symbol_trades_seen : (symbol : Text) (first last : ℕ) (row : SecurityRow) (rows : List TradeRow) (found : Vec LookedUp) (view : View) → view ≡ views.Lookup found
-    → ((t : Tables) (symbol : List ℕ) (first last : ℕ) → map records_of_looked_up_trade found.items ≡ map (trade_lookup_records t) (take 20 (trade_rows_oldest_first (filter (is_trade_of_symbol_in_span symbol first last) t.trades))) → records_of_view view ≡ trade_lookup_view t (is_trade_of_symbol_in_span symbol first last))
-    → (t : Tables) → Some row ≡ find (λ r. bytes_eq r.symbol symbol) t.securities → rows ≡ take 20 (trade_rows_oldest_first (filter (is_trade_of_symbol_in_span symbol first last) t.trades)) → HaveAllRowsOfTrades rows found.items t
+    → ((t : Tables) (symbol : List ℕ) (first last : ℕ)
+    → map records_of_looked_up_trade found.items
+    ≡ map (trade_lookup_records t) (take 20 (trade_rows_oldest_first (filter (is_trade_of_symbol_in_span symbol first last) t.trades)))
+    → records_of_view view ≡ trade_lookup_view t (is_trade_of_symbol_in_span symbol first last))
+    → (t : Tables) → Some row ≡ find (λ r. bytes_eq r.symbol symbol) t.securities
+    → rows ≡ take 20 (trade_rows_oldest_first (filter (is_trade_of_symbol_in_span symbol first last) t.trades)) → HaveAllRowsOfTrades rows found.items t
     → AnswersQueryAsModel (TradesOfSymbol symbol first last) (Ok view) t
 unfolding ask checks_of_query view_of_base view_of_tables
 symbol_trades_seen symbol first last row rows found view shown is t e w looked = (
@@ -187,7 +198,8 @@ one_by_one look (id ∷ ids) (r ∷ rows) e =
     ap (λ rs. r ∷ rs) (one_by_one look ids rows rest) ∙ ap (λ o. option_to_list o ++ flat_map (λ id. option_to_list (look id)) ids) first
 
 -- the oldest first, they are the first twenty of all trades of these ids
-oldest_named : (base : Base) (ids : List ℕ) (rows : List TradeRow) → BooksInvariant base → AuditInvariant base → all_distinct ids ≡ true → length ids ≤ 20 → map Some rows ≡ map (trade_row_with_id (sheets base)) ids
+oldest_named : (base : Base) (ids : List ℕ) (rows : List TradeRow) → BooksInvariant base → AuditInvariant base → all_distinct ids ≡ true → length ids ≤ 20
+    → map Some rows ≡ map (trade_row_with_id (sheets base)) ids
     → trade_rows_oldest_first rows ≡ take 20 (trade_rows_oldest_first (filter (λ r. contains_number r.id ids) (sheets base).trades))
 oldest_named base ids rows books sound distinct few e =
     let many : length (trade_rows_oldest_first rows) ≤ 20 =
@@ -215,14 +227,18 @@ named_first ids named ordered distinct few order t e base books sound s =
 
 pub trades_seen : (ids : List ℕ) (named ordered : List trade.TradeRow) (found : Vec LookedUp) (view : View) → all_distinct ids ≡ true → length ids ≤ 20
     → map abstract_trade_row ordered ≡ trade_rows_oldest_first (map abstract_trade_row named) → view ≡ views.Lookup found
-    → ((t : Tables) (ids : List ℕ) → map records_of_looked_up_trade found.items ≡ map (trade_lookup_records t) (take 20 (trade_rows_oldest_first (filter (is_trade_with_one_of_ids ids) t.trades))) → records_of_view view ≡ trade_lookup_view t (is_trade_with_one_of_ids ids))
+    → ((t : Tables) (ids : List ℕ)
+    → map records_of_looked_up_trade found.items
+    ≡ map (trade_lookup_records t) (take 20 (trade_rows_oldest_first (filter (is_trade_with_one_of_ids ids) t.trades)))
+    → records_of_view view ≡ trade_lookup_view t (is_trade_with_one_of_ids ids))
     → (t : Tables) → AreTradesWithIds t ids named → HaveAllRowsOfTrades (map abstract_trade_row ordered) found.items t → AnswersQueryAsModel (TradesWith ids) (Ok view) t
 unfolding ask checks_of_query view_of_base view_of_tables
 trades_seen ids named ordered found view distinct few order shown is t e looked = (
   λ base books sound s.
       answered (list_any (λ id. is_none (trade_with_id base id)) ids) NoTrade (trade_lookup_view (tables_of_base base) (is_trade_with_one_of_ids ids))
       (sym (same_missing base ids) ∙ none_missing (trade_row_with_id (sheets base)) ids (map abstract_trade_row named) (are_named ids named t e base s))
-      ∙ ap Ok (seen_by (is_trade_with_one_of_ids ids) (map abstract_trade_row ordered) found.items view (λ t. is t ids) t (named_first ids named ordered distinct few order t e base books sound s) looked base books sound s),
+      ∙ ap Ok (seen_by (is_trade_with_one_of_ids ids) (map abstract_trade_row ordered) found.items view (λ t. is t ids) t
+      (named_first ids named ordered distinct few order t e base books sound s) looked base books sound s),
   λ base books sound s.
       carried_as (TradesWith ids) view (views.Lookup found) t shown
       (looked base books sound s ∙ ap (map (table_rows_of_trade t)) (named_first ids named ordered distinct few order t e base books sound s)),

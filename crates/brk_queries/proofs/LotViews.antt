@@ -35,7 +35,8 @@ use Rattle.brk_queries.proofs.Tested.{answered, carried_as, refused}
 -- `is_earlier_lot_change`.
 abbrev pub AreFirstChangesSoFar : Tables → List HoldingHistoryRow → List LotChange → List LotTouch → Type 0
 AreFirstChangesSoFar t rows rest kept =
-    (done : List LotChange) × (map abstract_lot_change_row (rest ++ done) ≡ rows) × (kept ≡ take 20 (sort_by is_earlier_lot_change (flat_map (λ r. stamped_changes_of_lot t r.lot) (map abstract_lot_change_row done))))
+    (done : List LotChange) × (map abstract_lot_change_row (rest ++ done) ≡ rows)
+    × (kept ≡ take 20 (sort_by is_earlier_lot_change (flat_map (λ r. stamped_changes_of_lot t r.lot) (map abstract_lot_change_row done))))
 
 append_nil : {X : Type 0} (xs : List X) → xs ++ [] ≡ xs
 append_nil [] = refl
@@ -45,7 +46,8 @@ append_assoc : {X : Type 0} (xs ys zs : List X) → (xs ++ ys) ++ zs ≡ xs ++ (
 append_assoc [] ys zs = refl
 append_assoc (x ∷ xs) ys zs = ap (λ ws. x ∷ ws) (append_assoc xs ys zs)
 
-pub none_kept : (t : Tables) (rest : List LotChange) (kept : List LotTouch) (rows : List HoldingHistoryRow) → kept ≡ [] → map abstract_lot_change_row rest ≡ rows → AreFirstChangesSoFar t rows rest kept
+pub none_kept : (t : Tables) (rest : List LotChange) (kept : List LotTouch) (rows : List HoldingHistoryRow) → kept ≡ []
+    → map abstract_lot_change_row rest ≡ rows → AreFirstChangesSoFar t rows rest kept
 unfolding sort_by
 none_kept t rest kept rows e f = ([], ap (map abstract_lot_change_row) (append_nil rest) ∙ f, e)
 
@@ -76,7 +78,8 @@ by_lot : (base : Base) (trade : ℕ) → BooksInvariant base → AuditInvariant 
     → flat_map (λ r. stamped_changes_of_lot (sheets base) r.lot) (filter (λ r. r.trade == trade) (sheets base).holding_history) ≡ changes_of_touched_lots (sheets base) trade
 by_lot base trade books sound =
     let s : Tables = sheets base in
-    pieces (stamped_lot_change s) (λ lot. filter (λ (r : HoldingHistoryRow). r.lot == lot) s.holding_history) (λ (r : HoldingHistoryRow). r.lot) (filter (λ (r : HoldingHistoryRow). r.trade == trade) s.holding_history)
+    pieces (stamped_lot_change s) (λ lot. filter (λ (r : HoldingHistoryRow). r.lot == lot) s.holding_history) (λ (r : HoldingHistoryRow). r.lot)
+    (filter (λ (r : HoldingHistoryRow). r.trade == trade) s.holding_history)
     ∙ ap (map (stamped_lot_change s)) (touched_by_lot base trade books sound)
 
 -- ---- the view
@@ -90,8 +93,11 @@ no_lots id first t e = (λ base books sound s. refused (is_none (account_with_id
 abbrev pub IsFirstTradeSince : ℕ → ℕ → Option trade.TradeRow → Tables → Type 0
 IsFirstTradeSince id first o t = option_to_list (option_map abstract_trade_row o) ≡ take 1 (trade_rows_oldest_first (filter (λ r. nat_le first r.stamp) (trade_rows_of_account t id)))
 
-seen : (id first : ℕ) (a : AccountRow) (lots : Option TouchedLots) (view : View) → view ≡ views.Lots lots → ((t : Tables) (account first : ℕ) → AreTouchedLots t account first lots → records_of_view view ≡ touched_lots_of_oldest_trade t account first)
-    → (t : Tables) → Some a ≡ find (λ r. r.id == id) t.accounts → ((base : Base) → BooksInvariant base → AuditInvariant base → t ≡ sheets base → AreTouchedLots t id first lots) → AnswersQueryAsModel (LotsTouched id first) (Ok view) t
+seen : (id first : ℕ) (a : AccountRow) (lots : Option TouchedLots) (view : View) → view ≡ views.Lots lots
+    → ((t : Tables) (account first : ℕ) → AreTouchedLots t account first lots → records_of_view view ≡ touched_lots_of_oldest_trade t account first)
+    → (t : Tables) → Some a ≡ find (λ r. r.id == id) t.accounts
+    → ((base : Base) → BooksInvariant base → AuditInvariant base → t ≡ sheets base → AreTouchedLots t id first lots)
+    → AnswersQueryAsModel (LotsTouched id first) (Ok view) t
 unfolding ask checks_of_query view_of_base view_of_tables
 seen id first a lots view shown is t e touched = (
   λ base books sound s.
@@ -100,7 +106,8 @@ seen id first a lots view shown is t e touched = (
   λ base books sound s. carried_as (LotsTouched id first) view (views.Lots lots) t shown (touched base books sound s),
 )
 
-pub none_seen : (id first : ℕ) (a : AccountRow) (view : View) → view ≡ views.Lots None → ((t : Tables) (account first : ℕ) → AreTouchedLots t account first None → records_of_view view ≡ touched_lots_of_oldest_trade t account first)
+pub none_seen : (id first : ℕ) (a : AccountRow) (view : View) → view ≡ views.Lots None
+    → ((t : Tables) (account first : ℕ) → AreTouchedLots t account first None → records_of_view view ≡ touched_lots_of_oldest_trade t account first)
     → (t : Tables) → Some a ≡ find (λ r. r.id == id) t.accounts → IsFirstTradeSince id first None t → AnswersQueryAsModel (LotsTouched id first) (Ok view) t
 none_seen id first a view shown is t e none = seen id first a None view shown is t e (λ base books sound s. record { found = ap (map (λ (r : TradeRow). r.id)) (sym none); changes = tt })
 

@@ -32,7 +32,8 @@ IsViewOfRecentTrades trades history view = (t : Tables) (account : ℕ) → map 
 -- `trades` are the last ten trades of the account, the most recent first, and `history` is their
 -- history.
 abbrev pub AreRecentTradesWithHistory : ℕ → List read_trade.TradeRow → List read.HistoryRow → Tables → Type 0
-AreRecentTradesWithHistory account trades history t = (map abstract_trade_row trades ≡ last_ten_trade_rows t account) × (map abstract_history_row history ≡ flat_map (λ row. history_rows_with_trade_id t row.id) (last_ten_trade_rows t account))
+AreRecentTradesWithHistory account trades history t = (map abstract_trade_row trades ≡ last_ten_trade_rows t account)
+    × (map abstract_history_row history ≡ flat_map (λ row. history_rows_with_trade_id t row.id) (last_ten_trade_rows t account))
 
 pub account_missing : (base : Base) (id : ℕ) (t : Tables) → t ≡ sheets base → None ≡ find (λ r. r.id == id) t.accounts → is_none (account_with_id base id) ≡ true
 account_missing base id t s e =

@@ -64,7 +64,8 @@ one_more_has_own_security : (statuses : List TradeStatus) (status : TradeStatus)
     → rows_of_trade_status status ≡ trade_row_with_security t row → HaveOwnSecurities (statuses ++ status ∷ []) t
 one_more_has_own_security statuses status t row h e =
     let own : rows_of_trade_status status ≡ trade_row_with_security t (abstract_trade_row status.trade) = e ∙ ap (trade_row_with_security t) (sym (ap (λ p. p.0) e)) in
-    map-append rows_of_trade_status statuses (status ∷ []) ∙ (λ j. h j ++ own j ∷ []) ∙ sym (map-append (λ (s : TradeStatus). trade_row_with_security t (abstract_trade_row s.trade)) statuses (status ∷ []))
+    map-append rows_of_trade_status statuses (status ∷ []) ∙ (λ j. h j ++ own j ∷ [])
+    ∙ sym (map-append (λ (s : TradeStatus). trade_row_with_security t (abstract_trade_row s.trade)) statuses (status ∷ []))
 
 pub status_more : (account : ℕ) (before rest : List TradeRow) (trade : TradeRow) (statuses : List TradeStatus) (status : TradeStatus) (t : Tables) → before ≡ rest ++ trade ∷ []
     → AreStatusesReadSoFar account before statuses t → rows_of_trade_status status ≡ trade_row_with_security t (abstract_trade_row trade)
@@ -109,7 +110,8 @@ one_head t a c accounts rest e f =
     ∙ ap (λ (cs : List Customer). (map (λ c. c.last_name ∷ c.first_name ∷ broker_name_with_id t a.broker ∷ []) cs ++ []) ++ rest) f
 
 pub status_seen : (id : ℕ) (a : AccountRow) (statuses : Vec TradeStatus) (found : AccountStatus) (view : View) → view ≡ views.Status found
-    → (t : Tables) → Some a ≡ find (λ r. r.id == id) t.accounts → AreRecentTradesWithSecurities id statuses.items t → IsAccountStatusWithTrades a statuses found t → AnswersQueryAsModel (StatusOf id) (Ok view) t
+    → (t : Tables) → Some a ≡ find (λ r. r.id == id) t.accounts → AreRecentTradesWithSecurities id statuses.items t
+    → IsAccountStatusWithTrades a statuses found t → AnswersQueryAsModel (StatusOf id) (Ok view) t
 unfolding ask checks_of_query view_of_base view_of_tables trade_status_view
 status_seen id a statuses found view is t e w p = (
   λ base books sound s.
@@ -117,7 +119,8 @@ status_seen id a statuses found view is t e w p = (
       let accounts : filter (λ (r : AccountRow). r.id == id) t.accounts ≡ a ∷ [] =
       ap (λ (x : Tables). filter (λ r. r.id == id) x.accounts) s ∙ sym (ap option_to_list (e ∙ ap (λ (x : Tables). find (λ r. r.id == id) x.accounts) s) ∙ account_alone base id books sound) in
       let customers : filter (λ (c : Customer). c.id == a.customer) t.customers ≡ c ∷ [] =
-      ap (λ (x : Tables). filter (λ c. c.id == a.customer) x.customers) s ∙ sym (ap option_to_list (p.1 ∙ ap (λ (x : Tables). find (λ c. c.id == a.customer) x.customers) s) ∙ customer_alone base a.customer books sound) in
+      ap (λ (x : Tables). filter (λ c. c.id == a.customer) x.customers) s
+      ∙ sym (ap option_to_list (p.1 ∙ ap (λ (x : Tables). find (λ c. c.id == a.customer) x.customers) s) ∙ customer_alone base a.customer books sound) in
       let trades : map trade_status_record statuses.items ≡ map (record_of_trade_status t) (take 50 (trade_rows_recent_first (trade_rows_of_account t id))) =
       statuses_shown t statuses.items (take 50 (trade_rows_recent_first (trade_rows_of_account t id))) w in
       let shown : party_names_record found ∷ map trade_status_record found.trades.items ≡ trade_status_view t id =

@@ -2,7 +2,9 @@
 use Rattle.std.proofs.Common.{◌≡◌, Bool, true, false, refl, arith, cond, ◌&&◌}
 use Rattle.std.specs.Prelude.{Option, Some, None, Ok, Err, IfErr, nat_le, nat_abs}
 use Rattle.brk_money.specs.declared.refusal.Refusal.{Refusal}
-use Rattle.brk_money.specs.declared.refusal.Refusal.TheVariants.{BadText, BadQty, BadPrice, BadType, TooMany, KeyReused, NoAccount, NoCustomer, NoBroker, NoSecurity, NoTrade, NoTax, WrongStatus, NotPermitted, Exists, Overlap, TaxSum, NoCharge, NoRate, Range, ClockEnd, TooEarly}
+use Rattle.brk_money.specs.declared.refusal.Refusal.TheVariants.{BadText, BadQty, BadPrice, BadType, TooMany, KeyReused, NoAccount, NoCustomer, NoBroker}
+use Rattle.brk_money.specs.declared.refusal.Refusal.TheVariants.{NoSecurity, NoTrade, NoTax, WrongStatus, NotPermitted, Exists, Overlap, TaxSum, NoCharge}
+use Rattle.brk_money.specs.declared.refusal.Refusal.TheVariants.{NoRate, Range, ClockEnd, TooEarly}
 use Rattle.std.proofs.lemmas.Bool.{le-leb}
 use Rattle.std.specs.Option.{option_and_then}
 use Rattle.brk_money.specs.Spelling.{Text, decimal_number_of_text, cents_of_text}
@@ -51,7 +53,8 @@ no_account_id f a b c d e o h pb pc pd pe po =
     refused_first (Ok f ⊛ a ⊛ b ⊛ c ⊛ d ⊛ e) o (refused_first (Ok f ⊛ a ⊛ b ⊛ c ⊛ d) e (refused_first (Ok f ⊛ a ⊛ b ⊛ c) d
     (refused_first (Ok f ⊛ a ⊛ b) c (refused_first (Ok f ⊛ a) b (refused_second f a h) pb) pc) pd) pe) po
 
-pub no_account_customer : {A B C D E F G : Type 0} (f : A → B → C → D → E → F → G) (a : ReadResult A) (x : A) (b : ReadResult B) (c : ReadResult C) (d : ReadResult D) (e : ReadResult E) (o : ReadResult F)
+pub no_account_customer : {A B C D E F G : Type 0} (f : A → B → C → D → E → F → G) (a : ReadResult A) (x : A) (b : ReadResult B) (c : ReadResult C)
+    (d : ReadResult D) (e : ReadResult E) (o : ReadResult F)
     → a ≡ Ok x → b ≡ Err BadText → IsPlain c → IsPlain d → IsPlain e → IsPlain o → Ok f ⊛ a ⊛ b ⊛ c ⊛ d ⊛ e ⊛ o ≡ Err BadText
 no_account_customer f a x b c d e o g h pc pd pe po =
     refused_first (Ok f ⊛ a ⊛ b ⊛ c ⊛ d ⊛ e) o (refused_first (Ok f ⊛ a ⊛ b ⊛ c ⊛ d) e (refused_first (Ok f ⊛ a ⊛ b ⊛ c) d

@@ -21,7 +21,8 @@ lines_of_cash_rows-append first p (x ∷ xs) ys =
     ap (λ (l : List Text). lines_of_cash_row (nat_lt x.stamp first) p x ++ l) (lines_of_cash_rows-append first q xs ys)
     ∙ sym (append_assoc (lines_of_cash_row (nat_lt x.stamp first) p x) (lines_of_cash_rows first q xs) (lines_of_cash_rows first (progress_after_cash_rows first q xs) ys))
 
-progress_after_cash_rows-append : (first : ℕ) (p : CashProgress) (xs ys : List MoveRow) → progress_after_cash_rows first p (xs ++ ys) ≡ progress_after_cash_rows first (progress_after_cash_rows first p xs) ys
+progress_after_cash_rows-append : (first : ℕ) (p : CashProgress) (xs ys : List MoveRow)
+    → progress_after_cash_rows first p (xs ++ ys) ≡ progress_after_cash_rows first (progress_after_cash_rows first p xs) ys
 progress_after_cash_rows-append first p [] ys = refl
 progress_after_cash_rows-append first p (x ∷ xs) ys = progress_after_cash_rows-append first (progress_after_cash_row (nat_lt x.stamp first) p x) xs ys
 
@@ -43,7 +44,8 @@ early_lines first p [] h = refl
 early_lines first p (x ∷ rows) h =
     (λ i. lines_of_cash_row (h.0 i) p x ++ lines_of_cash_rows first (progress_after_cash_row (h.0 i) p x) rows) ∙ early_lines first (progress_after_cash_row true p x) rows h.1
 
-early_progress : (first : ℕ) (z : ℤ) (rows : List MoveRow) → AreBefore first rows → progress_after_cash_rows first (progress_before_cash_rows z) rows ≡ progress_before_cash_rows (z +ℤ cash_row_total rows)
+early_progress : (first : ℕ) (z : ℤ) (rows : List MoveRow) → AreBefore first rows
+    → progress_after_cash_rows first (progress_before_cash_rows z) rows ≡ progress_before_cash_rows (z +ℤ cash_row_total rows)
 unfolding total_by
 early_progress first z [] h = ap progress_before_cash_rows (sym (+ℤ_idr z))
 early_progress first z (x ∷ rows) h =
@@ -91,7 +93,8 @@ module _ (first : ℕ) (z : ℤ) where
       ∙ append-nil (amount_line (codes "Opening") start ∷ cash_row_line x ∷ map cash_row_line late)
 
   late_end : (start : ℤ) (late : List MoveRow) → AreNotBefore first late
-      → ((progress_after_cash_rows first (progress_before_cash_rows start) late).count ≡ length late) × ((progress_after_cash_rows first (progress_before_cash_rows start) late).total ≡ start +ℤ cash_row_total late)
+      → ((progress_after_cash_rows first (progress_before_cash_rows start) late).count ≡ length late)
+      × ((progress_after_cash_rows first (progress_before_cash_rows start) late).total ≡ start +ℤ cash_row_total late)
   unfolding total_by
   late_end start [] h = (refl, sym (+ℤ_idr start))
   late_end start (x ∷ late) h =

@@ -49,7 +49,8 @@ first_behind xs ys a b c Write h k = (
   k.2,
   k.3,
   append_assoc xs k.0 (k.1 ∷ k.2) ∙ ap (λ (l : List Text). xs ++ l) k.4,
-  subst (Appends a c) (sym (append_assoc (text_of_lines xs) (text_of_lines k.0) (take k.3 (line_with_line_feed k.1))) ∙ ap (λ (l : Text). l ++ take k.3 (line_with_line_feed k.1)) (sym (lines_parts xs k.0))) (Appends-trans _ _ _ _ _ h k.5),
+  subst (Appends a c) (sym (append_assoc (text_of_lines xs) (text_of_lines k.0) (take k.3 (line_with_line_feed k.1)))
+      ∙ ap (λ (l : Text). l ++ take k.3 (line_with_line_feed k.1)) (sym (lines_parts xs k.0))) (Appends-trans _ _ _ _ _ h k.5),
 )
 
 -- First lines of `xs` are first lines of `xs` and `ys`.
@@ -60,13 +61,15 @@ first_before xs ys a b Write h = (h.0, h.1, h.2 ++ ys, h.3, sym (append_assoc h.
 -- ---- the walk
 
 module _ {S V : Type 0} (g : Ghosts S) (old new : Held S) (list : Tables → List MoveRow) (takes : V → typed.MoveRow → V → Type 0) (stops : V → typed.MoveRow → LinesFault → V → Type 0) (before after : V)
-    (t : Tables) (clean : HasCleanDisk (state g new)) (holds : HoldsRows g old t) (result : Result (Unit {0}) (WalkError LinesFault)) (walked : WalkPost g old new abstract_move_row list takes stops before after result)
+    (t : Tables) (clean : HasCleanDisk (state g new)) (holds : HoldsRows g old t) (result : Result (Unit {0}) (WalkError LinesFault))
+    (walked : WalkPost g old new abstract_move_row list takes stops before after result)
     (first : V → ℕ) (moved : V → CashProgress) (contents : V → Option Text)
     (writes : (p : V) (x : typed.MoveRow) (q : V) → takes p x q → (first q ≡ first p) × (moved q ≡ progress_after_cash_row (nat_lt x.stamp (first p)) (moved p) (abstract_move_row x))
     × Appends (contents p) (contents q) (text_of_lines (lines_of_cash_row (nat_lt x.stamp (first p)) (moved p) (abstract_move_row x))))
     (breaks : (p : V) (x : typed.MoveRow) (e : LinesFault) (q : V) → stops p x e q → FailsWithinFirstLines (lines_of_cash_row (nat_lt x.stamp (first p)) (moved p) (abstract_move_row x)) (contents p) (contents q) e) where
   taken : (p : V) (xs : List typed.MoveRow) (q : V) → FoldsTo takes p xs q
-      → Appends (contents p) (contents q) (text_of_lines (lines_of_cash_rows (first p) (moved p) (map abstract_move_row xs))) × (moved q ≡ progress_after_cash_rows (first p) (moved p) (map abstract_move_row xs)) × (first q ≡ first p)
+      → Appends (contents p) (contents q) (text_of_lines (lines_of_cash_rows (first p) (moved p) (map abstract_move_row xs)))
+      × (moved q ≡ progress_after_cash_rows (first p) (moved p) (map abstract_move_row xs)) × (first q ≡ first p)
   taken p [] q h = (subst (λ v. Appends (contents p) (contents v) []) h (appends_none (contents p)), sym (ap moved h), sym (ap first h))
   taken p (x ∷ xs) q h =
       let one = writes p x h.0 h.1 in
@@ -82,14 +85,17 @@ module _ {S V : Type 0} (g : Ghosts S) (old new : Held S) (list : Tables → Lis
       )
 
   pub walk_all : (u : Unit {0}) → result ≡ Ok u
-      → Appends (contents before) (contents after) (text_of_lines (lines_of_cash_rows (first before) (moved before) (list t))) × (moved after ≡ progress_after_cash_rows (first before) (moved before) (list t))
+      → Appends (contents before) (contents after) (text_of_lines (lines_of_cash_rows (first before) (moved before) (list t)))
+      × (moved after ≡ progress_after_cash_rows (first before) (moved before) (list t))
   walk_all u e =
       let h = rw e at (walked.all clean) in
       let f = taken before h.0 after h.1 in
       let same : map abstract_move_row h.0 ≡ list t = h.2 t holds in
-      subst (λ (rows : List MoveRow). Appends (contents before) (contents after) (text_of_lines (lines_of_cash_rows (first before) (moved before) rows)) × (moved after ≡ progress_after_cash_rows (first before) (moved before) rows)) same (f.0, f.1)
+      subst (λ (rows : List MoveRow). Appends (contents before) (contents after) (text_of_lines (lines_of_cash_rows (first before) (moved before) rows))
+      × (moved after ≡ progress_after_cash_rows (first before) (moved before) rows)) same (f.0, f.1)
 
-  pub walk_first : (stop : WalkError LinesFault) → result ≡ Err stop → FailsWithinFirstLines (lines_of_cash_rows (first before) (moved before) (list t)) (contents before) (contents after) (fault_of_walk_error stop)
+  pub walk_first : (stop : WalkError LinesFault) → result ≡ Err stop
+      → FailsWithinFirstLines (lines_of_cash_rows (first before) (moved before) (list t)) (contents before) (contents after) (fault_of_walk_error stop)
   walk_first (Failed fault) e =
       let h = rw e at (walked.early clean) in
       let b = h.1.2 t holds in

@@ -14,8 +14,10 @@ use Rattle.brk_store.specs.Walked.{cash_rows_in_span}
 use Rattle.brk_report_lines.proofs.DayStamps.{within_days}
 use Rattle.brk_report.proofs.CashLists.{AreBefore, AreNotBefore}
 
-pub rows_within : (t : Tables) (account from to first last : ℕ) → first ≡ from * 86400000 → last ≡ to * 86400000 + 86399999 → cash_rows_in_span account first last t ≡ cash_move_rows_within_days from to (sorted_cash_rows_of_account t account)
-rows_within t account from to first last f l = (λ i. cash_rows_in_span account (f i) (l i) t) ∙ (λ i. filter (λ (row : MoveRow). within_days from to row.stamp i) (sorted_cash_rows_of_account t account))
+pub rows_within : (t : Tables) (account from to first last : ℕ) → first ≡ from * 86400000 → last ≡ to * 86400000 + 86399999
+    → cash_rows_in_span account first last t ≡ cash_move_rows_within_days from to (sorted_cash_rows_of_account t account)
+rows_within t account from to first last f l = (λ i. cash_rows_in_span account (f i) (l i) t)
+    ∙ (λ i. filter (λ (row : MoveRow). within_days from to row.stamp i) (sorted_cash_rows_of_account t account))
 
 -- ---- the rows before a day, and those from it on
 
@@ -98,7 +100,8 @@ module _ (from to last : ℕ) (span : from ≤ to) (l : last ≡ to * 86400000 +
   split [] h = refl
   split (x ∷ rows) h = by_test (split rows h.1) (early x) refl
     where
-      by_test : filter up_to rows ≡ filter early rows ++ filter within rows → (b : Bool) → early x ≡ b → filter up_to (x ∷ rows) ≡ cond b (x ∷ filter early rows) (filter early rows) ++ filter within (x ∷ rows)
+      by_test : filter up_to rows ≡ filter early rows ++ filter within rows → (b : Bool) → early x ≡ b
+          → filter up_to (x ∷ rows) ≡ cond b (x ∷ filter early rows) (filter early rows) ++ filter within (x ∷ rows)
       by_test more true e =
           (λ i. cond (early_up_to x e i) (x ∷ filter up_to rows) (filter up_to rows)) ∙ ap (λ (l : List MoveRow). x ∷ l) more
           ∙ (λ i. x ∷ (filter early rows ++ cond (sym (early_not_within x e) i) (x ∷ filter within rows) (filter within rows)))

@@ -12,8 +12,11 @@ use Rattle.brk_model.specs.Joins.{account_row_with_id, last_price_in_tables, tra
 use Rattle.brk_model.specs.Statement.{text_of_lines, holding_rows_of_account}
 use Rattle.brk_model.specs.Tables.{AccountRow, BrokerRow, SecurityRow, Tables}
 use Rattle.brk_ref.specs.Records.{abstract_account_row, abstract_broker_row, abstract_security_row}
-use Rattle.brk_explain_model.specs.AccountLines.{PricedHolding, holding_and_total_lines, account_total_lines, account_explanation_lines, account_header_lines, balance_header_lines, priced_holdings_of_account, holding_line, open_lot_line, account_cash_rows_by_stamp, cash_posting_lines}
-use Rattle.brk_explain_model.specs.BrokerLines.{accounts_with_broker, broker_total_lines, broker_explanation_lines, broker_row_with_id, broker_lines_from_trades, broker_header_lines, trade_commission_lines, completed_trades_of_broker}
+use Rattle.brk_explain_model.specs.AccountLines.{PricedHolding, holding_and_total_lines, account_total_lines, account_explanation_lines, account_header_lines}
+use Rattle.brk_explain_model.specs.AccountLines.{balance_header_lines, priced_holdings_of_account, holding_line, open_lot_line, account_cash_rows_by_stamp}
+use Rattle.brk_explain_model.specs.AccountLines.{cash_posting_lines}
+use Rattle.brk_explain_model.specs.BrokerLines.{accounts_with_broker, broker_total_lines, broker_explanation_lines, broker_row_with_id}
+use Rattle.brk_explain_model.specs.BrokerLines.{broker_lines_from_trades, broker_header_lines, trade_commission_lines, completed_trades_of_broker}
 use Rattle.brk_explain_model.specs.Explain.{AccountOf, BrokerOf, HoldingOf, TradeOf, explanation}
 use Rattle.brk_explain_model.specs.HoldingLines.{holding_explanation_lines, holding_lines_from_trades_and_lots, holding_header_lines}
 use Rattle.brk_explain_model.specs.Holdings.{completed_trades_in_symbol, lots_opened_in_symbol, summary_quantity_in_symbol}
@@ -36,7 +39,8 @@ use Rattle.brk_report.proofs.Whole.{passes_found}
 
 -- ---- a trade
 
-pub trade_told : (t : Tables) (trade : ℕ) (details : trade_details.TradeDetails) → AreDetailsOfTrade trade (Some details) t → explanation t (TradeOf trade) ≡ Ok (trade_explanation_lines (abstract_trade_details details))
+pub trade_told : (t : Tables) (trade : ℕ) (details : trade_details.TradeDetails) → AreDetailsOfTrade trade (Some details) t
+    → explanation t (TradeOf trade) ≡ Ok (trade_explanation_lines (abstract_trade_details details))
 unfolding explanation
 trade_told t trade details h = rw h.1 (ap (λ (s : TradeDetails). Ok (trade_explanation_lines s)) (sym h.2))
 
@@ -53,14 +57,17 @@ trade_first s = (_, _, refl)
 five_parts : (a b c d e : List Text) → (((a ++ b) ++ c) ++ d) ++ e ≡ a ++ (b ++ (c ++ (d ++ e)))
 five_parts a b c d e = append_assoc ((a ++ b) ++ c) d e ∙ append_assoc (a ++ b) c (d ++ e) ∙ append_assoc a b (c ++ (d ++ e))
 
-pub account_told : (t : Tables) (account : ℕ) (details : account_details.AccountDetails) → AreDetailsOfAccount account (Some details) t → explanation t (AccountOf account) ≡ Ok (all_account_lines t account details)
+pub account_told : (t : Tables) (account : ℕ) (details : account_details.AccountDetails) → AreDetailsOfAccount account (Some details) t
+    → explanation t (AccountOf account) ≡ Ok (all_account_lines t account details)
 unfolding explanation account_explanation_lines
 account_told t account details h =
     let a = abstract_account_row details.account in
     let id : a.id ≡ account = eqb-true a.id account (passes_found (λ (r : AccountRow). r.id == account) t.accounts a h.0) in
     let lines : ℕ → List PricedHolding → List Text =
     λ n held.
-    account_header_lines a ++ cash_posting_lines a.opening (account_cash_rows_by_stamp t n) ++ balance_header_lines a ++ map open_lot_line (holding_rows_of_account t n) ++ holding_and_total_lines a held (length (account_cash_rows_by_stamp t n)) (length (holding_rows_of_account t n)) in
+    account_header_lines a ++ cash_posting_lines a.opening (account_cash_rows_by_stamp t n) ++ balance_header_lines a
+    ++ map open_lot_line (holding_rows_of_account t n) ++ holding_and_total_lines a held (length (account_cash_rows_by_stamp t n))
+    (length (holding_rows_of_account t n)) in
     rw h.0
     (ap (λ (n : ℕ). Ok (lines n (priced_holdings_of_account t n))) id ∙ ap (λ (held : List PricedHolding). Ok (lines account held)) (sym h.1)
     ∙ ap (λ (l : List Text). Ok l)
@@ -93,7 +100,9 @@ holding_told t account symbol details h =
     let s = abstract_security_row details.security in
     let id : a.id ≡ account = eqb-true a.id account (passes_found (λ (r : AccountRow). r.id == account) t.accounts a h.0) in
     let named : s.symbol ≡ symbol = (bytes_eq-Decides s.symbol symbol).0 (passes_found (λ (r : SecurityRow). bytes_eq r.symbol symbol) t.securities s h.1) in
-    let lines : ℕ → Text → List Text = λ n x. holding_lines_from_trades_and_lots a s (completed_trades_in_symbol t n x) (lots_opened_in_symbol t n x) (summary_quantity_in_symbol t n x) (last_price_in_tables t x) in
+    let lines : ℕ → Text → List Text =
+    λ n x. holding_lines_from_trades_and_lots a s (completed_trades_in_symbol t n x) (lots_opened_in_symbol t n x) (summary_quantity_in_symbol t n x)
+    (last_price_in_tables t x) in
     rw (h.0, h.1)
     (ap (λ (n : ℕ). Ok (lines n s.symbol)) id ∙ ap (λ (x : Text). Ok (lines account x)) named
     ∙ (λ i. Ok (holding_lines_from_trades_and_lots a s (sym h.2 i) (sym h.3 i) (sym h.4 i) (sym h.5 i))))
@@ -109,7 +118,8 @@ holding_first details = (_, _, refl)
 
 -- ---- a broker
 
-pub broker_told : (t : Tables) (broker : ℕ) (details : broker_details.BrokerDetails) → AreDetailsOfBroker broker (Some details) t → explanation t (BrokerOf broker) ≡ Ok (all_broker_lines t broker details)
+pub broker_told : (t : Tables) (broker : ℕ) (details : broker_details.BrokerDetails) → AreDetailsOfBroker broker (Some details) t
+    → explanation t (BrokerOf broker) ≡ Ok (all_broker_lines t broker details)
 unfolding explanation broker_explanation_lines broker_lines_from_trades
 broker_told t broker details h =
     let b = abstract_broker_row details.broker in

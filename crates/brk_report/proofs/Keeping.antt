@@ -24,7 +24,8 @@ module _ {S : Type 0} (g : Ghosts S) where
   pub keeps_read : {V E : Type 0} (old new : Held S) (result : Result V E) (P : V → Tables → Type 0) → ReadPost g old new result P → PreservesDesk g old new
   keeps_read old new result P read = record { same_rows = read.same_rows; unchanged_if_open = read.unchanged_if_open; survives = read.survives }
 
-  pub keeps_walked : {X M V E : Type 0} (old new : Held S) (of : X → M) (list : Tables → _) (takes : V → X → V → Type 0) (stops : V → X → E → V → Type 0) (before after : V) (result : Result (Unit {0}) (WalkError E))
+  pub keeps_walked : {X M V E : Type 0} (old new : Held S) (of : X → M) (list : Tables → _) (takes : V → X → V → Type 0) (stops : V → X → E → V → Type 0)
+      (before after : V) (result : Result (Unit {0}) (WalkError E))
       → WalkPost g old new of list takes stops before after result → PreservesDesk g old new
   keeps_walked old new of list takes stops before after result walked = record { same_rows = walked.same_rows; unchanged_if_open = walked.unchanged_if_open; survives = walked.survives }
 

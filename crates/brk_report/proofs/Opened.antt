@@ -27,10 +27,13 @@ module _ (t : Tables) (account from to first last : ℕ) (opening : ℤ) (span :
   end_of_walk = progress_after_cash_rows first (progress_before_cash_rows opening) (cash_rows_in_span account 0 last t)
 
   pub walk_lines : lines_with_opening first opening (progress_before_cash_rows opening) (cash_rows_in_span account 0 last t) ≡ opening_and_cash_lines t account from to opening
-  walk_lines = ap (lines_with_opening first opening (progress_before_cash_rows opening)) parts ∙ lines_split first opening early late (before_first from first rows f) (not_before_first from to first rows f)
+  walk_lines = ap (lines_with_opening first opening (progress_before_cash_rows opening)) parts
+      ∙ lines_split first opening early late (before_first from first rows f) (not_before_first from to first rows f)
 
   pub walk_count : end_of_walk.count ≡ length late
-  walk_count = ap (λ rows. (progress_after_cash_rows first (progress_before_cash_rows opening) rows).count) parts ∙ count_split first opening early late (before_first from first rows f) (not_before_first from to first rows f)
+  walk_count = ap (λ rows. (progress_after_cash_rows first (progress_before_cash_rows opening) rows).count) parts
+      ∙ count_split first opening early late (before_first from first rows f) (not_before_first from to first rows f)
 
   pub walk_total : end_of_walk.total ≡ opening +ℤ cash_row_total early +ℤ cash_row_total late
-  walk_total = ap (λ rows. (progress_after_cash_rows first (progress_before_cash_rows opening) rows).total) parts ∙ total_split first opening early late (before_first from first rows f) (not_before_first from to first rows f)
+  walk_total = ap (λ rows. (progress_after_cash_rows first (progress_before_cash_rows opening) rows).total) parts
+      ∙ total_split first opening early late (before_first from first rows f) (not_before_first from to first rows f)

@@ -23,9 +23,11 @@ use Rattle.brk_explain_columns.proofs.RunningRows.{rows_parts, total_after}
 use Rattle.brk_report.proofs.Section.{weaker}
 
 module _ {S X M V : Type 0} (g : Ghosts S) (old new : Held S) (of : X → M) (list : Tables → List M) (takes : V → X → V → Type 0) (stops : V → X → LinesFault → V → Type 0) (before after : V)
-    (t : Tables) (clean : HasCleanDisk (state g new)) (holds : HoldsRows g old t) (result : Result (Unit {0}) (WalkError LinesFault)) (walked : WalkPost g old new of list takes stops before after result)
+    (t : Tables) (clean : HasCleanDisk (state g new)) (holds : HoldsRows g old t) (result : Result (Unit {0}) (WalkError LinesFault))
+    (walked : WalkPost g old new of list takes stops before after result)
     (amount : M → ℤ) (line : M → ℤ → Text) (contents : V → Option Text) (count : V → ℕ) (total : V → ℤ)
-    (writes : (p : V) (x : X) (q : V) → takes p x q → Appends (contents p) (contents q) (line_with_line_feed (line (of x) (total p +ℤ amount (of x)))) × (count q ≡ count p + 1) × (total q ≡ total p +ℤ amount (of x)))
+    (writes : (p : V) (x : X) (q : V) → takes p x q → Appends (contents p) (contents q) (line_with_line_feed (line (of x) (total p +ℤ amount (of x))))
+    × (count q ≡ count p + 1) × (total q ≡ total p +ℤ amount (of x)))
     (breaks : (p : V) (x : X) (e : LinesFault) (q : V) → stops p x e q → FailsWithinLines (line (of x) (total p +ℤ amount (of x)) ∷ []) (contents p) (contents q) e) where
   abbrev rows : ℤ → List M → List Text
   rows from ms = lines_with_running_total amount line from ms
@@ -52,8 +54,16 @@ module _ {S X M V : Type 0} (g : Ghosts S) (old new : Held S) (of : X → M) (li
   rows_first (Failed fault) e =
       let h = rw e at (walked.early clean) in
       let b = h.1.2 t holds in
-      let ms = map of h.1.0 in
-      (h.0, (rows (total before) ms, rows (total_after amount (total before) ms) b.0, sym (rows_parts amount line (total before) ms b.0) ∙ ap (rows (total before)) b.1, (taken before h.1.0 after h.1.1).0))
+      let ms = map of h.1.0 in (
+        h.0,
+        (
+          rows (total before) ms,
+          rows (total_after amount (total before) ms) b.0,
+          sym (rows_parts amount line (total before) ms b.0)
+              ∙ ap (rows (total before)) b.1,
+          (taken before h.1.0 after h.1.1).0,
+        ),
+      )
   rows_first (Cause fault) e =
       let h = rw e at (walked.early clean) in
       let b = h.5 t holds in

@@ -42,7 +42,8 @@ in_written lines a b (Err e) h = in_broken lines a b e h
 -- the fault of a walk, whatever the disk
 module _ {S X M V : Type 0} (g : Ghosts S) (old new : Held S) (of : X → M) (list : Tables → List M) (takes : V → X → V → Type 0) (stops : V → X → LinesFault → V → Type 0) (before after : V)
     (result : Result (Unit {0}) (WalkError LinesFault)) (walked : WalkPost g old new of list takes stops before after result) where
-  pub known_end : ((p : V) (x : X) (e : LinesFault) (q : V) → stops p x e q → IsMemoryStoreOrWriteFault e) → (stop : WalkError LinesFault) → result ≡ Err stop → (e : LinesFault) → e ≡ fault_of_walk_error stop → IsMemoryStoreOrWriteFault e
+  pub known_end : ((p : V) (x : X) (e : LinesFault) (q : V) → stops p x e q → IsMemoryStoreOrWriteFault e) → (stop : WalkError LinesFault) → result ≡ Err stop
+      → (e : LinesFault) → e ≡ fault_of_walk_error stop → IsMemoryStoreOrWriteFault e
   known_end may (Failed cause) is e same = let h = rw is at (walked.fault) in subst IsMemoryStoreOrWriteFault (sym same) h
   known_end may (Cause cause) is e same = let h = rw is at (walked.fault) in subst IsMemoryStoreOrWriteFault (sym same) (may h.0 h.1 cause after h.2)
 
@@ -77,5 +78,6 @@ module _ {S X M V : Type 0} (g : Ghosts S) (old new : Held S) (of : X → M) (li
         let one = breaks_behind (map line (map of h.0)) (line (of h.1) ∷ []) _ _ _ fault (lines_taken before h.0 h.2 h.3).0 (breaks h.2 h.1 fault after h.4) in
         let whole = breaks_before (map line (map of h.0) ++ line (of h.1) ∷ []) (map line b.0) _ _ fault one in
         let same : (map line (map of h.0) ++ line (of h.1) ∷ []) ++ map line b.0 ≡ map line (list t) =
-        ap (λ l. l ++ map line b.0) (sym (map_parts line (map of h.0) (of h.1 ∷ [])) ∙ ap (map line) (sym (map_parts of h.0 (h.1 ∷ [])))) ∙ sym (map_parts line (map of (h.0 ++ h.1 ∷ [])) b.0) ∙ ap (map line) b.1 in
+        ap (λ l. l ++ map line b.0) (sym (map_parts line (map of h.0) (of h.1 ∷ [])) ∙ ap (map line) (sym (map_parts of h.0 (h.1 ∷ []))))
+        ∙ sym (map_parts line (map of (h.0 ++ h.1 ∷ [])) b.0) ∙ ap (map line) b.1 in
         weaker (map line (list t)) (contents before) (contents after) fault (subst (λ ls. FailsWithinLines ls (contents before) (contents after) fault) same whole)

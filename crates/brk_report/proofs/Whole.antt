@@ -8,7 +8,8 @@ use Rattle.brk_money.specs.Spelling.{Text}
 use Rattle.brk_money.specs.declared.refusal.Refusal.TheVariants.{BadText, NoAccount}
 use Rattle.brk_model.specs.Joins.{account_row_with_id}
 use Rattle.brk_model.specs.PositionView.{market_value_of_account_row}
-use Rattle.brk_model.specs.Statement.{amount_line, cash_move_rows_before_day, sorted_cash_rows_of_account, cash_row_line, cash_row_total, cash_move_rows_within_days, text_of_lines, lot_line, holding_rows_of_account, statement, statement_lines}
+use Rattle.brk_model.specs.Statement.{amount_line, cash_move_rows_before_day, sorted_cash_rows_of_account, cash_row_line, cash_row_total}
+use Rattle.brk_model.specs.Statement.{cash_move_rows_within_days, text_of_lines, lot_line, holding_rows_of_account, statement, statement_lines}
 use Rattle.brk_model.specs.Tables.{AccountRow, Tables}
 use Rattle.brk_queries.specs.declared.head.StatementHead.{StatementHead}
 use Rattle.brk_report.specs.StatementParts.{all_statement_lines, statement_header_lines}
@@ -27,7 +28,8 @@ passes_found p (y ∷ ys) x e = go (passes_found p ys x) (p y) refl
     go more true k = let f : Some y ≡ Some x = rw k at e in let same : y ≡ x = cc in ap p (sym same) ∙ k
     go more false k = more (rw k at e)
 
-pub lines_whole : (t : Tables) (account : ℕ) (head : StatementHead) (from to : ℕ) (a : AccountRow) → account_row_with_id t account ≡ Some a → head.name ≡ a.name → head.opening ≡ a.opening → head.holdings ≡ market_value_of_account_row t a
+pub lines_whole : (t : Tables) (account : ℕ) (head : StatementHead) (from to : ℕ) (a : AccountRow) → account_row_with_id t account ≡ Some a → head.name ≡ a.name
+    → head.opening ≡ a.opening → head.holdings ≡ market_value_of_account_row t a
     → all_statement_lines t account head from to ≡ statement_lines t a from to (sorted_cash_rows_of_account t account)
 lines_whole t account head from to a found name opening holdings =
     let id : a.id ≡ account = eqb-true a.id account (passes_found (λ (r : AccountRow). r.id == account) t.accounts a found) in
@@ -35,13 +37,15 @@ lines_whole t account head from to a found name opening holdings =
     let before = cash_row_total (cash_move_rows_before_day from (sorted_cash_rows_of_account t account)) in
     let parts : ℕ → Text → ℤ → ℤ → List Text =
     λ n name opening holdings.
-    statement_header_lines n name from to ++ amount_line (codes "Opening") (opening +ℤ before) ∷ ((map cash_row_line rows ++ (amount_line (codes "Closing") (opening +ℤ before +ℤ cash_row_total rows) ∷ map lot_line (holding_rows_of_account t n)))
+    statement_header_lines n name from to ++ amount_line (codes "Opening") (opening +ℤ before)
+    ∷ ((map cash_row_line rows ++ (amount_line (codes "Closing") (opening +ℤ before +ℤ cash_row_total rows) ∷ map lot_line (holding_rows_of_account t n)))
     ++ (amount_line (codes "Holdings") holdings ∷ (codes "Cash rows " ++ decimal (length rows) ++ codes ", lots " ++ decimal (length (holding_rows_of_account t n))) ∷ [])) in
     let first = amount_line (codes "Opening") (head.opening +ℤ before) in
     let closing = amount_line (codes "Closing") (head.opening +ℤ before +ℤ cash_row_total rows) in
     let lots = map lot_line (holding_rows_of_account t account) in
     let end = amount_line (codes "Holdings") head.holdings ∷ (codes "Cash rows " ++ decimal (length rows) ++ codes ", lots " ++ decimal (length (holding_rows_of_account t account))) ∷ [] in
-    ap (λ (l : List Text). statement_header_lines account head.name from to ++ first ∷ l) (append_assoc (map cash_row_line rows) (closing ∷ []) (lots ++ end) ∙ sym (append_assoc (map cash_row_line rows) (closing ∷ lots) end))
+    ap (λ (l : List Text). statement_header_lines account head.name from to ++ first ∷ l)
+    (append_assoc (map cash_row_line rows) (closing ∷ []) (lots ++ end) ∙ sym (append_assoc (map cash_row_line rows) (closing ∷ lots) end))
     ∙ (λ i. parts (sym id i) (name i) (opening i) (holdings i))
 
 pub statement_is : (t : Tables) (account from to : ℕ) (lines : List Text) → AreStatementLines t account from to lines → statement t account from to ≡ Ok (text_of_lines lines)

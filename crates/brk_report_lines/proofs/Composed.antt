@@ -31,7 +31,8 @@ breaks_behind xs ys a b c Write h k = (
   k.2,
   k.3,
   append_assoc xs k.0 (k.1 ∷ k.2) ∙ ap (λ (l : List Text). xs ++ l) k.4,
-  subst (Appends a c) (sym (append_assoc (text_of_lines xs) (text_of_lines k.0) (take k.3 (line_with_line_feed k.1))) ∙ ap (λ (l : Text). l ++ take k.3 (line_with_line_feed k.1)) (sym (lines_parts xs k.0))) (Appends-trans _ _ _ _ _ h k.5),
+  subst (Appends a c) (sym (append_assoc (text_of_lines xs) (text_of_lines k.0) (take k.3 (line_with_line_feed k.1)))
+      ∙ ap (λ (l : Text). l ++ take k.3 (line_with_line_feed k.1)) (sym (lines_parts xs k.0))) (Appends-trans _ _ _ _ _ h k.5),
 )
 
 -- lines that broke off, with more to come behind them

@@ -9,7 +9,8 @@ use Rattle.brk_report_lines.specs.Written.{line_with_line_feed}
 
 -- The first `k` bytes of the lines are some of the lines whole and a prefix of the next one.
 abbrev pub IsLinesAndPart : List Text → ℕ → Type 0
-IsLinesAndPart lines k = (first : List Text) × (next : Text) × (rest : List Text) × (j : ℕ) × (first ++ next ∷ rest ≡ lines) × (take k (text_of_lines lines) ≡ text_of_lines first ++ take j (line_with_line_feed next))
+IsLinesAndPart lines k = (first : List Text) × (next : Text) × (rest : List Text) × (j : ℕ) × (first ++ next ∷ rest ≡ lines)
+    × (take k (text_of_lines lines) ≡ text_of_lines first ++ take j (line_with_line_feed next))
 
 within : (n k : ℕ) → nat_le k n ≡ true → k ≤ n
 within n k h = grind (arith, nat_tests)
@@ -29,6 +30,7 @@ cut line (l ∷ ls) k = go (cut l ls (k - length (line_with_line_feed line))) (n
       more.2,
       more.3,
       ap (λ (ts : List Text). line ∷ ts) more.4,
-      ap (λ (n : ℕ). take n (line_with_line_feed line ++ text_of_lines (l ∷ ls))) (beyond (length (line_with_line_feed line)) k h) ∙ take-append-add (line_with_line_feed line) (text_of_lines (l ∷ ls)) (k - length (line_with_line_feed line))
+      ap (λ (n : ℕ). take n (line_with_line_feed line ++ text_of_lines (l ∷ ls))) (beyond (length (line_with_line_feed line)) k h)
+          ∙ take-append-add (line_with_line_feed line) (text_of_lines (l ∷ ls)) (k - length (line_with_line_feed line))
           ∙ ap (λ (t : Text). line_with_line_feed line ++ t) more.5 ∙ sym (append_assoc (line_with_line_feed line) (text_of_lines more.0) (take more.3 (line_with_line_feed more.1))),
     )

@@ -84,7 +84,8 @@ rowids_climb (r ∷ rows) (n ∷ ids) h up =
     let later = rowids_climb rows ids more up.1 in
     ((subst (λ v. IsTrue (is_int v)) (sym here) refl, later.0), (each r n here rows ids more up.0, later.1))
   where
-    each : (r : Row) (n : ℤ) → rowid r ≡ Int n → (rows : List Row) (ids : List ℤ) → map rowid rows ≡ map Int ids → AllByRecursion (λ y. int_cmp n y ≡ Less) ids → AllByRecursion (λ s. has_same_rowid r s ≡ false) rows
+    each : (r : Row) (n : ℤ) → rowid r ≡ Int n → (rows : List Row) (ids : List ℤ) → map rowid rows ≡ map Int ids → AllByRecursion (λ y. int_cmp n y ≡ Less) ids
+        → AllByRecursion (λ s. has_same_rowid r s ≡ false) rows
     each r n is [] ids h low = tt
     each r n is (s ∷ rows) [] h low = absurd (let e = h in cc)
     each r n is (s ∷ rows) (m ∷ ids) h low =
@@ -122,7 +123,8 @@ module _ {X : Type 0} (table : Table) (encode : X → Row) (cmp : X → X → Or
   }
 
   -- where the key is the rowid, the same read is enough
-  pub adopted_by_rowid : (key : X → ℤ) → ((r : Row) (x : X) → cells_in_column_order table r ≡ encode x → rowid r ≡ Int (key x)) → ((x y : X) → cmp x y ≡ int_cmp (key x) (key y)) → TreeHoldsRecords table encode cmp xs rows
+  pub adopted_by_rowid : (key : X → ℤ) → ((r : Row) (x : X) → cells_in_column_order table r ≡ encode x → rowid r ≡ Int (key x))
+      → ((x y : X) → cmp x y ≡ int_cmp (key x) (key y)) → TreeHoldsRecords table encode cmp xs rows
   adopted_by_rowid key keyed is =
       let ids = rowids p.picked xs (sym picked_are) in
       let both = rowids_climb p.picked (map key xs) ids (ids_rise xs rising) in
@@ -155,7 +157,9 @@ module _ {W T : Type 0} (desk : ProgramTables W T) (w : W) (total : IsTotalOrder
   same_tree : db.trees (desk.shape w tree).tree ≡ rows
   same_tree = ap db.trees (desk.placed w tree)
 
-  one_key : (r s : Row) → Has rows r → Has rows s → has_same_rowid r s ≡ false → (x y : desk.Item w) → cells_in_column_order (desk.shape w tree) r ≡ desk.encode w x → cells_in_column_order (desk.shape w tree) s ≡ desk.encode w y → is_eq (desk.order w x y) ≡ false
+  one_key : (r s : Row) → Has rows r → Has rows s → has_same_rowid r s ≡ false → (x y : desk.Item w)
+      → cells_in_column_order (desk.shape w tree) r ≡ desk.encode w x → cells_in_column_order (desk.shape w tree) s ≡ desk.encode w y
+      → is_eq (desk.order w x y) ≡ false
   one_key r s hr hs other_id x y e f = elim once [
     | inl by_rowid ↦ by_rowid tree r s x y e f ∙ other_id
     | inr by_key ↦
@@ -167,7 +171,8 @@ module _ {W T : Type 0} (desk : ProgramTables W T) (w : W) (total : IsTotalOrder
         ∙ unique_rows db at (desk.shape w tree) by_key.key sound h.found (by_key.first tree) s r (subst (λ l. Has l s) (sym same_tree) hs) (subst (λ l. Has l r) (sym same_tree) hr) other
   ]
 
-  untied : (rs : List Row) (ys : List (desk.Item w)) → ((r : Row) → Has rs r → Has rows r) → Apart rs → map (cells_in_column_order (desk.shape w tree)) rs ≡ map (desk.encode w) ys → IsAscending (λ x y. is_eq (desk.order w x y) ≡ false) ys
+  untied : (rs : List Row) (ys : List (desk.Item w)) → ((r : Row) → Has rs r → Has rows r) → Apart rs
+      → map (cells_in_column_order (desk.shape w tree)) rs ≡ map (desk.encode w) ys → IsAscending (λ x y. is_eq (desk.order w x y) ≡ false) ys
   unfolding IsDistinct
   untied [] [] mine others e = tt
   untied [] (y ∷ ys) mine others e = absurd (let k = e in cc)
@@ -177,7 +182,8 @@ module _ {W T : Type 0} (desk : ProgramTables W T) (w : W) (total : IsTotalOrder
       let more : map (cells_in_column_order (desk.shape w tree)) rs ≡ map (desk.encode w) ys = cc in
       (each r y (mine r (inl refl)) here rs ys (λ s k. mine s (inr k)) others.0 more, untied rs ys (λ s k. mine s (inr k)) others.1 more)
     where
-      each : (r : Row) (x : desk.Item w) → Has rows r → cells_in_column_order (desk.shape w tree) r ≡ desk.encode w x → (rs : List Row) (ys : List (desk.Item w)) → ((s : Row) → Has rs s → Has rows s) → AllByRecursion (λ s. has_same_rowid r s ≡ false) rs
+      each : (r : Row) (x : desk.Item w) → Has rows r → cells_in_column_order (desk.shape w tree) r ≡ desk.encode w x
+          → (rs : List Row) (ys : List (desk.Item w)) → ((s : Row) → Has rs s → Has rows s) → AllByRecursion (λ s. has_same_rowid r s ≡ false) rs
           → map (cells_in_column_order (desk.shape w tree)) rs ≡ map (desk.encode w) ys → AllByRecursion (λ y. is_eq (desk.order w x y) ≡ false) ys
       each r x hr here [] [] mine low e = tt
       each r x hr here [] (y ∷ ys) mine low e = absurd (let k = e in cc)
@@ -187,9 +193,11 @@ module _ {W T : Type 0} (desk : ProgramTables W T) (w : W) (total : IsTotalOrder
           let more : map (cells_in_column_order (desk.shape w tree)) rs ≡ map (desk.encode w) ys = cc in
           (one_key r s hr (mine s (inl refl)) low.0 x y here next, each r x hr here rs ys (λ t k. mine t (inr k)) low.1 more)
 
-  pub adopted_in_order : (query : Query) (params : Row) (project : List Term) (order : List (Term × Key)) (read : List Row) (p : Picks query params [] project order rows read) → ((rs : List Row) → page query params rs ≡ rs)
+  pub adopted_in_order : (query : Query) (params : Row) (project : List Term) (order : List (Term × Key)) (read : List Row)
+      (p : Picks query params [] project order rows read) → ((rs : List Row) → page query params rs ≡ rs)
       → ((r : Row) → eval_all project (params ∷ r ∷ []) ≡ cells_in_column_order (desk.shape w tree) r)
-      → ((a b : Row) (x y : desk.Item w) → cells_in_column_order (desk.shape w tree) a ≡ desk.encode w x → cells_in_column_order (desk.shape w tree) b ≡ desk.encode w y → sorted_by params order a b ≡ desk.order w x y)
+      → ((a b : Row) (x y : desk.Item w) → cells_in_column_order (desk.shape w tree) a ≡ desk.encode w x
+      → cells_in_column_order (desk.shape w tree) b ≡ desk.encode w y → sorted_by params order a b ≡ desk.order w x y)
       → (xs : List (desk.Item w)) → map (desk.encode w) xs ≡ read → TreeHoldsRecords (desk.shape w tree) (desk.encode w) (desk.order w) xs rows
   adopted_in_order query params project order read p unpaged shows sorts xs decoded =
       let all : IsPermutation rows p.picked = subst (λ l. IsPermutation l p.picked) (filter_true rows) p.same in

@@ -12,7 +12,8 @@ module _ {W T X Y V E : Type 0} (desk : ProgramTables W T) (encode : X → Row) 
     (sql : List ℕ) (params : Row) (old new : State) (v : V) (rows_of : V → List Row) (given : List Row) (same : given ≡ rows_of v) (step : IsTransactionStep {V = V} {E = E} old new (Ok v) (λ v. SelectsRows sql params (rows_of v))) where
   -- all that is shown
   pub look_all : {G F : Type 0} (items : G → List Y) (out : Result G F) → IfOk out (λ all. map (λ y. encode (model y)) (items all) ≡ given)
-      → (f : T → List X) → (Shown sql params old new (rows_of v) → TablesSatisfy desk (λ t. rows_of v ≡ map encode (f t)) old.now) → IsTransactionStep old new out (λ all. IsUnchangedAndSatisfies desk (λ t. map model (items all) ≡ f t))
+      → (f : T → List X) → (Shown sql params old new (rows_of v) → TablesSatisfy desk (λ t. rows_of v ≡ map encode (f t)) old.now)
+      → IsTransactionStep old new out (λ all. IsUnchangedAndSatisfies desk (λ t. map model (items all) ≡ f t))
   look_all {G} {F} items out told f tells =
       step_read old new v out _ _ (λ w e s. (s.2, s.1, λ t tree h. all_are encode decode back model (items w) given (rows_of v) (f t) (when out told w e) same (tells s.0 t tree h))) step
     where
@@ -22,7 +23,9 @@ module _ {W T X Y V E : Type 0} (desk : ProgramTables W T) (encode : X → Row) 
 
   -- the first
   pub look_first : {F : Type 0} (out : Result (Option Y) F) → IfOk out (λ o. option_map (λ y. encode (model y)) o ≡ slice_get given 0)
-      → (f : T → List X) (g : T → Option X) → ((t : T) → slice_get (f t) 0 ≡ g t) → (Shown sql params old new (rows_of v) → TablesSatisfy desk (λ t. rows_of v ≡ map encode (f t)) old.now) → IsTransactionStep old new out (λ o. IsUnchangedAndSatisfies desk (λ t. option_map model o ≡ g t))
+      → (f : T → List X) (g : T → Option X) → ((t : T) → slice_get (f t) 0 ≡ g t)
+      → (Shown sql params old new (rows_of v) → TablesSatisfy desk (λ t. rows_of v ≡ map encode (f t)) old.now)
+      → IsTransactionStep old new out (λ o. IsUnchangedAndSatisfies desk (λ t. option_map model o ≡ g t))
   look_first {F} out told f g is tells =
       step_read old new v out _ _ (λ w e s. (s.2, s.1, λ t tree h. first_is encode decode back model w given (rows_of v) (f t) (when out told w e) same (tells s.0 t tree h) ∙ is t)) step
     where

@@ -1,5 +1,6 @@
 -- CREATE TABLE over a schema of which nothing is known.
-use Rattle.std.proofs.Common.{◌≡◌, ◌≢◌, ◌⊎◌, inl, inr, ℕ, zero, suc, ◌+◌, ◌==◌, List, [], ◌∷◌, ◌++◌, length, slice_get, cond, Bool, true, false, ◌||◌, is_some, Some, None, Option, Ok, Err, refl, sym, ap, subst, ◌∙◌, arith}
+use Rattle.std.proofs.Common.{◌≡◌, ◌≢◌, ◌⊎◌, inl, inr, ℕ, zero, suc, ◌+◌, ◌==◌, List, [], ◌∷◌, ◌++◌, length, slice_get, cond, Bool, true, false, ◌||◌, is_some}
+use Rattle.std.proofs.Common.{Some, None, Option, Ok, Err, refl, sym, ap, subst, ◌∙◌, arith}
 use Rattle.std.specs.List.{position_from, AllByRecursion}
 use Rattle.sqlite_trees.specs.Tree.{Trees}
 use Rattle.sqlite_schema.specs.declared.schema.Schema.{Schema}
@@ -72,9 +73,12 @@ unused : (a : Option ℕ) (b c : Bool) → ((is_some a || b) || c) ≡ false →
 unused None b c h = refl
 unused (Some x) b c h = absurd (cc)
 
-pub comes : (schema after : Schema) (table : Table) → same_name table.name table.name ≡ true → is_used schema table.name ≡ false → after.tables ≡ schema.tables ++ table ∷ [] → IsTableAt after table (length schema.tables)
+pub comes : (schema after : Schema) (table : Table) → same_name table.name table.name ≡ true → is_used schema table.name ≡ false
+    → after.tables ≡ schema.tables ++ table ∷ [] → IsTableAt after table (length schema.tables)
 comes schema after table same free is = record {
-  named = rw is (position_new (λ t. same_name t.name table.name) schema.tables table 0 (unused (table_named schema table.name) (is_some (index_named schema table.name)) (is_some (view_named schema table.name)) free) same ∙ ap Some (omega arith));
+  named = rw is (position_new (λ t. same_name t.name table.name) schema.tables table 0
+      (unused (table_named schema table.name) (is_some (index_named schema table.name)) (is_some (view_named schema table.name)) free) same
+      ∙ ap Some (omega arith));
   found = rw is (got_last schema.tables table);
 }
 
@@ -88,7 +92,8 @@ unfolding compiled planned timed meaning returning command create_table creates
 creates_or schema text p def table is statement untimed defined fits fresh =
     go (is_attached schema def.name) refl (is_reserved def.name) refl (index_named schema def.name) refl (option_or (table_named schema def.name) (view_named schema def.name)) refl
   where
-    go : (a : Bool) → is_attached schema def.name ≡ a → (r : Bool) → is_reserved def.name ≡ r → (i : Option ℕ) → index_named schema def.name ≡ i → (t : Option ℕ) → option_or (table_named schema def.name) (view_named schema def.name) ≡ t
+    go : (a : Bool) → is_attached schema def.name ≡ a → (r : Bool) → is_reserved def.name ≡ r → (i : Option ℕ) → index_named schema def.name ≡ i
+        → (t : Option ℕ) → option_or (table_named schema def.name) (view_named schema def.name) ≡ t
         → (compiled schema text ≡ Ok (meant p [] MakeTable)) ⊎ ((e : CompileError) × (compiled schema text ≡ Err e) × (misses_table (Err e) ≡ false))
     go true a r rs i is' t ts = inr (Unsupported, rw (is, statement, untimed, a), refl)
     go false a true rs i is' t ts = inr (Misuse, rw (is, statement, untimed, a, rs), refl)
@@ -147,7 +152,8 @@ module _ (text : List ℕ) (shape : ℕ → Table) (defined : table_defined_by t
       record {
         tree = next_tree schema;
         at = length schema.tables;
-        is_table = subst (λ t. IsTableAt after t (length schema.tables)) (moved (next_tree schema)) (comes schema after table own (subst (λ (t : Table). is_used schema t.name ≡ false) same made.free) tables);
+        is_table = subst (λ t. IsTableAt after t (length schema.tables)) (moved (next_tree schema))
+            (comes schema after table own (subst (λ (t : Table). is_used schema t.name ≡ false) same made.free) tables);
         empty = made.empty;
         kept = λ other place h. stays schema after (table ∷ []) tables other place h;
         rows = made.others;
@@ -179,7 +185,8 @@ unfolding everything
 sequence_idle t h = let e : _ ≡ t = same_value h in subst (λ k. has_no_writing_foreign_keys k ≡ true) e refl
 
 -- a second table leaves the first
-makes_more : (text : List ℕ) (shape : ℕ → Table) (placed : (tree : ℕ) → (shape tree).tree ≡ tree) (old mid new : Database) → Comes old mid shape → (table : Table) → mid.schema.tables ≡ old.schema.tables ++ table ∷ []
+makes_more : (text : List ℕ) (shape : ℕ → Table) (placed : (tree : ℕ) → (shape tree).tree ≡ tree) (old mid new : Database) → Comes old mid shape
+    → (table : Table) → mid.schema.tables ≡ old.schema.tables ++ table ∷ []
     → ((t : Table) → table_defined_by text ≡ Ok t → has_no_writing_foreign_keys t ≡ true) → CreatesTable mid.schema text mid.trees new.schema new.trees → Comes old new shape
 makes_more text shape placed old mid new one table tables idle made =
     let more : new.schema.tables ≡ mid.schema.tables ++ (record made.table { tree = next_tree mid.schema }) ∷ [] = ap (λ (s : Schema). s.tables) made.is in
@@ -187,7 +194,8 @@ makes_more text shape placed old mid new one table tables idle made =
       tree = one.tree;
       at = one.at;
       is_table = stays mid.schema new.schema _ more (shape one.tree) one.at one.is_table;
-      empty = subst (λ n. new.trees n ≡ mid.trees n) (placed one.tree) (all_at (λ t. new.trees t.tree ≡ mid.trees t.tree) mid.schema.tables one.at (shape one.tree) one.is_table.found made.others) ∙ one.empty;
+      empty = subst (λ n. new.trees n ≡ mid.trees n) (placed one.tree)
+          (all_at (λ t. new.trees t.tree ≡ mid.trees t.tree) mid.schema.tables one.at (shape one.tree) one.is_table.found made.others) ∙ one.empty;
       kept = λ other place h. stays mid.schema new.schema _ more other place (one.kept other place h);
       rows = kept_twice old.trees mid.trees new.trees old.schema.tables one.rows
           (all_left (λ t. new.trees t.tree ≡ mid.trees t.tree) old.schema.tables (table ∷ []) (subst (λ all. KeepsRows all mid.trees new.trees) tables made.others));
@@ -198,7 +206,8 @@ makes_more text shape placed old mid new one table tables idle made =
     }
 
 module _ (text : List ℕ) (shape : ℕ → Table) (defined : table_defined_by text ≡ Ok (shape 0)) (moved : (tree : ℕ) → record (shape 0) { tree = tree } ≡ shape tree) (placed : (tree : ℕ) → (shape tree).tree ≡ tree)
-    (own : same_name (shape 0).name (shape 0).name ≡ true) (p : Parsed) (def : CreateTable) (is : first text ≡ Ok p) (statement : p.statement ≡ written.CreateTable def) (untimed : p.formats ≡ []) (whole : slice_range text p.start p.end ≡ text)
+    (own : same_name (shape 0).name (shape 0).name ≡ true) (p : Parsed) (def : CreateTable) (is : first text ≡ Ok p)
+    (statement : p.statement ≡ written.CreateTable def) (untimed : p.formats ≡ []) (whole : slice_range text p.start p.end ≡ text)
     (table : define.table [] def ≡ Ok (shape 0)) (still : has_no_writing_foreign_keys (shape 0) ≡ true) (fits : (length (shape 0).computed == length (shape 0).stamps.places && not def.resolves) ≡ true) (fresh : def.if_missing ≡ false) where
   pub makes : (old new : State) (count : ℕ) → Executes text [] old new (Ok count) → CreatesTableOfShape old.now new.now shape
   unfolding ExecutesIn

@@ -17,7 +17,8 @@ module _ {X Y : Type 0} (encode : X → Row) (decode : Row → X) (back : (x : X
   pub all_are : (items : List Y) (given rows : List Row) (xs : List X) → map (λ y. encode (model y)) items ≡ given → given ≡ rows → rows ≡ map encode xs → map model items ≡ xs
   all_are items given rows xs a b c = sym (map_back encode decode back (map model items)) ∙ ap (map decode) (sym (same_mapped items) ∙ a ∙ b ∙ c) ∙ map_back encode decode back xs
 
-  pub first_is : (o : Option Y) (given rows : List Row) (xs : List X) → option_map (λ y. encode (model y)) o ≡ slice_get given 0 → given ≡ rows → rows ≡ map encode xs → option_map model o ≡ slice_get xs 0
+  pub first_is : (o : Option Y) (given rows : List Row) (xs : List X) → option_map (λ y. encode (model y)) o ≡ slice_get given 0 → given ≡ rows
+      → rows ≡ map encode xs → option_map model o ≡ slice_get xs 0
   first_is o given rows xs a b c = go o xs (a ∙ ap (λ l. slice_get l 0) (b ∙ c))
     where
       go : (o : Option Y) (xs : List X) → option_map (λ y. encode (model y)) o ≡ slice_get (map encode xs) 0 → option_map model o ≡ slice_get xs 0

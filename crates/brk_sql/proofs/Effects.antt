@@ -1,5 +1,6 @@
 -- What a statement does to the trees, whatever else the schema has.
-use Rattle.std.proofs.Common.{◌≡◌, ◌⊎◌, inl, inr, ℕ, ℤ, if◌then◌else◌, ◌==◌, ◌/◌, List, [], ◌∷◌, length, slice_get, Bool, true, false, ◌&&◌, Some, None, Option, Ok, Err, Result, refl, sym, ap, subst, subst₂, ◌∙◌}
+use Rattle.std.proofs.Common.{◌≡◌, ◌⊎◌, inl, inr, ℕ, ℤ, if◌then◌else◌, ◌==◌, ◌/◌, List, [], ◌∷◌, length, slice_get, Bool, true, false, ◌&&◌, Some, None, Option}
+use Rattle.std.proofs.Common.{Ok, Err, Result, refl, sym, ap, subst, subst₂, ◌∙◌}
 use Rattle.std.specs.List.{list_all, filter_map, flat_map}
 use Rattle.std.specs.Prelude.{MatchBool}
 use Rattle.sqlite_value.specs.Order.{Row}
@@ -62,7 +63,9 @@ idle depth tree child ref (Some deed) (Some key) = rw (and_false (key.0 == tree)
 -- a statement that takes no row out sets nothing off, whatever the references are
 pub no_work_at_insert : (schema : Schema) (keys : Keys) (depth tree : ℕ) (news : List Row) → works schema keys depth tree [] news ≡ []
 no_work_at_insert schema keys depth tree news =
-    nothing_of _ (λ _. true) (λ child _. none_of _ (λ _. true) (λ ref _. idle depth tree child ref (deed_for keys (length news == 0) ref) (parent_key schema.tables ref)) child.references (always child.references)) schema.tables (always schema.tables)
+    nothing_of _ (λ _. true)
+    (λ child _. none_of _ (λ _. true) (λ ref _. idle depth tree child ref (deed_for keys (length news == 0) ref) (parent_key schema.tables ref))
+    child.references (always child.references)) schema.tables (always schema.tables)
 
 -- ---- a statement
 
@@ -87,7 +90,8 @@ not_counted true c P Q off h = absurd (cc)
 not_counted false c P Q off h = h
 
 -- an edit that sets nothing off is its one step
-alone : (schema : Schema) (db next after : Trees) (edit : Edit) → works schema Enforced 0 edit.table.tree (taken_by db edit) edit.news ≡ [] → after ≡ next → Rattle.sqlite_rules.specs.Action.Writes schema Enforced db edit (Ok next)
+alone : (schema : Schema) (db next after : Trees) (edit : Edit) → works schema Enforced 0 edit.table.tree (taken_by db edit) edit.news ≡ [] → after ≡ next
+    → Rattle.sqlite_rules.specs.Action.Writes schema Enforced db edit (Ok next)
     → Applies schema Enforced db edit after
 alone schema db next after edit none same h = subst (Applies schema Enforced db edit) (sym same) (one_step schema Enforced db next edit none h)
 
@@ -100,7 +104,8 @@ module _ (sql : List ℕ) (params : Row) (old new : State) (p : Parsed) (at : �
 
   OnTable : Command → Tally → Type 0
   OnTable command tally =
-      AtPlace (λ t. OnRows (record { limit = old.step_limit; keys = Enforced; schema = schema; table = t; params = params }) (mode_of old) None command old.now.trees) (slice_get schema.tables at) (Ok (tally, new.now))
+      AtPlace (λ t. OnRows (record { limit = old.step_limit; keys = Enforced; schema = schema; table = t; params = params }) (mode_of old) None command
+      old.now.trees) (slice_get schema.tables at) (Ok (tally, new.now))
 
   -- what was written, and that nothing else was
   wrote : (command : Command) (tally : Tally) → OnTable command tally → (w : Written) × WritesRows task old.now.trees command (Ok w) × Leaves old new w.trees
@@ -112,13 +117,17 @@ module _ (sql : List ℕ) (params : Row) (old new : State) (p : Parsed) (at : �
       let now = ap (λ (p : Tally × Database). p.1) (same_value shown.2) in
       (done.0, done.1, (ap (λ (d : Database). d.schema) now, ap (λ (d : Database). d.trees) now))
 
-  ran : (command : Command) → compiled schema sql ≡ Ok (meant p [] command) → (count : ℕ) → Executes sql params old new (Ok count) → Runs old new None command (statement_of sql (understood schema sql)) params count
+  ran : (command : Command) → compiled schema sql ≡ Ok (meant p [] command) → (count : ℕ) → Executes sql params old new (Ok count)
+      → Runs old new None command (statement_of sql (understood schema sql)) params count
   ran command is count h =
       let sure = known schema sql (meant p [] command) is in
       runs_as sql params old new schema refl command (ap command_of sure.0) (subst IsPlain (sym sure.0) (refl, refl)) count h
 
-  pub inserted : table.is_counted ≡ false → (terms : List Term) (width : ℕ) → compiled schema sql ≡ Ok (meant p [] (Insert at (Values terms width))) → (count : ℕ) → Executes sql params old new (Ok count)
-      → (new.now.schema ≡ schema) × Applies schema Enforced old.now.trees (edit_of old.now.trees table [] Chosen 0 (value_rows (stamped table params) width (length terms / width) terms)) new.now.trees × IsDatabase new.now
+  pub inserted : table.is_counted ≡ false → (terms : List Term) (width : ℕ) → compiled schema sql ≡ Ok (meant p [] (Insert at (Values terms width)))
+      → (count : ℕ) → Executes sql params old new (Ok count)
+      → (new.now.schema ≡ schema)
+      × Applies schema Enforced old.now.trees
+      (edit_of old.now.trees table [] Chosen 0 (value_rows (stamped table params) width (length terms / width) terms)) new.now.trees × IsDatabase new.now
   unfolding OnTable
   inserted uncounted terms width is count h =
       let w = ran (Insert at (Values terms width)) is count h in
@@ -129,8 +138,14 @@ module _ (sql : List ℕ) (params : Row) (old new : State) (p : Parsed) (at : �
       let counts = went edit.2 in
       let kept = not_counted table.is_counted _ _ _ uncounted counts.1 in
       let trees : new.now.trees ≡ edit.0 = it.2.1 ∙ ap (λ (x : Written). x.trees) (same_value counts.2) ∙ same_value kept in
-      let step = alone schema old.now.trees edit.0 new.now.trees (edit_of old.now.trees table [] (rowids_for table (count_of counter.0)) 0 sourced.0) (no_work_at_insert schema Enforced 0 table.tree (edit_of old.now.trees table [] (rowids_for table (count_of counter.0)) 0 sourced.0).news) trees edit.1 in
-      (it.2.0, subst₂ (λ r rows. Applies schema Enforced old.now.trees (edit_of old.now.trees table [] r 0 rows) new.now.trees) (chosen_for table (count_of counter.0) uncounted) sourced.1.1 step, w.sound)
+      let step = alone schema old.now.trees edit.0 new.now.trees (edit_of old.now.trees table [] (rowids_for table (count_of counter.0)) 0 sourced.0)
+      (no_work_at_insert schema Enforced 0 table.tree (edit_of old.now.trees table [] (rowids_for table (count_of counter.0)) 0 sourced.0).news) trees
+      edit.1 in (
+        it.2.0,
+        subst₂ (λ r rows. Applies schema Enforced old.now.trees (edit_of old.now.trees table [] r 0 rows) new.now.trees)
+            (chosen_for table (count_of counter.0) uncounted) sourced.1.1 step,
+        w.sound,
+      )
 
 -- what a DELETE took, and all that it set off
 pub took : (sql : List ℕ) (params : Row) (old new : State) (p : Parsed) (at : ℕ) (table : Table) (found : slice_get old.now.schema.tables at ≡ Some table) (q : Program)

@@ -5,7 +5,8 @@ use Rattle.sqlite_trees.specs.Tree.{Trees}
 use Rattle.sqlite_catalog.specs.Change.{KeepsRows}
 use Rattle.sqlite_schema.specs.declared.schema.Table.{Table}
 use Rattle.sqlite.specs.Effect.{Database, IsDatabase}
-use Rattle.brk_sql.specs.Desk.{ProgramTables, IsTableAt, CreatesTableOfShape, CreatesEachTable, has_no_writing_foreign_keys, has_no_writing_foreign_keys_if_at, HasNoWritingForeignKeysAt, CreatesTablesWithRecords}
+use Rattle.brk_sql.specs.Desk.{ProgramTables, IsTableAt, CreatesTableOfShape, CreatesEachTable, has_no_writing_foreign_keys, has_no_writing_foreign_keys_if_at}
+use Rattle.brk_sql.specs.Desk.{HasNoWritingForeignKeysAt, CreatesTablesWithRecords}
 use Rattle.brk_sql.proofs.Created.{all_at}
 use Rattle.brk_sql.proofs.Effects.{split}
 use Rattle.brk_sql.proofs.Kept.{none_held}
@@ -20,17 +21,22 @@ all_join p (x ∷ xs) ys a b = let both = split (p x) (list_all p xs) a in rw (b
 
 calm_of_inert : (tree : ℕ) (tables : List Table) → list_all has_no_writing_foreign_keys tables ≡ true → list_all (has_no_writing_foreign_keys_if_at tree) tables ≡ true
 calm_of_inert tree [] h = refl
-calm_of_inert tree (t ∷ tables) h = let both = split (has_no_writing_foreign_keys t) (list_all has_no_writing_foreign_keys tables) h in rw (both.0, or_true (not (t.tree == tree)), calm_of_inert tree tables both.1)
+calm_of_inert tree (t ∷ tables) h = let both = split (has_no_writing_foreign_keys t) (list_all has_no_writing_foreign_keys tables) h in
+    rw (both.0, or_true (not (t.tree == tree)), calm_of_inert tree tables both.1)
 
 calm_of_apart : (tables : List Table) (tree : ℕ) → AllByRecursion (λ t. t.tree ≢ tree) tables → list_all (has_no_writing_foreign_keys_if_at tree) tables ≡ true
 calm_of_apart [] tree apart = refl
 calm_of_apart (t ∷ tables) tree apart = rw (ne_eqb t.tree tree apart.0, calm_of_apart tables tree apart.1)
 
 pub still_calm : {shape : ℕ → Table} (old new : Database) → CreatesTableOfShape old new shape → (tree : ℕ) → HasNoWritingForeignKeysAt old.schema tree → HasNoWritingForeignKeysAt new.schema tree
-still_calm old new m tree keys_write_nothing = rw (m.tables) (all_join (has_no_writing_foreign_keys_if_at tree) old.schema.tables m.more keys_write_nothing (calm_of_inert tree m.more m.added_keys_write_nothing))
+still_calm old new m tree keys_write_nothing =
+    rw (m.tables) (all_join (has_no_writing_foreign_keys_if_at tree) old.schema.tables m.more keys_write_nothing
+    (calm_of_inert tree m.more m.added_keys_write_nothing))
 
 pub new_calm : {shape : ℕ → Table} (old new : Database) (m : CreatesTableOfShape old new shape) → HasNoWritingForeignKeysAt new.schema m.tree
-new_calm old new m = rw (m.tables) (all_join (has_no_writing_foreign_keys_if_at m.tree) old.schema.tables m.more (calm_of_apart old.schema.tables m.tree m.apart) (calm_of_inert m.tree m.more m.added_keys_write_nothing))
+new_calm old new m = rw (m.tables)
+    (all_join (has_no_writing_foreign_keys_if_at m.tree) old.schema.tables m.more (calm_of_apart old.schema.tables m.tree m.apart)
+    (calm_of_inert m.tree m.more m.added_keys_write_nothing))
 
 pub all_left : {X : Type 0} (P : X → Type 0) (xs ys : List X) → AllByRecursion P (xs ++ ys) → AllByRecursion P xs
 all_left P [] ys all = tt
@@ -81,7 +87,8 @@ module _ {W T : Type 0} (desk : ProgramTables W T) where
     found_tree v h = subst (λ n. n ≢ m.tree) (desk.placed v (p.tree v)) (all_at (λ t. t.tree ≢ m.tree) mid.schema.tables (p.place v) (desk.shape v (p.tree v)) (p.is_table v h).found m.apart)
 
     same_tree : (v : W) → In v → new.trees (p.tree v) ≡ mid.trees (p.tree v)
-    same_tree v h = subst (λ n. new.trees n ≡ mid.trees n) (desk.placed v (p.tree v)) (all_at (λ t. new.trees t.tree ≡ mid.trees t.tree) mid.schema.tables (p.place v) (desk.shape v (p.tree v)) (p.is_table v h).found m.rows)
+    same_tree v h = subst (λ n. new.trees n ≡ mid.trees n) (desk.placed v (p.tree v))
+        (all_at (λ t. new.trees t.tree ≡ mid.trees t.tree) mid.schema.tables (p.place v) (desk.shape v (p.tree v)) (p.is_table v h).found m.rows)
 
     pub part_more : Part desk (λ v. (v ≡ w) ⊎ In v) old new
     part_more = record {
@@ -93,7 +100,8 @@ module _ {W T : Type 0} (desk : ProgramTables W T) where
       empty = λ v h. emptied v (is v) h;
       more = p.more ++ m.more;
       tables = m.tables ∙ ap (λ l. l ++ m.more) p.tables ∙ Rattle.std.proofs.Common.append_assoc old.schema.tables p.more m.more;
-      rows = kept_twice old.trees mid.trees new.trees old.schema.tables p.rows (all_left (λ t. new.trees t.tree ≡ mid.trees t.tree) old.schema.tables p.more (subst (λ all. KeepsRows all mid.trees new.trees) p.tables m.rows));
+      rows = kept_twice old.trees mid.trees new.trees old.schema.tables p.rows
+          (all_left (λ t. new.trees t.tree ≡ mid.trees t.tree) old.schema.tables p.more (subst (λ all. KeepsRows all mid.trees new.trees) p.tables m.rows));
       fresh = λ v h. freshened v (is v) h;
     }
       where
@@ -136,7 +144,8 @@ module _ {W T : Type 0} (desk : ProgramTables W T) where
   Among [] In = In
   Among (w ∷ ws) In = Among ws (OrIn w In)
 
-  pub part_each : ((w v : W) → (v ≡ w) ⊎ (v ≢ w)) → (ws : List W) (In : W → Type 0) (old mid new : Database) → Part desk In old mid → CreatesEachTable (map desk.shape ws) mid new → Part desk (Among ws In) old new
+  pub part_each : ((w v : W) → (v ≡ w) ⊎ (v ≢ w)) → (ws : List W) (In : W → Type 0) (old mid new : Database) → Part desk In old mid
+      → CreatesEachTable (map desk.shape ws) mid new → Part desk (Among ws In) old new
   part_each split [] In old mid new p made = subst (Part desk In old) (sym made) p
   part_each split (w ∷ ws) In old mid new p made = part_each split ws (OrIn w In) old made.0 new (part_more In old mid made.0 p w (split w) made.1) made.2
 
@@ -150,7 +159,8 @@ module _ {W T : Type 0} (desk : ProgramTables W T) where
       apart = λ v w. p.apart v w (all v) (all w);
       keys_write_nothing = λ w. p.keys_write_nothing w (all w);
       sound = sound;
-      rows = λ w. subst (λ xs. Rattle.brk_sql.specs.Rows.TreeHoldsRecords (desk.shape w (p.tree w)) (desk.encode w) (desk.order w) xs (new.trees (p.tree w))) (sym (none w)) (none_held (desk.shape w (p.tree w)) (desk.encode w) (desk.order w) _ (p.empty w (all w)));
+      rows = λ w. subst (λ xs. Rattle.brk_sql.specs.Rows.TreeHoldsRecords (desk.shape w (p.tree w)) (desk.encode w) (desk.order w) xs (new.trees (p.tree w)))
+          (sym (none w)) (none_held (desk.shape w (p.tree w)) (desk.encode w) (desk.order w) _ (p.empty w (all w)));
     };
     fresh = λ w. p.fresh w (all w);
     others = record { more = p.more; tables = p.tables; rows = p.rows };

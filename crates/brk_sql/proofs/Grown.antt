@@ -23,14 +23,22 @@ pub record Grows (old new : Database) : Type 0 where
   pub keys_write_nothing : (tree : ℕ) → HasNoWritingForeignKeysAt old.schema tree → HasNoWritingForeignKeysAt new.schema tree
 
 pub grows_none : (db : Database) → Grows db db
-grows_none db = record { more = []; tables = sym (append-nil db.schema.tables); rows = all_from _ db.schema.tables (λ t there. refl); keys_write_nothing = λ tree keys_write_nothing. keys_write_nothing }
+grows_none db = record {
+  more = [];
+  tables = sym (append-nil db.schema.tables);
+  rows = all_from _ db.schema.tables (λ t there. refl);
+  keys_write_nothing =
+      λ tree keys_write_nothing. keys_write_nothing;
+}
 
 pub grows_then : (a b c : Database) → Grows a b → Grows b c → Grows a c
 grows_then a b c p q = record {
   more = p.more ++ q.more;
   tables = q.tables ∙ ap (λ l. l ++ q.more) p.tables ∙ append_assoc a.schema.tables p.more q.more;
   rows = all_from _ a.schema.tables (λ t there.
-      all_has (λ t. c.trees t.tree ≡ b.trees t.tree) a.schema.tables t (all_left (λ t. c.trees t.tree ≡ b.trees t.tree) a.schema.tables p.more (subst (AllByRecursion (λ t. c.trees t.tree ≡ b.trees t.tree)) p.tables q.rows)) there
+      all_has (λ t. c.trees t.tree ≡ b.trees t.tree) a.schema.tables t
+      (all_left (λ t. c.trees t.tree ≡ b.trees t.tree) a.schema.tables p.more
+      (subst (AllByRecursion (λ t. c.trees t.tree ≡ b.trees t.tree)) p.tables q.rows)) there
       ∙ all_has (λ t. b.trees t.tree ≡ a.trees t.tree) a.schema.tables t p.rows there);
   keys_write_nothing = λ tree keys_write_nothing. q.keys_write_nothing tree (p.keys_write_nothing tree keys_write_nothing);
 }
@@ -64,7 +72,8 @@ module _ {W T : Type 0} (desk : ProgramTables W T) (t : T) where
     found_tree v there = subst (λ n. n ≢ m.tree) (desk.placed v (tree v)) (all_at (λ t. t.tree ≢ m.tree) old.schema.tables (h.place v) (desk.shape v (tree v)) (h.is_table v there).found m.apart)
 
     same_tree : (v : W) → In v → new.trees (tree v) ≡ old.trees (tree v)
-    same_tree v there = subst (λ n. new.trees n ≡ old.trees n) (desk.placed v (tree v)) (all_at (λ t. new.trees t.tree ≡ old.trees t.tree) old.schema.tables (h.place v) (desk.shape v (tree v)) (h.is_table v there).found m.rows)
+    same_tree v there = subst (λ n. new.trees n ≡ old.trees n) (desk.placed v (tree v))
+        (all_at (λ t. new.trees t.tree ≡ old.trees t.tree) old.schema.tables (h.place v) (desk.shape v (tree v)) (h.is_table v there).found m.rows)
 
     pub grown_one : Grown In (OrIn desk w In) tree old new
     grown_one = record {
@@ -105,7 +114,8 @@ module _ {W T : Type 0} (desk : ProgramTables W T) (t : T) where
             → TreeHoldsRecords (desk.shape v (chosen s m.tree (tree v))) (desk.encode v) (desk.order v) (desk.list v t) (new.trees (chosen s m.tree (tree v)))
         held v (inl e) k =
             subst (λ u. TreeHoldsRecords (desk.shape u m.tree) (desk.encode u) (desk.order u) (desk.list u t) (new.trees m.tree)) (sym e)
-            (subst (λ xs. TreeHoldsRecords (desk.shape w m.tree) (desk.encode w) (desk.order w) xs (new.trees m.tree)) (sym none) (none_held (desk.shape w m.tree) (desk.encode w) (desk.order w) (new.trees m.tree) m.empty))
+            (subst (λ xs. TreeHoldsRecords (desk.shape w m.tree) (desk.encode w) (desk.order w) xs (new.trees m.tree)) (sym none)
+            (none_held (desk.shape w m.tree) (desk.encode w) (desk.order w) (new.trees m.tree) m.empty))
         held v (inr ne) (inl e) = absurd (ne e)
         held v (inr ne) (inr k) = subst (TreeHoldsRecords (desk.shape v (tree v)) (desk.encode v) (desk.order v) (desk.list v t)) (sym (same_tree v k)) (h.rows v k)
 
@@ -114,7 +124,8 @@ module _ {W T : Type 0} (desk : ProgramTables W T) (t : T) where
         came v (inr ne) (inl e) = absurd (ne e)
         came v (inr ne) (inr k) = inl (k, refl)
 
-  pub grown_each : ((w v : W) → (v ≡ w) ⊎ (v ≢ w)) → (ws : List W) (In : W → Type 0) (tree : W → ℕ) (old new : Database) → HasSelectedTables desk In t tree old → AllByRecursion (λ w. desk.list w t ≡ []) ws
+  pub grown_each : ((w v : W) → (v ≡ w) ⊎ (v ≢ w)) → (ws : List W) (In : W → Type 0) (tree : W → ℕ) (old new : Database) → HasSelectedTables desk In t tree old
+      → AllByRecursion (λ w. desk.list w t ≡ []) ws
       → CreatesEachTable (map desk.shape ws) old new → Grown In (Among desk ws In) tree old new
   grown_each split [] In tree old new h none made = subst (Grown In In tree old) (sym made) (grown_none In tree old h)
   grown_each split (w ∷ ws) In tree old new h none made =

@@ -46,7 +46,8 @@ module _ {S V E : Type 0} (g : Ghosts S) (sql : List ℕ) (params : Row) (old ne
         survives = survives;
       }
     where
-      go : (r : Result V E) → IsTrue (state g new).in_transaction → ((v : V) → r ≡ Ok v → made v (state g old) (state g new)) → IfOk r (λ v. IsTrue (state g new).in_transaction × made v (state g old) (state g new))
+      go : (r : Result V E) → IsTrue (state g new).in_transaction → ((v : V) → r ≡ Ok v → made v (state g old) (state g new))
+          → IfOk r (λ v. IsTrue (state g new).in_transaction × made v (state g old) (state g new))
       go (Ok v) on h = (on, h v refl)
       go (Err e) on h = tt
 
@@ -102,7 +103,9 @@ module _ {S E : Type 0} (g : Ghosts S) (old mid end : Held S) (made : Database �
     (step : IsTransactionStep {V = Unit {0}} {E = E} (state g (record old { in_transaction = true })) (state g mid) (Ok tt) (λ _ a b. made a.now b.now))
     (late : Survives (state g mid) (state g end) (λ db. db ≡ (state g mid).now.trees)) where
   pub commits_all : {F : Type 0} (r : Result (Unit {0}) F) → HasCleanDisk (state g end)
-      → (HasCleanDisk (state g end) → OnOk r (IsTrue (state g mid).in_transaction × Shows (state g mid) (state g end) (state g mid).now (state g mid).now false × KeepsCounts (state g mid) (state g end) × ((state g end).marks ≡ [])))
+      → (HasCleanDisk (state g end)
+      → OnOk r (IsTrue (state g mid).in_transaction × Shows (state g mid) (state g end) (state g mid).now (state g mid).now false
+      × KeepsCounts (state g mid) (state g end) × ((state g end).marks ≡ [])))
       → OnOk r (IsTrue (state g old).is_open × IsTrue (state g end).is_open × made (state g old).now (state g end).now × ((state g end).committed ≡ (state g end).now))
   commits_all (Ok x) clean ok =
       let s = (ok clean).1 in
@@ -120,11 +123,13 @@ module _ {S E : Type 0} (g : Ghosts S) (old mid end : Held S) (made : Database �
 
 -- ---- a read
 
-bare_rows : (sql : List ℕ) (params : Row) (old new : State) (rows : List Row) → ((c : Compiled) → understood old.now.schema sql ≡ Ok c → c.returning ≡ None) → Shown sql params old new rows → IsUnchanged old new
+bare_rows : (sql : List ℕ) (params : Row) (old new : State) (rows : List Row) → ((c : Compiled) → understood old.now.schema sql ≡ Ok c → c.returning ≡ None)
+    → Shown sql params old new rows → IsUnchanged old new
 unfolding Shown
 bare_rows sql params old new rows plain h = let bare = plain h.0 h.1.is in (rw bare at h.2).3
 
-bare_failure : (sql : List ℕ) (params : Row) (old new : State) (e : Error) → ((c : Compiled) → understood old.now.schema sql ≡ Ok c → c.returning ≡ None) → FailsToQuery sql params old new e ⊎ IsTooLate sql params old new e → KeepsCommit old new
+bare_failure : (sql : List ℕ) (params : Row) (old new : State) (e : Error) → ((c : Compiled) → understood old.now.schema sql ≡ Ok c → c.returning ≡ None)
+    → FailsToQuery sql params old new e ⊎ IsTooLate sql params old new e → KeepsCommit old new
 unfolding FailsToQuery IsNotRun
 bare_failure sql params old new e plain (inl (inl (inl h))) = kept_unchanged old new h.1
 bare_failure sql params old new e plain (inl (inl (inr h))) = kept_rolled old new h.3
@@ -140,7 +145,8 @@ module _ {V E : Type 0} (sql : List ℕ) (params : Row) (old new : State) (rows_
     survives = survives;
   }
 
-  pub look_err : (e : Error) (out : Result V E) → IsErr out → (HasCleanDisk new → FailsToQuery sql params old new e ⊎ IsTooLate sql params old new e) → IsTransactionStep old new out (λ v. SelectsRows sql params (rows_of v))
+  pub look_err : (e : Error) (out : Result V E) → IsErr out → (HasCleanDisk new → FailsToQuery sql params old new e ⊎ IsTooLate sql params old new e)
+      → IsTransactionStep old new out (λ v. SelectsRows sql params (rows_of v))
   look_err e out failed fails = record {
     commits_nothing = λ clean. bare_failure sql params old new e plain (fails clean);
     relates_states = λ clean on. on_err out _ failed;

@@ -29,7 +29,8 @@ module _ {X : Type 0} (table : Table) (encode : X → Row) (cmp : X → X → Or
   pub opened : (xs : List X) (rows : List Row) → TreeHoldsRecords table encode cmp xs rows → (zs : List X) × IsPermutation xs zs × (map (cells_in_column_order table) rows ≡ map encode zs)
   opened xs rows h = unmapped encode xs (map (cells_in_column_order table) rows) h.shown
 
-  closed : (xs zs : List X) (rows those : List Row) → IsPermutation xs zs → map (cells_in_column_order table) rows ≡ map encode zs → IsPermutation rows those → IsPermutation (map encode xs) (map (cells_in_column_order table) those)
+  closed : (xs zs : List X) (rows those : List Row) → IsPermutation xs zs → map (cells_in_column_order table) rows ≡ map encode zs → IsPermutation rows those
+      → IsPermutation (map encode xs) (map (cells_in_column_order table) those)
   closed xs zs rows those p e q =
       IsPermutation-trans _ _ _ (subst (IsPermutation (map encode xs)) (sym e) (IsPermutation-map encode xs zs p)) (IsPermutation-map (cells_in_column_order table) rows those q)
 
@@ -39,7 +40,8 @@ module _ {X : Type 0} (table : Table) (encode : X → Row) (cmp : X → X → Or
   none_held rows e = subst (TreeHoldsRecords table encode cmp []) (sym e) (record { keyed = tt; apart = tt; rising = tt; shown = IsPermutation-refl [] })
 
   -- DELETE
-  pub held_without : (p : Row → Bool) (q : X → Bool) → ((r : Row) (x : X) → cells_in_column_order table r ≡ encode x → p r ≡ q x) → (xs : List X) (rows : List Row) → TreeHoldsRecords table encode cmp xs rows
+  pub held_without : (p : Row → Bool) (q : X → Bool) → ((r : Row) (x : X) → cells_in_column_order table r ≡ encode x → p r ≡ q x)
+      → (xs : List X) (rows : List Row) → TreeHoldsRecords table encode cmp xs rows
       → TreeHoldsRecords table encode cmp (delete_where q xs) (filter (λ r. not (p r)) rows)
   held_without p q same xs rows h =
       let o = opened xs rows h in
@@ -47,7 +49,9 @@ module _ {X : Type 0} (table : Table) (encode : X → Row) (cmp : X → X → Or
         keyed = keyed_filter (λ r. not (p r)) rows h.keyed;
         apart = apart_filter (λ r. not (p r)) rows h.apart;
         rising = ascending-filter _ (λ x. not (q x)) xs h.rising;
-        shown = closed _ _ _ _ (IsPermutation-filter (λ x. not (q x)) xs o.0 o.1) (filtered (cells_in_column_order table) encode (λ r. not (p r)) (λ x. not (q x)) (λ r x e. ap not (same r x e)) rows o.0 o.2) (IsPermutation-refl _);
+        shown = closed _ _ _ _ (IsPermutation-filter (λ x. not (q x)) xs o.0 o.1)
+            (filtered (cells_in_column_order table) encode (λ r. not (p r)) (λ x. not (q x)) (λ r x e. ap not (same r x e)) rows o.0 o.2)
+            (IsPermutation-refl _);
       }
 
   -- UPDATE of columns that are no key
@@ -83,7 +87,8 @@ module _ {X : Type 0} (table : Table) (encode : X → Row) (cmp : X → X → Or
         keyed = keyed_permuted (new ∷ rows) _ perm (whole, h.keyed);
         apart = apart_permuted (new ∷ rows) _ perm (apart_put new rows free h.apart);
         rising = rises-insert_sorted total x xs absent h.rising;
-        shown = closed (insert_sorted cmp x xs) (x ∷ o.0) (new ∷ rows) _ (IsPermutation-trans _ _ _ (IsPermutation-sym _ _ (IsPermutation-insert_sorted cmp x xs)) (IsPermutation-cons x _ _ o.1)) (ap₂ ◌∷◌ e o.2) perm;
+        shown = closed (insert_sorted cmp x xs) (x ∷ o.0) (new ∷ rows) _
+            (IsPermutation-trans _ _ _ (IsPermutation-sym _ _ (IsPermutation-insert_sorted cmp x xs)) (IsPermutation-cons x _ _ o.1)) (ap₂ ◌∷◌ e o.2) perm;
       }
 
   -- each record is that of a row
@@ -111,8 +116,13 @@ module _ {X : Type 0} (table : Table) (encode : X → Row) (cmp : X → X → Or
         let o = opened xs rows h in
         let kept = filtered (cells_in_column_order table) encode (passes params terms) q same rows o.0 o.2 in
         let moved = subst (λ l. IsPermutation l (map (cells_in_column_order table) p.picked)) kept (IsPermutation-map (cells_in_column_order table) _ _ p.same) in
-        let u = unmapped encode (filter q o.0) (map (cells_in_column_order table) p.picked) moved in
-        (u.0, IsPermutation-trans _ _ _ (IsPermutation-filter q xs o.0 o.1) u.1, ordered (cells_in_column_order table) encode (sorted_by params order) C sorts p.picked u.0 u.2 p.sorted, p.is ∙ ap (page query params) (projected p.picked u.0 u.2))
+        let u = unmapped encode (filter q o.0) (map (cells_in_column_order table) p.picked) moved in (
+          u.0,
+          IsPermutation-trans _ _ _ (IsPermutation-filter q xs o.0 o.1) u.1,
+          ordered (cells_in_column_order table) encode (sorted_by params order) C sorts
+              p.picked u.0 u.2 p.sorted,
+          p.is ∙ ap (page query params) (projected p.picked u.0 u.2),
+        )
       where
         projected : (rs : List Row) (ys : List X) → map (cells_in_column_order table) rs ≡ map encode ys → map (λ r. eval_all project (params ∷ r ∷ [])) rs ≡ map show ys
         projected [] [] e = refl
@@ -138,7 +148,8 @@ module _ {X : Type 0} (table : Table) (encode : X → Row) (cmp : X → X → Or
     reads_falling total is =
         let r = reads_some in
         r.3 ∙ ap (λ ys. page query params (map show ys))
-        (sorted_unique C total (reverse (filter q xs)) r.0 (turned (filter q xs) (ascending-filter _ q xs h.rising)) (IsPermutation-trans _ _ _ (IsPermutation-sym _ _ (IsPermutation-reverse (filter q xs))) r.1) r.2)
+        (sorted_unique C total (reverse (filter q xs)) r.0 (turned (filter q xs) (ascending-filter _ q xs h.rising))
+        (IsPermutation-trans _ _ _ (IsPermutation-sym _ _ (IsPermutation-reverse (filter q xs))) r.1) r.2)
       where
         pushed : (ys : List X) (y : X) → IsStrictlyAscending C ys → AllByRecursion (λ z. C z y ≡ Less) ys → IsStrictlyAscending C (ys ++ y ∷ [])
         pushed [] y up low = (tt, tt)

@@ -68,7 +68,8 @@ module _ {W T : Type 0} (desk : ProgramTables W T) (w : W) (text : List ℕ) (pa
     (q : desk.Item w → Bool) (same : (tree : ℕ) (r : Row) (x : desk.Item w) → cells_in_column_order (desk.shape w tree) r ≡ desk.encode w x → passes params terms r ≡ q x)
     (show : desk.Item w → Row) (shows : (tree : ℕ) (r : Row) (x : desk.Item w) → cells_in_column_order (desk.shape w tree) r ≡ desk.encode w x → eval_all project (params ∷ r ∷ []) ≡ show x)
     (C : desk.Item w → desk.Item w → Ordering) (total : IsTotalOrder C)
-    (sorts : (tree : ℕ) (a b : Row) (x y : desk.Item w) → cells_in_column_order (desk.shape w tree) a ≡ desk.encode w x → cells_in_column_order (desk.shape w tree) b ≡ desk.encode w y → sorted_by params order a b ≡ C x y)
+    (sorts : (tree : ℕ) (a b : Row) (x y : desk.Item w) → cells_in_column_order (desk.shape w tree) a ≡ desk.encode w x
+    → cells_in_column_order (desk.shape w tree) b ≡ desk.encode w y → sorted_by params order a b ≡ C x y)
     (old new : State) (rows : List Row) (shown : Shown text params old new rows) where
   pub answers : (at tree : ℕ) → IsTableAt old.now.schema (desk.shape w tree) at → Answers old.now (record { lets = []; body = selection tree terms project order paging }) params rows
   unfolding Shown
@@ -84,16 +85,19 @@ module _ {W T : Type 0} (desk : ProgramTables W T) (w : W) (text : List ℕ) (pa
   pub tells_rising : ((x y : desk.Item w) → C x y ≡ desk.order w x y) → TablesSatisfy desk (λ t. rows ≡ paged (map show (filter q (desk.list w t)))) old.now
   tells_rising is = λ t tree h.
       reads_rising (desk.shape w (tree w)) (desk.encode w) (desk.order w) (desk.list w t) (old.now.trees (tree w)) (h.rows w) _ params terms project order rows
-      (picks Null (tree w) terms project order paging old.now.trees params rows ((answers (h.place w) (tree w) (h.is_table w)).answer Null)) q (same (tree w)) show (shows (tree w)) C (sorts (tree w)) total is
+      (picks Null (tree w) terms project order paging old.now.trees params rows ((answers (h.place w) (tree w) (h.is_table w)).answer Null)) q (same (tree w))
+      show (shows (tree w)) C (sorts (tree w)) total is
 
   -- ORDER BY the key DESC
   pub tells_falling : ((x y : desk.Item w) → C x y ≡ desk.order w y x) → TablesSatisfy desk (λ t. rows ≡ paged (map show (reverse (filter q (desk.list w t))))) old.now
   tells_falling is = λ t tree h.
       reads_falling (desk.shape w (tree w)) (desk.encode w) (desk.order w) (desk.list w t) (old.now.trees (tree w)) (h.rows w) _ params terms project order rows
-      (picks Null (tree w) terms project order paging old.now.trees params rows ((answers (h.place w) (tree w) (h.is_table w)).answer Null)) q (same (tree w)) show (shows (tree w)) C (sorts (tree w)) total is
+      (picks Null (tree w) terms project order paging old.now.trees params rows ((answers (h.place w) (tree w) (h.is_table w)).answer Null)) q (same (tree w))
+      show (shows (tree w)) C (sorts (tree w)) total is
 
   -- ORDER BY other columns and then the key
   pub tells_sorted : ((x y : desk.Item w) → is_eq (C x y) ≡ true → is_eq (desk.order w x y) ≡ true) → TablesSatisfy desk (λ t. rows ≡ paged (map show (sort_by C (filter q (desk.list w t))))) old.now
   tells_sorted ties = λ t tree h.
       reads_sorted (desk.shape w (tree w)) (desk.encode w) (desk.order w) (desk.list w t) (old.now.trees (tree w)) (h.rows w) _ params terms project order rows
-      (picks Null (tree w) terms project order paging old.now.trees params rows ((answers (h.place w) (tree w) (h.is_table w)).answer Null)) q (same (tree w)) show (shows (tree w)) C (sorts (tree w)) total ties
+      (picks Null (tree w) terms project order paging old.now.trees params rows ((answers (h.place w) (tree w) (h.is_table w)).answer Null)) q (same (tree w))
+      show (shows (tree w)) C (sorts (tree w)) total ties

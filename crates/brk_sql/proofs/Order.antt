@@ -1,5 +1,6 @@
 -- Lists up to order.
-use Rattle.std.proofs.Common.{◌≡◌, ℕ, ◌+◌, ◌<◌, List, [], ◌∷◌, ◌++◌, length, map, filter, get_or, set, Bool, true, false, cond, if◌then◌else◌, Ordering, Less, Equal, Greater, is_lt, is_eq, is_gt, refl, sym, ap, ap₂, subst, ◌∙◌, inl, inr, arith, true≢false}
+use Rattle.std.proofs.Common.{◌≡◌, ℕ, ◌+◌, ◌<◌, List, [], ◌∷◌, ◌++◌, length, map, filter, get_or, set, Bool, true, false, cond, if◌then◌else◌, Ordering, Less}
+use Rattle.std.proofs.Common.{Equal, Greater, is_lt, is_eq, is_gt, refl, sym, ap, ap₂, subst, ◌∙◌, inl, inr, arith, true≢false}
 use Rattle.std.specs.Ordering.{ordering_reverse}
 use Rattle.std.specs.Cmp.{IsTotalOrder}
 use Rattle.std.specs.List.{AllByRecursion, swap}
@@ -75,7 +76,8 @@ module _ {X Y Z : Type 0} (f : X → Z) (g : Y → Z) where
       let more : map f xs ≡ map g ys = cc in
       ap₂ ◌∷◌ (same x y here) (mapped a b same xs ys more)
 
-  pub ordered : (C : X → X → Ordering) (D : Y → Y → Ordering) → ((a b : X) (c d : Y) → f a ≡ g c → f b ≡ g d → C a b ≡ D c d) → (xs : List X) (ys : List Y) → map f xs ≡ map g ys → IsSorted C xs → IsSorted D ys
+  pub ordered : (C : X → X → Ordering) (D : Y → Y → Ordering) → ((a b : X) (c d : Y) → f a ≡ g c → f b ≡ g d → C a b ≡ D c d) → (xs : List X) (ys : List Y)
+      → map f xs ≡ map g ys → IsSorted C xs → IsSorted D ys
   ordered C D same [] ys h sorted k d low high = absurd (omega (arith, ap length h, length-map ys g))
   ordered C D same (x ∷ more) ys h sorted k d low high =
       let xs = x ∷ more in
@@ -122,7 +124,8 @@ IsPermutation-insert_sorted cmp new (x ∷ xs) =
     ]
 
 -- a change that keeps each key
-pub rises-update_where : {X : Type 0} (cmp : X → X → Ordering) (p : X → Bool) (f : X → X) → ((x y : X) → cmp (f x) y ≡ cmp x y) → ((x y : X) → cmp x (f y) ≡ cmp x y) → (xs : List X) → IsStrictlyAscending cmp xs → IsStrictlyAscending cmp (update_where p f xs)
+pub rises-update_where : {X : Type 0} (cmp : X → X → Ordering) (p : X → Bool) (f : X → X) → ((x y : X) → cmp (f x) y ≡ cmp x y)
+    → ((x y : X) → cmp x (f y) ≡ cmp x y) → (xs : List X) → IsStrictlyAscending cmp xs → IsStrictlyAscending cmp (update_where p f xs)
 rises-update_where {X} cmp p f left right [] up = tt
 rises-update_where {X} cmp p f left right (x ∷ xs) up = (each x xs up.0, rises-update_where cmp p f left right xs up.1)
   where

@@ -1,5 +1,6 @@
 -- What a selection reads, and the rows that a step leaves, whatever the order of the tree is.
-use Rattle.std.proofs.Common.{◌≡◌, ℕ, ◌+◌, ◌^◌, ℤ, pos, negsuc, List, [], ◌∷◌, ◌++◌, length, map, filter, flat_map, nat_le, Bool, true, false, not, cond, None, Ordering, Less, Equal, Greater, is_eq, refl, sym, ap, subst, ◌∙◌, inl, inr, arith, IsTrue, ◌||◌, ◌&&◌, if◌then◌else◌}
+use Rattle.std.proofs.Common.{◌≡◌, ℕ, ◌+◌, ◌^◌, ℤ, pos, negsuc, List, [], ◌∷◌, ◌++◌, length, map, filter, flat_map, nat_le, Bool, true, false, not, cond, None}
+use Rattle.std.proofs.Common.{Ordering, Less, Equal, Greater, is_eq, refl, sym, ap, subst, ◌∙◌, inl, inr, arith, IsTrue, ◌||◌, ◌&&◌, if◌then◌else◌}
 use Rattle.std.specs.Ordering.{ordering_reverse, match_ordering}
 use Rattle.std.specs.List.{AllByRecursion, IsDistinct, list_all, list_any}
 use Rattle.std.specs.List.Sorted.{IsPermutation, IsSorted}
@@ -52,7 +53,8 @@ no_overlay db t = elim (cases_Bool (nat_le (2 ^ 31) t)) [ inl e ↦ rw e refl | 
 abbrev pub passes : Row → List Term → Row → Bool
 passes params terms r = list_all (holds (params ∷ r ∷ [])) terms
 
-pub matched : (params : Row) (terms : List Term) (rows : List Row) → flat_map (λ r. cond (passes params terms r) ((params ∷ r ∷ []) ∷ []) []) rows ≡ map (λ r. params ∷ r ∷ []) (filter (passes params terms) rows)
+pub matched : (params : Row) (terms : List Term) (rows : List Row)
+    → flat_map (λ r. cond (passes params terms r) ((params ∷ r ∷ []) ∷ []) []) rows ≡ map (λ r. params ∷ r ∷ []) (filter (passes params terms) rows)
 matched params terms [] = refl
 matched params terms (r ∷ rows) = elim (cases_Bool (passes params terms r)) [
   | inl e ↦ rw e (ap (λ l. (params ∷ r ∷ []) ∷ l) (matched params terms rows))
@@ -75,7 +77,9 @@ picks lost tree terms project order paging db params read a =
     let q = selection tree terms project order paging in
     let env = λ (r : Row). params ∷ r ∷ [] in
     let kept : a.kept ≡ map (λ r. output q (env r)) (filter (passes params terms) (db tree)) =
-    a.distinct ∙ ap (map (output q)) (a.grouped ∙ matched params terms (overlay db [] tree) ∙ ap (λ rows. map env (filter (passes params terms) rows)) (no_overlay db tree)) ∙ map_twice (output q) env _ in
+    a.distinct ∙ ap (map (output q))
+    (a.grouped ∙ matched params terms (overlay db [] tree) ∙ ap (λ rows. map env (filter (passes params terms) rows)) (no_overlay db tree))
+    ∙ map_twice (output q) env _ in
     let u = unmapped (λ r. output q (env r)) (filter (passes params terms) (db tree)) a.ordered (subst (λ k. IsPermutation k a.ordered) kept a.same) in
     record {
       picked = u.0;
@@ -128,7 +132,8 @@ same_row (r ∷ rows) a b apart (inr h) (inl f) is = absurd (clash (has_same_row
 same_row (r ∷ rows) a b apart (inr h) (inr k) is = same_row rows a b apart.1 h k is
 
 has_itself : (rows : List Row) (r : Row) → Keyed rows → Has rows r → has_rowid (id_in (rowid r)) r ≡ true
-has_itself rows r keyed h = let e = int_is (rowid r) (all_has _ rows r keyed h) in subst (λ v. is_eq (value_cmp v (Int (id_in (rowid r)))) ≡ true) (sym e) (ap is_eq (tied_itself value_cmp_total (Int (id_in (rowid r)))))
+has_itself rows r keyed h = let e = int_is (rowid r) (all_has _ rows r keyed h) in
+    subst (λ v. is_eq (value_cmp v (Int (id_in (rowid r)))) ≡ true) (sym e) (ap is_eq (tied_itself value_cmp_total (Int (id_in (rowid r)))))
 
 pub named_row : (rows : List Row) (a b : Row) → Keyed rows → Apart rows → Has rows a → Has rows b → has_rowid (id_in (rowid a)) b ≡ true → a ≡ b
 named_row rows a b keyed apart h k is =
@@ -214,7 +219,8 @@ untaken : (new : Row) (rows : List Row) → is_taken rows new ≡ false → AllB
 untaken new [] free = tt
 untaken new (r ∷ rows) free = go (has_same_rowid r new) refl free (untaken new rows)
   where
-    go : (b : Bool) → has_same_rowid r new ≡ b → (b || is_taken rows new) ≡ false → (is_taken rows new ≡ false → AllByRecursion (λ r. has_same_rowid new r ≡ false) rows) → AllByRecursion (λ r. has_same_rowid new r ≡ false) (r ∷ rows)
+    go : (b : Bool) → has_same_rowid r new ≡ b → (b || is_taken rows new) ≡ false
+        → (is_taken rows new ≡ false → AllByRecursion (λ r. has_same_rowid new r ≡ false) rows) → AllByRecursion (λ r. has_same_rowid new r ≡ false) (r ∷ rows)
     go true e free more = absurd (let f = free in cc)
     go false e free more = (same_rowid_sym new r ∙ e, more free)
 

@@ -116,15 +116,19 @@ module _ (text : List ℕ) (old new : State) (survives : Survives old new (λ _.
 
 -- ---- what the columns of a statement say
 
-headed : (text : List ℕ) (schema : Schema) (o : Outline) (names : List (List ℕ)) (has : Bool) → Outlines (understood schema text) o → (IsTrue has ↔ o.columns ≡ names) → IsResultColumnCheckOutcome text names has schema
+headed : (text : List ℕ) (schema : Schema) (o : Outline) (names : List (List ℕ)) (has : Bool) → Outlines (understood schema text) o
+    → (IsTrue has ↔ o.columns ≡ names) → IsResultColumnCheckOutcome text names has schema
 headed text schema o names has h tells = go (understood schema text) refl h
   where
     go : (r : Result Compiled CompileError) → understood schema text ≡ r → Outlines r o → IsResultColumnCheckOutcome text names has schema
     go (Ok c) e h = (c, e, subst (λ columns. IsTrue has ↔ columns ≡ names) h.2 tells)
     go (Err e) _ h = absurd h
 
-pub says_columns : (text : List ℕ) (old new : State) (names : List (List ℕ)) (has : Bool) (o : Outline) → Survives old new (λ _. ⊥) → (HasCleanDisk new → IsUnchanged old new) → (HasCleanDisk new → Outlines (understood old.now.schema text) o)
-    → (IsTrue has ↔ o.columns ≡ names) → IsTransactionStep {E = Error} old new (Ok has) (λ has before after. IsTrue before.is_open × (after.now ≡ before.now) × IsResultColumnCheckOutcome text names has before.now.schema)
+pub says_columns : (text : List ℕ) (old new : State) (names : List (List ℕ)) (has : Bool) (o : Outline) → Survives old new (λ _. ⊥)
+    → (HasCleanDisk new → IsUnchanged old new) → (HasCleanDisk new → Outlines (understood old.now.schema text) o)
+    → (IsTrue has ↔ o.columns ≡ names)
+    → IsTransactionStep {E = Error} old new (Ok has)
+    (λ has before after. IsTrue before.is_open × (after.now ≡ before.now) × IsResultColumnCheckOutcome text names has before.now.schema)
 says_columns text old new names has o survives same shape tells = record {
   commits_nothing = λ clean. kept_unchanged old new (same clean);
   relates_states = λ clean on. let u = same clean in (subst IsTrue (sym u.0.mode) on, (u.0.was_open, u.0.now_is, headed text old.now.schema o names has (shape clean) tells));
@@ -132,5 +136,7 @@ says_columns text old new names has o survives same shape tells = record {
 }
 
 -- an error tells nothing, whatever was asked
-pub says_nothing : {V : Type 0} (text : List ℕ) (old new : State) (made : V → State → State → Type 0) (e : Error) (out : Result V Error) → IsErr out → Survives old new (λ _. ⊥) → (HasCleanDisk new → IsNotRun old new text [] e) → IsTransactionStep old new out made
-says_nothing text old new made e out failed survives fails = record { commits_nothing = λ clean. not_run_kept text [] old new e (fails clean); relates_states = λ clean on. on_err out _ failed; survives = survives }
+pub says_nothing : {V : Type 0} (text : List ℕ) (old new : State) (made : V → State → State → Type 0) (e : Error) (out : Result V Error) → IsErr out
+    → Survives old new (λ _. ⊥) → (HasCleanDisk new → IsNotRun old new text [] e) → IsTransactionStep old new out made
+says_nothing text old new made e out failed survives fails =
+    record { commits_nothing = λ clean. not_run_kept text [] old new e (fails clean); relates_states = λ clean on. on_err out _ failed; survives = survives }

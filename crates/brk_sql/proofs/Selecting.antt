@@ -45,7 +45,18 @@ module _ (schema : Schema) (core : Core) (source : Source) (name : Name) (at : �
     pub parts_is : (by : List Sort) (order : List (Term × Key)) (s4 : State) → (out-Core core).group ≡ [] → (out-Core core).having ≡ None
         → sorts lower (inside schema (level_one name at columns) false) columns by (plainly s3) ≡ Ok (order, s4)
         → parts schema core by (fresh 1 max_budget)
-        ≡ Ok (record { body = record { level = level_one name at columns; steps = joined.steps; filter = joined.filter }; is_grouped = false; keys = []; collations = []; having = []; order = order }, s4)
+        ≡ Ok (
+          record {
+            body = record { level = level_one name at columns; steps = joined.steps; filter = joined.filter };
+            is_grouped = false;
+            keys =
+                [];
+            collations = [];
+            having = [];
+            order = order;
+          },
+          s4,
+        )
     unfolding parts keys having tests
     parts_is by order s4 grouped unhaving sorted = rw (body_is, grouped, unhaving, sorted)
 
@@ -62,7 +73,8 @@ error_of true = TooBig
 error_of false = NoSuchTable
 
 -- what the columns are refused for, the SELECT is
-pub named_off : (schema : Schema) (core : Core) (source : Source) (name : Name) (at : ℕ) → table_named schema name ≡ Some at → (out-Core core).from ≡ source ∷ [] → (out-Source source).origin ≡ Table name
+pub named_off : (schema : Schema) (core : Core) (source : Source) (name : Name) (at : ℕ) → table_named schema name ≡ Some at
+    → (out-Core core).from ≡ source ∷ [] → (out-Source source).origin ≡ Table name
     → (out-Source source).alias ≡ None → (out-Source source).using ≡ [] → (e : CompileError) (by : List Sort) (page : Term × Term)
     → result lower (outermost schema) (level_one name at []) core (fresh 2 max_budget) ≡ Err e → named schema core by page ≡ Err e
 unfolding named parts body

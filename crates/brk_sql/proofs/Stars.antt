@@ -68,23 +68,39 @@ module _ (text : List ℕ) (p : Parsed) (name : Name) (is : first text ≡ Ok p)
     unfolding sql_lowering_definitions
     shows = rw (found, few, some)
 
-    matches : (columns : List Output) → matching lower (outermost schema) (level_one name at columns) (core name) (fresh 2 max_budget) ≡ Ok (record { steps = Inner table.tree ∷ []; filter = [] }, fresh 2 max_budget)
+    matches : (columns : List Output)
+        → matching lower (outermost schema) (level_one name at columns) (core name) (fresh 2 max_budget)
+        ≡ Ok (record { steps = Inner table.tree ∷ []; filter = [] }, fresh 2 max_budget)
     unfolding sql_lowering_definitions
     matches columns = rw found
 
-    meaning_is : meaning schema (star name) ≡ Ok ((ungrouped (Inner table.tree ∷ []) [] all false [] (lit (Int (negsuc 0))) (lit (Int (pos 0))), map (λ o. o.name) all, map (λ o. o.carried.collation) all), [])
+    meaning_is : meaning schema (star name)
+        ≡ Ok (
+          (
+            ungrouped (Inner table.tree ∷ []) [] all false [] (lit (Int (negsuc 0))) (lit (Int (pos 0))),
+            map (λ o. o.name) all,
+            map
+                (λ o. o.carried.collation) all,
+          ),
+          [],
+        )
     unfolding everything
     meaning_is = query_is schema (star name) (core name) (source name) name (lit (Int (negsuc 0)), lit (Int (pos 0))) _ refl refl refl refl refl refl
-        (named_is schema (core name) (source name) name at named refl refl refl refl all (fresh 2 max_budget) (record { steps = Inner table.tree ∷ []; filter = [] }) (fresh 2 max_budget) shows (matches all) [] [] (fresh 2 max_budget) _ refl refl refl)
+        (named_is schema (core name) (source name) name at named refl refl refl refl all (fresh 2 max_budget)
+        (record { steps = Inner table.tree ∷ []; filter = [] }) (fresh 2 max_budget) shows (matches all) [] [] (fresh 2 max_budget) _ refl refl refl)
 
-    star_or : (compiled schema text ≡ Ok (meant p [] (Select (record { lets = []; body = query_of (ungrouped (Inner table.tree ∷ []) [] all false [] (lit (Int (negsuc 0))) (lit (Int (pos 0)))) }) (map (λ o. o.name) all)))) ⊎ (compiled schema text ≡ Err Mismatch)
+    star_or : (compiled schema text
+        ≡ Ok (meant p [] (Select
+        (record { lets = []; body = query_of (ungrouped (Inner table.tree ∷ []) [] all false [] (lit (Int (negsuc 0))) (lit (Int (pos 0)))) })
+        (map (λ o. o.name) all)))) ⊎ (compiled schema text ≡ Err Mismatch)
     unfolding everything
     star_or = reads_or schema text p is untimed (star name) _ (map (λ o. o.name) all) _ statement meaning_is
 
   off : (big : Bool) → result lower (outermost schema) (level_one name at []) (core name) (fresh 2 max_budget) ≡ Err (error_of big) → compiled schema text ≡ Err (error_of big)
   unfolding everything
   off big refused = reads_off schema text p is untimed (star name) (error_of big) statement
-      (query_off schema (star name) (core name) (source name) name (lit (Int (negsuc 0)), lit (Int (pos 0))) big refl refl refl refl refl refl (named_off schema (core name) (source name) name at named refl refl refl refl (error_of big) [] _ refused))
+      (query_off schema (star name) (core name) (source name) name (lit (Int (negsuc 0)), lit (Int (pos 0))) big refl refl refl refl refl refl
+      (named_off schema (core name) (source name) name at named refl refl refl refl (error_of big) [] _ refused))
 
   too_many : nat_lt 2000 (length all) ≡ true → result lower (outermost schema) (level_one name at []) (core name) (fresh 2 max_budget) ≡ Err TooBig
   unfolding sql_lowering_definitions

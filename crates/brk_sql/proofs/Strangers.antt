@@ -1,6 +1,7 @@
 -- A foreign key may act on the rows of its own table, and on no table whose own foreign keys do not
 -- act.
-use Rattle.std.proofs.Common.{◌≡◌, ◌≢◌, ◌⊎◌, inl, inr, ℕ, ℤ, zero, suc, ◌+◌, ◌==◌, List, [], ◌∷◌, ◌++◌, length, cond, nat_lt, Bool, true, false, not, ◌&&◌, ◌||◌, Some, None, Option, Ok, refl, sym, ap, subst, ◌∙◌, eq-eqb}
+use Rattle.std.proofs.Common.{◌≡◌, ◌≢◌, ◌⊎◌, inl, inr, ℕ, ℤ, zero, suc, ◌+◌, ◌==◌, List, [], ◌∷◌, ◌++◌, length, cond, nat_lt, Bool, true, false, not, ◌&&◌}
+use Rattle.std.proofs.Common.{◌||◌, Some, None, Option, Ok, refl, sym, ap, subst, ◌∙◌, eq-eqb}
 use Rattle.std.specs.Prelude.{MatchBool}
 use Rattle.std.specs.List.{list_all, list_any, filter_map, flat_map, cons_option, AllByRecursion}
 use Rattle.sqlite_value.specs.Order.{Row}
@@ -31,7 +32,8 @@ second_of true P Q off h = absurd (off h)
 second_of false P Q off h = h
 
 -- a foreign key that does not act refuses at most
-refuses_at_most : (deletes : Bool) (action : Action) (other : Bool) → not (action_writes_rows action || other) ≡ true → (deed : Deed) → deed_of Enforced deletes action ≡ Some deed → refuses deed ≡ true
+refuses_at_most : (deletes : Bool) (action : Action) (other : Bool) → not (action_writes_rows action || other) ≡ true → (deed : Deed)
+    → deed_of Enforced deletes action ≡ Some deed → refuses deed ≡ true
 refuses_at_most deletes NoAction other off deed e = absurd (let f = e in cc)
 refuses_at_most deletes Restrict other off deed e = let same : Refuse ≡ deed = cc in subst (λ d. refuses d ≡ true) same refl
 refuses_at_most deletes Cascade other off deed e = absurd (let f = off in cc)
@@ -63,19 +65,24 @@ module _ (tree : ℕ) where
   all_front [] w p = (tt, p.0)
   all_front (x ∷ xs) w p = let more = all_front xs w p.1 in ((p.0, more.0), more.1)
 
-  one_work : (depth at : ℕ) (moves : List (Row × Row)) (child : Table) (ref : Reference) (deed : Option Deed) (key : Option ParentKey) (more : List Work) → ((d : Deed) → deed ≡ Some d → IsHarmless child d)
+  one_work : (depth at : ℕ) (moves : List (Row × Row)) (child : Table) (ref : Reference) (deed : Option Deed) (key : Option ParentKey) (more : List Work)
+      → ((d : Deed) → deed ≡ Some d → IsHarmless child d)
       → AllByRecursion Spares more → AllByRecursion Spares (cons_option (work_by depth at moves child ref deed key) more)
   one_work depth at moves child ref None key more harmless all = all
   one_work depth at moves child ref (Some deed) None more harmless all = all
   one_work depth at moves child ref (Some deed) (Some key) more harmless all =
       (elim ((key.0 == at) && list_any (Rattle.sqlite_rules.specs.Action.loses key.2 key.1) moves)
-      as (λ b. AllByRecursion Spares (cons_option (cond b (Some (record { depth = depth; child = child; ref = ref; places = key.1; order = key.2; deed = deed; moves = moves })) None) more)) [ true ↦ (harmless deed refl, all) | false ↦ all ])
+      as (λ b. AllByRecursion Spares
+      (cons_option (cond b (Some (record { depth = depth; child = child; ref = ref; places = key.1; order = key.2; deed = deed; moves = moves })) None)
+      more)) [ true ↦ (harmless deed refl, all) | false ↦ all ])
 
   -- the works of another table
-  works_apart : (schema : Schema) (depth at : ℕ) (olds news : List Row) (child : Table) → child.tree ≢ tree → (refs : List Reference) → AllByRecursion Spares (filter_map (work_for schema Enforced depth at olds news child) refs)
+  works_apart : (schema : Schema) (depth at : ℕ) (olds news : List Row) (child : Table) → child.tree ≢ tree → (refs : List Reference)
+      → AllByRecursion Spares (filter_map (work_for schema Enforced depth at olds news child) refs)
   works_apart schema depth at olds news child apart [] = tt
   works_apart schema depth at olds news child apart (ref ∷ refs) =
-      one_work depth at (pairs olds news) child ref (deed_for Enforced (length news == 0) ref) (parent_key schema.tables ref) _ (λ d e. inl apart) (works_apart schema depth at olds news child apart refs)
+      one_work depth at (pairs olds news) child ref (deed_for Enforced (length news == 0) ref) (parent_key schema.tables ref) _ (λ d e. inl apart)
+      (works_apart schema depth at olds news child apart refs)
 
   -- the works of a table whose foreign keys don't act
   works_calm : (schema : Schema) (depth at : ℕ) (olds news : List Row) (child : Table) (refs : List Reference) → list_all (λ ref. not (foreign_key_writes_rows ref)) refs ≡ true
@@ -93,7 +100,8 @@ module _ (tree : ℕ) where
       let both = split (has_no_writing_foreign_keys_if_at tree child) (list_all (has_no_writing_foreign_keys_if_at tree) tables) keys_write_nothing in
       all_join _ _ (go (child.tree == tree) refl both.0) (works_in schema depth at olds news tables both.1)
     where
-      go : (b : Bool) → (child.tree == tree) ≡ b → (not b || list_all (λ ref. not (foreign_key_writes_rows ref)) child.references) ≡ true → AllByRecursion Spares (filter_map (work_for schema Enforced depth at olds news child) child.references)
+      go : (b : Bool) → (child.tree == tree) ≡ b → (not b || list_all (λ ref. not (foreign_key_writes_rows ref)) child.references) ≡ true
+          → AllByRecursion Spares (filter_map (work_for schema Enforced depth at olds news child) child.references)
       go true e off = works_calm schema depth at olds news child child.references off
       go false e off = works_apart schema depth at olds news child (λ same. absurd (let f = sym (eq-eqb child.tree tree same) ∙ e in cc)) child.references
 
@@ -108,14 +116,16 @@ module _ (tree : ℕ) where
         Later : Type 0
         Later = (db next : Trees) (stack : List Work) → AllByRecursion Spares stack → Leads schema Enforced n db stack (Ok next) → next tree ≡ db tree
 
-        goes : (below : List Work) (w : Work) (edit : Edit) → edit.table ≡ w.child → AllByRecursion Spares below → w.child.tree ≢ tree → Goes schema Enforced (Leads schema Enforced n) db edit (w.depth + 1) below (Ok next) → Later → next tree ≡ db tree
+        goes : (below : List Work) (w : Work) (edit : Edit) → edit.table ≡ w.child → AllByRecursion Spares below → w.child.tree ≢ tree
+            → Goes schema Enforced (Leads schema Enforced n) db edit (w.depth + 1) below (Ok next) → Later → next tree ≡ db tree
         goes below w edit same low apart (inl off) more = absurd (let e = off.2 in cc)
         goes below w edit same low apart (inr (inl big)) more = absurd (let e = big.3 in cc)
         goes below w edit same low apart (inr (inr went)) more =
             more went.0 next _ (all_join below _ low (works_in schema (w.depth + 1) edit.table.tree (taken_by db edit) edit.news schema.tables keys_write_nothing)) went.2
             ∙ step db went.0 edit (λ e. apart (ap (λ (t : Table). t.tree) (sym same) ∙ e)) went.1
 
-        on_ids : (below : List Work) (w : Work) (ids : List ℤ) → AllByRecursion Spares below → Spares w → ActsOn schema Enforced (Leads schema Enforced n) db w below (Ok next) ids → Later → next tree ≡ db tree
+        on_ids : (below : List Work) (w : Work) (ids : List ℤ) → AllByRecursion Spares below → Spares w
+            → ActsOn schema Enforced (Leads schema Enforced n) db w below (Ok next) ids → Later → next tree ≡ db tree
         on_ids below w [] low harmless h more = more db next below low h
         on_ids below w (id ∷ ids) low (inl apart) h more = goes below w (action_edit db w (id ∷ ids)) refl low apart (second_of (refuses w.deed) _ _ (λ e. let f = e in cc) h) more
         on_ids below w (id ∷ ids) low (inr refused) h more = absurd (let f = rw refused at h in cc)
@@ -154,6 +164,7 @@ module _ {W : Type 0} (tree : W → ℕ) where
   spares_then a b c first next = record {
     schema = next.schema ∙ first.schema;
     rows = all_from (Keeps a c) a.schema.tables (λ k there apart keys_write_nothing.
-        all_has (Keeps b c) b.schema.tables k next.rows (subst (λ (s : Schema). Has s.tables k) (sym first.schema) there) apart (subst (λ (s : Schema). HasNoWritingForeignKeysAt s k.tree) (sym first.schema) keys_write_nothing)
+        all_has (Keeps b c) b.schema.tables k next.rows (subst (λ (s : Schema). Has s.tables k) (sym first.schema) there) apart
+        (subst (λ (s : Schema). HasNoWritingForeignKeysAt s k.tree) (sym first.schema) keys_write_nothing)
         ∙ all_has (Keeps a b) a.schema.tables k first.rows there apart keys_write_nothing);
   }

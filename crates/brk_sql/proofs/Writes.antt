@@ -1,5 +1,6 @@
 -- What INSERT, UPDATE and DELETE make of the tables, whatever else the schema has.
-use Rattle.std.proofs.Common.{◌≡◌, ◌≢◌, ◌⊎◌, ◌/◌, ℕ, List, [], ◌∷◌, length, map, filter, drop, slice_get, Bool, true, false, not, ◌||◌, if◌then◌else◌, Some, Ok, Err, Ordering, is_eq, refl, sym, ap, ap₂, subst, ◌∙◌, inl, inr, IsTrue}
+use Rattle.std.proofs.Common.{◌≡◌, ◌≢◌, ◌⊎◌, ◌/◌, ℕ, List, [], ◌∷◌, length, map, filter, drop, slice_get, Bool, true, false, not, ◌||◌, if◌then◌else◌, Some, Ok}
+use Rattle.std.proofs.Common.{Err, Ordering, is_eq, refl, sym, ap, ap₂, subst, ◌∙◌, inl, inr, IsTrue}
 use Rattle.std.specs.Prelude.{slice_index_or}
 use Rattle.std.specs.Cmp.{IsTotalOrder}
 use Rattle.std.specs.List.{AllByRecursion}
@@ -46,13 +47,15 @@ use Rattle.brk_sql.proofs.Values.{differ_ints}
 
 -- the key of a record is the rowid
 abbrev pub IsRowidKey : {X : Type 0} → (ℕ → Table) → (X → Row) → (X → X → Ordering) → Type 0
-IsRowidKey {X} shape encode cmp = (tree : ℕ) (r s : Row) (x y : X) → cells_in_column_order (shape tree) r ≡ encode x → cells_in_column_order (shape tree) s ≡ encode y → is_eq (cmp x y) ≡ has_same_rowid r s
+IsRowidKey {X} shape encode cmp = (tree : ℕ) (r s : Row) (x y : X) → cells_in_column_order (shape tree) r ≡ encode x
+    → cells_in_column_order (shape tree) s ≡ encode y → is_eq (cmp x y) ≡ has_same_rowid r s
 
 -- it is what the first UNIQUE names
 pub record IsUniqueKey {X : Type 0} (shape : ℕ → Table) (encode : X → Row) (cmp : X → X → Ordering) : Type 0 where
   pub key : List ℕ
   pub first : (tree : ℕ) → slice_get (shape tree).uniques 0 ≡ Some key
-  pub tied : (tree : ℕ) (r s : Row) (x y : X) → cells_in_column_order (shape tree) r ≡ encode x → cells_in_column_order (shape tree) s ≡ encode y → is_eq (cmp x y) ≡ agree (slice_index_or (shape tree).orders 0 plain) key r key s
+  pub tied : (tree : ℕ) (r s : Row) (x y : X) → cells_in_column_order (shape tree) r ≡ encode x → cells_in_column_order (shape tree) s ≡ encode y
+      → is_eq (cmp x y) ≡ agree (slice_index_or (shape tree).orders 0 plain) key r key s
 
 -- what is to be known of one table of a desk
 pub record Place {W T : Type 0} (desk : ProgramTables W T) (w : W) : Type 0 where
@@ -71,12 +74,14 @@ module _ {X : Type 0} (table : Table) (encode : X → Row) (cmp : X → X → Or
   untaken [] free r there = absurd there
   untaken (s ∷ rows) free r there = go (has_same_rowid s new) refl free there (λ off later. untaken rows off r later)
     where
-      go : (b : Bool) → has_same_rowid s new ≡ b → (b || is_taken rows new) ≡ false → Has (s ∷ rows) r → (is_taken rows new ≡ false → Has rows r → has_same_rowid new r ≡ false) → has_same_rowid new r ≡ false
+      go : (b : Bool) → has_same_rowid s new ≡ b → (b || is_taken rows new) ≡ false → Has (s ∷ rows) r
+          → (is_taken rows new ≡ false → Has rows r → has_same_rowid new r ≡ false) → has_same_rowid new r ≡ false
       go true k off there more = absurd (let f = off in cc)
       go false k off (inl same) more = subst (λ z. has_same_rowid new z ≡ false) (sym same) (same_rowid_sym new s ∙ k)
       go false k off (inr later) more = more off later
 
-  absent_rowid : ((r s : Row) (x y : X) → cells_in_column_order table r ≡ encode x → cells_in_column_order table s ≡ encode y → is_eq (cmp x y) ≡ has_same_rowid r s) → AllByRecursion (λ y. is_eq (cmp x y) ≡ false) xs
+  absent_rowid : ((r s : Row) (x y : X) → cells_in_column_order table r ≡ encode x → cells_in_column_order table s ≡ encode y
+      → is_eq (cmp x y) ≡ has_same_rowid r s) → AllByRecursion (λ y. is_eq (cmp x y) ≡ false) xs
   absent_rowid tied =
       all_from _ xs (λ y there.
       let r = row_of table encode cmp xs rows h y there in
@@ -133,7 +138,8 @@ module _ {W T : Type 0} (desk : ProgramTables W T) (w : W) (place : Place desk w
           let table = desk.shape v (tree v) in
           let at : table.tree ≡ tree v = desk.placed v (tree v) in
           subst (λ n. new.trees n ≡ old.trees n) at
-          (leaves table (has_got old.schema.tables (h.place v) table (h.is_table v).found) (λ same. other (h.apart v w (sym at ∙ same))) (subst (HasNoWritingForeignKeysAt old.schema) (sym at) (h.keys_write_nothing v)))
+          (leaves table (has_got old.schema.tables (h.place v) table (h.is_table v).found) (λ same. other (h.apart v w (sym at ∙ same)))
+          (subst (HasNoWritingForeignKeysAt old.schema) (sym at) (h.keys_write_nothing v)))
 
   -- ---- a step on this table, and all that it sets off
 
@@ -146,7 +152,8 @@ module _ {W T : Type 0} (desk : ProgramTables W T) (w : W) (place : Place desk w
 
     pub step_this : (new.trees (tree w) ≡ edited old.trees e) × (are_fresh (left_by old.trees e) e.news ≡ true)
     step_this =
-        let o = writes_ours (tree w) old.schema (h.keys_write_nothing w) (shape (tree w)) (has_got old.schema.tables (h.place w) (shape (tree w)) (h.is_table w).found) (desk.placed w (tree w)) old.trees new.trees e at_tree writes in
+        let o = writes_ours (tree w) old.schema (h.keys_write_nothing w) (shape (tree w))
+        (has_got old.schema.tables (h.place w) (shape (tree w)) (h.is_table w).found) (desk.placed w (tree w)) old.trees new.trees e at_tree writes in
         (o.2 ∙ ap o.0 (sym at_tree) ∙ o.1.rows, o.1.fresh)
 
   -- ---- DELETE
@@ -171,7 +178,8 @@ module _ {W T : Type 0} (desk : ProgramTables W T) (w : W) (place : Place desk w
         let left : without_all (db table.tree) (ids_of it.1.0) ≡ filter (λ r. not (passes params terms r)) rows =
         ap₂ without_all (ap db at) named ∙ remains (passes params terms) rows k.picked held.keyed held.apart k.same in
         framed t _ tree old.now new.now h it.0 (step_leaves t tree old.now new.now h e refl it.1.2)
-        (subst (TreeHoldsRecords table (desk.encode w) (desk.order w) (delete_where q (desk.list w t))) (sym (step.0 ∙ left)) (held_without table (desk.encode w) (desk.order w) (passes params terms) q (same (tree w)) (desk.list w t) rows held)) it.2
+        (subst (TreeHoldsRecords table (desk.encode w) (desk.order w) (delete_where q (desk.list w t))) (sym (step.0 ∙ left))
+        (held_without table (desk.encode w) (desk.order w) (passes params terms) q (same (tree w)) (desk.list w t) rows held)) it.2
 
     -- ---- UPDATE of columns that are no key
 
@@ -179,7 +187,8 @@ module _ {W T : Type 0} (desk : ProgramTables W T) (w : W) (place : Place desk w
         → (compiled schema text ≡ Ok (meant p [] (Update at (record { lets = []; body = selection tree terms project [] whole_page })))) ⊎ (compiled schema text ≡ Err Mismatch))
         → (write : Row → Row) (to : Item → Item) → ((x y : Item) → desk.order w (to x) y ≡ desk.order w x y) → ((x y : Item) → desk.order w x (to y) ≡ desk.order w x y)
         → ((r : Row) → rowid (write r) ≡ rowid r)
-        → ((tree : ℕ) (r : Row) (x : Item) → IsTrue (is_int (rowid r)) → cells_in_column_order (shape tree) r ≡ desk.encode w x → cast_row (shape tree) (drop 1 (eval_all project (params ∷ r ∷ []))) ≡ write r)
+        → ((tree : ℕ) (r : Row) (x : Item) → IsTrue (is_int (rowid r)) → cells_in_column_order (shape tree) r ≡ desk.encode w x
+        → cast_row (shape tree) (drop 1 (eval_all project (params ∷ r ∷ []))) ≡ write r)
         → ((tree : ℕ) (r : Row) (x : Item) → cells_in_column_order (shape tree) r ≡ desk.encode w x → cells_in_column_order (shape tree) (write r) ≡ desk.encode w (to x))
         → (old new : State) (count : ℕ) → Executes text params old new (Ok count) → ChangesTablesBy desk (λ t. place.put (update_where q to (desk.list w t)) t) old.now new.now
     updates_as either write to before after keeps writes shows old new count ran = λ t tree h.
@@ -207,7 +216,9 @@ module _ {W T : Type 0} (desk : ProgramTables W T) (w : W) (place : Place desk w
         let those : new.now.trees (tree w) ≡ put_all (filter (λ r. not (test r)) rows) (map write k.picked) = step.0 ∙ ap₂ put_all left news in
         let perm : IsPermutation (map (λ r. if test r then write r else r) rows) (put_all (filter (λ r. not (test r)) rows) (map write k.picked)) =
         IsPermutation-trans _ _ _ (IsPermutation-sym _ _ (changed_is test write rows))
-        (IsPermutation-trans _ _ _ (IsPermutation-append _ _ _ _ (IsPermutation-map write (filter test rows) k.picked k.same) (IsPermutation-refl (filter (λ r. not (test r)) rows))) (put_all_is (map write k.picked) _ fresh)) in
+        (IsPermutation-trans _ _ _
+        (IsPermutation-append _ _ _ _ (IsPermutation-map write (filter test rows) k.picked k.same) (IsPermutation-refl (filter (λ r. not (test r)) rows)))
+        (put_all_is (map write k.picked) _ fresh)) in
         framed t _ tree old.now new.now h it.0 (step_leaves t tree old.now new.now h e refl it.1.2)
         (subst (TreeHoldsRecords table (desk.encode w) (desk.order w) (update_where q to (desk.list w t))) (sym those)
         (held_changed table (desk.encode w) (desk.order w) test write q to keeps before after (same (tree w)) (shows (tree w)) (desk.list w t) rows _ perm held)) it.2
@@ -219,7 +230,8 @@ module _ {W T : Type 0} (desk : ProgramTables W T) (w : W) (place : Place desk w
       → (old new : State) (count : ℕ) → Executes text params old new (Ok count) → (t : T) (tree : W → ℕ) → HasTables desk t tree old.now
       → (new.now.schema ≡ old.now.schema) × AllByRecursion (λ k. k.tree ≢ tree w → new.now.trees k.tree ≡ old.now.trees k.tree) old.now.schema.tables
   inserts_alone text params p terms width is old new count ran t tree h =
-      let it = inserted text params old new p (h.place w) (shape (tree w)) (h.is_table w).found (place.uncounted (tree w)) terms width (is old.now.schema (h.place w) (tree w) (h.is_table w)) count ran in
+      let it = inserted text params old new p (h.place w) (shape (tree w)) (h.is_table w).found (place.uncounted (tree w)) terms width
+      (is old.now.schema (h.place w) (tree w) (h.is_table w)) count ran in
       (it.0, subst (λ n. AllByRecursion (λ k. k.tree ≢ n → new.now.trees k.tree ≡ old.now.trees k.tree) old.now.schema.tables) (desk.placed w (tree w)) it.1.tables)
 
   -- ---- INSERT .. VALUES of one row

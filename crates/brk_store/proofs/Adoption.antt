@@ -41,7 +41,8 @@ use Rattle.brk_tables_schema.specs.Made.{HasDeskTables, IsTableOfSchema}
 use Rattle.brk_tables_upgrade.specs.Upgrade.{PreservesTablesOutside, UpgradesTables}
 use Rattle.brk_tables_scan.specs.Schemas.{DatabaseHasSchema, TablesWithDeskNamesAreDeskTables, TablesWithSchemaNamesAreDeskTables}
 use Rattle.brk_tables_scan.proofs.Defined.{desk_is_there}
-use Rattle.brk_store.specs.Audited.{IsUpgradedDiskContent, StoresRowsWithAuditResult, IsDatabaseAuditResult, IsDatabaseAuditResultBySchema, UpgradesAuditedRows, ConnectionHasThirdSchema, AdoptPost, AuditPost, ConnectionTablesWithDeskNamesAreDeskTables, AuditAnswerSatisfies}
+use Rattle.brk_store.specs.Audited.{IsUpgradedDiskContent, StoresRowsWithAuditResult, IsDatabaseAuditResult, IsDatabaseAuditResultBySchema, UpgradesAuditedRows}
+use Rattle.brk_store.specs.Audited.{ConnectionHasThirdSchema, AdoptPost, AuditPost, ConnectionTablesWithDeskNamesAreDeskTables, AuditAnswerSatisfies}
 use Rattle.brk_store.specs.AuditResult.{IsTrueAuditResult}
 use Rattle.brk_store.specs.Holds.{HoldsRows, WasOpenAndIsUnchanged}
 use Rattle.brk_store.specs.ReadSequences.{empty_read_sequence_changes_nothing}
@@ -140,7 +141,8 @@ unadopted g conn = record {
 
 -- ---- the answer over all schemas is that of the third, where its desk is there
 
-audited_third : (db : Database) (answer : Option Condition) → TablesWithSchemaNamesAreDeskTables third_schema db → DatabaseHasSchema third_schema db → IsDatabaseAuditResult db answer → IsDatabaseAuditResultBySchema third_schema db answer
+audited_third : (db : Database) (answer : Option Condition) → TablesWithSchemaNamesAreDeskTables third_schema db → DatabaseHasSchema third_schema db
+    → IsDatabaseAuditResult db answer → IsDatabaseAuditResultBySchema third_schema db answer
 audited_third db None defined there h = subst (λ s. IsDatabaseAuditResultBySchema (abstract_schema s) db None) (sym (one_desk Third h.0 h.1.0 db there h.1.1.0)) h.1
 audited_third db (Some condition.NotEmpty) defined there h = h
 audited_third db (Some condition.Schema) defined there h = absurd (h Third there)
@@ -174,7 +176,10 @@ module _ {S : Type 0} (g : Ghosts S) (old first : Held S) (settled : IsTrue (sta
       crashes : ConnectionTablesWithDeskNamesAreDeskTables g old → Survives (state g old) (state g end) (IsUpgradedDiskContent (state g old).now)
       crashes defined = survives_weaker (state g old) (state g end) _ _ (λ _ db none. absurd none) passed
 
-    none_adopted : (fault : Fault) → (HasCleanDisk (state g end) → ConnectionTablesWithDeskNamesAreDeskTables g old → AuditAnswerSatisfies (Err fault) (IsDatabaseAuditResult (state g old).now)) → (HasCleanDisk (state g end) → AuditAnswerSatisfies (Err fault) (λ _. IsTrue (state g old).is_open))
+    none_adopted : (fault : Fault)
+        → (HasCleanDisk (state g end) → ConnectionTablesWithDeskNamesAreDeskTables g old
+        → AuditAnswerSatisfies (Err fault) (IsDatabaseAuditResult (state g old).now)) → (HasCleanDisk (state g end)
+        → AuditAnswerSatisfies (Err fault) (λ _. IsTrue (state g old).is_open))
         → AdoptPost g old end (Err fault)
     none_adopted fault told opened = record {
       answered = told;
@@ -191,7 +196,8 @@ module _ {S : Type 0} (g : Ghosts S) (old first : Held S) (settled : IsTrue (sta
     gave_up fault may = none_adopted fault (λ clean defined. on_fault fault (IsDatabaseAuditResult (state g old).now) may) (λ clean. on_fault fault (λ _. IsTrue (state g old).is_open) may)
 
   -- the examination gave up
-  pub gives_up : (end : Held S) (fault : Fault) → IsCallFault fault → IsTransactionStep {V = AuditResult} {E = Fault} (state g (with_transaction_open old)) (state g first) (Err fault) ReturnsTrueAuditResult
+  pub gives_up : (end : Held S) (fault : Fault) → IsCallFault fault
+      → IsTransactionStep {V = AuditResult} {E = Fault} (state g (with_transaction_open old)) (state g first) (Err fault) ReturnsTrueAuditResult
       → Survives (state g first) (state g end) (λ _. ⊥) → (HasCleanDisk (state g end) → IsRolledBack (state g first) (state g end)) → AdoptPost g old end (Err fault)
   gives_up end fault may step late back = gave_up first end (Err fault) ReturnsTrueAuditResult step late back fault may
 
@@ -202,16 +208,19 @@ module _ {S : Type 0} (g : Ghosts S) (old first : Held S) (settled : IsTrue (sta
     clean_then : (end : Held S) → Survives (state g first) (state g end) (λ _. ⊥) → HasCleanDisk (state g end) → HasCleanDisk (state g old)
     clean_then end late = clean_before (state g old) (state g end) (λ _. ⊥) (through g old first end settled (Ok told) ReturnsTrueAuditResult step late)
 
-    told_at : (end : Held S) (one : AuditResult) → told ≡ one → Survives (state g first) (state g end) (λ _. ⊥) → HasCleanDisk (state g end) → ConnectionTablesWithDeskNamesAreDeskTables g old → IsTrueAuditResult one (state g old).now
+    told_at : (end : Held S) (one : AuditResult) → told ≡ one → Survives (state g first) (state g end) (λ _. ⊥) → HasCleanDisk (state g end)
+        → ConnectionTablesWithDeskNamesAreDeskTables g old → IsTrueAuditResult one (state g old).now
     told_at end one is late clean defined = let l = looked end late clean in subst (λ e. IsTrueAuditResult e (state g old).now) is (l.2 (defined (clean_then end late clean) l.0))
 
     -- a condition fails
-    pub fails : (end : Held S) (failing : Condition) → told ≡ Fails failing → Survives (state g first) (state g end) (λ _. ⊥) → (HasCleanDisk (state g end) → IsRolledBack (state g first) (state g end)) → AdoptPost g old end (Err (Damaged failing))
+    pub fails : (end : Held S) (failing : Condition) → told ≡ Fails failing → Survives (state g first) (state g end) (λ _. ⊥)
+        → (HasCleanDisk (state g end) → IsRolledBack (state g first) (state g end)) → AdoptPost g old end (Err (Damaged failing))
     fails end failing is late back =
         none_adopted first end (Ok told) ReturnsTrueAuditResult step late back (Damaged failing) (told_at end (Fails failing) is late) (λ clean. (looked end late clean).0)
 
     -- a desk of the third schema passes, and is left as it is
-    pub passes : (end : Held S) (schema : known.Schema) → told ≡ Succeeds schema → (abstract_schema schema).has_settle_rule_table ≡ true → Survives (state g first) (state g end) (λ _. ⊥) → (HasCleanDisk (state g end) → IsRolledBack (state g first) (state g end))
+    pub passes : (end : Held S) (schema : known.Schema) → told ≡ Succeeds schema → (abstract_schema schema).has_settle_rule_table ≡ true
+        → Survives (state g first) (state g end) (λ _. ⊥) → (HasCleanDisk (state g end) → IsRolledBack (state g first) (state g end))
         → AdoptPost g old end (Ok tt)
     passes end schema is rule late back = record {
       answered = now_told;
@@ -239,7 +248,8 @@ module _ {S : Type 0} (g : Ghosts S) (old first : Held S) (settled : IsTrue (sta
         there : HasCleanDisk (state g end) → IsTrue (state g end).is_open → ConnectionTablesWithDeskNamesAreDeskTables g old → UpgradesAuditedRows (state g old).now (state g end).now
         there clean on defined =
             let p = told_at end (Succeeds Third) third late clean defined in
-            let rows : HasDeskTables (tables_upgraded_from_schema third_schema p.0) (state g end).now = subst (HasDeskTables p.0) (sym (same_at clean on).now) (third_rows p.0 (state g old).now p.1.0) in (
+            let rows : HasDeskTables (tables_upgraded_from_schema third_schema p.0) (state g end).now =
+            subst (HasDeskTables p.0) (sym (same_at clean on).now) (third_rows p.0 (state g old).now p.1.0) in (
               Third,
               p.0,
               p.1,
@@ -249,18 +259,22 @@ module _ {S : Type 0} (g : Ghosts S) (old first : Held S) (settled : IsTrue (sta
 
     module _ (schema : known.Schema) (is : told ≡ Succeeds schema) (older : (abstract_schema schema).has_settle_rule_table ≡ false) (mid : Held S) where
       -- the move gave up
-      pub move_gives_up : (end : Held S) (fault : Fault) → IsCallFault fault → IsTransactionStep {V = Unit {0}} {E = Fault} (state g first) (state g mid) (Err fault) (λ _ a b. UpgradesTables (abstract_schema schema) a.now b.now)
+      pub move_gives_up : (end : Held S) (fault : Fault) → IsCallFault fault
+          → IsTransactionStep {V = Unit {0}} {E = Fault} (state g first) (state g mid) (Err fault)
+          (λ _ a b. UpgradesTables (abstract_schema schema) a.now b.now)
           → Survives (state g mid) (state g end) (λ _. ⊥) → (HasCleanDisk (state g end) → IsRolledBack (state g mid) (state g end)) → AdoptPost g old end (Err fault)
       move_gives_up end fault may move late back =
           gave_up mid end (Err fault) (λ _ a b. UpgradesTables (abstract_schema schema) a.now b.now)
-          (step_then (state g (with_transaction_open old)) (state g first) (state g mid) told (Err fault) ReturnsTrueAuditResult (λ _ a b. UpgradesTables (abstract_schema schema) a.now b.now) (λ _ a b. UpgradesTables (abstract_schema schema) a.now b.now)
+          (step_then (state g (with_transaction_open old)) (state g first) (state g mid) told (Err fault) ReturnsTrueAuditResult
+          (λ _ a b. UpgradesTables (abstract_schema schema) a.now b.now) (λ _ a b. UpgradesTables (abstract_schema schema) a.now b.now)
           (λ _ l m. subst (λ d. UpgradesTables (abstract_schema schema) d (state g mid).now) l.1 m) step move)
           late back fault may
 
       module _ (move : IsTransactionStep {V = Unit {0}} {E = Fault} (state g first) (state g mid) (Ok tt) (λ _ a b. UpgradesTables (abstract_schema schema) a.now b.now)) (end : Held S) (late : Survives (state g mid) (state g end) (λ db. db ≡ (state g mid).now.trees)) where
         made : IsTransactionStep {V = Unit {0}} {E = Fault} (state g (with_transaction_open old)) (state g mid) (Ok tt) (λ _ a b. HasPassingRowsAndUpgrades schema a.now b.now)
         made =
-            step_then (state g (with_transaction_open old)) (state g first) (state g mid) told (Ok tt) ReturnsTrueAuditResult (λ _ a b. UpgradesTables (abstract_schema schema) a.now b.now) (λ _ a b. HasPassingRowsAndUpgrades schema a.now b.now)
+            step_then (state g (with_transaction_open old)) (state g first) (state g mid) told (Ok tt) ReturnsTrueAuditResult
+            (λ _ a b. UpgradesTables (abstract_schema schema) a.now b.now) (λ _ a b. HasPassingRowsAndUpgrades schema a.now b.now)
             (λ _ l m. ((λ defined. subst (λ e. IsTrueAuditResult e (state g old).now) is (l.2 defined)), subst (λ d. UpgradesTables (abstract_schema schema) d (state g mid).now) l.1 m)) step move
 
         over : Survives (state g old) (state g end) (λ trees. (db : Database) × HasPassingRowsAndUpgrades schema (state g old).now db × (trees ≡ db.trees))
@@ -292,7 +306,8 @@ module _ {S : Type 0} (g : Ghosts S) (old first : Held S) (settled : IsTrue (sta
             let m = made_upgraded schema (state g old).now h.0 h.1 (defined (clean_old clean) (was_open clean)) in
             (schema, m.1, older_has_none schema older, m.2, (h.0, m.3, h.2))) over
 
-        nothing : (result : Result (Unit {0}) Fault) → (HasCleanDisk (state g end) → AuditAnswerSatisfies result (λ _. IsTrue (state g old).is_open)) → ConnectionTablesWithDeskNamesAreDeskTables g old → ConnectionHasThirdSchema g old → AuditPost g old end result
+        nothing : (result : Result (Unit {0}) Fault) → (HasCleanDisk (state g end) → AuditAnswerSatisfies result (λ _. IsTrue (state g old).is_open))
+            → ConnectionTablesWithDeskNamesAreDeskTables g old → ConnectionHasThirdSchema g old → AuditPost g old end result
         nothing result opened defined third = record {
           answered = λ clean known. absurd (never defined third clean);
           was_open = opened;
@@ -301,7 +316,9 @@ module _ {S : Type 0} (g : Ghosts S) (old first : Held S) (settled : IsTrue (sta
           survives = survives_weaker (state g old) (state g end) _ _ (λ clean trees h. never defined third clean) over;
         }
 
-        pub commits : (HasCleanDisk (state g end) → IsTrue (state g mid).in_transaction × Shows (state g mid) (state g end) (state g mid).now (state g mid).now false × KeepsCounts (state g mid) (state g end) × ((state g end).marks ≡ [])) → AdoptPost g old end (Ok tt)
+        pub commits : (HasCleanDisk (state g end) → IsTrue (state g mid).in_transaction
+            × Shows (state g mid) (state g end) (state g mid).now (state g mid).now false × KeepsCounts (state g mid) (state g end)
+            × ((state g end).marks ≡ [])) → AdoptPost g old end (Ok tt)
         commits done = record {
           answered = λ clean defined. let p = (ends clean).2.0 (defined (clean_old clean) (was_open clean)) in (schema, p);
           was_open = was_open;
@@ -313,7 +330,8 @@ module _ {S : Type 0} (g : Ghosts S) (old first : Held S) (settled : IsTrue (sta
           audited = nothing (Ok tt) was_open;
         }
           where
-            ends : (clean : HasCleanDisk (state g end)) → IsTrue (state g old).is_open × IsTrue (state g end).is_open × HasPassingRowsAndUpgrades schema (state g old).now (state g end).now × ((state g end).committed ≡ (state g end).now)
+            ends : (clean : HasCleanDisk (state g end)) → IsTrue (state g old).is_open × IsTrue (state g end).is_open
+                × HasPassingRowsAndUpgrades schema (state g old).now (state g end).now × ((state g end).committed ≡ (state g end).now)
             ends = all g old mid end settled (HasPassingRowsAndUpgrades schema) made late done
 
             there : HasCleanDisk (state g end) → ConnectionTablesWithDeskNamesAreDeskTables g old → UpgradesAuditedRows (state g old).now (state g end).now

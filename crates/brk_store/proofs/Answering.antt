@@ -61,15 +61,21 @@ one_failing schema (c ∷ cs) t a b (inr h) (inr k) = h.1 ∙ sym k.1
 form_fails : (schema : Schema) (t : Tables) → satisfies_form_condition schema t && has_utf8_texts t ≡ false → IsTrue (has_utf8_texts t) → IsAuditResult schema t (Some condition.Form)
 unfolding ConditionHolds
 form_fails schema t h texts =
-    inr ((λ (form : IsTrue (satisfies_form_condition schema t)). let e : satisfies_form_condition schema t && has_utf8_texts t ≡ true = rw (form, texts) refl in let f : true ≡ false = sym e ∙ h in absurd (cc)), refl)
+    inr (
+      (λ (form : IsTrue (satisfies_form_condition schema t)). let e : satisfies_form_condition schema t && has_utf8_texts t ≡ true = rw (form, texts) refl in
+          let f : true ≡ false = sym e ∙ h in absurd (cc)),
+      refl,
+    )
 
 -- the answer of the rows is that of the database
-pub rows_are_audited : (schema : known.Schema) (db : Database) (t : Tables) (answer : Option Condition) → DatabaseHasSchema (abstract_schema schema) db → HasDeskTablesInSchema (abstract_schema schema) t db → IsTrue (has_utf8_texts t) → IsAuditResult (abstract_schema schema) t answer
+pub rows_are_audited : (schema : known.Schema) (db : Database) (t : Tables) (answer : Option Condition) → DatabaseHasSchema (abstract_schema schema) db
+    → HasDeskTablesInSchema (abstract_schema schema) t db → IsTrue (has_utf8_texts t) → IsAuditResult (abstract_schema schema) t answer
     → IsDatabaseAuditResultBySchema (abstract_schema schema) db answer
 rows_are_audited schema db t None there rows texts h = (t, (rows, texts, h))
 rows_are_audited schema db t (Some condition.NotEmpty) there rows texts h = audit_is_of_rows (abstract_schema schema) t condition.NotEmpty h
 rows_are_audited schema db t (Some condition.Schema) there rows texts h = absurd (audit_is_of_rows (abstract_schema schema) t condition.Schema h)
-rows_are_audited schema db t (Some condition.Form) there rows texts h = (there, λ u others _. subst (λ v. IsAuditResult (abstract_schema schema) v (Some condition.Form)) (one_schema schema schema t u db rows others).1 h)
+rows_are_audited schema db t (Some condition.Form) there rows texts h =
+    (there, λ u others _. subst (λ v. IsAuditResult (abstract_schema schema) v (Some condition.Form)) (one_schema schema schema t u db rows others).1 h)
 rows_are_audited schema db t (Some c) there rows texts h = (t, (rows, texts, h))
 
 -- ---- the steps of an audit
@@ -84,13 +90,17 @@ ShowsIfHasDesk schema has a b = IsTrue a.is_open × (b.now ≡ a.now) × (Tables
 -- `schema` (`AreSheetsOfDatabase`). The result is specified only if the database has a desk of
 -- `schema` with the definitions of its tables.
 abbrev pub ReadsSheetsOfSchema : known.Schema → Option Sheets → State → State → Type 0
-ReadsSheetsOfSchema schema read a b = IsTrue a.is_open × (b.now ≡ a.now) × (TablesWithSchemaNamesAreDeskTables (abstract_schema schema) a.now → DatabaseHasSchema (abstract_schema schema) a.now → AreSheetsOfDatabase (abstract_schema schema) a.now read)
+ReadsSheetsOfSchema schema read a b = IsTrue a.is_open × (b.now ≡ a.now)
+    × (TablesWithSchemaNamesAreDeskTables (abstract_schema schema) a.now → DatabaseHasSchema (abstract_schema schema) a.now
+    → AreSheetsOfDatabase (abstract_schema schema) a.now read)
 
 -- An audit of an open database left it unchanged and returned `answer`, the result of its audit by
 -- `schema`. The result is specified only if the database has a desk of `schema` with the
 -- definitions of its tables.
 abbrev pub AuditsDeskOfSchema : known.Schema → Option Condition → State → State → Type 0
-AuditsDeskOfSchema schema answer a b = IsTrue a.is_open × (b.now ≡ a.now) × (TablesWithSchemaNamesAreDeskTables (abstract_schema schema) a.now → DatabaseHasSchema (abstract_schema schema) a.now → IsDatabaseAuditResultBySchema (abstract_schema schema) a.now answer)
+AuditsDeskOfSchema schema answer a b = IsTrue a.is_open × (b.now ≡ a.now)
+    × (TablesWithSchemaNamesAreDeskTables (abstract_schema schema) a.now → DatabaseHasSchema (abstract_schema schema) a.now
+    → IsDatabaseAuditResultBySchema (abstract_schema schema) a.now answer)
 
 -- An audit of an open database left it unchanged and returned `answer`, the result of its audit by
 -- schema 3. The result is specified only if tables with the names of the schema's tables have their
@@ -99,7 +109,8 @@ abbrev pub AuditsByThirdSchema : Option Condition → State → State → Type 0
 AuditsByThirdSchema answer a b = IsTrue a.is_open × (b.now ≡ a.now) × (TablesWithSchemaNamesAreDeskTables third_schema a.now → IsDatabaseAuditResultBySchema third_schema a.now answer)
 
 module _ (schema : known.Schema) (a b : State) where
-  pub no_form : IsTransactionStep {V = Option Sheets} {E = Fault} a b (Ok None) (ReadsSheetsOfSchema schema) → IsTransactionStep {V = Option Condition} {E = Fault} a b (Ok (Some condition.Form)) (AuditsDeskOfSchema schema)
+  pub no_form : IsTransactionStep {V = Option Sheets} {E = Fault} a b (Ok None) (ReadsSheetsOfSchema schema)
+      → IsTransactionStep {V = Option Condition} {E = Fault} a b (Ok (Some condition.Form)) (AuditsDeskOfSchema schema)
   no_form step =
       step_read a b None (Ok (Some condition.Form)) (ReadsSheetsOfSchema schema) (AuditsDeskOfSchema schema)
       (λ answer is p.
@@ -107,14 +118,18 @@ module _ (schema : known.Schema) (a b : State) where
       subst (λ told. AuditsDeskOfSchema schema told a b) e (p.0, p.1, λ defined there. (there, λ t rows texts. form_fails (abstract_schema schema) t (p.2 defined there t rows) texts))) step
 
   -- the answer for rows of KEPT without their texts is that for the whole rows
-  whole_answer : (sheets : Sheets) (whole : List typed.Kept) → keys_of_kept_rows whole ≡ map abstract_key sheets.kept.items → (answer : Option Condition) → IsAuditResult (abstract_schema schema) (abstract_sheets sheets) answer
+  whole_answer : (sheets : Sheets) (whole : List typed.Kept) → keys_of_kept_rows whole ≡ map abstract_key sheets.kept.items → (answer : Option Condition)
+      → IsAuditResult (abstract_schema schema) (abstract_sheets sheets) answer
       → IsAuditResult (abstract_schema schema) (tables_with_whole_kept_rows whole sheets) answer
   whole_answer sheets whole keys answer h =
       let here = map_twice (λ k. k.key) kept_row_with_empty_texts sheets.kept.items in
       let there = map_twice (λ k. k.key) abstract_kept_row whole in
-      answer_alike (abstract_schema schema) (abstract_sheets sheets) (map kept_row_with_empty_texts sheets.kept.items) (map abstract_kept_row whole) (here ∙ sym keys ∙ sym there) row_conditions answer h
+      answer_alike (abstract_schema schema) (abstract_sheets sheets) (map kept_row_with_empty_texts sheets.kept.items) (map abstract_kept_row whole)
+      (here ∙ sym keys ∙ sym there) row_conditions answer h
 
-  pub rows_told : (sheets : Sheets) (r : Result (Option Condition) Fault) → IsTransactionStep {V = Option Sheets} {E = Fault} a b (Ok (Some sheets)) (ReadsSheetsOfSchema schema) → IfOk r (λ answer. IsAuditResult (abstract_schema schema) (abstract_sheets sheets) answer)
+  pub rows_told : (sheets : Sheets) (r : Result (Option Condition) Fault)
+      → IsTransactionStep {V = Option Sheets} {E = Fault} a b (Ok (Some sheets)) (ReadsSheetsOfSchema schema)
+      → IfOk r (λ answer. IsAuditResult (abstract_schema schema) (abstract_sheets sheets) answer)
       → IsTransactionStep {V = Option Condition} {E = Fault} a b r (AuditsDeskOfSchema schema)
   rows_told sheets r step audit =
       step_read a b (Some sheets) r (ReadsSheetsOfSchema schema) (AuditsDeskOfSchema schema)
@@ -128,13 +143,15 @@ module _ (schema : known.Schema) (a b : State) where
       )) step
 
 -- the desk of the third schema was asked for, and is there
-pub desk_told : (a b c : State) (r : Result (Option Condition) Fault) → IsTransactionStep {V = Bool} {E = Fault} a b (Ok true) (ShowsIfHasDesk Third) → IsTransactionStep {V = Option Condition} {E = Fault} b c r (AuditsDeskOfSchema Third)
+pub desk_told : (a b c : State) (r : Result (Option Condition) Fault) → IsTransactionStep {V = Bool} {E = Fault} a b (Ok true) (ShowsIfHasDesk Third)
+    → IsTransactionStep {V = Option Condition} {E = Fault} b c r (AuditsDeskOfSchema Third)
     → IsTransactionStep {V = Option Condition} {E = Fault} a c r AuditsByThirdSchema
 desk_told a b c r asked tried =
     step_then a b c true r (ShowsIfHasDesk Third) (AuditsDeskOfSchema Third) AuditsByThirdSchema
     (λ answer p q. (
       p.0,
       q.1 ∙ p.1,
-      λ defined. (subst (λ d. TablesWithSchemaNamesAreDeskTables third_schema d → DatabaseHasSchema third_schema d → IsDatabaseAuditResultBySchema third_schema d answer) p.1 q.2) defined ((p.2 defined).0 refl),
+      λ defined. (subst (λ d. TablesWithSchemaNamesAreDeskTables third_schema d → DatabaseHasSchema third_schema d
+          → IsDatabaseAuditResultBySchema third_schema d answer) p.1 q.2) defined ((p.2 defined).0 refl),
     ))
     asked tried

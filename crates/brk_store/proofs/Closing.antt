@@ -21,14 +21,16 @@ on_fault fault P (inl e) = subst (λ f. AuditAnswerSatisfies (Err f) P) (sym e) 
 on_fault fault P (inr e) = subst (λ f. AuditAnswerSatisfies (Err f) P) (sym e) tt
 
 -- what is so of an answer is so of it with what else is known
-pub answer_with : (result : Result (Unit {0}) Fault) (P Q R : Option Condition → Type 0) → ((answer : Option Condition) → P answer → Q answer → R answer) → AuditAnswerSatisfies result P → AuditAnswerSatisfies result Q → AuditAnswerSatisfies result R
+pub answer_with : (result : Result (Unit {0}) Fault) (P Q R : Option Condition → Type 0) → ((answer : Option Condition) → P answer → Q answer → R answer)
+    → AuditAnswerSatisfies result P → AuditAnswerSatisfies result Q → AuditAnswerSatisfies result R
 answer_with (Ok x) P Q R f p q = f None p q
 answer_with (Err (Damaged c)) P Q R f p q = f (Some c) p q
 answer_with (Err Memory) P Q R f p q = tt
 answer_with (Err Store) P Q R f p q = tt
 
 module _ {S : Type 0} (g : Ghosts S) (old conn first mid end : Held S) (conn_is : conn ≡ old) (first_is : first ≡ with_transaction_open conn)
-    (settled : IsTrue (state g conn).is_open → (state g conn).now ≡ (state g conn).committed) (out : Result (Option Condition) Fault) (step : IsTransactionStep (state g first) (state g mid) out AuditsByThirdSchema)
+    (settled : IsTrue (state g conn).is_open → (state g conn).now ≡ (state g conn).committed) (out : Result (Option Condition) Fault)
+    (step : IsTransactionStep (state g first) (state g mid) out AuditsByThirdSchema)
     (late : Survives (state g mid) (state g end) (λ _. ⊥)) (back : HasCleanDisk (state g end) → IsRolledBack (state g mid) (state g end)) where
   in_transaction : IsTransactionStep (state g (with_transaction_open conn)) (state g mid) out AuditsByThirdSchema
   in_transaction = subst (λ h. IsTransactionStep (state g h) (state g mid) out AuditsByThirdSchema) first_is step
@@ -46,7 +48,8 @@ module _ {S : Type 0} (g : Ghosts S) (old conn first mid end : Held S) (conn_is 
   audited result answers =
       subst (λ h. AuditPost g h end result) conn_is
       (record {
-        answered = λ clean defined. answers (IsDatabaseAuditResultBySchema third_schema (state g conn).now) (of_told (clean_before (state g conn) (state g end) (λ _. ⊥) whole clean) defined out (told_then clean));
+        answered = λ clean defined. answers (IsDatabaseAuditResultBySchema third_schema (state g conn).now)
+            (of_told (clean_before (state g conn) (state g end) (λ _. ⊥) whole clean) defined out (told_then clean));
         was_open = λ clean. answers (λ _. IsTrue (state g conn).is_open) (of_open out (told_then clean));
         same_rows = still_holds g conn mid end settled (λ _. ⊥) whole kept_of_step;
         unchanged_if_open = kept_of_step;
@@ -54,11 +57,14 @@ module _ {S : Type 0} (g : Ghosts S) (old conn first mid end : Held S) (conn_is 
       })
     where
       of_told : HasCleanDisk (state g conn) → ConnectionTablesWithThirdSchemaNamesAreDeskTables g conn → (o : Result (Option Condition) Fault)
-          → IfOk o (λ answer. IsTrue (state g mid).in_transaction × AuditsByThirdSchema answer (state g (with_transaction_open conn)) (state g mid)) → IfOk o (IsDatabaseAuditResultBySchema third_schema (state g conn).now)
+          → IfOk o (λ answer. IsTrue (state g mid).in_transaction × AuditsByThirdSchema answer (state g (with_transaction_open conn)) (state g mid))
+          → IfOk o (IsDatabaseAuditResultBySchema third_schema (state g conn).now)
       of_told clean defined (Ok answer) h = h.1.2 (defined clean h.1.0)
       of_told clean defined (Err fault) h = tt
 
-      of_open : (o : Result (Option Condition) Fault) → IfOk o (λ answer. IsTrue (state g mid).in_transaction × AuditsByThirdSchema answer (state g (with_transaction_open conn)) (state g mid)) → IfOk o (λ _. IsTrue (state g conn).is_open)
+      of_open : (o : Result (Option Condition) Fault)
+          → IfOk o (λ answer. IsTrue (state g mid).in_transaction × AuditsByThirdSchema answer (state g (with_transaction_open conn)) (state g mid))
+          → IfOk o (λ _. IsTrue (state g conn).is_open)
       of_open (Ok answer) h = h.1.0
       of_open (Err fault) h = tt
 
@@ -73,7 +79,8 @@ module _ {S : Type 0} (g : Ghosts S) (old conn first mid end : Held S) where
       audited g old conn first mid end conn_is first_is settled (Ok answer) step late back (Ok tt) (λ P h. subst P is h)
 
   -- a condition fails
-  pub audit_fails : (answer : Option Condition) (failing : Condition) → conn ≡ old → first ≡ with_transaction_open conn → (IsTrue (state g conn).is_open → (state g conn).now ≡ (state g conn).committed)
+  pub audit_fails : (answer : Option Condition) (failing : Condition) → conn ≡ old → first ≡ with_transaction_open conn
+      → (IsTrue (state g conn).is_open → (state g conn).now ≡ (state g conn).committed)
       → IsTransactionStep {V = Option Condition} {E = Fault} (state g first) (state g mid) (Ok answer) AuditsByThirdSchema → answer ≡ Some failing
       → Survives (state g mid) (state g end) (λ _. ⊥) → (HasCleanDisk (state g end) → IsRolledBack (state g mid) (state g end)) → AuditPost g old end (Err (Damaged failing))
   audit_fails answer failing conn_is first_is settled step is late back =

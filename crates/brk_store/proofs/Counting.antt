@@ -39,7 +39,8 @@ filter_fewer p (x ∷ xs) = go (p x) refl (filter_fewer p xs)
     go false e h = rw e (omega (arith, h))
 
 -- where the next number is below the greatest number of movements, there are fewer
-pub too_few : (t : Tables) (db : Database) (next : ℕ) → HasDeskTables t db → next ≡ last_cash_row_number_or_zero t + 1 → next < greatest_id → false ≡ nat_le greatest_id (length (filter (λ r. is_none r.trade) t.moves))
+pub too_few : (t : Tables) (db : Database) (next : ℕ) → HasDeskTables t db → next ≡ last_cash_row_number_or_zero t + 1 → next < greatest_id
+    → false ≡ nat_le greatest_id (length (filter (λ r. is_none r.trade) t.moves))
 too_few t db next has is low =
     let rows = few t.moves (moves_climb t db has) in
     let moved = filter_fewer (λ (r : MoveRow). is_none r.trade) t.moves in

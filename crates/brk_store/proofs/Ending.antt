@@ -28,7 +28,8 @@ with_transaction_open old = record old { in_transaction = true }
 
 module _ {S : Type 0} (g : Ghosts S) (old mid end : Held S) (settled : IsTrue (state g old).is_open → (state g old).now ≡ (state g old).committed) where
   -- rolled back
-  pub rolled_back : {V E : Type 0} (r : Result V E) (Q : V → State → State → Type 0) (P : Trees → Type 0) → IsTransactionStep (state g (with_transaction_open old)) (state g mid) r Q → (HasCleanDisk (state g end) → IsRolledBack (state g mid) (state g end))
+  pub rolled_back : {V E : Type 0} (r : Result V E) (Q : V → State → State → Type 0) (P : Trees → Type 0)
+      → IsTransactionStep (state g (with_transaction_open old)) (state g mid) r Q → (HasCleanDisk (state g end) → IsRolledBack (state g mid) (state g end))
       → Survives (state g mid) (state g end) P → HasCleanDisk (state g end) → IsTrue (state g end).is_open → WasOpenAndIsUnchanged (state g old) (state g end)
   rolled_back r Q P step back late clean o =
       let b = back clean in
@@ -37,17 +38,22 @@ module _ {S : Type 0} (g : Ghosts S) (old mid end : Held S) (settled : IsTrue (s
       let old_open = kept.was_open mid_open in
       record { now = (b.undone o).0 ∙ kept.committed mid_open ∙ sym (settled old_open); committed = (b.undone o).1 ∙ kept.committed mid_open; was_open = old_open }
 
-  pub still_holds : (P : Trees → Type 0) → Survives (state g old) (state g end) P → (HasCleanDisk (state g end) → IsTrue (state g end).is_open → WasOpenAndIsUnchanged (state g old) (state g end)) → (t : Tables) → HoldsRows g old t → HoldsRows g end t
+  pub still_holds : (P : Trees → Type 0) → Survives (state g old) (state g end) P
+      → (HasCleanDisk (state g end) → IsTrue (state g end).is_open → WasOpenAndIsUnchanged (state g old) (state g end)) → (t : Tables) → HoldsRows g old t
+      → HoldsRows g end t
   still_holds P through kept t holds clean o =
       let k = kept clean o in
       subst (HasDeskTables t) (sym k.now) (holds (clean_before (state g old) (state g end) P through clean) k.was_open)
 
   module _ {V E : Type 0} (r : Result V E) (Q : V → State → State → Type 0) (step : IsTransactionStep (state g (with_transaction_open old)) (state g mid) r Q) (late : Survives (state g mid) (state g end) (λ _. ⊥)) where
     pub through : Survives (state g old) (state g end) (λ _. ⊥)
-    through = survives_then (state g old) (state g mid) (state g end) (λ _. ⊥) (λ _. ⊥) (λ _. ⊥) (λ _ db none. none) (λ _ db none. none) (survives_begin g old (state g mid) (λ _. ⊥) step.survives) late
+    through = survives_then (state g old) (state g mid) (state g end) (λ _. ⊥) (λ _. ⊥) (λ _. ⊥) (λ _ db none. none) (λ _ db none. none)
+        (survives_begin g old (state g mid) (λ _. ⊥) step.survives) late
 
   -- a read, whose transaction is dropped
-  pub is_read : {V E : Type 0} (out : Result V E) (P : V → Tables → Type 0) → IsTransactionStep (state g (with_transaction_open old)) (state g mid) out (λ v. IsUnchangedAndSatisfies desk_tables (P v)) → Survives (state g mid) (state g end) (λ _. ⊥)
+  pub is_read : {V E : Type 0} (out : Result V E) (P : V → Tables → Type 0)
+      → IsTransactionStep (state g (with_transaction_open old)) (state g mid) out (λ v. IsUnchangedAndSatisfies desk_tables (P v))
+      → Survives (state g mid) (state g end) (λ _. ⊥)
       → (HasCleanDisk (state g end) → IsRolledBack (state g mid) (state g end)) → ReadPost g old end out P
   is_read {V} {E} out P step late back =
       let whole = through out (λ v. IsUnchangedAndSatisfies desk_tables (P v)) step late in
@@ -60,11 +66,15 @@ module _ {S : Type 0} (g : Ghosts S) (old mid end : Held S) (settled : IsTrue (s
         survives = whole;
       }
     where
-      tells : (o : Result V E) → HasCleanDisk (state g old) → IfOk o (λ v. IsTrue (state g mid).in_transaction × IsUnchangedAndSatisfies desk_tables (P v) (state g (with_transaction_open old)) (state g mid)) → IfOk o (λ v. (t : Tables) → HoldsRows g old t → P v t)
+      tells : (o : Result V E) → HasCleanDisk (state g old)
+          → IfOk o (λ v. IsTrue (state g mid).in_transaction × IsUnchangedAndSatisfies desk_tables (P v) (state g (with_transaction_open old)) (state g mid))
+          → IfOk o (λ v. (t : Tables) → HoldsRows g old t → P v t)
       tells (Ok v) clean h = λ t holds. let has = holds clean h.1.0 in h.1.2 t has.0 has.1
       tells (Err e) clean h = tt
 
-      opens : (o : Result V E) → IfOk o (λ v. IsTrue (state g mid).in_transaction × IsUnchangedAndSatisfies desk_tables (P v) (state g (with_transaction_open old)) (state g mid)) → OnOk o (IsTrue (state g old).is_open)
+      opens : (o : Result V E)
+          → IfOk o (λ v. IsTrue (state g mid).in_transaction × IsUnchangedAndSatisfies desk_tables (P v) (state g (with_transaction_open old)) (state g mid))
+          → OnOk o (IsTrue (state g old).is_open)
       opens (Ok v) h = h.1.0
       opens (Err e) h = tt
 
@@ -84,7 +94,8 @@ module _ {S L E F : Type 0} (g : Ghosts S) (old first mid : Held S) (seen : L) (
     (r : Result (Unit {0}) F) (after : Tables → Tables) (changes : IsTransactionStep (state g first) (state g mid) r (λ _ a b. ChangesTablesBy desk_tables after a.now b.now)) where
   pub after_look : IsTransactionStep (state g (with_transaction_open old)) (state g mid) r (λ _ a b. ChangesTablesBy desk_tables after a.now b.now)
   after_look =
-      step_then (state g (with_transaction_open old)) (state g first) (state g mid) seen r (λ l a b. IsTrue a.is_open × (b.now ≡ a.now) × P l a b) (λ _ a b. ChangesTablesBy desk_tables after a.now b.now) (λ _ a b. ChangesTablesBy desk_tables after a.now b.now)
+      step_then (state g (with_transaction_open old)) (state g first) (state g mid) seen r (λ l a b. IsTrue a.is_open × (b.now ≡ a.now) × P l a b)
+      (λ _ a b. ChangesTablesBy desk_tables after a.now b.now) (λ _ a b. ChangesTablesBy desk_tables after a.now b.now)
       (λ _ p q. subst (λ d. ChangesTablesBy desk_tables after d (state g mid).now) p.1 q) look changes
 
   pub open_at_look : HasCleanDisk (state g mid) → IsTrue (state g old).is_open
@@ -95,10 +106,13 @@ module _ {S L E F : Type 0} (g : Ghosts S) (old first mid : Held S) (seen : L) (
 -- A step that fails is a step for any relation on returned values.
 pub failed : {U V E F : Type 0} (a b : State) (result : Result V F) (e : E) (fault : F) (P : U → State → State → Type 0) (R : V → State → State → Type 0) → result ≡ Err fault
     → IsTransactionStep {V = U} {E = E} a b (Err e) P → IsTransactionStep {V = V} {E = F} a b result R
-failed {U} {V} {E} {F} a b result e fault P R is step = subst (λ o. IsTransactionStep {V = V} {E = F} a b o R) (sym is) (record { commits_nothing = step.commits_nothing; relates_states = λ clean on. tt; survives = step.survives })
+failed {U} {V} {E} {F} a b result e fault P R is step =
+    subst (λ o. IsTransactionStep {V = V} {E = F} a b o R) (sym is)
+    (record { commits_nothing = step.commits_nothing; relates_states = λ clean on. tt; survives = step.survives })
 
 -- A step that fails after another step is a step for any relation on returned values.
-pub failed_then : {U V W E F G : Type 0} (a b c : State) (u : U) (result : Result V F) (e : G) (fault : F) (P : U → State → State → Type 0) (Q : W → State → State → Type 0) (R : V → State → State → Type 0) → result ≡ Err fault
+pub failed_then : {U V W E F G : Type 0} (a b c : State) (u : U) (result : Result V F) (e : G) (fault : F) (P : U → State → State → Type 0)
+    (Q : W → State → State → Type 0) (R : V → State → State → Type 0) → result ≡ Err fault
     → IsTransactionStep {V = U} {E = E} a b (Ok u) P → IsTransactionStep {V = W} {E = G} b c (Err e) Q → IsTransactionStep {V = V} {E = F} a c result R
 failed_then {U} {V} {W} {E} {F} {G} a b c u result e fault P Q R is first next =
     failed a c result e fault (λ (w : W) (x y : State). Unit {0}) R is
@@ -115,7 +129,8 @@ module _ {S V E : Type 0} (g : Ghosts S) (old mid end : Held S) (settled : IsTru
   is_unchanged = rolled_back g old mid end settled r Q (λ _. ⊥) step back late
 
   -- A transaction that is rolled back at a fault applies no change.
-  pub applies_nothing : (new : Held S) (result : Result (Unit {0}) Fault) (fault : Fault) (after : Tables → Tables) → end ≡ new → result ≡ Err fault → ApplyPost {V = Unit {0}} {E = Fault} g old new result after
+  pub applies_nothing : (new : Held S) (result : Result (Unit {0}) Fault) (fault : Fault) (after : Tables → Tables) → end ≡ new → result ≡ Err fault
+      → ApplyPost {V = Unit {0}} {E = Fault} g old new result after
   applies_nothing new result fault after ended is =
       subst (λ h. ApplyPost {V = Unit {0}} {E = Fault} g old h result after) ended
       (subst (λ o. ApplyPost {V = Unit {0}} {E = Fault} g old end o after) (sym is)
@@ -168,7 +183,8 @@ module _ {S : Type 0} (g : Ghosts S) (old mid end : Held S) (settled : IsTrue (s
     | inr off ↦ absurd (let on = (step.relates_states (clean_before (state g mid) (state g end) _ late clean) refl).0 in let f = off.1 in cc)
   ]
 
-  pub kept_at : (e : Error) → (HasCleanDisk (state g end) → FailsToCommit (state g mid) (state g end) e) → HasCleanDisk (state g end) → IsTrue (state g end).is_open → WasOpenAndIsUnchanged (state g old) (state g end)
+  pub kept_at : (e : Error) → (HasCleanDisk (state g end) → FailsToCommit (state g mid) (state g end) e) → HasCleanDisk (state g end)
+      → IsTrue (state g end).is_open → WasOpenAndIsUnchanged (state g old) (state g end)
   kept_at e fails = rolled_back g old mid end settled {V = Unit {0}} {E = Fault} (Ok tt) (λ _ a b. made a.now b.now) _ step (back e fails) late
 
   module _ (done : HasCleanDisk (state g end) → IsTrue (state g mid).in_transaction × Shows (state g mid) (state g end) (state g mid).now (state g mid).now false × KeepsCounts (state g mid) (state g end) × ((state g end).marks ≡ [])) where
@@ -176,10 +192,12 @@ module _ {S : Type 0} (g : Ghosts S) (old mid end : Held S) (settled : IsTrue (s
     all clean = commits_all g old mid end made step late {F = Fault} (Ok tt) clean done
 
     -- while a store is open a crash leaves the last commit and nothing else
-    leaves_now : ((db : Trees) → IsTrue (state g end).is_open → (state g end).may_leave db → db ≡ (state g end).committed.trees) → HasCleanDisk (state g end) → (db : Trees) → (state g end).may_leave db → db ≡ (state g end).now.trees
+    leaves_now : ((db : Trees) → IsTrue (state g end).is_open → (state g end).may_leave db → db ≡ (state g end).committed.trees) → HasCleanDisk (state g end)
+        → (db : Trees) → (state g end).may_leave db → db ≡ (state g end).now.trees
     leaves_now law clean db may = let it = all clean in law db it.1 may ∙ ap (λ (d : Database). d.trees) it.3
 
-    pub applies : ((db : Trees) → IsTrue (state g end).is_open → (state g end).may_leave db → db ≡ (state g end).committed.trees) → (after : Tables → Tables) → ((a b : Database) → made a b → ChangesTablesBy desk_tables after a b)
+    pub applies : ((db : Trees) → IsTrue (state g end).is_open → (state g end).may_leave db → db ≡ (state g end).committed.trees) → (after : Tables → Tables)
+        → ((a b : Database) → made a b → ChangesTablesBy desk_tables after a b)
         → ApplyPost {V = Unit {0}} {E = Fault} g old end (Ok tt) after
     applies law after turns = record {
       applied = λ t holds clean o.
@@ -197,7 +215,8 @@ module _ {S : Type 0} (g : Ghosts S) (old mid end : Held S) (settled : IsTrue (s
           ((state g end).now, (has.0, (turns _ _ it.2 t has.0 has.1).0), leaves_now law clean trees may);
     }
 
-    pub creates : ((db : Trees) → IsTrue (state g end).is_open → (state g end).may_leave db → db ≡ (state g end).committed.trees) → ((a b : Database) → made a b → (has_table_of_desk a.schema ≡ false) × CreatesDeskTables a b)
+    pub creates : ((db : Trees) → IsTrue (state g end).is_open → (state g end).may_leave db → db ≡ (state g end).committed.trees)
+        → ((a b : Database) → made a b → (has_table_of_desk a.schema ≡ false) × CreatesDeskTables a b)
         → CreatePost g old end (Ok tt)
     creates law tells = record {
       created = λ clean o. (tells _ _ (all clean).2).1.rows;
@@ -213,7 +232,8 @@ module _ {S : Type 0} (g : Ghosts S) (old mid end : Held S) (settled : IsTrue (s
 
   module _ (e : Error) (fails : HasCleanDisk (state g end) → FailsToCommit (state g mid) (state g end) e) where
     -- it was open where the changes began
-    pub applies_none : (HasCleanDisk (state g mid) → IsTrue (state g old).is_open) → (fault : Fault) (after : Tables → Tables) → ((a b : Database) → made a b → ChangesTablesBy desk_tables after a b) → ApplyPost {V = Unit {0}} {E = Fault} g old end (Err fault) after
+    pub applies_none : (HasCleanDisk (state g mid) → IsTrue (state g old).is_open) → (fault : Fault) (after : Tables → Tables)
+        → ((a b : Database) → made a b → ChangesTablesBy desk_tables after a b) → ApplyPost {V = Unit {0}} {E = Fault} g old end (Err fault) after
     applies_none was_open fault after turns = record {
       applied = tt;
       open_and_committed = λ clean. tt;

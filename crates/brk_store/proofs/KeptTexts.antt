@@ -6,8 +6,17 @@ use Rattle.brk_money.specs.declared.fault.Condition.{Condition}
 use Rattle.brk_money.specs.declared.fault.Condition.TheVariants as condition
 use Rattle.brk_model.specs.Adopted.{base_of_tables}
 use Rattle.brk_model.specs.Audit.{ConditionHolds, IsFirstFailingCondition}
-use Rattle.brk_model.specs.Form.{are_equal_number_lists, has_disjoint_bands, has_distinct_tax_ids, is_last_stamp_in_calendar, is_settlement_day_in_calendar, is_sorted_by_unique_key, is_well_formed_account_row, is_well_formed_band_row, is_well_formed_broker_row, is_well_formed_cash_transaction_row, is_well_formed_charge_row, is_well_formed_customer_row, is_well_formed_customer_tax_row, is_well_formed_history_row, is_well_formed_holding_history_row, is_well_formed_holding_row, is_well_formed_kept_row, is_well_formed_key, is_well_formed_last_trade_row, is_well_formed_cash_move_row, is_well_formed_permission_row, is_well_formed_request_row, is_well_formed_security_row, is_well_formed_settlement_row, is_well_formed_summary_row, is_well_formed_tax_rate_row, is_well_formed_trade_row, is_within_customer_limits, has_rows_only_in_tables_of_schema, satisfies_form_condition, has_tables_sorted_by_unique_key, trade_ids_of_cash_rows}
-use Rattle.brk_model.specs.Keys.{KeyPart, number, word, is_key_less, kept_key, account_key, band_key, broker_key, cash_transaction_key, charge_key, customer_key, customer_tax_key, history_key, holding_history_key, holding_key, last_trade_key, cash_move_key, permission_key, request_key, security_key, settlement_key, summary_key, tax_rate_key, trade_key}
+use Rattle.brk_model.specs.Form.{are_equal_number_lists, has_disjoint_bands, has_distinct_tax_ids, is_last_stamp_in_calendar, is_settlement_day_in_calendar}
+use Rattle.brk_model.specs.Form.{is_sorted_by_unique_key, is_well_formed_account_row, is_well_formed_band_row, is_well_formed_broker_row}
+use Rattle.brk_model.specs.Form.{is_well_formed_cash_transaction_row, is_well_formed_charge_row, is_well_formed_customer_row, is_well_formed_customer_tax_row}
+use Rattle.brk_model.specs.Form.{is_well_formed_history_row, is_well_formed_holding_history_row, is_well_formed_holding_row, is_well_formed_kept_row}
+use Rattle.brk_model.specs.Form.{is_well_formed_key, is_well_formed_last_trade_row, is_well_formed_cash_move_row, is_well_formed_permission_row}
+use Rattle.brk_model.specs.Form.{is_well_formed_request_row, is_well_formed_security_row, is_well_formed_settlement_row, is_well_formed_summary_row}
+use Rattle.brk_model.specs.Form.{is_well_formed_tax_rate_row, is_well_formed_trade_row, is_within_customer_limits, has_rows_only_in_tables_of_schema}
+use Rattle.brk_model.specs.Form.{satisfies_form_condition, has_tables_sorted_by_unique_key, trade_ids_of_cash_rows}
+use Rattle.brk_model.specs.Keys.{KeyPart, number, word, is_key_less, kept_key, account_key, band_key, broker_key, cash_transaction_key, charge_key}
+use Rattle.brk_model.specs.Keys.{customer_key, customer_tax_key, history_key, holding_history_key, holding_key, last_trade_key, cash_move_key, permission_key}
+use Rattle.brk_model.specs.Keys.{request_key, security_key, settlement_key, summary_key, tax_rate_key, trade_key}
 use Rattle.brk_model.specs.Limits.{greatest_id}
 use Rattle.brk_model.specs.Lists.{all_distinct}
 use Rattle.brk_model.specs.Records.{Key, Kept}
@@ -114,7 +123,8 @@ module _ (schema : Schema) (t : Tables) (ks ls : List Kept) (same : map (λ k. k
   holds_alike condition.Balance h = h
 
 -- tables whose rows of KEPT have the same keys have the same answer
-pub answer_alike : (schema : Schema) (t : Tables) (ks ls : List Kept) → map (λ k. k.key) ks ≡ map (λ k. k.key) ls → (cs : List Condition) (answer : Option Condition) → IsFirstFailingCondition schema cs (record t { kept = ks }) answer
+pub answer_alike : (schema : Schema) (t : Tables) (ks ls : List Kept) → map (λ k. k.key) ks ≡ map (λ k. k.key) ls
+    → (cs : List Condition) (answer : Option Condition) → IsFirstFailingCondition schema cs (record t { kept = ks }) answer
     → IsFirstFailingCondition schema cs (record t { kept = ls }) answer
 answer_alike schema t ks ls same [] answer h = h
 answer_alike schema t ks ls same (c ∷ cs) answer (inl h) = inl (holds_alike schema t ks ls same c h.0, answer_alike schema t ks ls same cs answer h.1)

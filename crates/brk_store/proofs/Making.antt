@@ -9,9 +9,12 @@ use Rattle.brk_changes.specs.Changes.{tables_after_change}
 use Rattle.brk_changes.specs.declared.change.Change.{Change}
 
 -- the statement of a change makes that change
-pub made : {V E : Type 0} (old new : State) (result : Result V E) (asked change : Change) → asked ≡ change → IsTransactionStep old new result (λ _ a b. ChangesTablesBy desk_tables (tables_after_change change) a.now b.now)
+pub made : {V E : Type 0} (old new : State) (result : Result V E) (asked change : Change) → asked ≡ change
+    → IsTransactionStep old new result (λ _ a b. ChangesTablesBy desk_tables (tables_after_change change) a.now b.now)
     → IsTransactionStep old new result (λ _ a b. ChangesTablesBy desk_tables (tables_after_change asked) a.now b.now)
-made {V} {E} old new result asked change same step = subst (λ (c : Change). IsTransactionStep {V = V} {E = E} old new result (λ _ a b. ChangesTablesBy desk_tables (tables_after_change c) a.now b.now)) (sym same) step
+made {V} {E} old new result asked change same step =
+    subst (λ (c : Change). IsTransactionStep {V = V} {E = E} old new result (λ _ a b. ChangesTablesBy desk_tables (tables_after_change c) a.now b.now))
+    (sym same) step
 
 -- before the first one nothing is made
 pub none_made : {E : Type 0} (s : State) → IsTransactionStep {V = Unit {0}} {E = E} s s (Ok tt) (λ _ a b. ChangesTablesBy desk_tables (λ t. t) a.now b.now)

@@ -27,7 +27,8 @@ module _ {S : Type 0} (g : Ghosts S) (old mid end : Held S) where
     answered = λ clean. answered (disk_was_clean_before_reads mid end on clean) result (tell clean);
     was_open = λ clean. was_open (read.was_open (disk_was_clean_before_reads mid end on clean)) result;
     same_rows = λ t h. on.same_rows t (read.same_rows t h);
-    unchanged_if_open = λ clean o. let s = on.unchanged_if_open clean o in same_then (state g old) (state g mid) (state g end) (read.unchanged_if_open (disk_was_clean_before_reads mid end on clean) s.was_open) s;
+    unchanged_if_open = λ clean o. let s = on.unchanged_if_open clean o in
+        same_then (state g old) (state g mid) (state g end) (read.unchanged_if_open (disk_was_clean_before_reads mid end on clean) s.was_open) s;
     survives = none_then (state g old) (state g mid) (state g end) (λ _. ⊥) read.survives on.survives;
   } where
     answered : HasCleanDisk (state g mid) → (r : Result X Fault) → IfOk r (λ x. (t : Tables) → HoldsRows g mid t → P v t → R x t) → IfOk r (λ x. (t : Tables) → HoldsRows g old t → R x t)

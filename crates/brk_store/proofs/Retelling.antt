@@ -27,7 +27,8 @@ module _ {S : Type 0} (g : Ghosts S) where
   retold old end v x P R tell = retold_of old end v x P R (λ t has. tell t)
 
   -- a read after another tells of the rows that stood before both
-  pub read_after : (old mid end : Held S) {V W E F : Type 0} (v : V) (r : Result W F) (P : V → Tables → Type 0) (Q : W → Tables → Type 0) → ReadPost {E = E} g old mid (Ok v) P → ReadPost g mid end r Q → ReadPost g old end r Q
+  pub read_after : (old mid end : Held S) {V W E F : Type 0} (v : V) (r : Result W F) (P : V → Tables → Type 0) (Q : W → Tables → Type 0)
+      → ReadPost {E = E} g old mid (Ok v) P → ReadPost g mid end r Q → ReadPost g old end r Q
   read_after old mid end {V} {W} {E} {F} v r P Q first next = record {
     answered = λ clean. tells r (next.answered clean);
     was_open = λ clean. opens r (first.was_open (before clean)) (next.was_open clean);

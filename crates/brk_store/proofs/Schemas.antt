@@ -70,7 +70,8 @@ pub one_desk : (a b : known.Schema) (t : Tables) (db : Database) → DatabaseHas
 one_desk a b t db there has =
     let is_table = has.1.is_table TheDesk refl in
     same_schema a b
-    (said_alike (abstract_schema a) (abstract_schema b) _ (there.row (has.1.place TheDesk) (has.0 TheDesk) is_table) ((desk_is_there (abstract_schema b) t db has).row (has.1.place TheDesk) (has.0 TheDesk) is_table))
+    (said_alike (abstract_schema a) (abstract_schema b) _ (there.row (has.1.place TheDesk) (has.0 TheDesk) is_table)
+    ((desk_is_there (abstract_schema b) t db has).row (has.1.place TheDesk) (has.0 TheDesk) is_table))
 
 -- where its tables are there as a desk makes them
 pub two_desks : (b : known.Schema) (db : Database) → TablesWithSchemaNamesAreDeskTables third_schema db → DatabaseHasSchema third_schema db → DatabaseHasSchema (abstract_schema b) db → Third ≡ b

@@ -6,7 +6,8 @@ use Rattle.sqlite.specs.State.{State, HasCleanDisk, Survives}
 use Rattle.sqlite.proofs.StateLemmas.{survives_then}
 use Rattle.brk_model.specs.Tables.{Tables}
 use Rattle.brk_store.specs.Holds.{HoldsRows, ReadPost, WasOpenAndIsUnchanged}
-use Rattle.brk_store.specs.ReadSequences.{IsUnchangedByReads, ReadSequencePost, disk_was_clean_before_reads, joined_reads_change_nothing, empty_read_sequence_changes_nothing, single_read_changes_nothing}
+use Rattle.brk_store.specs.ReadSequences.{IsUnchangedByReads, ReadSequencePost, disk_was_clean_before_reads, joined_reads_change_nothing}
+use Rattle.brk_store.specs.ReadSequences.{empty_read_sequence_changes_nothing, single_read_changes_nothing}
 
 -- Two calls that change nothing, one after the other, change nothing.
 pub same_then : (a b c : State) → WasOpenAndIsUnchanged a b → WasOpenAndIsUnchanged b c → WasOpenAndIsUnchanged a c
@@ -35,7 +36,8 @@ module _ {S : Type 0} (g : Ghosts S) where
   reads_failed old end e R unchanged = record { answered = λ clean. tt; unchanged = unchanged }
 
   -- a read of a store that was open
-  pub reads_are_read : (old end : Held S) {V E : Type 0} (v : V) (P : V → Tables → Type 0) → (HasCleanDisk (state g end) → IsTrue (state g old).is_open) → ReadSequencePost {E = E} g old end (Ok v) P → ReadPost {E = E} g old end (Ok v) P
+  pub reads_are_read : (old end : Held S) {V E : Type 0} (v : V) (P : V → Tables → Type 0) → (HasCleanDisk (state g end) → IsTrue (state g old).is_open)
+      → ReadSequencePost {E = E} g old end (Ok v) P → ReadPost {E = E} g old end (Ok v) P
   reads_are_read old end v P opened reads = record {
     answered = reads.answered;
     was_open = opened;
@@ -89,5 +91,6 @@ module _ {S : Type 0} (g : Ghosts S) where
     unchanged_after result P before next = joined_reads_change_nothing old mid end before (single_read_changes_nothing mid end result P next)
 
     -- where a read after others fails, they changed nothing
-    pub failed_after : {V X E H : Type 0} (result : Result V E) (e : H) (P : V → Tables → Type 0) (R : X → Tables → Type 0) → IsUnchangedByReads g old mid → ReadPost g mid end result P → ReadPost {E = H} g old end (Err e) R
+    pub failed_after : {V X E H : Type 0} (result : Result V E) (e : H) (P : V → Tables → Type 0) (R : X → Tables → Type 0) → IsUnchangedByReads g old mid
+        → ReadPost g mid end result P → ReadPost {E = H} g old end (Err e) R
     failed_after result e P R before next = none_read old end e R (unchanged_after result P before next)

@@ -28,7 +28,9 @@ use Rattle.brk_sql.proofs.Inside.{clean_before}
 use Rattle.brk_tables_schema.specs.Made.{HasDeskTablesInSchema}
 use Rattle.brk_tables_scan.specs.Schemas.{DatabaseHasSchema}
 use Rattle.brk_tables_scan.proofs.Defined.{desk_is_there}
-use Rattle.brk_store.specs.Audited.{StoresRowsWithAuditResult, IsDatabaseAuditResult, IsDatabaseAuditResultBySchema, IsSchemaOfDatabase, UpgradesAuditedRows, ConnectionHasThirdSchema, Represents, AdoptPost, AuditPost, ConnectionTablesWithDeskNamesAreDeskTables, ConnectionTablesWithThirdSchemaNamesAreDeskTables, AuditAnswerSatisfies}
+use Rattle.brk_store.specs.Audited.{StoresRowsWithAuditResult, IsDatabaseAuditResult, IsDatabaseAuditResultBySchema, IsSchemaOfDatabase, UpgradesAuditedRows}
+use Rattle.brk_store.specs.Audited.{ConnectionHasThirdSchema, Represents, AdoptPost, AuditPost, ConnectionTablesWithDeskNamesAreDeskTables}
+use Rattle.brk_store.specs.Audited.{ConnectionTablesWithThirdSchemaNamesAreDeskTables, AuditAnswerSatisfies}
 use Rattle.brk_store.specs.Holds.{HoldsRows}
 use Rattle.brk_store.proofs.Adoption.{upgraded_pass, upgraded_read}
 use Rattle.brk_store.proofs.Answering.{one_failing}
@@ -38,7 +40,8 @@ use Rattle.brk_store.proofs.Schemas.{desk_of_rows, one_desk, rows_defined, rows_
 -- ---- the answer of a database is that of its rows, and one alone
 
 -- by one schema
-pub rows_answer : (schema : known.Schema) (db : Database) (t : Tables) (answer : Option Condition) → HasDeskTablesInSchema (abstract_schema schema) t db → IsTrue (has_utf8_texts t) → IsDatabaseAuditResultBySchema (abstract_schema schema) db answer → IsAuditResult (abstract_schema schema) t answer
+pub rows_answer : (schema : known.Schema) (db : Database) (t : Tables) (answer : Option Condition) → HasDeskTablesInSchema (abstract_schema schema) t db
+    → IsTrue (has_utf8_texts t) → IsDatabaseAuditResultBySchema (abstract_schema schema) db answer → IsAuditResult (abstract_schema schema) t answer
 rows_answer schema db t None rows texts h = subst (λ u. IsAuditResult (abstract_schema schema) u None) (one_schema schema schema h.0 t db h.1.0 rows).1 h.1.2
 rows_answer schema db t (Some NotEmpty) rows texts h = absurd h
 rows_answer schema db t (Some Schema) rows texts h = absurd (h (desk_is_there (abstract_schema schema) t db rows))
@@ -49,7 +52,9 @@ rows_answer schema db t (Some c) rows texts h = subst (λ u. IsAuditResult (abst
 -- is `Form`; or it has none and `answer` is `Schema`.
 abbrev HasReadableRowsOrFails : known.Schema → Database → Option Condition → Type 0
 HasReadableRowsOrFails schema db answer =
-    ((t : Tables) × HasDeskTablesInSchema (abstract_schema schema) t db × IsTrue (has_utf8_texts t)) ⊎ (((answer ≡ Some Form) × DatabaseHasSchema (abstract_schema schema) db) ⊎ ((answer ≡ Some Schema) × (¬ DatabaseHasSchema (abstract_schema schema) db)))
+    ((t : Tables) × HasDeskTablesInSchema (abstract_schema schema) t db × IsTrue (has_utf8_texts t))
+    ⊎ (((answer ≡ Some Form) × DatabaseHasSchema (abstract_schema schema) db)
+    ⊎ ((answer ≡ Some Schema) × (¬ DatabaseHasSchema (abstract_schema schema) db)))
 
 kind_of : (schema : known.Schema) (db : Database) (answer : Option Condition) → IsDatabaseAuditResultBySchema (abstract_schema schema) db answer → HasReadableRowsOrFails schema db answer
 kind_of schema db None h = inl (h.0, h.1.0, h.1.1)
@@ -58,10 +63,13 @@ kind_of schema db (Some Schema) h = inr (inr (refl, h))
 kind_of schema db (Some Form) h = inr (inl (refl, h.0))
 kind_of schema db (Some c) h = inl (h.0, h.1.0, h.1.1)
 
-one_by_rows : (schema : known.Schema) (db : Database) (a b : Option Condition) → (t : Tables) × HasDeskTablesInSchema (abstract_schema schema) t db × IsTrue (has_utf8_texts t) → IsDatabaseAuditResultBySchema (abstract_schema schema) db a → IsDatabaseAuditResultBySchema (abstract_schema schema) db b → a ≡ b
+one_by_rows : (schema : known.Schema) (db : Database) (a b : Option Condition) → (t : Tables) × HasDeskTablesInSchema (abstract_schema schema) t db
+    × IsTrue (has_utf8_texts t) → IsDatabaseAuditResultBySchema (abstract_schema schema) db a → IsDatabaseAuditResultBySchema (abstract_schema schema) db b
+    → a ≡ b
 one_by_rows schema db a b r h k = one_failing (abstract_schema schema) row_conditions r.0 a b (rows_answer schema db r.0 a r.1 r.2 h) (rows_answer schema db r.0 b r.1 r.2 k)
 
-one_of_kinds : (schema : known.Schema) (db : Database) (a b : Option Condition) → IsDatabaseAuditResultBySchema (abstract_schema schema) db a → IsDatabaseAuditResultBySchema (abstract_schema schema) db b → HasReadableRowsOrFails schema db a → HasReadableRowsOrFails schema db b → a ≡ b
+one_of_kinds : (schema : known.Schema) (db : Database) (a b : Option Condition) → IsDatabaseAuditResultBySchema (abstract_schema schema) db a
+    → IsDatabaseAuditResultBySchema (abstract_schema schema) db b → HasReadableRowsOrFails schema db a → HasReadableRowsOrFails schema db b → a ≡ b
 one_of_kinds schema db a b h k (inl r) l = one_by_rows schema db a b r h k
 one_of_kinds schema db a b h k (inr p) (inl r) = one_by_rows schema db a b r h k
 one_of_kinds schema db a b h k (inr (inl p)) (inr (inl q)) = p.0 ∙ sym q.0
@@ -69,13 +77,15 @@ one_of_kinds schema db a b h k (inr (inl p)) (inr (inr q)) = absurd (q.1 p.1)
 one_of_kinds schema db a b h k (inr (inr p)) (inr (inl q)) = absurd (p.1 q.1)
 one_of_kinds schema db a b h k (inr (inr p)) (inr (inr q)) = p.0 ∙ sym q.0
 
-pub one_answer_by : (schema : known.Schema) (db : Database) (a b : Option Condition) → IsDatabaseAuditResultBySchema (abstract_schema schema) db a → IsDatabaseAuditResultBySchema (abstract_schema schema) db b → a ≡ b
+pub one_answer_by : (schema : known.Schema) (db : Database) (a b : Option Condition) → IsDatabaseAuditResultBySchema (abstract_schema schema) db a
+    → IsDatabaseAuditResultBySchema (abstract_schema schema) db b → a ≡ b
 one_answer_by schema db a b h k = one_of_kinds schema db a b h k (kind_of schema db a h) (kind_of schema db b k)
 
 -- `answer` is `Schema` and the database has a desk of no schema; or the database has a desk of some
 -- schema, and `answer` is the result of its audit by this schema.
 abbrev IsAuditOfSomeDeskOrNone : Database → Option Condition → Type 0
-IsAuditOfSomeDeskOrNone db answer = ((answer ≡ Some Schema) × IsSchemaOfDatabase None db) ⊎ ((schema : known.Schema) × DatabaseHasSchema (abstract_schema schema) db × IsDatabaseAuditResultBySchema (abstract_schema schema) db answer)
+IsAuditOfSomeDeskOrNone db answer = ((answer ≡ Some Schema) × IsSchemaOfDatabase None db)
+    ⊎ ((schema : known.Schema) × DatabaseHasSchema (abstract_schema schema) db × IsDatabaseAuditResultBySchema (abstract_schema schema) db answer)
 
 answer_of : (db : Database) (answer : Option Condition) → IsDatabaseAuditResult db answer → IsAuditOfSomeDeskOrNone db answer
 answer_of db None h = inr (h.0, desk_is_there (abstract_schema h.0) h.1.0 db h.1.1.0, h.1)
@@ -85,7 +95,9 @@ answer_of db (Some Form) h = inr (h.0, h.1.0, h.1)
 answer_of db (Some c) h = inr (h.0, desk_is_there (abstract_schema h.0) h.1.0 db h.1.1.0, h.1)
 
 -- rows of one schema, and what was answered by one of which a desk is there
-one_by_desk : (db : Database) (a b : Option Condition) (s r : known.Schema) (t : Tables) → HasDeskTablesInSchema (abstract_schema s) t db → IsDatabaseAuditResultBySchema (abstract_schema s) db a → DatabaseHasSchema (abstract_schema r) db → IsDatabaseAuditResultBySchema (abstract_schema r) db b → a ≡ b
+one_by_desk : (db : Database) (a b : Option Condition) (s r : known.Schema) (t : Tables) → HasDeskTablesInSchema (abstract_schema s) t db
+    → IsDatabaseAuditResultBySchema (abstract_schema s) db a → DatabaseHasSchema (abstract_schema r) db → IsDatabaseAuditResultBySchema (abstract_schema r) db b
+    → a ≡ b
 one_by_desk db a b s r t rows h there k = one_answer_by s db a b h (subst (λ (q : known.Schema). IsDatabaseAuditResultBySchema (abstract_schema q) db b) (one_desk r s t db there rows) k)
 
 one_of_answers : (db : Database) (a b : Option Condition) → IsAuditOfSomeDeskOrNone db a → IsAuditOfSomeDeskOrNone db b → a ≡ b
@@ -142,7 +154,8 @@ module _ {S : Type 0} (g : Ghosts S) (old new : Held S) (result : Result (Unit {
 
 -- ---- adopted
 
-pub passing_books_held : {S : Type 0} (g : Ghosts S) (store : Held S) (t : Tables) → HoldsRows g store t → PassesAudit third_schema t → IsTrue (has_utf8_texts t) → Represents g store (base_of_tables t)
+pub passing_books_held : {S : Type 0} (g : Ghosts S) (store : Held S) (t : Tables) → HoldsRows g store t → PassesAudit third_schema t
+    → IsTrue (has_utf8_texts t) → Represents g store (base_of_tables t)
 passing_books_held g store t holds passes texts =
     let e = passing_tables third_schema t passes in
     record {
@@ -164,6 +177,7 @@ upgraded_books g new db m =
     subst (Represents g new) (upgraded_base m.0 m.1 m.2.2)
     (passing_books_held g new (sheets (base_of_tables m.1)) (λ _ _. m.3) (upgraded_pass m.0 m.1 m.2.2) (upgraded_read m.0 m.1 m.2.2 m.2.1))
 
-pub held_after : {S : Type 0} (g : Ghosts S) (old new : Held S) → AdoptPost g old new (Ok tt) → ConnectionTablesWithDeskNamesAreDeskTables g old → HasCleanDisk (state g new) → IsTrue (state g new).is_open
+pub held_after : {S : Type 0} (g : Ghosts S) (old new : Held S) → AdoptPost g old new (Ok tt) → ConnectionTablesWithDeskNamesAreDeskTables g old
+    → HasCleanDisk (state g new) → IsTrue (state g new).is_open
     → (schema : known.Schema) × (rows : Tables) × StoresRowsWithAuditResult (abstract_schema schema) rows (state g old).now None × Represents g new (base_of_tables rows)
 held_after g old new is defined clean on = let m = (is.upgraded clean on defined).0 in (m.0, m.1, m.2, upgraded_books g new (state g old).now m)

@@ -31,7 +31,8 @@ none_of db a b c Second there = b there
 none_of db a b c Third there = a there
 
 -- what the conditions of the schema that is there tell is told of the database
-audited_of : (schema : known.Schema) (db : Database) (failing : Condition) → DatabaseHasSchema (abstract_schema schema) db → IsDatabaseAuditResultBySchema (abstract_schema schema) db (Some failing) → IsDatabaseAuditResult db (Some failing)
+audited_of : (schema : known.Schema) (db : Database) (failing : Condition) → DatabaseHasSchema (abstract_schema schema) db
+    → IsDatabaseAuditResultBySchema (abstract_schema schema) db (Some failing) → IsDatabaseAuditResult db (Some failing)
 audited_of schema db condition.NotEmpty there h = h
 audited_of schema db condition.Schema there h = absurd (h there)
 audited_of schema db c there h = (schema, h)
@@ -49,22 +50,32 @@ FindsSchemaOfDatabase found a b = IsTrue a.is_open × (b.now ≡ a.now) × (Tabl
 abbrev ShowsDatabaseSatisfies : (Database → Type 0) → Unit {0} → State → State → Type 0
 ShowsDatabaseSatisfies none _ a b = IsTrue a.is_open × (b.now ≡ a.now) × (TablesWithDeskNamesAreDeskTables a.now → none a.now)
 
-sure : (schema : known.Schema) (a b : State) (has : Bool) → has ≡ true → IsTransactionStep {V = Bool} {E = Fault} a b (Ok has) (ShowsIfHasDesk schema) → IsTransactionStep {V = Option known.Schema} {E = Fault} a b (Ok (Some schema)) FindsSchemaOfDatabase
+sure : (schema : known.Schema) (a b : State) (has : Bool) → has ≡ true → IsTransactionStep {V = Bool} {E = Fault} a b (Ok has) (ShowsIfHasDesk schema)
+    → IsTransactionStep {V = Option known.Schema} {E = Fault} a b (Ok (Some schema)) FindsSchemaOfDatabase
 sure schema a b has is step =
     step_read a b has (Ok (Some schema)) (ShowsIfHasDesk schema) FindsSchemaOfDatabase
     (λ found e p. let same : Some schema ≡ found = cc in subst (λ f. FindsSchemaOfDatabase f a b) same (p.0, p.1, λ defined. (p.2 (defined schema)).0 is)) step
 
-denied : (schema : known.Schema) (a b : State) (has : Bool) → has ≡ false → IsTransactionStep {V = Bool} {E = Fault} a b (Ok has) (ShowsIfHasDesk schema) → IsTransactionStep {V = Unit {0}} {E = Fault} a b (Ok tt) (ShowsDatabaseSatisfies (HasNoDeskOfSchema schema))
-denied schema a b has is step = step_read a b has (Ok tt) (ShowsIfHasDesk schema) (ShowsDatabaseSatisfies (HasNoDeskOfSchema schema)) (λ _ e p. (p.0, p.1, λ defined. not_of schema a.now has (p.2 (defined schema)) is)) step
+denied : (schema : known.Schema) (a b : State) (has : Bool) → has ≡ false → IsTransactionStep {V = Bool} {E = Fault} a b (Ok has) (ShowsIfHasDesk schema)
+    → IsTransactionStep {V = Unit {0}} {E = Fault} a b (Ok tt) (ShowsDatabaseSatisfies (HasNoDeskOfSchema schema))
+denied schema a b has is step =
+    step_read a b has (Ok tt) (ShowsIfHasDesk schema) (ShowsDatabaseSatisfies (HasNoDeskOfSchema schema))
+    (λ _ e p. (p.0, p.1, λ defined. not_of schema a.now has (p.2 (defined schema)) is)) step
 
-also : (P Q : Database → Type 0) (a b c : State) → IsTransactionStep {V = Unit {0}} {E = Fault} a b (Ok tt) (ShowsDatabaseSatisfies P) → IsTransactionStep {V = Unit {0}} {E = Fault} b c (Ok tt) (ShowsDatabaseSatisfies Q) → IsTransactionStep {V = Unit {0}} {E = Fault} a c (Ok tt) (ShowsDatabaseSatisfies (λ db. P db × Q db))
+also : (P Q : Database → Type 0) (a b c : State) → IsTransactionStep {V = Unit {0}} {E = Fault} a b (Ok tt) (ShowsDatabaseSatisfies P)
+    → IsTransactionStep {V = Unit {0}} {E = Fault} b c (Ok tt) (ShowsDatabaseSatisfies Q)
+    → IsTransactionStep {V = Unit {0}} {E = Fault} a c (Ok tt) (ShowsDatabaseSatisfies (λ db. P db × Q db))
 also P Q a b c one two =
     step_then a b c tt (Ok tt) (ShowsDatabaseSatisfies P) (ShowsDatabaseSatisfies Q) (ShowsDatabaseSatisfies (λ db. P db × Q db))
     (λ _ p q. (p.0, q.1 ∙ p.1, λ defined. (p.2 defined, (subst (λ d. TablesWithDeskNamesAreDeskTables d → Q d) p.1 q.2) defined))) one two
 
-later : (P : Database → Type 0) (a b c : State) (found : Option known.Schema) → IsTransactionStep {V = Unit {0}} {E = Fault} a b (Ok tt) (ShowsDatabaseSatisfies P) → IsTransactionStep {V = Option known.Schema} {E = Fault} b c (Ok found) FindsSchemaOfDatabase → IsTransactionStep {V = Option known.Schema} {E = Fault} a c (Ok found) FindsSchemaOfDatabase
+later : (P : Database → Type 0) (a b c : State) (found : Option known.Schema)
+    → IsTransactionStep {V = Unit {0}} {E = Fault} a b (Ok tt) (ShowsDatabaseSatisfies P)
+    → IsTransactionStep {V = Option known.Schema} {E = Fault} b c (Ok found) FindsSchemaOfDatabase
+    → IsTransactionStep {V = Option known.Schema} {E = Fault} a c (Ok found) FindsSchemaOfDatabase
 later P a b c found one two =
-    step_then a b c tt (Ok found) (ShowsDatabaseSatisfies P) FindsSchemaOfDatabase FindsSchemaOfDatabase (λ f p q. (p.0, q.1 ∙ p.1, subst (λ d. TablesWithDeskNamesAreDeskTables d → IsSchemaOfDatabase f d) p.1 q.2)) one two
+    step_then a b c tt (Ok found) (ShowsDatabaseSatisfies P) FindsSchemaOfDatabase FindsSchemaOfDatabase
+    (λ f p q. (p.0, q.1 ∙ p.1, subst (λ d. TablesWithDeskNamesAreDeskTables d → IsSchemaOfDatabase f d) p.1 q.2)) one two
 
 module _ (a b c d : State) (third second first : Bool) (one : IsTransactionStep {V = Bool} {E = Fault} a b (Ok third) (ShowsIfHasDesk Third)) where
   pub found_third : third ≡ true → IsTransactionStep {V = Option known.Schema} {E = Fault} a b (Ok (Some Third)) FindsSchemaOfDatabase
@@ -95,14 +106,17 @@ module _ (a b c d : State) (third second first : Bool) (one : IsTransactionStep 
 abbrev pub ReturnsTrueAuditResult : AuditResult → State → State → Type 0
 ReturnsTrueAuditResult told a b = IsTrue a.is_open × (b.now ≡ a.now) × (TablesWithDeskNamesAreDeskTables a.now → IsTrueAuditResult told a.now)
 
-pub tells_none : (a b : State) → IsTransactionStep {V = Option known.Schema} {E = Fault} a b (Ok None) FindsSchemaOfDatabase → IsTransactionStep {V = AuditResult} {E = Fault} a b (Ok (Fails condition.Schema)) ReturnsTrueAuditResult
+pub tells_none : (a b : State) → IsTransactionStep {V = Option known.Schema} {E = Fault} a b (Ok None) FindsSchemaOfDatabase
+    → IsTransactionStep {V = AuditResult} {E = Fault} a b (Ok (Fails condition.Schema)) ReturnsTrueAuditResult
 tells_none a b step =
     step_read a b None (Ok (Fails condition.Schema)) FindsSchemaOfDatabase ReturnsTrueAuditResult
     (λ told e p. let same : Fails condition.Schema ≡ told = cc in subst (λ t. ReturnsTrueAuditResult t a b) same (p.0, p.1, p.2)) step
 
 module _ (a b c : State) (schema : known.Schema) (there : IsTransactionStep {V = Option known.Schema} {E = Fault} a b (Ok (Some schema)) FindsSchemaOfDatabase) where
   -- the desk that is there, and what its conditions told
-  examined : (answer : Option Condition) (told : AuditResult) → ((db : Database) → DatabaseHasSchema (abstract_schema schema) db → IsDatabaseAuditResultBySchema (abstract_schema schema) db answer → IsTrueAuditResult told db)
+  examined : (answer : Option Condition) (told : AuditResult)
+      → ((db : Database) → DatabaseHasSchema (abstract_schema schema) db → IsDatabaseAuditResultBySchema (abstract_schema schema) db answer
+      → IsTrueAuditResult told db)
       → IsTransactionStep {V = Option Condition} {E = Fault} b c (Ok answer) (AuditsDeskOfSchema schema) → IsTransactionStep {V = AuditResult} {E = Fault} a c (Ok told) ReturnsTrueAuditResult
   examined answer told tells step =
       step_then a b c (Some schema) (Ok told) FindsSchemaOfDatabase (λ seen x y. (told ≡ seen) × AuditsDeskOfSchema schema answer x y) ReturnsTrueAuditResult
@@ -111,13 +125,17 @@ module _ (a b c : State) (schema : known.Schema) (there : IsTransactionStep {V =
         q.1.1 ∙ p.1,
         λ defined.
             let desk = p.2 defined in
-            tells a.now desk ((subst (λ d. TablesWithDeskNamesAreDeskTables d → DatabaseHasSchema (abstract_schema schema) d → IsDatabaseAuditResultBySchema (abstract_schema schema) d answer) p.1 (λ all. q.1.2 (all schema))) defined desk),
+            tells a.now desk ((subst
+            (λ d. TablesWithDeskNamesAreDeskTables d → DatabaseHasSchema (abstract_schema schema) d
+            → IsDatabaseAuditResultBySchema (abstract_schema schema) d answer) p.1 (λ all. q.1.2 (all schema))) defined desk),
       ))
       there
       (step_read b c answer (Ok told) (AuditsDeskOfSchema schema) (λ seen x y. (told ≡ seen) × AuditsDeskOfSchema schema answer x y) (λ seen e p. (let same : told ≡ seen = cc in same, p)) step)
 
-  pub tells_passes : IsTransactionStep {V = Option Condition} {E = Fault} b c (Ok None) (AuditsDeskOfSchema schema) → IsTransactionStep {V = AuditResult} {E = Fault} a c (Ok (Passes schema)) ReturnsTrueAuditResult
+  pub tells_passes : IsTransactionStep {V = Option Condition} {E = Fault} b c (Ok None) (AuditsDeskOfSchema schema)
+      → IsTransactionStep {V = AuditResult} {E = Fault} a c (Ok (Passes schema)) ReturnsTrueAuditResult
   tells_passes = examined None (Passes schema) (λ db desk h. h)
 
-  pub tells_fails : (failing : Condition) → IsTransactionStep {V = Option Condition} {E = Fault} b c (Ok (Some failing)) (AuditsDeskOfSchema schema) → IsTransactionStep {V = AuditResult} {E = Fault} a c (Ok (Fails failing)) ReturnsTrueAuditResult
+  pub tells_fails : (failing : Condition) → IsTransactionStep {V = Option Condition} {E = Fault} b c (Ok (Some failing)) (AuditsDeskOfSchema schema)
+      → IsTransactionStep {V = AuditResult} {E = Fault} a c (Ok (Fails failing)) ReturnsTrueAuditResult
   tells_fails failing = examined (Some failing) (Fails failing) (λ db desk h. audited_of schema db failing desk h)

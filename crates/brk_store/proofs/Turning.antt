@@ -53,19 +53,24 @@ module _ {S : Type 0} (g : Ghosts S) (held : Held S) (lifo : Bool) (account : �
 
   -- the first lot of a page, and what is left then
   pub turned : (t : Tables) (holds : HoldsRows g held t) (read read' : ℕ) (page : List row.HoldingRow) (ended : Bool) (first : Option Lot) (ls : List Lot)
-      → map abstract_holding_row page ≡ page_after_skipped read (lot_rows_in_closing_order lifo account symbol t) → read' ≡ read + length page → ended ≡ nat_lt (length page) page_size → first ≡ option_map lot_of_typed_row (slice_get page 0)
+      → map abstract_holding_row page ≡ page_after_skipped read (lot_rows_in_closing_order lifo account symbol t) → read' ≡ read + length page
+      → ended ≡ nat_lt (length page) page_size → first ≡ option_map lot_of_typed_row (slice_get page 0)
       → ls ≡ map lot_of_row (drop read (lot_rows_in_closing_order lifo account symbol t))
       → MatchOption first ((ls ≡ []) × AreRemainingLotsOfPages (drop 1 page) ended read' []) (λ lot. (more : List Lot) × (ls ≡ lot ∷ more) × AreRemainingLotsOfPages (drop 1 page) ended read' more)
   turned t holds read read' page ended first ls shown count last is left =
       let rows = lot_rows_in_closing_order lifo account symbol t in
-      let whole : ls ≡ remaining_page_lots page ended read' rows = left ∙ sym (page_turned rows read page shown) ∙ ap (λ b. remaining_page_lots page b (read + length page) rows) (sym last) ∙ ap (λ n. remaining_page_lots page ended n rows) (sym count) in
+      let whole : ls ≡ remaining_page_lots page ended read' rows = left ∙ sym (page_turned rows read page shown)
+      ∙ ap (λ b. remaining_page_lots page b (read + length page) rows) (sym last) ∙ ap (λ n. remaining_page_lots page ended n rows) (sym count) in
       go page is last whole
     where
-      go : (page : List row.HoldingRow) → first ≡ option_map lot_of_typed_row (slice_get page 0) → ended ≡ nat_lt (length page) page_size → ls ≡ remaining_page_lots page ended read' (lot_rows_in_closing_order lifo account symbol t)
+      go : (page : List row.HoldingRow) → first ≡ option_map lot_of_typed_row (slice_get page 0) → ended ≡ nat_lt (length page) page_size
+          → ls ≡ remaining_page_lots page ended read' (lot_rows_in_closing_order lifo account symbol t)
           → MatchOption first ((ls ≡ []) × AreRemainingLotsOfPages (drop 1 page) ended read' []) (λ lot. (more : List Lot) × (ls ≡ lot ∷ more) × AreRemainingLotsOfPages (drop 1 page) ended read' more)
       go [] f l w =
-          let none : remaining_page_lots [] ended read' (lot_rows_in_closing_order lifo account symbol t) ≡ [] = ap (λ b. remaining_page_lots [] b read' (lot_rows_in_closing_order lifo account symbol t)) l in
-          subst (λ o. MatchOption o ((ls ≡ []) × AreRemainingLotsOfPages [] ended read' []) (λ lot. (more : List Lot) × (ls ≡ lot ∷ more) × AreRemainingLotsOfPages [] ended read' more)) (sym f) (w ∙ none, (t, holds, sym none))
+          let none : remaining_page_lots [] ended read' (lot_rows_in_closing_order lifo account symbol t) ≡ [] =
+          ap (λ b. remaining_page_lots [] b read' (lot_rows_in_closing_order lifo account symbol t)) l in
+          subst (λ o. MatchOption o ((ls ≡ []) × AreRemainingLotsOfPages [] ended read' [])
+          (λ lot. (more : List Lot) × (ls ≡ lot ∷ more) × AreRemainingLotsOfPages [] ended read' more)) (sym f) (w ∙ none, (t, holds, sym none))
       go (p ∷ ps) f l w =
           subst (λ o. MatchOption o ((ls ≡ []) × AreRemainingLotsOfPages ps ended read' []) (λ lot. (more : List Lot) × (ls ≡ lot ∷ more) × AreRemainingLotsOfPages ps ended read' more)) (sym f)
           (remaining_page_lots ps ended read' (lot_rows_in_closing_order lifo account symbol t), w, (t, holds, refl))

@@ -18,7 +18,8 @@ unfolding total_by
 total_by-none f = refl
 
 pub worth_more : (t : Tables) (rows : List SummaryRow) (i : ℕ) (row : SummaryRow) → i < length rows → row ≡ get_or rows i row
-    → total_by (market_value_of_summary t) (map abstract_summary_row (take i rows)) +ℤ market_value_of_summary t (abstract_summary_row row) ≡ total_by (market_value_of_summary t) (map abstract_summary_row (take (i + 1) rows))
+    → total_by (market_value_of_summary t) (map abstract_summary_row (take i rows)) +ℤ market_value_of_summary t (abstract_summary_row row)
+    ≡ total_by (market_value_of_summary t) (map abstract_summary_row (take (i + 1) rows))
 worth_more t rows i row inside is =
     sym (total_by-more (market_value_of_summary t) (map abstract_summary_row (take i rows)) (abstract_summary_row row))
     ∙ ap (total_by (market_value_of_summary t)) (sym (map-append abstract_summary_row (take i rows) (row ∷ []))

@@ -88,7 +88,8 @@ text_total s t g h =
 
 -- ---- lots
 
-lots_tie : (a b e l m p q : Bool) → (a ≡ false → b ≡ false → e ≡ true) → (a ≡ true → e ≡ false) → (b ≡ true → e ≡ false) → p ≡ false → a || (not b && (l || (not m && (p || (not q && false))))) ≡ a || (e && l)
+lots_tie : (a b e l m p q : Bool) → (a ≡ false → b ≡ false → e ≡ true) → (a ≡ true → e ≡ false) → (b ≡ true → e ≡ false) → p ≡ false
+    → a || (not b && (l || (not m && (p || (not q && false))))) ≡ a || (e && l)
 lots_tie true b e l m p q f g h k = refl
 lots_tie false true e l m p q f g h k = rw (h refl) refl
 lots_tie false false e true m p q f g h k = rw (f refl refl) refl
@@ -100,7 +101,8 @@ unlike s t a = go (bytes_eq s t) refl
   where
     go : (b : Bool) → bytes_eq s t ≡ b → bytes_eq s t ≡ false
     go false e = e
-    go true e = let same : s ≡ t = same_text s t e in let none : is_text_less s t ≡ false = subst (λ x. is_text_less s x ≡ false) same (text_self s) in absurd (let f : true ≡ false = sym a ∙ none in cc)
+    go true e = let same : s ≡ t = same_text s t e in let none : is_text_less s t ≡ false = subst (λ x. is_text_less s x ≡ false) same (text_self s) in
+        absurd (let f : true ≡ false = sym a ∙ none in cc)
 
 not_above : (m n : ℕ) → nat_lt m n ≡ true → nat_lt n m ≡ false
 not_above m n h = grind (arith, nat_tests)
@@ -109,8 +111,10 @@ pub lots_same : (account : ℕ) (t : Tables) → IsStrictlyAscendingBy (λ r. r.
 lots_same account t climb =
     sort_same (λ (r : HoldingRow). r.trade) (is_row_key_less lot_sort_key) (λ a b. is_text_less a.symbol b.symbol || (bytes_eq a.symbol b.symbol && nat_lt a.stamp b.stamp))
     (filter (λ (r : HoldingRow). r.account == account) t.holdings)
-    (λ x y k. lots_tie (is_text_less y.symbol x.symbol) (is_text_less x.symbol y.symbol) (bytes_eq y.symbol x.symbol) (nat_lt y.stamp x.stamp) (nat_lt x.stamp y.stamp) (nat_lt y.trade x.trade) (nat_lt x.trade y.trade)
-    (λ a b. (bytes_eq-Decides y.symbol x.symbol).1 (text_total y.symbol x.symbol a b)) (unlike y.symbol x.symbol) (λ b. texts_back y.symbol x.symbol ∙ unlike x.symbol y.symbol b) (not_above x.trade y.trade k))
+    (λ x y k. lots_tie (is_text_less y.symbol x.symbol) (is_text_less x.symbol y.symbol) (bytes_eq y.symbol x.symbol) (nat_lt y.stamp x.stamp)
+    (nat_lt x.stamp y.stamp) (nat_lt y.trade x.trade) (nat_lt x.trade y.trade)
+    (λ a b. (bytes_eq-Decides y.symbol x.symbol).1 (text_total y.symbol x.symbol a b)) (unlike y.symbol x.symbol)
+    (λ b. texts_back y.symbol x.symbol ∙ unlike x.symbol y.symbol b) (not_above x.trade y.trade k))
     (climb_filter (λ (r : HoldingRow). r.trade) (λ (r : HoldingRow). r.account == account) t.holdings climb)
 
 -- ---- cash
@@ -154,14 +158,16 @@ old_tie true e p k = refl
 old_tie false true p k = k
 old_tie false false p k = refl
 
-pub oldest_same : (q : TradeRow → Bool) (t : Tables) → IsStrictlyAscendingBy (λ r. r.id) t.trades → trade_rows_oldest_first (filter q t.trades) ≡ sort_by_key (λ (r : TradeRow). r.stamp) (filter q t.trades)
+pub oldest_same : (q : TradeRow → Bool) (t : Tables) → IsStrictlyAscendingBy (λ r. r.id) t.trades
+    → trade_rows_oldest_first (filter q t.trades) ≡ sort_by_key (λ (r : TradeRow). r.stamp) (filter q t.trades)
 oldest_same q t climb =
     sort_same (λ (r : TradeRow). r.id) (λ a b. is_pair_less a.stamp b.stamp a.id b.id) (λ a b. nat_lt a.stamp b.stamp) (filter q t.trades)
     (λ x y k. old_tie (nat_lt y.stamp x.stamp) (y.stamp == x.stamp) (nat_lt y.id x.id) (not_above x.id y.id k))
     (climb_filter (λ (r : TradeRow). r.id) q t.trades climb)
 
 -- completed trades that pass a test
-pub completed_filter : (q : TradeRow → Bool) (t : Tables) → filter q (completed_trades_by_stamp t) ≡ sort_by_key (λ (r : TradeRow). r.stamp) (filter (λ r. is_same_trade_status r.status Completed && q r) t.trades)
+pub completed_filter : (q : TradeRow → Bool) (t : Tables)
+    → filter q (completed_trades_by_stamp t) ≡ sort_by_key (λ (r : TradeRow). r.stamp) (filter (λ r. is_same_trade_status r.status Completed && q r) t.trades)
 completed_filter q t =
     let done = λ (r : TradeRow). is_same_trade_status r.status Completed in
     sym (sort_filter (λ (a b : TradeRow). nat_lt a.stamp b.stamp) q (filter done t.trades) (λ x y z. nat_splits x.stamp y.stamp z.stamp) (λ x y. nat_one_way x.stamp y.stamp))
@@ -196,17 +202,26 @@ accounts_climb t db has = climbs (λ (r : AccountRow). r.id) (ordering_by_primar
 
 -- ---- walks of a store
 
-pub lots_walked : {S V E : Type 0} (g : Ghosts S) (old new : Held S) (account : ℕ) (takes : V → holding.HoldingRow → V → Type 0) (stops : V → holding.HoldingRow → E → V → Type 0) (before after : V) (result : Result (Unit {0}) (WalkError E))
-    → TableWalkPost g old new abstract_holding_row (account_lots_by_symbol account) takes stops before after result → WalkPost g old new abstract_holding_row (λ t. holding_rows_of_account t account) takes stops before after result
+pub lots_walked : {S V E : Type 0} (g : Ghosts S) (old new : Held S) (account : ℕ) (takes : V → holding.HoldingRow → V → Type 0)
+    (stops : V → holding.HoldingRow → E → V → Type 0) (before after : V) (result : Result (Unit {0}) (WalkError E))
+    → TableWalkPost g old new abstract_holding_row (account_lots_by_symbol account) takes stops before after result
+    → WalkPost g old new abstract_holding_row (λ t. holding_rows_of_account t account) takes stops before after result
 lots_walked g old new account takes stops before after result w =
-    is_walked g old new abstract_holding_row (account_lots_by_symbol account) (λ t. holding_rows_of_account t account) takes stops before after (λ t has. lots_same account t (holdings_climb t (state g old).now has)) result w
+    is_walked g old new abstract_holding_row (account_lots_by_symbol account) (λ t. holding_rows_of_account t account) takes stops before after
+    (λ t has. lots_same account t (holdings_climb t (state g old).now has)) result w
 
-pub cash_walked : {S V E : Type 0} (g : Ghosts S) (old new : Held S) (account from to : ℕ) (takes : V → row.MoveRow → V → Type 0) (stops : V → row.MoveRow → E → V → Type 0) (before after : V) (result : Result (Unit {0}) (WalkError E))
-    → TableWalkPost g old new abstract_move_row (account_cash_rows_between account from to) takes stops before after result → WalkPost g old new abstract_move_row (cash_rows_in_span account from to) takes stops before after result
+pub cash_walked : {S V E : Type 0} (g : Ghosts S) (old new : Held S) (account from to : ℕ) (takes : V → row.MoveRow → V → Type 0)
+    (stops : V → row.MoveRow → E → V → Type 0) (before after : V) (result : Result (Unit {0}) (WalkError E))
+    → TableWalkPost g old new abstract_move_row (account_cash_rows_between account from to) takes stops before after result
+    → WalkPost g old new abstract_move_row (cash_rows_in_span account from to) takes stops before after result
 cash_walked g old new account from to takes stops before after result w =
-    is_walked g old new abstract_move_row (account_cash_rows_between account from to) (cash_rows_in_span account from to) takes stops before after (λ t has. cash_same account from to t (moves_climb t (state g old).now has)) result w
+    is_walked g old new abstract_move_row (account_cash_rows_between account from to) (cash_rows_in_span account from to) takes stops before after
+    (λ t has. cash_same account from to t (moves_climb t (state g old).now has)) result w
 
-pub completed_walked : {S V E : Type 0} (g : Ghosts S) (old new : Held S) (takes : V → trade.TradeRow → V → Type 0) (stops : V → trade.TradeRow → E → V → Type 0) (before after : V) (result : Result (Unit {0}) (WalkError E))
-    → TableWalkPost g old new abstract_trade_row completed_trades_by_stamp_and_id takes stops before after result → WalkPost g old new abstract_trade_row completed_trades_by_stamp takes stops before after result
+pub completed_walked : {S V E : Type 0} (g : Ghosts S) (old new : Held S) (takes : V → trade.TradeRow → V → Type 0)
+    (stops : V → trade.TradeRow → E → V → Type 0) (before after : V) (result : Result (Unit {0}) (WalkError E))
+    → TableWalkPost g old new abstract_trade_row completed_trades_by_stamp_and_id takes stops before after result
+    → WalkPost g old new abstract_trade_row completed_trades_by_stamp takes stops before after result
 completed_walked g old new takes stops before after result w =
-    is_walked g old new abstract_trade_row completed_trades_by_stamp_and_id completed_trades_by_stamp takes stops before after (λ t has. completed_same t (trades_climb t (state g old).now has)) result w
+    is_walked g old new abstract_trade_row completed_trades_by_stamp_and_id completed_trades_by_stamp takes stops before after
+    (λ t has. completed_same t (trades_climb t (state g old).now has)) result w

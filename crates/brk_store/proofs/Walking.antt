@@ -25,7 +25,9 @@ module _ {S X M V E : Type 0} (g : Ghosts S) (old new : Held S) (of : X → M) (
   first_of clean first (inl none) t holds = (list t, ap (λ l. l ++ list t) none)
   first_of clean first (inr h) t holds = let has = holds clean h.0 in let it = h.1 t has in (it.0, it.1 ∙ same t has)
 
-  breaks_of : HasCleanDisk (state g old) → (stop : WalkError E) → TableWalkEndsEarly (tables.IsPrefixOfList (state g old) walked) of takes stops before after stop → TableWalkEndsEarly (IsPrefixOfStoredList g old list) of takes stops before after stop
+  breaks_of : HasCleanDisk (state g old) → (stop : WalkError E)
+      → TableWalkEndsEarly (tables.IsPrefixOfList (state g old) walked) of takes stops before after stop
+      → TableWalkEndsEarly (IsPrefixOfStoredList g old list) of takes stops before after stop
   breaks_of clean (Failed fault) h = (h.0, (h.1.0, h.1.1, first_of clean (map of h.1.0) h.1.2))
   breaks_of clean (Cause e) h = (h.0, h.1, h.2, h.3, h.4, first_of clean (map of (h.0 ++ h.1 ∷ [])) h.5)
 
@@ -40,7 +42,9 @@ module _ {S X M V E : Type 0} (g : Ghosts S) (old new : Held S) (of : X → M) (
     survives = w.survives;
   }
     where
-      done : (r : Result (Unit {0}) (WalkError E)) → HasCleanDisk (state g old) → OnOk r (TakesListSatisfying (tables.AreAllRecordsOfList (state g old) walked) of takes before after) → OnOk r (TakesListSatisfying (EqualsStoredList g old list) of takes before after)
+      done : (r : Result (Unit {0}) (WalkError E)) → HasCleanDisk (state g old)
+          → OnOk r (TakesListSatisfying (tables.AreAllRecordsOfList (state g old) walked) of takes before after)
+          → OnOk r (TakesListSatisfying (EqualsStoredList g old list) of takes before after)
       done (Ok u) clean h = (h.0, h.1, λ t holds. let has = holds clean h.2.0 in h.2.1 t has ∙ same t has)
       done (Err stop) clean h = tt
 
@@ -48,7 +52,9 @@ module _ {S X M V E : Type 0} (g : Ghosts S) (old new : Held S) (of : X → M) (
       opens (Ok u) h = h.2.0
       opens (Err stop) h = tt
 
-      broken : (r : Result (Unit {0}) (WalkError E)) → HasCleanDisk (state g old) → IfErr r (TableWalkEndsEarly (tables.IsPrefixOfList (state g old) walked) of takes stops before after) → IfErr r (TableWalkEndsEarly (IsPrefixOfStoredList g old list) of takes stops before after)
+      broken : (r : Result (Unit {0}) (WalkError E)) → HasCleanDisk (state g old)
+          → IfErr r (TableWalkEndsEarly (tables.IsPrefixOfList (state g old) walked) of takes stops before after)
+          → IfErr r (TableWalkEndsEarly (IsPrefixOfStoredList g old list) of takes stops before after)
       broken (Ok u) clean h = tt
       broken (Err stop) clean h = breaks_of clean stop h
 
@@ -58,8 +64,10 @@ folds_inner : {V W X : Type 0} (inner : W → V) (takes : V → X → V → Type
 folds_inner inner takes p [] q h = ap inner h
 folds_inner inner takes p (x ∷ xs) q h = (inner h.0, h.1, folds_inner inner takes h.0 xs q h.2)
 
-pub is_walked_by : {S X M V W E : Type 0} (g : Ghosts S) (old new : Held S) (of : X → M) (list : Tables → List M) (inner : W → V) (takes : V → X → V → Type 0) (stops : V → X → E → V → Type 0) (before after : W) (result : Result (Unit {0}) (WalkError E))
-    → WalkPost g old new of list (λ p x q. takes (inner p) x (inner q)) (λ p x e q. stops (inner p) x e (inner q)) before after result → WalkPost g old new of list takes stops (inner before) (inner after) result
+pub is_walked_by : {S X M V W E : Type 0} (g : Ghosts S) (old new : Held S) (of : X → M) (list : Tables → List M) (inner : W → V) (takes : V → X → V → Type 0)
+    (stops : V → X → E → V → Type 0) (before after : W) (result : Result (Unit {0}) (WalkError E))
+    → WalkPost g old new of list (λ p x q. takes (inner p) x (inner q)) (λ p x e q. stops (inner p) x e (inner q)) before after result
+    → WalkPost g old new of list takes stops (inner before) (inner after) result
 is_walked_by {S} {X} {M} {V} {W} {E} g old new of list inner takes stops before after result w = record {
   all = λ clean. done result (w.all clean);
   early = λ clean. broken result (w.early clean);
@@ -70,11 +78,15 @@ is_walked_by {S} {X} {M} {V} {W} {E} g old new of list inner takes stops before 
   survives = w.survives;
 }
   where
-    done : (r : Result (Unit {0}) (WalkError E)) → OnOk r (TakesListSatisfying (EqualsStoredList g old list) of (λ p x q. takes (inner p) x (inner q)) before after) → OnOk r (TakesListSatisfying (EqualsStoredList g old list) of takes (inner before) (inner after))
+    done : (r : Result (Unit {0}) (WalkError E))
+        → OnOk r (TakesListSatisfying (EqualsStoredList g old list) of (λ p x q. takes (inner p) x (inner q)) before after)
+        → OnOk r (TakesListSatisfying (EqualsStoredList g old list) of takes (inner before) (inner after))
     done (Ok u) h = (h.0, folds_inner inner takes before h.0 after h.1, h.2)
     done (Err stop) h = tt
 
-    broken : (r : Result (Unit {0}) (WalkError E)) → IfErr r (TableWalkEndsEarly (IsPrefixOfStoredList g old list) of (λ p x q. takes (inner p) x (inner q)) (λ p x e q. stops (inner p) x e (inner q)) before after)
+    broken : (r : Result (Unit {0}) (WalkError E))
+        → IfErr r (TableWalkEndsEarly (IsPrefixOfStoredList g old list) of (λ p x q. takes (inner p) x (inner q)) (λ p x e q. stops (inner p) x e (inner q))
+        before after)
         → IfErr r (TableWalkEndsEarly (IsPrefixOfStoredList g old list) of takes stops (inner before) (inner after))
     broken (Ok u) h = tt
     broken (Err (Failed fault)) h = (h.0, (h.1.0, folds_inner inner takes before h.1.0 after h.1.1, h.1.2))

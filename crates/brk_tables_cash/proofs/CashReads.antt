@@ -33,10 +33,13 @@ tells_last_move old new rows shown = λ t tree h.
     (λ tree a b x y e f. let p : column a 0 ≡ natural_as_value x.id = cc in let q : column b 0 ≡ natural_as_value y.id = cc in rw (p, q) refl) old new rows shown (λ x y. refl) t tree h
     ∙ ap (λ xs. take 1 (map move_cells (reverse xs))) (filter_true t.moves) ∙ limited_map move_cells (Some 1) (reverse t.moves)
 
-pub tells_move : (old new : State) (trade : ℕ) (rows : List Row) → Shown MoveByTrade.statement (natural_as_value trade ∷ []) old new rows → TablesSatisfy desk_tables (λ t. rows ≡ map move_cells (filter (is_cash_row_of_trade trade) t.moves)) old.now
+pub tells_move : (old new : State) (trade : ℕ) (rows : List Row) → Shown MoveByTrade.statement (natural_as_value trade ∷ []) old new rows
+    → TablesSatisfy desk_tables (λ t. rows ≡ map move_cells (filter (is_cash_row_of_trade trade) t.moves)) old.now
 tells_move old new trade rows shown =
-    tells_rising desk_tables CashMoves MoveByTrade.statement (natural_as_value trade ∷ []) (read MoveByTrade.statement) MoveByTrade.terms MoveByTrade.project MoveByTrade.order MoveByTrade.paging MoveByTrade.names MoveByTrade.understood_as
-    (is_cash_row_of_trade trade) (λ tree r x e. let a : column r 3 ≡ optional_natural_as_value x.trade = cc in rw (a, same_maybe x.trade trade) (and_true _)) move_cells (λ tree r x e. e) (ordering_by_primary_key CashMoves) (key_total cash_move_key)
+    tells_rising desk_tables CashMoves MoveByTrade.statement (natural_as_value trade ∷ []) (read MoveByTrade.statement) MoveByTrade.terms MoveByTrade.project
+    MoveByTrade.order MoveByTrade.paging MoveByTrade.names MoveByTrade.understood_as
+    (is_cash_row_of_trade trade) (λ tree r x e. let a : column r 3 ≡ optional_natural_as_value x.trade = cc in rw (a, same_maybe x.trade trade) (and_true _))
+    move_cells (λ tree r x e. e) (ordering_by_primary_key CashMoves) (key_total cash_move_key)
     (λ tree a b x y e f. let p : column a 0 ≡ natural_as_value x.id = cc in let q : column b 0 ≡ natural_as_value y.id = cc in rw (p, q) refl) old new rows shown (λ x y. refl)
 
 -- whether a column that may be null is
@@ -49,8 +52,10 @@ null_or (Some n) = refl
 pub tells_movement : (old new : State) (skipped : ℕ) (rows : List Row) → Shown MovementBehind.statement (natural_as_value skipped ∷ []) old new rows
     → TablesSatisfy desk_tables (λ t. rows ≡ map move_cells (take 1 (drop skipped (filter (λ r. is_none r.trade) t.moves)))) old.now
 tells_movement old new skipped rows shown = λ t tree h.
-    tells_rising desk_tables CashMoves MovementBehind.statement (natural_as_value skipped ∷ []) (read MovementBehind.statement) MovementBehind.terms MovementBehind.project MovementBehind.order MovementBehind.paging MovementBehind.names MovementBehind.understood_as
-    (λ r. is_none r.trade) (λ tree r x e. let a : column r 3 ≡ optional_natural_as_value x.trade = cc in rw (a, null_or x.trade) (and_true _)) move_cells (λ tree r x e. e) (ordering_by_primary_key CashMoves) (key_total cash_move_key)
+    tells_rising desk_tables CashMoves MovementBehind.statement (natural_as_value skipped ∷ []) (read MovementBehind.statement) MovementBehind.terms
+    MovementBehind.project MovementBehind.order MovementBehind.paging MovementBehind.names MovementBehind.understood_as
+    (λ r. is_none r.trade) (λ tree r x e. let a : column r 3 ≡ optional_natural_as_value x.trade = cc in rw (a, null_or x.trade) (and_true _)) move_cells
+    (λ tree r x e. e) (ordering_by_primary_key CashMoves) (key_total cash_move_key)
     (λ tree a b x y e f. let p : column a 0 ≡ natural_as_value x.id = cc in let q : column b 0 ≡ natural_as_value y.id = cc in rw (p, q) refl) old new rows shown (λ x y. refl) t tree h
     ∙ ap (take 1) (drop-map move_cells skipped (filter (λ r. is_none r.trade) t.moves)) ∙ limited_map move_cells (Some 1) (drop skipped (filter (λ r. is_none r.trade) t.moves))
 

@@ -48,7 +48,8 @@ both : {X : Type 0} {a b : X} {xs ys : List X} → a ≡ b → xs ≡ ys → a �
 both e f = ap₂ (λ x xs. x ∷ xs) e f
 
 -- parameters that are a cash row's
-pub params_are : (x : MoveRow) (v0 v1 v2 v3 v4 v5 : ValueRef) → owned v0 ≡ natural_as_value x.id → owned v1 ≡ natural_as_value x.account → owned v2 ≡ optional_natural_as_value x.trade → owned v3 ≡ natural_as_value x.stamp → owned v4 ≡ Int x.amount → owned v5 ≡ Words x.name
+pub params_are : (x : MoveRow) (v0 v1 v2 v3 v4 v5 : ValueRef) → owned v0 ≡ natural_as_value x.id → owned v1 ≡ natural_as_value x.account
+    → owned v2 ≡ optional_natural_as_value x.trade → owned v3 ≡ natural_as_value x.stamp → owned v4 ≡ Int x.amount → owned v5 ≡ Words x.name
     → bound (v0 ∷ v1 ∷ v2 ∷ v3 ∷ v4 ∷ v5 ∷ []) ≡ move_cells x
 params_are x v0 v1 v2 v3 v4 v5 e0 e1 e2 e3 e4 e5 =
     both (ap bound_value e0) (both (ap bound_value e1) (both (ap bound_value e2 ∙ bound_maybe x.trade) (both (ap bound_value e3) (both (ap bound_value e4) (both (ap bound_value e5) refl)))))
@@ -72,16 +73,23 @@ same_rule m n = tied_itself (key_total rule_key) (rule_row m)
 
 -- so there is no second
 no_second : (m n : ℕ) → IsStrictlyAscending (ordering_by_primary_key SettleRules) (insert_sorted (ordering_by_primary_key SettleRules) (rule_row m) (rule_row n ∷ [])) → ⊥
-no_second m n up = let both = rw (same_rule m n) at up in let less : ordering_by_primary_key SettleRules (rule_row m) (rule_row n) ≡ Less = both.0.0 in absurd (let f = sym (same_rule m n) ∙ less in cc)
+no_second m n up = let both = rw (same_rule m n) at up in let less : ordering_by_primary_key SettleRules (rule_row m) (rule_row n) ≡ Less = both.0.0 in
+    absurd (let f = sym (same_rule m n) ∙ less in cc)
 
-pub adds_rule : (old new : State) (day : ℕ) → ExecutesStatement AddRule.statement (natural_as_value 1 ∷ natural_as_value day ∷ []) old new → ChangesTablesBy desk_tables (tables_with_settlement_day day) old.now new.now
+pub adds_rule : (old new : State) (day : ℕ) → ExecutesStatement AddRule.statement (natural_as_value 1 ∷ natural_as_value day ∷ []) old new
+    → ChangesTablesBy desk_tables (tables_with_settlement_day day) old.now new.now
 adds_rule old new day ran = λ t tree h.
     let turned = inserts_as wide SettleRules the_rule AddRule.statement (natural_as_value 1 ∷ natural_as_value day ∷ []) (read AddRule.statement) AddRule.terms 3
     (natural_as_value 1 ∷ Null ∷ natural_as_value day ∷ []) (rule_row day) AddRule.understood_as (λ tree. refl) (λ tree rows. rw (cast_int (pos 1), cast_int (pos day)) refl) old new ran.0 ran.1
-    (wide_of third_schema t) tree (widened third_schema tree old.now t h) in
-    (narrowed third_schema tree new.now (desk_rows third_schema t.last) (insert_sorted (ordering_by_primary_key SettleRules) (rule_row day) (rule_rows t.rule)) t (tables_with_settlement_day day t) refl (alone t.rule (turned.0.rows SettleRules).rising) (λ w _ other. others w other t) turned.0, turned.1)
+    (wide_of third_schema t) tree (widened third_schema tree old.now t h) in (
+      narrowed third_schema tree new.now (desk_rows third_schema t.last) (insert_sorted (ordering_by_primary_key SettleRules) (rule_row day) (rule_rows t.rule))
+          t (tables_with_settlement_day day t) refl (alone t.rule (turned.0.rows SettleRules).rising) (λ w _ other. others w other t) turned.0,
+      turned.1,
+    )
   where
-    alone : (o : Option ℕ) → IsStrictlyAscending (ordering_by_primary_key SettleRules) (insert_sorted (ordering_by_primary_key SettleRules) (rule_row day) (rule_rows o)) → insert_sorted (ordering_by_primary_key SettleRules) (rule_row day) (rule_rows o) ≡ rule_rows (Some day)
+    alone : (o : Option ℕ)
+        → IsStrictlyAscending (ordering_by_primary_key SettleRules) (insert_sorted (ordering_by_primary_key SettleRules) (rule_row day) (rule_rows o))
+        → insert_sorted (ordering_by_primary_key SettleRules) (rule_row day) (rule_rows o) ≡ rule_rows (Some day)
     alone None up = refl
     alone (Some n) up = absurd (no_second day n up)
 
@@ -103,9 +111,11 @@ removes_cash old new ran = λ t tree h.
 
 -- ---- rows that change
 
-pub sets_cash_name : (old new : State) (trade : ℕ) (name : List ℕ) → ExecutesStatement SetCashName.statement (Words name ∷ natural_as_value trade ∷ []) old new → ChangesTablesBy desk_tables (tables_with_cash_text trade name) old.now new.now
+pub sets_cash_name : (old new : State) (trade : ℕ) (name : List ℕ) → ExecutesStatement SetCashName.statement (Words name ∷ natural_as_value trade ∷ []) old new
+    → ChangesTablesBy desk_tables (tables_with_cash_text trade name) old.now new.now
 sets_cash_name old new trade name ran =
-    updates_as desk_tables CashMoves moves SetCashName.statement (Words name ∷ natural_as_value trade ∷ []) (read SetCashName.statement) SetCashName.terms SetCashName.project (is_cash_row_of_trade trade)
+    updates_as desk_tables CashMoves moves SetCashName.statement (Words name ∷ natural_as_value trade ∷ []) (read SetCashName.statement) SetCashName.terms
+    SetCashName.project (is_cash_row_of_trade trade)
     (λ tree r x e. let a : column r 3 ≡ optional_natural_as_value x.trade = cc in rw (a, same_maybe x.trade trade) (and_true _)) (λ r. refl) SetCashName.understood_as
     (λ r. column r 0 ∷ Null ∷ column r 2 ∷ column r 3 ∷ column r 4 ∷ column r 5 ∷ Words name ∷ [])
     (λ (r : MoveRow). record r { name = name }) (λ x y. refl) (λ x y. refl) (λ r. refl)
@@ -114,7 +124,8 @@ sets_cash_name old new trade name ran =
     let a3 : column r 3 ≡ optional_natural_as_value x.trade = cc in
     let a4 : column r 4 ≡ natural_as_value x.stamp = cc in
     let a5 : column r 5 ≡ Int x.amount = cc in
-    rw (a2, a3, a4, a5, cast_null, cast_int (pos x.account), cast_maybe x.trade, cast_int (pos x.stamp), cast_int x.amount) (ap (λ v. v ∷ Null ∷ drop 1 (move_cells (record x { name = name }))) (cast_whole (column r 0) whole)))
+    rw (a2, a3, a4, a5, cast_null, cast_int (pos x.account), cast_maybe x.trade, cast_int (pos x.stamp), cast_int x.amount)
+    (ap (λ v. v ∷ Null ∷ drop 1 (move_cells (record x { name = name }))) (cast_whole (column r 0) whole)))
     (λ tree r x e.
     let a0 : column r 0 ≡ natural_as_value x.id = cc in
     let a2 : column r 2 ≡ natural_as_value x.account = cc in
@@ -127,7 +138,8 @@ sets_cash_name old new trade name ran =
 
 pub raises : (old new : State) → ExecutesStatement SetSchema.statement (natural_as_value 3 ∷ natural_as_value 1 ∷ []) old new → SetsSchemaNumberToThree old.now new.now
 raises old new ran = λ schema t tree h.
-    let turned = updates_as wide TheDesk the_desk SetSchema.statement (natural_as_value 3 ∷ natural_as_value 1 ∷ []) (read SetSchema.statement) SetSchema.terms SetSchema.project (λ (r : DeskRow). r.id == 1)
+    let turned = updates_as wide TheDesk the_desk SetSchema.statement (natural_as_value 3 ∷ natural_as_value 1 ∷ []) (read SetSchema.statement) SetSchema.terms
+    SetSchema.project (λ (r : DeskRow). r.id == 1)
     (λ tree r x e. let a : column r 0 ≡ natural_as_value x.id = cc in rw (a, same_number x.id 1) (and_true _)) (λ r. refl) SetSchema.understood_as
     (λ r. column r 0 ∷ Null ∷ natural_as_value 3 ∷ column r 3 ∷ []) (λ (r : DeskRow). record r { schema = 3 }) (λ x y. refl) (λ x y. refl) (λ r. refl)
     (λ tree r x whole e. let a : column r 3 ≡ optional_natural_as_value x.last = cc in

@@ -49,7 +49,9 @@ source = roll-Source (record { is_left = false; origin = Table (codes "CASH_MOVE
 abbrev pub core : Core
 core = roll-Core (record {
   distinct = false;
-  shown = One (e.Column None (codes "CM_ID")) None (codes "CM_ID") ∷ One (e.Column None (codes "CM_CA_ID")) None (codes "CM_CA_ID") ∷ One (e.Column None (codes "CM_T_ID")) None (codes "CM_T_ID") ∷ One (e.Column None (codes "CM_DTS")) None (codes "CM_DTS") ∷ One (e.Column None (codes "CM_AMT")) None (codes "CM_AMT") ∷ One (e.Column None (codes "CM_NAME")) None (codes "CM_NAME") ∷ [];
+  shown = One (e.Column None (codes "CM_ID")) None (codes "CM_ID") ∷ One (e.Column None (codes "CM_CA_ID")) None (codes "CM_CA_ID")
+      ∷ One (e.Column None (codes "CM_T_ID")) None (codes "CM_T_ID") ∷ One (e.Column None (codes "CM_DTS")) None (codes "CM_DTS")
+      ∷ One (e.Column None (codes "CM_AMT")) None (codes "CM_AMT") ∷ One (e.Column None (codes "CM_NAME")) None (codes "CM_NAME") ∷ [];
   from = source ∷ [];
   filter = None;
   group = [];
@@ -84,7 +86,8 @@ abbrev pub output : List ℕ → ℕ → Carried → Output
 output name place carried = record { name = name; is_alias = false; is_column = true; term = col 1 place; carried = carried }
 
 abbrev pub columns : List Output
-columns = output (codes "CM_ID") 0 nothing ∷ output (codes "CM_CA_ID") 2 binary ∷ output (codes "CM_T_ID") 3 binary ∷ output (codes "CM_DTS") 4 binary ∷ output (codes "CM_AMT") 5 binary ∷ output (codes "CM_NAME") 6 binary ∷ []
+columns = output (codes "CM_ID") 0 nothing ∷ output (codes "CM_CA_ID") 2 binary ∷ output (codes "CM_T_ID") 3 binary ∷ output (codes "CM_DTS") 4 binary
+    ∷ output (codes "CM_AMT") 5 binary ∷ output (codes "CM_NAME") 6 binary ∷ []
 
 abbrev pub names : List (List ℕ)
 names = codes "CM_ID" ∷ codes "CM_CA_ID" ∷ codes "CM_T_ID" ∷ codes "CM_DTS" ∷ codes "CM_AMT" ∷ codes "CM_NAME" ∷ []
@@ -101,17 +104,23 @@ module _ (schema : Schema) (at tree : ℕ) (h : IsTableAt schema (move_table tre
   shows =
       rw (
         column_is schema at (move_table tree) found (codes "CASH_MOVE") [] [] true true (codes "CM_ID") 0 (integer_column (codes "CM_ID")) refl refl,
-        heading_is schema at (move_table tree) found (codes "CASH_MOVE") [] [] true true (e.Column None (codes "CM_ID")) (codes "CM_ID") (codes "CM_ID") 0 (integer_column (codes "CM_ID")) refl refl refl,
+        heading_is schema at (move_table tree) found (codes "CASH_MOVE") [] [] true true (e.Column None (codes "CM_ID")) (codes "CM_ID") (codes "CM_ID") 0
+            (integer_column (codes "CM_ID")) refl refl refl,
         column_is schema at (move_table tree) found (codes "CASH_MOVE") [] [] true true (codes "CM_CA_ID") 1 (integer_column (codes "CM_CA_ID")) refl refl,
-        heading_is schema at (move_table tree) found (codes "CASH_MOVE") [] [] true true (e.Column None (codes "CM_CA_ID")) (codes "CM_CA_ID") (codes "CM_CA_ID") 1 (integer_column (codes "CM_CA_ID")) refl refl refl,
+        heading_is schema at (move_table tree) found (codes "CASH_MOVE") [] [] true true (e.Column None (codes "CM_CA_ID")) (codes "CM_CA_ID")
+            (codes "CM_CA_ID") 1 (integer_column (codes "CM_CA_ID")) refl refl refl,
         column_is schema at (move_table tree) found (codes "CASH_MOVE") [] [] true true (codes "CM_T_ID") 2 (nullable_integer_column (codes "CM_T_ID")) refl refl,
-        heading_is schema at (move_table tree) found (codes "CASH_MOVE") [] [] true true (e.Column None (codes "CM_T_ID")) (codes "CM_T_ID") (codes "CM_T_ID") 2 (nullable_integer_column (codes "CM_T_ID")) refl refl refl,
+        heading_is schema at (move_table tree) found (codes "CASH_MOVE") [] [] true true (e.Column None (codes "CM_T_ID")) (codes "CM_T_ID") (codes "CM_T_ID") 2
+            (nullable_integer_column (codes "CM_T_ID")) refl refl refl,
         column_is schema at (move_table tree) found (codes "CASH_MOVE") [] [] true true (codes "CM_DTS") 3 (integer_column (codes "CM_DTS")) refl refl,
-        heading_is schema at (move_table tree) found (codes "CASH_MOVE") [] [] true true (e.Column None (codes "CM_DTS")) (codes "CM_DTS") (codes "CM_DTS") 3 (integer_column (codes "CM_DTS")) refl refl refl,
+        heading_is schema at (move_table tree) found (codes "CASH_MOVE") [] [] true true (e.Column None (codes "CM_DTS")) (codes "CM_DTS") (codes "CM_DTS") 3
+            (integer_column (codes "CM_DTS")) refl refl refl,
         column_is schema at (move_table tree) found (codes "CASH_MOVE") [] [] true true (codes "CM_AMT") 4 (integer_column (codes "CM_AMT")) refl refl,
-        heading_is schema at (move_table tree) found (codes "CASH_MOVE") [] [] true true (e.Column None (codes "CM_AMT")) (codes "CM_AMT") (codes "CM_AMT") 4 (integer_column (codes "CM_AMT")) refl refl refl,
+        heading_is schema at (move_table tree) found (codes "CASH_MOVE") [] [] true true (e.Column None (codes "CM_AMT")) (codes "CM_AMT") (codes "CM_AMT") 4
+            (integer_column (codes "CM_AMT")) refl refl refl,
         column_is schema at (move_table tree) found (codes "CASH_MOVE") [] [] true true (codes "CM_NAME") 5 (text_column (codes "CM_NAME")) refl refl,
-        heading_is schema at (move_table tree) found (codes "CASH_MOVE") [] [] true true (e.Column None (codes "CM_NAME")) (codes "CM_NAME") (codes "CM_NAME") 5 (text_column (codes "CM_NAME")) refl refl refl,
+        heading_is schema at (move_table tree) found (codes "CASH_MOVE") [] [] true true (e.Column None (codes "CM_NAME")) (codes "CM_NAME") (codes "CM_NAME") 5
+            (text_column (codes "CM_NAME")) refl refl refl,
       )
 
   matches : matching lower (outermost schema) (level_one (codes "CASH_MOVE") at columns) core (after 6 binary)
@@ -130,7 +139,9 @@ module _ (schema : Schema) (at tree : ℕ) (h : IsTableAt schema (move_table tre
       (named_is schema core source (codes "CASH_MOVE") at h.named refl refl refl refl columns (after 6 binary)
       (record { steps = Inner tree ∷ []; filter = terms }) (after 6 binary) shows matches by _ (after 7 nothing) _ refl refl sorted)
 
-  pub understood_as : (compiled schema statement ≡ Ok (meant (read statement) [] (Select (record { lets = []; body = selection tree terms project order paging }) names))) ⊎ (compiled schema statement ≡ Err Mismatch)
+  pub understood_as : (compiled schema statement
+      ≡ Ok (meant (read statement) [] (Select (record { lets = []; body = selection tree terms project order paging }) names)))
+      ⊎ (compiled schema statement ≡ Err Mismatch)
   unfolding everything
   understood_as = reads_or schema statement (read statement) refl refl select (draft tree) names (None ∷ Some Binary ∷ Some Binary ∷ Some Binary ∷ Some Binary ∷ Some Binary ∷ []) refl meaning_is
 

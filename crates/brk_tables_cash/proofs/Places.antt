@@ -35,10 +35,37 @@ rule_alone SettleRules other xs p = absurd (other refl)
 rule_alone v other xs p = refl
 
 abbrev pub cash_rows : Place desk_tables CashRows
-cash_rows = record { split = is_cash; put = λ xs t. record t { cash = xs }; put_this = λ xs t. refl; put_others = cash_alone; total = key_total cash_transaction_key; keyed = inl cash_keyed; uncounted = λ tree. refl }
+cash_rows = record {
+  split = is_cash;
+  put = λ xs t. record t { cash = xs };
+  put_this = λ xs t. refl;
+  put_others = cash_alone;
+  total =
+      key_total cash_transaction_key;
+  keyed = inl cash_keyed;
+  uncounted = λ tree. refl;
+}
 
 abbrev pub moves : Place desk_tables CashMoves
-moves = record { split = is_move; put = λ xs t. record t { moves = xs }; put_this = λ xs t. refl; put_others = moves_alone; total = key_total cash_move_key; keyed = inl move_keyed; uncounted = λ tree. refl }
+moves = record {
+  split = is_move;
+  put = λ xs t. record t { moves = xs };
+  put_this = λ xs t. refl;
+  put_others = moves_alone;
+  total =
+      key_total cash_move_key;
+  keyed = inl move_keyed;
+  uncounted = λ tree. refl;
+}
 
 abbrev pub the_rule : Place wide SettleRules
-the_rule = record { split = is_rule; put = λ xs p. record p { rules = xs }; put_this = λ xs p. refl; put_others = rule_alone; total = key_total rule_key; keyed = inl rule_keyed; uncounted = λ tree. refl }
+the_rule = record {
+  split = is_rule;
+  put = λ xs p. record p { rules = xs };
+  put_this = λ xs p. refl;
+  put_others = rule_alone;
+  total =
+      key_total rule_key;
+  keyed = inl rule_keyed;
+  uncounted = λ tree. refl;
+}

@@ -101,9 +101,11 @@ module _ (schema : Schema) (at tree : ℕ) (h : IsTableAt schema (rule_table tre
   shows =
       rw (
         column_is schema at (rule_table tree) found (codes "SETTLE_RULE") [] [] true true (codes "SR_ID") 0 (integer_column (codes "SR_ID")) refl refl,
-        heading_is schema at (rule_table tree) found (codes "SETTLE_RULE") [] [] true true (e.Column None (codes "SR_ID")) (codes "SR_ID") (codes "SR_ID") 0 (integer_column (codes "SR_ID")) refl refl refl,
+        heading_is schema at (rule_table tree) found (codes "SETTLE_RULE") [] [] true true (e.Column None (codes "SR_ID")) (codes "SR_ID") (codes "SR_ID") 0
+            (integer_column (codes "SR_ID")) refl refl refl,
         column_is schema at (rule_table tree) found (codes "SETTLE_RULE") [] [] true true (codes "SR_DAY") 1 (integer_column (codes "SR_DAY")) refl refl,
-        heading_is schema at (rule_table tree) found (codes "SETTLE_RULE") [] [] true true (e.Column None (codes "SR_DAY")) (codes "SR_DAY") (codes "SR_DAY") 1 (integer_column (codes "SR_DAY")) refl refl refl,
+        heading_is schema at (rule_table tree) found (codes "SETTLE_RULE") [] [] true true (e.Column None (codes "SR_DAY")) (codes "SR_DAY") (codes "SR_DAY") 1
+            (integer_column (codes "SR_DAY")) refl refl refl,
       )
 
   matches : matching lower (outermost schema) (level_one (codes "SETTLE_RULE") at columns) core (after 2 binary)
@@ -122,7 +124,9 @@ module _ (schema : Schema) (at tree : ℕ) (h : IsTableAt schema (rule_table tre
       (named_is schema core source (codes "SETTLE_RULE") at h.named refl refl refl refl columns (after 2 binary)
       (record { steps = Inner tree ∷ []; filter = terms }) (after 2 binary) shows matches by _ (after 3 nothing) _ refl refl sorted)
 
-  pub understood_as : (compiled schema statement ≡ Ok (meant (read statement) [] (Select (record { lets = []; body = selection tree terms project order paging }) names))) ⊎ (compiled schema statement ≡ Err Mismatch)
+  pub understood_as : (compiled schema statement
+      ≡ Ok (meant (read statement) [] (Select (record { lets = []; body = selection tree terms project order paging }) names)))
+      ⊎ (compiled schema statement ≡ Err Mismatch)
   unfolding everything
   understood_as = reads_or schema statement (read statement) refl refl select (draft tree) names (None ∷ Some Binary ∷ []) refl meaning_is
 

@@ -50,4 +50,6 @@ draft_is schema at tree found = rw (column_is schema at (desk_row_table tree) fo
 pub understood_as : (schema : Schema) (at tree : ℕ) → IsTableAt schema (desk_row_table tree) at
     → (compiled schema statement ≡ Ok (meant (read statement) [] (Update at (record { lets = []; body = selection tree terms project [] whole_page })))) ⊎ (compiled schema statement ≡ Err Mismatch)
 unfolding everything
-understood_as schema at tree h = updates_or schema statement (read statement) refl refl (codes "DESK") at (desk_row_table tree) h.named h.found sets (Some test) (draft tree) refl (draft_is schema at tree h.found)
+understood_as schema at tree h =
+    updates_or schema statement (read statement) refl refl (codes "DESK") at (desk_row_table tree) h.named h.found sets (Some test) (draft tree) refl
+    (draft_is schema at tree h.found)

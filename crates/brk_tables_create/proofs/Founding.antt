@@ -27,10 +27,13 @@ use Rattle.brk_tables_create.proofs.Makes.{all_made, none_held, bare}
 -- ---- all of them
 
 pub founds_bare : (old new : Database) → CreatesEachTable (map table_definition_at_tree all_tables) old new → CreatesTablesWithRecords wide bare old new
-founds_bare old new made = founded wide _ old new (part_each wide split all_tables (λ _. ⊥) old old new (part_none wide old) made) (first_sound desk_row_table (drop 1 (map table_definition_at_tree all_tables)) old new made) all_made bare none_held
+founds_bare old new made =
+    founded wide _ old new (part_each wide split all_tables (λ _. ⊥) old old new (part_none wide old) made)
+    (first_sound desk_row_table (drop 1 (map table_definition_at_tree all_tables)) old new made) all_made bare none_held
 
 -- the row of DESK comes last
-kept_by : (a b c : Trees) (n : ℕ) (tables : List Table) → AllByRecursion (λ t. t.tree ≢ n) tables → AllByRecursion (λ t. b t.tree ≡ a t.tree) tables → AllByRecursion (λ t. t.tree ≢ n → c t.tree ≡ b t.tree) tables
+kept_by : (a b c : Trees) (n : ℕ) (tables : List Table) → AllByRecursion (λ t. t.tree ≢ n) tables → AllByRecursion (λ t. b t.tree ≡ a t.tree) tables
+    → AllByRecursion (λ t. t.tree ≢ n → c t.tree ≡ b t.tree) tables
     → AllByRecursion (λ t. c t.tree ≡ a t.tree) tables
 kept_by a b c n [] fresh same left = tt
 kept_by a b c n (t ∷ tables) fresh same left = (left.0 fresh.0 ∙ same.0, kept_by a b c n tables fresh.1 same.1 left.1)

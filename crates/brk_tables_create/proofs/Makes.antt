@@ -7,8 +7,13 @@ use Rattle.brk_sql.proofs.Texts.{read}
 use Rattle.brk_sql.proofs.Created.{makes}
 use Rattle.brk_sql.proofs.Founded.{Among}
 use Rattle.brk_model.specs.Tables.{tables_without_rows}
-use Rattle.brk_tables_schema.specs.Shapes.{desk_row_table, kept_table, broker_table, customer_table, account_table, permission_table, security_table, last_trade_table, charge_table, band_table, tax_rate_table, customer_tax_table, trade_table, history_table, request_table, holding_table, summary_table, holding_history_table, settlement_table, cash_table, move_table, rule_table}
-use Rattle.brk_tables_schema.specs.Desk.{DeskTable, TheDesk, KeptRows, Brokers, Customers, Accounts, Permissions, Securities, LastTrades, Charges, Bands, TaxRates, CustomerTaxes, Trades, TradeHistory, Requests, Holdings, Summaries, HoldingHistory, Settlements, CashRows, CashMoves, SettleRules, table_definition_at_tree, all_tables}
+use Rattle.brk_tables_schema.specs.Shapes.{desk_row_table, kept_table, broker_table, customer_table, account_table, permission_table, security_table}
+use Rattle.brk_tables_schema.specs.Shapes.{last_trade_table, charge_table, band_table, tax_rate_table, customer_tax_table, trade_table, history_table}
+use Rattle.brk_tables_schema.specs.Shapes.{request_table, holding_table, summary_table, holding_history_table, settlement_table, cash_table, move_table}
+use Rattle.brk_tables_schema.specs.Shapes.{rule_table}
+use Rattle.brk_tables_schema.specs.Desk.{DeskTable, TheDesk, KeptRows, Brokers, Customers, Accounts, Permissions, Securities, LastTrades, Charges, Bands}
+use Rattle.brk_tables_schema.specs.Desk.{TaxRates, CustomerTaxes, Trades, TradeHistory, Requests, Holdings, Summaries, HoldingHistory, Settlements, CashRows}
+use Rattle.brk_tables_schema.specs.Desk.{CashMoves, SettleRules, table_definition_at_tree, all_tables}
 use Rattle.brk_tables_schema.proofs.Wide.{Wide, wide, wide_list}
 use Rattle.brk_tables_create.specs.Texts.{create_table_text}
 

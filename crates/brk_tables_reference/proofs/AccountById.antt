@@ -52,7 +52,10 @@ source = roll-Source (record { is_left = false; origin = Table (codes "CUSTOMER_
 abbrev pub core : Core
 core = roll-Core (record {
   distinct = false;
-  shown = One (e.Column None (codes "CA_ID")) None (codes "CA_ID") ∷ One (e.Column None (codes "CA_C_ID")) None (codes "CA_C_ID") ∷ One (e.Column None (codes "CA_B_ID")) None (codes "CA_B_ID") ∷ One (e.Column None (codes "CA_NAME")) None (codes "CA_NAME") ∷ One (e.Column None (codes "CA_TAX_ST")) None (codes "CA_TAX_ST") ∷ One (e.Column None (codes "CA_OPEN")) None (codes "CA_OPEN") ∷ One (e.Column None (codes "CA_BAL")) None (codes "CA_BAL") ∷ [];
+  shown = One (e.Column None (codes "CA_ID")) None (codes "CA_ID") ∷ One (e.Column None (codes "CA_C_ID")) None (codes "CA_C_ID")
+      ∷ One (e.Column None (codes "CA_B_ID")) None (codes "CA_B_ID") ∷ One (e.Column None (codes "CA_NAME")) None (codes "CA_NAME")
+      ∷ One (e.Column None (codes "CA_TAX_ST")) None (codes "CA_TAX_ST") ∷ One (e.Column None (codes "CA_OPEN")) None (codes "CA_OPEN")
+      ∷ One (e.Column None (codes "CA_BAL")) None (codes "CA_BAL") ∷ [];
   from = source ∷ [];
   filter = Some (e.Binary operator.Eq (e.Column None (codes "CA_ID")) (e.Parameter 1));
   group = [];
@@ -87,7 +90,8 @@ abbrev pub output : List ℕ → ℕ → Carried → Output
 output name place carried = record { name = name; is_alias = false; is_column = true; term = col 1 place; carried = carried }
 
 abbrev pub columns : List Output
-columns = output (codes "CA_ID") 0 nothing ∷ output (codes "CA_C_ID") 2 binary ∷ output (codes "CA_B_ID") 3 binary ∷ output (codes "CA_NAME") 4 binary ∷ output (codes "CA_TAX_ST") 5 binary ∷ output (codes "CA_OPEN") 6 binary ∷ output (codes "CA_BAL") 7 binary ∷ []
+columns = output (codes "CA_ID") 0 nothing ∷ output (codes "CA_C_ID") 2 binary ∷ output (codes "CA_B_ID") 3 binary ∷ output (codes "CA_NAME") 4 binary
+    ∷ output (codes "CA_TAX_ST") 5 binary ∷ output (codes "CA_OPEN") 6 binary ∷ output (codes "CA_BAL") 7 binary ∷ []
 
 abbrev pub names : List (List ℕ)
 names = codes "CA_ID" ∷ codes "CA_C_ID" ∷ codes "CA_B_ID" ∷ codes "CA_NAME" ∷ codes "CA_TAX_ST" ∷ codes "CA_OPEN" ∷ codes "CA_BAL" ∷ []
@@ -104,19 +108,26 @@ module _ (schema : Schema) (at tree : ℕ) (h : IsTableAt schema (account_table 
   shows =
       rw (
         column_is schema at (account_table tree) found (codes "CUSTOMER_ACCOUNT") [] [] true true (codes "CA_ID") 0 (integer_column (codes "CA_ID")) refl refl,
-        heading_is schema at (account_table tree) found (codes "CUSTOMER_ACCOUNT") [] [] true true (e.Column None (codes "CA_ID")) (codes "CA_ID") (codes "CA_ID") 0 (integer_column (codes "CA_ID")) refl refl refl,
+        heading_is schema at (account_table tree) found (codes "CUSTOMER_ACCOUNT") [] [] true true (e.Column None (codes "CA_ID")) (codes "CA_ID")
+            (codes "CA_ID") 0 (integer_column (codes "CA_ID")) refl refl refl,
         column_is schema at (account_table tree) found (codes "CUSTOMER_ACCOUNT") [] [] true true (codes "CA_C_ID") 1 (integer_column (codes "CA_C_ID")) refl refl,
-        heading_is schema at (account_table tree) found (codes "CUSTOMER_ACCOUNT") [] [] true true (e.Column None (codes "CA_C_ID")) (codes "CA_C_ID") (codes "CA_C_ID") 1 (integer_column (codes "CA_C_ID")) refl refl refl,
+        heading_is schema at (account_table tree) found (codes "CUSTOMER_ACCOUNT") [] [] true true (e.Column None (codes "CA_C_ID")) (codes "CA_C_ID")
+            (codes "CA_C_ID") 1 (integer_column (codes "CA_C_ID")) refl refl refl,
         column_is schema at (account_table tree) found (codes "CUSTOMER_ACCOUNT") [] [] true true (codes "CA_B_ID") 2 (integer_column (codes "CA_B_ID")) refl refl,
-        heading_is schema at (account_table tree) found (codes "CUSTOMER_ACCOUNT") [] [] true true (e.Column None (codes "CA_B_ID")) (codes "CA_B_ID") (codes "CA_B_ID") 2 (integer_column (codes "CA_B_ID")) refl refl refl,
+        heading_is schema at (account_table tree) found (codes "CUSTOMER_ACCOUNT") [] [] true true (e.Column None (codes "CA_B_ID")) (codes "CA_B_ID")
+            (codes "CA_B_ID") 2 (integer_column (codes "CA_B_ID")) refl refl refl,
         column_is schema at (account_table tree) found (codes "CUSTOMER_ACCOUNT") [] [] true true (codes "CA_NAME") 3 (text_column (codes "CA_NAME")) refl refl,
-        heading_is schema at (account_table tree) found (codes "CUSTOMER_ACCOUNT") [] [] true true (e.Column None (codes "CA_NAME")) (codes "CA_NAME") (codes "CA_NAME") 3 (text_column (codes "CA_NAME")) refl refl refl,
+        heading_is schema at (account_table tree) found (codes "CUSTOMER_ACCOUNT") [] [] true true (e.Column None (codes "CA_NAME")) (codes "CA_NAME")
+            (codes "CA_NAME") 3 (text_column (codes "CA_NAME")) refl refl refl,
         column_is schema at (account_table tree) found (codes "CUSTOMER_ACCOUNT") [] [] true true (codes "CA_TAX_ST") 4 (integer_column (codes "CA_TAX_ST")) refl refl,
-        heading_is schema at (account_table tree) found (codes "CUSTOMER_ACCOUNT") [] [] true true (e.Column None (codes "CA_TAX_ST")) (codes "CA_TAX_ST") (codes "CA_TAX_ST") 4 (integer_column (codes "CA_TAX_ST")) refl refl refl,
+        heading_is schema at (account_table tree) found (codes "CUSTOMER_ACCOUNT") [] [] true true (e.Column None (codes "CA_TAX_ST")) (codes "CA_TAX_ST")
+            (codes "CA_TAX_ST") 4 (integer_column (codes "CA_TAX_ST")) refl refl refl,
         column_is schema at (account_table tree) found (codes "CUSTOMER_ACCOUNT") [] [] true true (codes "CA_OPEN") 5 (integer_column (codes "CA_OPEN")) refl refl,
-        heading_is schema at (account_table tree) found (codes "CUSTOMER_ACCOUNT") [] [] true true (e.Column None (codes "CA_OPEN")) (codes "CA_OPEN") (codes "CA_OPEN") 5 (integer_column (codes "CA_OPEN")) refl refl refl,
+        heading_is schema at (account_table tree) found (codes "CUSTOMER_ACCOUNT") [] [] true true (e.Column None (codes "CA_OPEN")) (codes "CA_OPEN")
+            (codes "CA_OPEN") 5 (integer_column (codes "CA_OPEN")) refl refl refl,
         column_is schema at (account_table tree) found (codes "CUSTOMER_ACCOUNT") [] [] true true (codes "CA_BAL") 6 (integer_column (codes "CA_BAL")) refl refl,
-        heading_is schema at (account_table tree) found (codes "CUSTOMER_ACCOUNT") [] [] true true (e.Column None (codes "CA_BAL")) (codes "CA_BAL") (codes "CA_BAL") 6 (integer_column (codes "CA_BAL")) refl refl refl,
+        heading_is schema at (account_table tree) found (codes "CUSTOMER_ACCOUNT") [] [] true true (e.Column None (codes "CA_BAL")) (codes "CA_BAL")
+            (codes "CA_BAL") 6 (integer_column (codes "CA_BAL")) refl refl refl,
       )
 
   matches : matching lower (outermost schema) (level_one (codes "CUSTOMER_ACCOUNT") at columns) core (after 7 binary)
@@ -135,9 +146,12 @@ module _ (schema : Schema) (at tree : ℕ) (h : IsTableAt schema (account_table 
       (named_is schema core source (codes "CUSTOMER_ACCOUNT") at h.named refl refl refl refl columns (after 7 binary)
       (record { steps = Inner tree ∷ []; filter = terms }) (after 10 nothing) shows matches by _ (after 11 nothing) _ refl refl sorted)
 
-  pub understood_as : (compiled schema statement ≡ Ok (meant (read statement) [] (Select (record { lets = []; body = selection tree terms project order paging }) names))) ⊎ (compiled schema statement ≡ Err Mismatch)
+  pub understood_as : (compiled schema statement
+      ≡ Ok (meant (read statement) [] (Select (record { lets = []; body = selection tree terms project order paging }) names)))
+      ⊎ (compiled schema statement ≡ Err Mismatch)
   unfolding everything
-  understood_as = reads_or schema statement (read statement) refl refl select (draft tree) names (None ∷ Some Binary ∷ Some Binary ∷ Some Binary ∷ Some Binary ∷ Some Binary ∷ Some Binary ∷ []) refl meaning_is
+  understood_as = reads_or schema statement (read statement) refl refl select (draft tree) names
+      (None ∷ Some Binary ∷ Some Binary ∷ Some Binary ∷ Some Binary ∷ Some Binary ∷ Some Binary ∷ []) refl meaning_is
 
 pub plain : (schema : Schema) (c : Compiled) → understood schema statement ≡ Ok c → c.returning ≡ None
 unfolding everything

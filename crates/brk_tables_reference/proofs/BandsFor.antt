@@ -52,15 +52,22 @@ source = roll-Source (record { is_left = false; origin = Table (codes "COMMISSIO
 abbrev pub core : Core
 core = roll-Core (record {
   distinct = false;
-  shown = One (e.Column None (codes "CR_C_TIER")) None (codes "CR_C_TIER") ∷ One (e.Column None (codes "CR_TT_ID")) None (codes "CR_TT_ID") ∷ One (e.Column None (codes "CR_EX_ID")) None (codes "CR_EX_ID") ∷ One (e.Column None (codes "CR_FROM_QTY")) None (codes "CR_FROM_QTY") ∷ One (e.Column None (codes "CR_TO_QTY")) None (codes "CR_TO_QTY") ∷ One (e.Column None (codes "CR_RATE")) None (codes "CR_RATE") ∷ [];
+  shown = One (e.Column None (codes "CR_C_TIER")) None (codes "CR_C_TIER") ∷ One (e.Column None (codes "CR_TT_ID")) None (codes "CR_TT_ID")
+      ∷ One (e.Column None (codes "CR_EX_ID")) None (codes "CR_EX_ID") ∷ One (e.Column None (codes "CR_FROM_QTY")) None (codes "CR_FROM_QTY")
+      ∷ One (e.Column None (codes "CR_TO_QTY")) None (codes "CR_TO_QTY") ∷ One (e.Column None (codes "CR_RATE")) None (codes "CR_RATE") ∷ [];
   from = source ∷ [];
-  filter = Some (e.Binary operator.And (e.Binary operator.And (e.Binary operator.Eq (e.Column None (codes "CR_C_TIER")) (e.Parameter 1)) (e.Binary operator.Eq (e.Column None (codes "CR_TT_ID")) (e.Parameter 2))) (e.Binary operator.Eq (e.Column None (codes "CR_EX_ID")) (e.Parameter 3)));
+  filter = Some (e.Binary operator.And
+      (e.Binary operator.And (e.Binary operator.Eq (e.Column None (codes "CR_C_TIER")) (e.Parameter 1))
+      (e.Binary operator.Eq (e.Column None (codes "CR_TT_ID")) (e.Parameter 2))) (e.Binary operator.Eq (e.Column None (codes "CR_EX_ID")) (e.Parameter 3)));
   group = [];
   having = None;
 })
 
 abbrev pub by : List Sort
-by = roll-Sort (record { key = e.Column None (codes "CR_C_TIER"); descending = false; nulls_first = None }) ∷ roll-Sort (record { key = e.Column None (codes "CR_TT_ID"); descending = false; nulls_first = None }) ∷ roll-Sort (record { key = e.Column None (codes "CR_EX_ID"); descending = false; nulls_first = None }) ∷ roll-Sort (record { key = e.Column None (codes "CR_FROM_QTY"); descending = false; nulls_first = None }) ∷ []
+by = roll-Sort (record { key = e.Column None (codes "CR_C_TIER"); descending = false; nulls_first = None })
+    ∷ roll-Sort (record { key = e.Column None (codes "CR_TT_ID"); descending = false; nulls_first = None })
+    ∷ roll-Sort (record { key = e.Column None (codes "CR_EX_ID"); descending = false; nulls_first = None })
+    ∷ roll-Sort (record { key = e.Column None (codes "CR_FROM_QTY"); descending = false; nulls_first = None }) ∷ []
 
 abbrev pub select : ast.Select
 select = ast.roll-Select (record { with = []; first = core; others = []; order = by; limit = None; offset = None })
@@ -72,7 +79,8 @@ abbrev pub project : List Term
 project = col 1 1 ∷ col 1 2 ∷ col 1 3 ∷ col 1 4 ∷ col 1 5 ∷ col 1 6 ∷ []
 
 abbrev pub order : List (Term × Key)
-order = (col 1 1, record { collation = Binary; descending = false }) ∷ (col 1 2, record { collation = Binary; descending = false }) ∷ (col 1 3, record { collation = Binary; descending = false }) ∷ (col 1 4, record { collation = Binary; descending = false }) ∷ []
+order = (col 1 1, record { collation = Binary; descending = false }) ∷ (col 1 2, record { collation = Binary; descending = false })
+    ∷ (col 1 3, record { collation = Binary; descending = false }) ∷ (col 1 4, record { collation = Binary; descending = false }) ∷ []
 
 abbrev pub paging : Term × Term
 paging = (lit (Int (negsuc 0)), lit (Int (pos 0)))
@@ -87,7 +95,8 @@ abbrev pub output : List ℕ → ℕ → Carried → Output
 output name place carried = record { name = name; is_alias = false; is_column = true; term = col 1 place; carried = carried }
 
 abbrev pub columns : List Output
-columns = output (codes "CR_C_TIER") 1 binary ∷ output (codes "CR_TT_ID") 2 binary ∷ output (codes "CR_EX_ID") 3 binary ∷ output (codes "CR_FROM_QTY") 4 binary ∷ output (codes "CR_TO_QTY") 5 binary ∷ output (codes "CR_RATE") 6 binary ∷ []
+columns = output (codes "CR_C_TIER") 1 binary ∷ output (codes "CR_TT_ID") 2 binary ∷ output (codes "CR_EX_ID") 3 binary ∷ output (codes "CR_FROM_QTY") 4 binary
+    ∷ output (codes "CR_TO_QTY") 5 binary ∷ output (codes "CR_RATE") 6 binary ∷ []
 
 abbrev pub names : List (List ℕ)
 names = codes "CR_C_TIER" ∷ codes "CR_TT_ID" ∷ codes "CR_EX_ID" ∷ codes "CR_FROM_QTY" ∷ codes "CR_TO_QTY" ∷ codes "CR_RATE" ∷ []
@@ -104,23 +113,40 @@ module _ (schema : Schema) (at tree : ℕ) (h : IsTableAt schema (band_table tre
   shows =
       rw (
         column_is schema at (band_table tree) found (codes "COMMISSION_RATE") [] [] true true (codes "CR_C_TIER") 0 (integer_column (codes "CR_C_TIER")) refl refl,
-        heading_is schema at (band_table tree) found (codes "COMMISSION_RATE") [] [] true true (e.Column None (codes "CR_C_TIER")) (codes "CR_C_TIER") (codes "CR_C_TIER") 0 (integer_column (codes "CR_C_TIER")) refl refl refl,
+        heading_is schema at (band_table tree) found (codes "COMMISSION_RATE") [] [] true true (e.Column None (codes "CR_C_TIER")) (codes "CR_C_TIER")
+            (codes "CR_C_TIER") 0 (integer_column (codes "CR_C_TIER")) refl refl refl,
         column_is schema at (band_table tree) found (codes "COMMISSION_RATE") [] [] true true (codes "CR_TT_ID") 1 (text_column (codes "CR_TT_ID")) refl refl,
-        heading_is schema at (band_table tree) found (codes "COMMISSION_RATE") [] [] true true (e.Column None (codes "CR_TT_ID")) (codes "CR_TT_ID") (codes "CR_TT_ID") 1 (text_column (codes "CR_TT_ID")) refl refl refl,
+        heading_is schema at (band_table tree) found (codes "COMMISSION_RATE") [] [] true true (e.Column None (codes "CR_TT_ID")) (codes "CR_TT_ID")
+            (codes "CR_TT_ID") 1 (text_column (codes "CR_TT_ID")) refl refl refl,
         column_is schema at (band_table tree) found (codes "COMMISSION_RATE") [] [] true true (codes "CR_EX_ID") 2 (text_column (codes "CR_EX_ID")) refl refl,
-        heading_is schema at (band_table tree) found (codes "COMMISSION_RATE") [] [] true true (e.Column None (codes "CR_EX_ID")) (codes "CR_EX_ID") (codes "CR_EX_ID") 2 (text_column (codes "CR_EX_ID")) refl refl refl,
+        heading_is schema at (band_table tree) found (codes "COMMISSION_RATE") [] [] true true (e.Column None (codes "CR_EX_ID")) (codes "CR_EX_ID")
+            (codes "CR_EX_ID") 2 (text_column (codes "CR_EX_ID")) refl refl refl,
         column_is schema at (band_table tree) found (codes "COMMISSION_RATE") [] [] true true (codes "CR_FROM_QTY") 3 (integer_column (codes "CR_FROM_QTY")) refl refl,
-        heading_is schema at (band_table tree) found (codes "COMMISSION_RATE") [] [] true true (e.Column None (codes "CR_FROM_QTY")) (codes "CR_FROM_QTY") (codes "CR_FROM_QTY") 3 (integer_column (codes "CR_FROM_QTY")) refl refl refl,
+        heading_is schema at (band_table tree) found (codes "COMMISSION_RATE") [] [] true true (e.Column None (codes "CR_FROM_QTY")) (codes "CR_FROM_QTY")
+            (codes "CR_FROM_QTY") 3 (integer_column (codes "CR_FROM_QTY")) refl refl refl,
         column_is schema at (band_table tree) found (codes "COMMISSION_RATE") [] [] true true (codes "CR_TO_QTY") 4 (integer_column (codes "CR_TO_QTY")) refl refl,
-        heading_is schema at (band_table tree) found (codes "COMMISSION_RATE") [] [] true true (e.Column None (codes "CR_TO_QTY")) (codes "CR_TO_QTY") (codes "CR_TO_QTY") 4 (integer_column (codes "CR_TO_QTY")) refl refl refl,
+        heading_is schema at (band_table tree) found (codes "COMMISSION_RATE") [] [] true true (e.Column None (codes "CR_TO_QTY")) (codes "CR_TO_QTY")
+            (codes "CR_TO_QTY") 4 (integer_column (codes "CR_TO_QTY")) refl refl refl,
         column_is schema at (band_table tree) found (codes "COMMISSION_RATE") [] [] true true (codes "CR_RATE") 5 (integer_column (codes "CR_RATE")) refl refl,
-        heading_is schema at (band_table tree) found (codes "COMMISSION_RATE") [] [] true true (e.Column None (codes "CR_RATE")) (codes "CR_RATE") (codes "CR_RATE") 5 (integer_column (codes "CR_RATE")) refl refl refl,
+        heading_is schema at (band_table tree) found (codes "COMMISSION_RATE") [] [] true true (e.Column None (codes "CR_RATE")) (codes "CR_RATE")
+            (codes "CR_RATE") 5 (integer_column (codes "CR_RATE")) refl refl refl,
       )
 
   matches : matching lower (outermost schema) (level_one (codes "COMMISSION_RATE") at columns) core (after 6 binary)
       ≡ Ok (record { steps = Inner tree ∷ []; filter = terms }, after 17 nothing)
   unfolding sql_lowering_definitions
-  matches = rw (found, column_is schema at (band_table tree) found (codes "COMMISSION_RATE") columns [] false true (codes "CR_C_TIER") 0 (integer_column (codes "CR_C_TIER")) refl refl, found, column_is schema at (band_table tree) found (codes "COMMISSION_RATE") columns [] false true (codes "CR_TT_ID") 1 (text_column (codes "CR_TT_ID")) refl refl, found, column_is schema at (band_table tree) found (codes "COMMISSION_RATE") columns [] false true (codes "CR_EX_ID") 2 (text_column (codes "CR_EX_ID")) refl refl, found)
+  matches = rw (
+    found,
+    column_is schema at (band_table tree) found (codes "COMMISSION_RATE") columns [] false true (codes "CR_C_TIER") 0
+        (integer_column (codes "CR_C_TIER")) refl refl,
+    found,
+    column_is schema at (band_table tree) found (codes "COMMISSION_RATE") columns [] false true
+        (codes "CR_TT_ID") 1 (text_column (codes "CR_TT_ID")) refl refl,
+    found,
+    column_is schema at (band_table tree) found (codes "COMMISSION_RATE") columns []
+        false true (codes "CR_EX_ID") 2 (text_column (codes "CR_EX_ID")) refl refl,
+    found,
+  )
 
   sorted : sorts lower (inside schema (level_one (codes "COMMISSION_RATE") at columns) false) columns by (after 17 nothing) ≡ Ok ((draft tree).order, after 21 binary)
   unfolding sql_lowering_definitions
@@ -138,9 +164,12 @@ module _ (schema : Schema) (at tree : ℕ) (h : IsTableAt schema (band_table tre
       (named_is schema core source (codes "COMMISSION_RATE") at h.named refl refl refl refl columns (after 6 binary)
       (record { steps = Inner tree ∷ []; filter = terms }) (after 17 nothing) shows matches by _ (after 21 binary) _ refl refl sorted)
 
-  pub understood_as : (compiled schema statement ≡ Ok (meant (read statement) [] (Select (record { lets = []; body = selection tree terms project order paging }) names))) ⊎ (compiled schema statement ≡ Err Mismatch)
+  pub understood_as : (compiled schema statement
+      ≡ Ok (meant (read statement) [] (Select (record { lets = []; body = selection tree terms project order paging }) names)))
+      ⊎ (compiled schema statement ≡ Err Mismatch)
   unfolding everything
-  understood_as = reads_or schema statement (read statement) refl refl select (draft tree) names (Some Binary ∷ Some Binary ∷ Some Binary ∷ Some Binary ∷ Some Binary ∷ Some Binary ∷ []) refl meaning_is
+  understood_as = reads_or schema statement (read statement) refl refl select (draft tree) names
+      (Some Binary ∷ Some Binary ∷ Some Binary ∷ Some Binary ∷ Some Binary ∷ Some Binary ∷ []) refl meaning_is
 
 pub plain : (schema : Schema) (c : Compiled) → understood schema statement ≡ Ok c → c.returning ≡ None
 unfolding everything

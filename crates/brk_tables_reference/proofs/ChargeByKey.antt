@@ -52,7 +52,8 @@ source = roll-Source (record { is_left = false; origin = Table (codes "CHARGE");
 abbrev pub core : Core
 core = roll-Core (record {
   distinct = false;
-  shown = One (e.Column None (codes "CH_TT_ID")) None (codes "CH_TT_ID") ∷ One (e.Column None (codes "CH_C_TIER")) None (codes "CH_C_TIER") ∷ One (e.Column None (codes "CH_CHRG")) None (codes "CH_CHRG") ∷ [];
+  shown = One (e.Column None (codes "CH_TT_ID")) None (codes "CH_TT_ID") ∷ One (e.Column None (codes "CH_C_TIER")) None (codes "CH_C_TIER")
+      ∷ One (e.Column None (codes "CH_CHRG")) None (codes "CH_CHRG") ∷ [];
   from = source ∷ [];
   filter = Some (e.Binary operator.And (e.Binary operator.Eq (e.Column None (codes "CH_TT_ID")) (e.Parameter 1)) (e.Binary operator.Eq (e.Column None (codes "CH_C_TIER")) (e.Parameter 2)));
   group = [];
@@ -60,7 +61,8 @@ core = roll-Core (record {
 })
 
 abbrev pub by : List Sort
-by = roll-Sort (record { key = e.Column None (codes "CH_TT_ID"); descending = false; nulls_first = None }) ∷ roll-Sort (record { key = e.Column None (codes "CH_C_TIER"); descending = false; nulls_first = None }) ∷ []
+by = roll-Sort (record { key = e.Column None (codes "CH_TT_ID"); descending = false; nulls_first = None })
+    ∷ roll-Sort (record { key = e.Column None (codes "CH_C_TIER"); descending = false; nulls_first = None }) ∷ []
 
 abbrev pub select : ast.Select
 select = ast.roll-Select (record { with = []; first = core; others = []; order = by; limit = None; offset = None })
@@ -104,17 +106,28 @@ module _ (schema : Schema) (at tree : ℕ) (h : IsTableAt schema (charge_table t
   shows =
       rw (
         column_is schema at (charge_table tree) found (codes "CHARGE") [] [] true true (codes "CH_TT_ID") 0 (text_column (codes "CH_TT_ID")) refl refl,
-        heading_is schema at (charge_table tree) found (codes "CHARGE") [] [] true true (e.Column None (codes "CH_TT_ID")) (codes "CH_TT_ID") (codes "CH_TT_ID") 0 (text_column (codes "CH_TT_ID")) refl refl refl,
+        heading_is schema at (charge_table tree) found (codes "CHARGE") [] [] true true (e.Column None (codes "CH_TT_ID")) (codes "CH_TT_ID") (codes "CH_TT_ID")
+            0 (text_column (codes "CH_TT_ID")) refl refl refl,
         column_is schema at (charge_table tree) found (codes "CHARGE") [] [] true true (codes "CH_C_TIER") 1 (integer_column (codes "CH_C_TIER")) refl refl,
-        heading_is schema at (charge_table tree) found (codes "CHARGE") [] [] true true (e.Column None (codes "CH_C_TIER")) (codes "CH_C_TIER") (codes "CH_C_TIER") 1 (integer_column (codes "CH_C_TIER")) refl refl refl,
+        heading_is schema at (charge_table tree) found (codes "CHARGE") [] [] true true (e.Column None (codes "CH_C_TIER")) (codes "CH_C_TIER")
+            (codes "CH_C_TIER") 1 (integer_column (codes "CH_C_TIER")) refl refl refl,
         column_is schema at (charge_table tree) found (codes "CHARGE") [] [] true true (codes "CH_CHRG") 2 (integer_column (codes "CH_CHRG")) refl refl,
-        heading_is schema at (charge_table tree) found (codes "CHARGE") [] [] true true (e.Column None (codes "CH_CHRG")) (codes "CH_CHRG") (codes "CH_CHRG") 2 (integer_column (codes "CH_CHRG")) refl refl refl,
+        heading_is schema at (charge_table tree) found (codes "CHARGE") [] [] true true (e.Column None (codes "CH_CHRG")) (codes "CH_CHRG") (codes "CH_CHRG") 2
+            (integer_column (codes "CH_CHRG")) refl refl refl,
       )
 
   matches : matching lower (outermost schema) (level_one (codes "CHARGE") at columns) core (after 3 binary)
       ≡ Ok (record { steps = Inner tree ∷ []; filter = terms }, after 10 nothing)
   unfolding sql_lowering_definitions
-  matches = rw (found, column_is schema at (charge_table tree) found (codes "CHARGE") columns [] false true (codes "CH_TT_ID") 0 (text_column (codes "CH_TT_ID")) refl refl, found, column_is schema at (charge_table tree) found (codes "CHARGE") columns [] false true (codes "CH_C_TIER") 1 (integer_column (codes "CH_C_TIER")) refl refl, found)
+  matches = rw (
+    found,
+    column_is schema at (charge_table tree) found (codes "CHARGE") columns [] false true (codes "CH_TT_ID") 0
+        (text_column (codes "CH_TT_ID")) refl refl,
+    found,
+    column_is schema at (charge_table tree) found (codes "CHARGE") columns [] false true
+        (codes "CH_C_TIER") 1 (integer_column (codes "CH_C_TIER")) refl refl,
+    found,
+  )
 
   sorted : sorts lower (inside schema (level_one (codes "CHARGE") at columns) false) columns by (after 10 nothing) ≡ Ok ((draft tree).order, after 12 binary)
   unfolding sql_lowering_definitions
@@ -130,7 +143,9 @@ module _ (schema : Schema) (at tree : ℕ) (h : IsTableAt schema (charge_table t
       (named_is schema core source (codes "CHARGE") at h.named refl refl refl refl columns (after 3 binary)
       (record { steps = Inner tree ∷ []; filter = terms }) (after 10 nothing) shows matches by _ (after 12 binary) _ refl refl sorted)
 
-  pub understood_as : (compiled schema statement ≡ Ok (meant (read statement) [] (Select (record { lets = []; body = selection tree terms project order paging }) names))) ⊎ (compiled schema statement ≡ Err Mismatch)
+  pub understood_as : (compiled schema statement
+      ≡ Ok (meant (read statement) [] (Select (record { lets = []; body = selection tree terms project order paging }) names)))
+      ⊎ (compiled schema statement ≡ Err Mismatch)
   unfolding everything
   understood_as = reads_or schema statement (read statement) refl refl select (draft tree) names (Some Binary ∷ Some Binary ∷ Some Binary ∷ []) refl meaning_is
 

@@ -52,7 +52,9 @@ source = roll-Source (record { is_left = false; origin = Table (codes "CUSTOMER"
 abbrev pub core : Core
 core = roll-Core (record {
   distinct = false;
-  shown = One (e.Column None (codes "C_ID")) None (codes "C_ID") ∷ One (e.Column None (codes "C_TIER")) None (codes "C_TIER") ∷ One (e.Column None (codes "C_TAX_ID")) None (codes "C_TAX_ID") ∷ One (e.Column None (codes "C_L_NAME")) None (codes "C_L_NAME") ∷ One (e.Column None (codes "C_F_NAME")) None (codes "C_F_NAME") ∷ [];
+  shown = One (e.Column None (codes "C_ID")) None (codes "C_ID") ∷ One (e.Column None (codes "C_TIER")) None (codes "C_TIER")
+      ∷ One (e.Column None (codes "C_TAX_ID")) None (codes "C_TAX_ID") ∷ One (e.Column None (codes "C_L_NAME")) None (codes "C_L_NAME")
+      ∷ One (e.Column None (codes "C_F_NAME")) None (codes "C_F_NAME") ∷ [];
   from = source ∷ [];
   filter = Some (e.Binary operator.Eq (e.Column None (codes "C_ID")) (e.Parameter 1));
   group = [];
@@ -104,15 +106,20 @@ module _ (schema : Schema) (at tree : ℕ) (h : IsTableAt schema (customer_table
   shows =
       rw (
         column_is schema at (customer_table tree) found (codes "CUSTOMER") [] [] true true (codes "C_ID") 0 (integer_column (codes "C_ID")) refl refl,
-        heading_is schema at (customer_table tree) found (codes "CUSTOMER") [] [] true true (e.Column None (codes "C_ID")) (codes "C_ID") (codes "C_ID") 0 (integer_column (codes "C_ID")) refl refl refl,
+        heading_is schema at (customer_table tree) found (codes "CUSTOMER") [] [] true true (e.Column None (codes "C_ID")) (codes "C_ID") (codes "C_ID") 0
+            (integer_column (codes "C_ID")) refl refl refl,
         column_is schema at (customer_table tree) found (codes "CUSTOMER") [] [] true true (codes "C_TIER") 1 (integer_column (codes "C_TIER")) refl refl,
-        heading_is schema at (customer_table tree) found (codes "CUSTOMER") [] [] true true (e.Column None (codes "C_TIER")) (codes "C_TIER") (codes "C_TIER") 1 (integer_column (codes "C_TIER")) refl refl refl,
+        heading_is schema at (customer_table tree) found (codes "CUSTOMER") [] [] true true (e.Column None (codes "C_TIER")) (codes "C_TIER") (codes "C_TIER") 1
+            (integer_column (codes "C_TIER")) refl refl refl,
         column_is schema at (customer_table tree) found (codes "CUSTOMER") [] [] true true (codes "C_TAX_ID") 2 (text_column (codes "C_TAX_ID")) refl refl,
-        heading_is schema at (customer_table tree) found (codes "CUSTOMER") [] [] true true (e.Column None (codes "C_TAX_ID")) (codes "C_TAX_ID") (codes "C_TAX_ID") 2 (text_column (codes "C_TAX_ID")) refl refl refl,
+        heading_is schema at (customer_table tree) found (codes "CUSTOMER") [] [] true true (e.Column None (codes "C_TAX_ID")) (codes "C_TAX_ID")
+            (codes "C_TAX_ID") 2 (text_column (codes "C_TAX_ID")) refl refl refl,
         column_is schema at (customer_table tree) found (codes "CUSTOMER") [] [] true true (codes "C_L_NAME") 3 (text_column (codes "C_L_NAME")) refl refl,
-        heading_is schema at (customer_table tree) found (codes "CUSTOMER") [] [] true true (e.Column None (codes "C_L_NAME")) (codes "C_L_NAME") (codes "C_L_NAME") 3 (text_column (codes "C_L_NAME")) refl refl refl,
+        heading_is schema at (customer_table tree) found (codes "CUSTOMER") [] [] true true (e.Column None (codes "C_L_NAME")) (codes "C_L_NAME")
+            (codes "C_L_NAME") 3 (text_column (codes "C_L_NAME")) refl refl refl,
         column_is schema at (customer_table tree) found (codes "CUSTOMER") [] [] true true (codes "C_F_NAME") 4 (text_column (codes "C_F_NAME")) refl refl,
-        heading_is schema at (customer_table tree) found (codes "CUSTOMER") [] [] true true (e.Column None (codes "C_F_NAME")) (codes "C_F_NAME") (codes "C_F_NAME") 4 (text_column (codes "C_F_NAME")) refl refl refl,
+        heading_is schema at (customer_table tree) found (codes "CUSTOMER") [] [] true true (e.Column None (codes "C_F_NAME")) (codes "C_F_NAME")
+            (codes "C_F_NAME") 4 (text_column (codes "C_F_NAME")) refl refl refl,
       )
 
   matches : matching lower (outermost schema) (level_one (codes "CUSTOMER") at columns) core (after 5 binary)
@@ -131,7 +138,9 @@ module _ (schema : Schema) (at tree : ℕ) (h : IsTableAt schema (customer_table
       (named_is schema core source (codes "CUSTOMER") at h.named refl refl refl refl columns (after 5 binary)
       (record { steps = Inner tree ∷ []; filter = terms }) (after 8 nothing) shows matches by _ (after 9 nothing) _ refl refl sorted)
 
-  pub understood_as : (compiled schema statement ≡ Ok (meant (read statement) [] (Select (record { lets = []; body = selection tree terms project order paging }) names))) ⊎ (compiled schema statement ≡ Err Mismatch)
+  pub understood_as : (compiled schema statement
+      ≡ Ok (meant (read statement) [] (Select (record { lets = []; body = selection tree terms project order paging }) names)))
+      ⊎ (compiled schema statement ≡ Err Mismatch)
   unfolding everything
   understood_as = reads_or schema statement (read statement) refl refl select (draft tree) names (None ∷ Some Binary ∷ Some Binary ∷ Some Binary ∷ Some Binary ∷ []) refl meaning_is
 

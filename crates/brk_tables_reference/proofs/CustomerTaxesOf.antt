@@ -60,7 +60,8 @@ core = roll-Core (record {
 })
 
 abbrev pub by : List Sort
-by = roll-Sort (record { key = e.Column None (codes "CX_C_ID"); descending = false; nulls_first = None }) ∷ roll-Sort (record { key = e.Column None (codes "CX_TX_ID"); descending = false; nulls_first = None }) ∷ []
+by = roll-Sort (record { key = e.Column None (codes "CX_C_ID"); descending = false; nulls_first = None })
+    ∷ roll-Sort (record { key = e.Column None (codes "CX_TX_ID"); descending = false; nulls_first = None }) ∷ []
 
 abbrev pub select : ast.Select
 select = ast.roll-Select (record { with = []; first = core; others = []; order = by; limit = None; offset = None })
@@ -104,9 +105,11 @@ module _ (schema : Schema) (at tree : ℕ) (h : IsTableAt schema (customer_tax_t
   shows =
       rw (
         column_is schema at (customer_tax_table tree) found (codes "CUSTOMER_TAXRATE") [] [] true true (codes "CX_C_ID") 0 (integer_column (codes "CX_C_ID")) refl refl,
-        heading_is schema at (customer_tax_table tree) found (codes "CUSTOMER_TAXRATE") [] [] true true (e.Column None (codes "CX_C_ID")) (codes "CX_C_ID") (codes "CX_C_ID") 0 (integer_column (codes "CX_C_ID")) refl refl refl,
+        heading_is schema at (customer_tax_table tree) found (codes "CUSTOMER_TAXRATE") [] [] true true (e.Column None (codes "CX_C_ID")) (codes "CX_C_ID")
+            (codes "CX_C_ID") 0 (integer_column (codes "CX_C_ID")) refl refl refl,
         column_is schema at (customer_tax_table tree) found (codes "CUSTOMER_TAXRATE") [] [] true true (codes "CX_TX_ID") 1 (integer_column (codes "CX_TX_ID")) refl refl,
-        heading_is schema at (customer_tax_table tree) found (codes "CUSTOMER_TAXRATE") [] [] true true (e.Column None (codes "CX_TX_ID")) (codes "CX_TX_ID") (codes "CX_TX_ID") 1 (integer_column (codes "CX_TX_ID")) refl refl refl,
+        heading_is schema at (customer_tax_table tree) found (codes "CUSTOMER_TAXRATE") [] [] true true (e.Column None (codes "CX_TX_ID")) (codes "CX_TX_ID")
+            (codes "CX_TX_ID") 1 (integer_column (codes "CX_TX_ID")) refl refl refl,
       )
 
   matches : matching lower (outermost schema) (level_one (codes "CUSTOMER_TAXRATE") at columns) core (after 2 binary)
@@ -128,7 +131,9 @@ module _ (schema : Schema) (at tree : ℕ) (h : IsTableAt schema (customer_tax_t
       (named_is schema core source (codes "CUSTOMER_TAXRATE") at h.named refl refl refl refl columns (after 2 binary)
       (record { steps = Inner tree ∷ []; filter = terms }) (after 5 nothing) shows matches by _ (after 7 binary) _ refl refl sorted)
 
-  pub understood_as : (compiled schema statement ≡ Ok (meant (read statement) [] (Select (record { lets = []; body = selection tree terms project order paging }) names))) ⊎ (compiled schema statement ≡ Err Mismatch)
+  pub understood_as : (compiled schema statement
+      ≡ Ok (meant (read statement) [] (Select (record { lets = []; body = selection tree terms project order paging }) names)))
+      ⊎ (compiled schema statement ≡ Err Mismatch)
   unfolding everything
   understood_as = reads_or schema statement (read statement) refl refl select (draft tree) names (Some Binary ∷ Some Binary ∷ []) refl meaning_is
 

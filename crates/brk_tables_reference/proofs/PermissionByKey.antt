@@ -52,7 +52,9 @@ source = roll-Source (record { is_left = false; origin = Table (codes "ACCOUNT_P
 abbrev pub core : Core
 core = roll-Core (record {
   distinct = false;
-  shown = One (e.Column None (codes "AP_CA_ID")) None (codes "AP_CA_ID") ∷ One (e.Column None (codes "AP_TAX_ID")) None (codes "AP_TAX_ID") ∷ One (e.Column None (codes "AP_ACL")) None (codes "AP_ACL") ∷ One (e.Column None (codes "AP_L_NAME")) None (codes "AP_L_NAME") ∷ One (e.Column None (codes "AP_F_NAME")) None (codes "AP_F_NAME") ∷ [];
+  shown = One (e.Column None (codes "AP_CA_ID")) None (codes "AP_CA_ID") ∷ One (e.Column None (codes "AP_TAX_ID")) None (codes "AP_TAX_ID")
+      ∷ One (e.Column None (codes "AP_ACL")) None (codes "AP_ACL") ∷ One (e.Column None (codes "AP_L_NAME")) None (codes "AP_L_NAME")
+      ∷ One (e.Column None (codes "AP_F_NAME")) None (codes "AP_F_NAME") ∷ [];
   from = source ∷ [];
   filter = Some (e.Binary operator.And (e.Binary operator.Eq (e.Column None (codes "AP_CA_ID")) (e.Parameter 1)) (e.Binary operator.Eq (e.Column None (codes "AP_TAX_ID")) (e.Parameter 2)));
   group = [];
@@ -60,7 +62,8 @@ core = roll-Core (record {
 })
 
 abbrev pub by : List Sort
-by = roll-Sort (record { key = e.Column None (codes "AP_CA_ID"); descending = false; nulls_first = None }) ∷ roll-Sort (record { key = e.Column None (codes "AP_TAX_ID"); descending = false; nulls_first = None }) ∷ []
+by = roll-Sort (record { key = e.Column None (codes "AP_CA_ID"); descending = false; nulls_first = None })
+    ∷ roll-Sort (record { key = e.Column None (codes "AP_TAX_ID"); descending = false; nulls_first = None }) ∷ []
 
 abbrev pub select : ast.Select
 select = ast.roll-Select (record { with = []; first = core; others = []; order = by; limit = None; offset = None })
@@ -104,21 +107,34 @@ module _ (schema : Schema) (at tree : ℕ) (h : IsTableAt schema (permission_tab
   shows =
       rw (
         column_is schema at (permission_table tree) found (codes "ACCOUNT_PERMISSION") [] [] true true (codes "AP_CA_ID") 0 (integer_column (codes "AP_CA_ID")) refl refl,
-        heading_is schema at (permission_table tree) found (codes "ACCOUNT_PERMISSION") [] [] true true (e.Column None (codes "AP_CA_ID")) (codes "AP_CA_ID") (codes "AP_CA_ID") 0 (integer_column (codes "AP_CA_ID")) refl refl refl,
+        heading_is schema at (permission_table tree) found (codes "ACCOUNT_PERMISSION") [] [] true true (e.Column None (codes "AP_CA_ID")) (codes "AP_CA_ID")
+            (codes "AP_CA_ID") 0 (integer_column (codes "AP_CA_ID")) refl refl refl,
         column_is schema at (permission_table tree) found (codes "ACCOUNT_PERMISSION") [] [] true true (codes "AP_TAX_ID") 1 (text_column (codes "AP_TAX_ID")) refl refl,
-        heading_is schema at (permission_table tree) found (codes "ACCOUNT_PERMISSION") [] [] true true (e.Column None (codes "AP_TAX_ID")) (codes "AP_TAX_ID") (codes "AP_TAX_ID") 1 (text_column (codes "AP_TAX_ID")) refl refl refl,
+        heading_is schema at (permission_table tree) found (codes "ACCOUNT_PERMISSION") [] [] true true (e.Column None (codes "AP_TAX_ID")) (codes "AP_TAX_ID")
+            (codes "AP_TAX_ID") 1 (text_column (codes "AP_TAX_ID")) refl refl refl,
         column_is schema at (permission_table tree) found (codes "ACCOUNT_PERMISSION") [] [] true true (codes "AP_ACL") 2 (text_column (codes "AP_ACL")) refl refl,
-        heading_is schema at (permission_table tree) found (codes "ACCOUNT_PERMISSION") [] [] true true (e.Column None (codes "AP_ACL")) (codes "AP_ACL") (codes "AP_ACL") 2 (text_column (codes "AP_ACL")) refl refl refl,
+        heading_is schema at (permission_table tree) found (codes "ACCOUNT_PERMISSION") [] [] true true (e.Column None (codes "AP_ACL")) (codes "AP_ACL")
+            (codes "AP_ACL") 2 (text_column (codes "AP_ACL")) refl refl refl,
         column_is schema at (permission_table tree) found (codes "ACCOUNT_PERMISSION") [] [] true true (codes "AP_L_NAME") 3 (text_column (codes "AP_L_NAME")) refl refl,
-        heading_is schema at (permission_table tree) found (codes "ACCOUNT_PERMISSION") [] [] true true (e.Column None (codes "AP_L_NAME")) (codes "AP_L_NAME") (codes "AP_L_NAME") 3 (text_column (codes "AP_L_NAME")) refl refl refl,
+        heading_is schema at (permission_table tree) found (codes "ACCOUNT_PERMISSION") [] [] true true (e.Column None (codes "AP_L_NAME")) (codes "AP_L_NAME")
+            (codes "AP_L_NAME") 3 (text_column (codes "AP_L_NAME")) refl refl refl,
         column_is schema at (permission_table tree) found (codes "ACCOUNT_PERMISSION") [] [] true true (codes "AP_F_NAME") 4 (text_column (codes "AP_F_NAME")) refl refl,
-        heading_is schema at (permission_table tree) found (codes "ACCOUNT_PERMISSION") [] [] true true (e.Column None (codes "AP_F_NAME")) (codes "AP_F_NAME") (codes "AP_F_NAME") 4 (text_column (codes "AP_F_NAME")) refl refl refl,
+        heading_is schema at (permission_table tree) found (codes "ACCOUNT_PERMISSION") [] [] true true (e.Column None (codes "AP_F_NAME")) (codes "AP_F_NAME")
+            (codes "AP_F_NAME") 4 (text_column (codes "AP_F_NAME")) refl refl refl,
       )
 
   matches : matching lower (outermost schema) (level_one (codes "ACCOUNT_PERMISSION") at columns) core (after 5 binary)
       ≡ Ok (record { steps = Inner tree ∷ []; filter = terms }, after 12 nothing)
   unfolding sql_lowering_definitions
-  matches = rw (found, column_is schema at (permission_table tree) found (codes "ACCOUNT_PERMISSION") columns [] false true (codes "AP_CA_ID") 0 (integer_column (codes "AP_CA_ID")) refl refl, found, column_is schema at (permission_table tree) found (codes "ACCOUNT_PERMISSION") columns [] false true (codes "AP_TAX_ID") 1 (text_column (codes "AP_TAX_ID")) refl refl, found)
+  matches = rw (
+    found,
+    column_is schema at (permission_table tree) found (codes "ACCOUNT_PERMISSION") columns [] false true (codes "AP_CA_ID") 0
+        (integer_column (codes "AP_CA_ID")) refl refl,
+    found,
+    column_is schema at (permission_table tree) found (codes "ACCOUNT_PERMISSION") columns [] false true
+        (codes "AP_TAX_ID") 1 (text_column (codes "AP_TAX_ID")) refl refl,
+    found,
+  )
 
   sorted : sorts lower (inside schema (level_one (codes "ACCOUNT_PERMISSION") at columns) false) columns by (after 12 nothing) ≡ Ok ((draft tree).order, after 14 binary)
   unfolding sql_lowering_definitions
@@ -134,7 +150,9 @@ module _ (schema : Schema) (at tree : ℕ) (h : IsTableAt schema (permission_tab
       (named_is schema core source (codes "ACCOUNT_PERMISSION") at h.named refl refl refl refl columns (after 5 binary)
       (record { steps = Inner tree ∷ []; filter = terms }) (after 12 nothing) shows matches by _ (after 14 binary) _ refl refl sorted)
 
-  pub understood_as : (compiled schema statement ≡ Ok (meant (read statement) [] (Select (record { lets = []; body = selection tree terms project order paging }) names))) ⊎ (compiled schema statement ≡ Err Mismatch)
+  pub understood_as : (compiled schema statement
+      ≡ Ok (meant (read statement) [] (Select (record { lets = []; body = selection tree terms project order paging }) names)))
+      ⊎ (compiled schema statement ≡ Err Mismatch)
   unfolding everything
   understood_as = reads_or schema statement (read statement) refl refl select (draft tree) names (Some Binary ∷ Some Binary ∷ Some Binary ∷ Some Binary ∷ Some Binary ∷ []) refl meaning_is
 

@@ -22,7 +22,8 @@ use Rattle.brk_tables_reference.proofs.AddBand
 use Rattle.brk_tables_reference.proofs.AddTaxRate
 use Rattle.brk_tables_reference.proofs.AddCustomerTax
 
-pub adds_permission : (old new : State) (x : Permission) → ExecutesStatement AddPermission.statement (permission_cells x) old new → ChangesTablesBy desk_tables (tables_with_permission x) old.now new.now
+pub adds_permission : (old new : State) (x : Permission) → ExecutesStatement AddPermission.statement (permission_cells x) old new
+    → ChangesTablesBy desk_tables (tables_with_permission x) old.now new.now
 adds_permission old new x ran =
     added Permissions permissions x old.now new.now
     (inserts_as desk_tables Permissions permissions AddPermission.statement (permission_cells x) (read AddPermission.statement) AddPermission.terms 6
@@ -34,11 +35,13 @@ adds_security old new x ran =
     (inserts_as desk_tables Securities securities AddSecurity.statement (security_cells x) (read AddSecurity.statement) AddSecurity.terms 5
     (Null ∷ security_cells x) x AddSecurity.understood_as (λ tree. refl) (λ tree rows. rw (cast_null) refl) old new ran.0 ran.1)
 
-pub adds_last_trade : (old new : State) (x : LastTradeRow) → ExecutesStatement AddLastTrade.statement (last_trade_cells x) old new → ChangesTablesBy desk_tables (tables_with_last_trade x) old.now new.now
+pub adds_last_trade : (old new : State) (x : LastTradeRow) → ExecutesStatement AddLastTrade.statement (last_trade_cells x) old new
+    → ChangesTablesBy desk_tables (tables_with_last_trade x) old.now new.now
 adds_last_trade old new x ran =
     added LastTrades last_trades x old.now new.now
     (inserts_as desk_tables LastTrades last_trades AddLastTrade.statement (last_trade_cells x) (read AddLastTrade.statement) AddLastTrade.terms 5
-    (Null ∷ last_trade_cells x) x AddLastTrade.understood_as (λ tree. refl) (λ tree rows. rw (cast_null, cast_int (pos x.stamp), cast_int (pos x.price), cast_int (pos x.volume)) refl) old new ran.0 ran.1)
+    (Null ∷ last_trade_cells x) x AddLastTrade.understood_as (λ tree. refl)
+    (λ tree rows. rw (cast_null, cast_int (pos x.stamp), cast_int (pos x.price), cast_int (pos x.volume)) refl) old new ran.0 ran.1)
 
 pub adds_charge : (old new : State) (x : Charge) → ExecutesStatement AddCharge.statement (charge_cells x) old new → ChangesTablesBy desk_tables (tables_with_charge x) old.now new.now
 adds_charge old new x ran =
@@ -50,15 +53,19 @@ pub adds_band : (old new : State) (x : Band) → ExecutesStatement AddBand.state
 adds_band old new x ran =
     added Bands bands x old.now new.now
     (inserts_as desk_tables Bands bands AddBand.statement (band_cells x) (read AddBand.statement) AddBand.terms 7
-    (Null ∷ band_cells x) x AddBand.understood_as (λ tree. refl) (λ tree rows. rw (cast_null, cast_int (pos x.tier), cast_int (pos x.from_qty), cast_int (pos x.to_qty), cast_int (pos x.rate)) refl) old new ran.0 ran.1)
+    (Null ∷ band_cells x) x AddBand.understood_as (λ tree. refl)
+    (λ tree rows. rw (cast_null, cast_int (pos x.tier), cast_int (pos x.from_qty), cast_int (pos x.to_qty), cast_int (pos x.rate)) refl) old new ran.0
+    ran.1)
 
 pub adds_tax_rate : (old new : State) (x : TaxRate) → ExecutesStatement AddTaxRate.statement (tax_rate_cells x) old new → ChangesTablesBy desk_tables (tables_with_tax_rate x) old.now new.now
 adds_tax_rate old new x ran =
     added TaxRates tax_rates x old.now new.now
     (inserts_as desk_tables TaxRates tax_rates AddTaxRate.statement (tax_rate_cells x) (read AddTaxRate.statement) AddTaxRate.terms 4
-    (natural_as_value x.id ∷ Null ∷ Words x.name ∷ natural_as_value x.rate ∷ []) x AddTaxRate.understood_as (λ tree. refl) (λ tree rows. rw (cast_int (pos x.id), cast_int (pos x.rate)) refl) old new ran.0 ran.1)
+    (natural_as_value x.id ∷ Null ∷ Words x.name ∷ natural_as_value x.rate ∷ []) x AddTaxRate.understood_as (λ tree. refl)
+    (λ tree rows. rw (cast_int (pos x.id), cast_int (pos x.rate)) refl) old new ran.0 ran.1)
 
-pub adds_customer_tax : (old new : State) (x : CustomerTax) → ExecutesStatement AddCustomerTax.statement (customer_tax_cells x) old new → ChangesTablesBy desk_tables (tables_with_customer_tax x) old.now new.now
+pub adds_customer_tax : (old new : State) (x : CustomerTax) → ExecutesStatement AddCustomerTax.statement (customer_tax_cells x) old new
+    → ChangesTablesBy desk_tables (tables_with_customer_tax x) old.now new.now
 adds_customer_tax old new x ran =
     added CustomerTaxes customer_taxes x old.now new.now
     (inserts_as desk_tables CustomerTaxes customer_taxes AddCustomerTax.statement (customer_tax_cells x) (read AddCustomerTax.statement) AddCustomerTax.terms 3

@@ -52,7 +52,8 @@ source = roll-Source (record { is_left = false; origin = Table (codes "SECURITY"
 abbrev pub core : Core
 core = roll-Core (record {
   distinct = false;
-  shown = One (e.Column None (codes "S_SYMB")) None (codes "S_SYMB") ∷ One (e.Column None (codes "S_NAME")) None (codes "S_NAME") ∷ One (e.Column None (codes "S_EX_ID")) None (codes "S_EX_ID") ∷ One (e.Column None (codes "S_SECTOR")) None (codes "S_SECTOR") ∷ [];
+  shown = One (e.Column None (codes "S_SYMB")) None (codes "S_SYMB") ∷ One (e.Column None (codes "S_NAME")) None (codes "S_NAME")
+      ∷ One (e.Column None (codes "S_EX_ID")) None (codes "S_EX_ID") ∷ One (e.Column None (codes "S_SECTOR")) None (codes "S_SECTOR") ∷ [];
   from = source ∷ [];
   filter = Some (e.Binary operator.Eq (e.Column None (codes "S_SYMB")) (e.Parameter 1));
   group = [];
@@ -104,13 +105,17 @@ module _ (schema : Schema) (at tree : ℕ) (h : IsTableAt schema (security_table
   shows =
       rw (
         column_is schema at (security_table tree) found (codes "SECURITY") [] [] true true (codes "S_SYMB") 0 (text_column (codes "S_SYMB")) refl refl,
-        heading_is schema at (security_table tree) found (codes "SECURITY") [] [] true true (e.Column None (codes "S_SYMB")) (codes "S_SYMB") (codes "S_SYMB") 0 (text_column (codes "S_SYMB")) refl refl refl,
+        heading_is schema at (security_table tree) found (codes "SECURITY") [] [] true true (e.Column None (codes "S_SYMB")) (codes "S_SYMB") (codes "S_SYMB") 0
+            (text_column (codes "S_SYMB")) refl refl refl,
         column_is schema at (security_table tree) found (codes "SECURITY") [] [] true true (codes "S_NAME") 1 (text_column (codes "S_NAME")) refl refl,
-        heading_is schema at (security_table tree) found (codes "SECURITY") [] [] true true (e.Column None (codes "S_NAME")) (codes "S_NAME") (codes "S_NAME") 1 (text_column (codes "S_NAME")) refl refl refl,
+        heading_is schema at (security_table tree) found (codes "SECURITY") [] [] true true (e.Column None (codes "S_NAME")) (codes "S_NAME") (codes "S_NAME") 1
+            (text_column (codes "S_NAME")) refl refl refl,
         column_is schema at (security_table tree) found (codes "SECURITY") [] [] true true (codes "S_EX_ID") 2 (text_column (codes "S_EX_ID")) refl refl,
-        heading_is schema at (security_table tree) found (codes "SECURITY") [] [] true true (e.Column None (codes "S_EX_ID")) (codes "S_EX_ID") (codes "S_EX_ID") 2 (text_column (codes "S_EX_ID")) refl refl refl,
+        heading_is schema at (security_table tree) found (codes "SECURITY") [] [] true true (e.Column None (codes "S_EX_ID")) (codes "S_EX_ID")
+            (codes "S_EX_ID") 2 (text_column (codes "S_EX_ID")) refl refl refl,
         column_is schema at (security_table tree) found (codes "SECURITY") [] [] true true (codes "S_SECTOR") 3 (text_column (codes "S_SECTOR")) refl refl,
-        heading_is schema at (security_table tree) found (codes "SECURITY") [] [] true true (e.Column None (codes "S_SECTOR")) (codes "S_SECTOR") (codes "S_SECTOR") 3 (text_column (codes "S_SECTOR")) refl refl refl,
+        heading_is schema at (security_table tree) found (codes "SECURITY") [] [] true true (e.Column None (codes "S_SECTOR")) (codes "S_SECTOR")
+            (codes "S_SECTOR") 3 (text_column (codes "S_SECTOR")) refl refl refl,
       )
 
   matches : matching lower (outermost schema) (level_one (codes "SECURITY") at columns) core (after 4 binary)
@@ -129,7 +134,9 @@ module _ (schema : Schema) (at tree : ℕ) (h : IsTableAt schema (security_table
       (named_is schema core source (codes "SECURITY") at h.named refl refl refl refl columns (after 4 binary)
       (record { steps = Inner tree ∷ []; filter = terms }) (after 7 nothing) shows matches by _ (after 8 binary) _ refl refl sorted)
 
-  pub understood_as : (compiled schema statement ≡ Ok (meant (read statement) [] (Select (record { lets = []; body = selection tree terms project order paging }) names))) ⊎ (compiled schema statement ≡ Err Mismatch)
+  pub understood_as : (compiled schema statement
+      ≡ Ok (meant (read statement) [] (Select (record { lets = []; body = selection tree terms project order paging }) names)))
+      ⊎ (compiled schema statement ≡ Err Mismatch)
   unfolding everything
   understood_as = reads_or schema statement (read statement) refl refl select (draft tree) names (Some Binary ∷ Some Binary ∷ Some Binary ∷ Some Binary ∷ []) refl meaning_is
 

@@ -104,11 +104,14 @@ module _ (schema : Schema) (at tree : ℕ) (h : IsTableAt schema (tax_rate_table
   shows =
       rw (
         column_is schema at (tax_rate_table tree) found (codes "TAXRATE") [] [] true true (codes "TX_ID") 0 (integer_column (codes "TX_ID")) refl refl,
-        heading_is schema at (tax_rate_table tree) found (codes "TAXRATE") [] [] true true (e.Column None (codes "TX_ID")) (codes "TX_ID") (codes "TX_ID") 0 (integer_column (codes "TX_ID")) refl refl refl,
+        heading_is schema at (tax_rate_table tree) found (codes "TAXRATE") [] [] true true (e.Column None (codes "TX_ID")) (codes "TX_ID") (codes "TX_ID") 0
+            (integer_column (codes "TX_ID")) refl refl refl,
         column_is schema at (tax_rate_table tree) found (codes "TAXRATE") [] [] true true (codes "TX_NAME") 1 (text_column (codes "TX_NAME")) refl refl,
-        heading_is schema at (tax_rate_table tree) found (codes "TAXRATE") [] [] true true (e.Column None (codes "TX_NAME")) (codes "TX_NAME") (codes "TX_NAME") 1 (text_column (codes "TX_NAME")) refl refl refl,
+        heading_is schema at (tax_rate_table tree) found (codes "TAXRATE") [] [] true true (e.Column None (codes "TX_NAME")) (codes "TX_NAME") (codes "TX_NAME")
+            1 (text_column (codes "TX_NAME")) refl refl refl,
         column_is schema at (tax_rate_table tree) found (codes "TAXRATE") [] [] true true (codes "TX_RATE") 2 (integer_column (codes "TX_RATE")) refl refl,
-        heading_is schema at (tax_rate_table tree) found (codes "TAXRATE") [] [] true true (e.Column None (codes "TX_RATE")) (codes "TX_RATE") (codes "TX_RATE") 2 (integer_column (codes "TX_RATE")) refl refl refl,
+        heading_is schema at (tax_rate_table tree) found (codes "TAXRATE") [] [] true true (e.Column None (codes "TX_RATE")) (codes "TX_RATE") (codes "TX_RATE")
+            2 (integer_column (codes "TX_RATE")) refl refl refl,
       )
 
   matches : matching lower (outermost schema) (level_one (codes "TAXRATE") at columns) core (after 3 binary)
@@ -127,7 +130,9 @@ module _ (schema : Schema) (at tree : ℕ) (h : IsTableAt schema (tax_rate_table
       (named_is schema core source (codes "TAXRATE") at h.named refl refl refl refl columns (after 3 binary)
       (record { steps = Inner tree ∷ []; filter = terms }) (after 6 nothing) shows matches by _ (after 7 nothing) _ refl refl sorted)
 
-  pub understood_as : (compiled schema statement ≡ Ok (meant (read statement) [] (Select (record { lets = []; body = selection tree terms project order paging }) names))) ⊎ (compiled schema statement ≡ Err Mismatch)
+  pub understood_as : (compiled schema statement
+      ≡ Ok (meant (read statement) [] (Select (record { lets = []; body = selection tree terms project order paging }) names)))
+      ⊎ (compiled schema statement ≡ Err Mismatch)
   unfolding everything
   understood_as = reads_or schema statement (read statement) refl refl select (draft tree) names (None ∷ Some Binary ∷ Some Binary ∷ []) refl meaning_is
 

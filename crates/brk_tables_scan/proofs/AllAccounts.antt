@@ -51,7 +51,10 @@ source = roll-Source (record { is_left = false; origin = Table (codes "CUSTOMER_
 abbrev pub core : Core
 core = roll-Core (record {
   distinct = false;
-  shown = One (e.Column None (codes "CA_ID")) None (codes "CA_ID") ∷ One (e.Column None (codes "CA_C_ID")) None (codes "CA_C_ID") ∷ One (e.Column None (codes "CA_B_ID")) None (codes "CA_B_ID") ∷ One (e.Column None (codes "CA_NAME")) None (codes "CA_NAME") ∷ One (e.Column None (codes "CA_TAX_ST")) None (codes "CA_TAX_ST") ∷ One (e.Column None (codes "CA_OPEN")) None (codes "CA_OPEN") ∷ One (e.Column None (codes "CA_BAL")) None (codes "CA_BAL") ∷ [];
+  shown = One (e.Column None (codes "CA_ID")) None (codes "CA_ID") ∷ One (e.Column None (codes "CA_C_ID")) None (codes "CA_C_ID")
+      ∷ One (e.Column None (codes "CA_B_ID")) None (codes "CA_B_ID") ∷ One (e.Column None (codes "CA_NAME")) None (codes "CA_NAME")
+      ∷ One (e.Column None (codes "CA_TAX_ST")) None (codes "CA_TAX_ST") ∷ One (e.Column None (codes "CA_OPEN")) None (codes "CA_OPEN")
+      ∷ One (e.Column None (codes "CA_BAL")) None (codes "CA_BAL") ∷ [];
   from = source ∷ [];
   filter = None;
   group = [];
@@ -86,7 +89,8 @@ abbrev pub output : List ℕ → ℕ → Carried → Output
 output name place carried = record { name = name; is_alias = false; is_column = true; term = col 1 place; carried = carried }
 
 abbrev pub columns : List Output
-columns = output (codes "CA_ID") 0 nothing ∷ output (codes "CA_C_ID") 2 binary ∷ output (codes "CA_B_ID") 3 binary ∷ output (codes "CA_NAME") 4 binary ∷ output (codes "CA_TAX_ST") 5 binary ∷ output (codes "CA_OPEN") 6 binary ∷ output (codes "CA_BAL") 7 binary ∷ []
+columns = output (codes "CA_ID") 0 nothing ∷ output (codes "CA_C_ID") 2 binary ∷ output (codes "CA_B_ID") 3 binary ∷ output (codes "CA_NAME") 4 binary
+    ∷ output (codes "CA_TAX_ST") 5 binary ∷ output (codes "CA_OPEN") 6 binary ∷ output (codes "CA_BAL") 7 binary ∷ []
 
 abbrev pub names : List (List ℕ)
 names = codes "CA_ID" ∷ codes "CA_C_ID" ∷ codes "CA_B_ID" ∷ codes "CA_NAME" ∷ codes "CA_TAX_ST" ∷ codes "CA_OPEN" ∷ codes "CA_BAL" ∷ []
@@ -105,7 +109,8 @@ module _ (schema : Schema) (at tree : ℕ) (h : IsTableAt schema (account_table 
   shows : result lower (outermost schema) (level_one (codes "CUSTOMER_ACCOUNT") at []) core (fresh 2 max_budget) ≡ Ok (columns, after 7 binary)
   unfolding sql_lowering_definitions
   shows =
-      columns_shown schema at (account_table tree) found (codes "CUSTOMER_ACCOUNT") (account_table tree).columns (refl, refl, (refl, refl, (refl, refl, (refl, refl, (refl, refl, (refl, refl, (refl, refl, tt))))))) max_budget (max_budget - 8) refl core refl
+      columns_shown schema at (account_table tree) found (codes "CUSTOMER_ACCOUNT") (account_table tree).columns
+      (refl, refl, (refl, refl, (refl, refl, (refl, refl, (refl, refl, (refl, refl, (refl, refl, tt))))))) max_budget (max_budget - 8) refl core refl
 
   matches : matching lower (outermost schema) (level_one (codes "CUSTOMER_ACCOUNT") at columns) core (after 7 binary)
       ≡ Ok (record { steps = Inner tree ∷ []; filter = terms }, after 7 binary)
@@ -123,9 +128,12 @@ module _ (schema : Schema) (at tree : ℕ) (h : IsTableAt schema (account_table 
       (named_is schema core source (codes "CUSTOMER_ACCOUNT") at h.named refl refl refl refl columns (after 7 binary)
       (record { steps = Inner tree ∷ []; filter = terms }) (after 7 binary) shows matches by _ (after 8 nothing) _ refl refl sorted)
 
-  pub understood_as : (compiled schema statement ≡ Ok (meant (read statement) [] (Select (record { lets = []; body = selection tree terms project order paging }) names))) ⊎ (compiled schema statement ≡ Err Mismatch)
+  pub understood_as : (compiled schema statement
+      ≡ Ok (meant (read statement) [] (Select (record { lets = []; body = selection tree terms project order paging }) names)))
+      ⊎ (compiled schema statement ≡ Err Mismatch)
   unfolding everything
-  understood_as = reads_or schema statement (read statement) is_read.0 is_read.1 select (draft tree) names (None ∷ Some Binary ∷ Some Binary ∷ Some Binary ∷ Some Binary ∷ Some Binary ∷ Some Binary ∷ []) is_read.2 meaning_is
+  understood_as = reads_or schema statement (read statement) is_read.0 is_read.1 select (draft tree) names
+      (None ∷ Some Binary ∷ Some Binary ∷ Some Binary ∷ Some Binary ∷ Some Binary ∷ Some Binary ∷ []) is_read.2 meaning_is
 
 pub plain : (schema : Schema) (c : Compiled) → understood schema statement ≡ Ok c → c.returning ≡ None
 plain = no_returning statement (read statement) select is_read.0 is_read.1 is_read.2

@@ -51,7 +51,9 @@ source = roll-Source (record { is_left = false; origin = Table (codes "COMMISSIO
 abbrev pub core : Core
 core = roll-Core (record {
   distinct = false;
-  shown = One (e.Column None (codes "CR_C_TIER")) None (codes "CR_C_TIER") ∷ One (e.Column None (codes "CR_TT_ID")) None (codes "CR_TT_ID") ∷ One (e.Column None (codes "CR_EX_ID")) None (codes "CR_EX_ID") ∷ One (e.Column None (codes "CR_FROM_QTY")) None (codes "CR_FROM_QTY") ∷ One (e.Column None (codes "CR_TO_QTY")) None (codes "CR_TO_QTY") ∷ One (e.Column None (codes "CR_RATE")) None (codes "CR_RATE") ∷ [];
+  shown = One (e.Column None (codes "CR_C_TIER")) None (codes "CR_C_TIER") ∷ One (e.Column None (codes "CR_TT_ID")) None (codes "CR_TT_ID")
+      ∷ One (e.Column None (codes "CR_EX_ID")) None (codes "CR_EX_ID") ∷ One (e.Column None (codes "CR_FROM_QTY")) None (codes "CR_FROM_QTY")
+      ∷ One (e.Column None (codes "CR_TO_QTY")) None (codes "CR_TO_QTY") ∷ One (e.Column None (codes "CR_RATE")) None (codes "CR_RATE") ∷ [];
   from = source ∷ [];
   filter = None;
   group = [];
@@ -59,7 +61,10 @@ core = roll-Core (record {
 })
 
 abbrev pub by : List Sort
-by = roll-Sort (record { key = e.Column None (codes "CR_C_TIER"); descending = false; nulls_first = None }) ∷ roll-Sort (record { key = e.Column None (codes "CR_TT_ID"); descending = false; nulls_first = None }) ∷ roll-Sort (record { key = e.Column None (codes "CR_EX_ID"); descending = false; nulls_first = None }) ∷ roll-Sort (record { key = e.Column None (codes "CR_FROM_QTY"); descending = false; nulls_first = None }) ∷ []
+by = roll-Sort (record { key = e.Column None (codes "CR_C_TIER"); descending = false; nulls_first = None })
+    ∷ roll-Sort (record { key = e.Column None (codes "CR_TT_ID"); descending = false; nulls_first = None })
+    ∷ roll-Sort (record { key = e.Column None (codes "CR_EX_ID"); descending = false; nulls_first = None })
+    ∷ roll-Sort (record { key = e.Column None (codes "CR_FROM_QTY"); descending = false; nulls_first = None }) ∷ []
 
 abbrev pub select : ast.Select
 select = ast.roll-Select (record { with = []; first = core; others = []; order = by; limit = None; offset = None })
@@ -71,7 +76,8 @@ abbrev pub project : List Term
 project = col 1 1 ∷ col 1 2 ∷ col 1 3 ∷ col 1 4 ∷ col 1 5 ∷ col 1 6 ∷ []
 
 abbrev pub order : List (Term × Key)
-order = (col 1 1, record { collation = Binary; descending = false }) ∷ (col 1 2, record { collation = Binary; descending = false }) ∷ (col 1 3, record { collation = Binary; descending = false }) ∷ (col 1 4, record { collation = Binary; descending = false }) ∷ []
+order = (col 1 1, record { collation = Binary; descending = false }) ∷ (col 1 2, record { collation = Binary; descending = false })
+    ∷ (col 1 3, record { collation = Binary; descending = false }) ∷ (col 1 4, record { collation = Binary; descending = false }) ∷ []
 
 abbrev pub paging : Term × Term
 paging = (lit (Int (negsuc 0)), lit (Int (pos 0)))
@@ -86,7 +92,8 @@ abbrev pub output : List ℕ → ℕ → Carried → Output
 output name place carried = record { name = name; is_alias = false; is_column = true; term = col 1 place; carried = carried }
 
 abbrev pub columns : List Output
-columns = output (codes "CR_C_TIER") 1 binary ∷ output (codes "CR_TT_ID") 2 binary ∷ output (codes "CR_EX_ID") 3 binary ∷ output (codes "CR_FROM_QTY") 4 binary ∷ output (codes "CR_TO_QTY") 5 binary ∷ output (codes "CR_RATE") 6 binary ∷ []
+columns = output (codes "CR_C_TIER") 1 binary ∷ output (codes "CR_TT_ID") 2 binary ∷ output (codes "CR_EX_ID") 3 binary ∷ output (codes "CR_FROM_QTY") 4 binary
+    ∷ output (codes "CR_TO_QTY") 5 binary ∷ output (codes "CR_RATE") 6 binary ∷ []
 
 abbrev pub names : List (List ℕ)
 names = codes "CR_C_TIER" ∷ codes "CR_TT_ID" ∷ codes "CR_EX_ID" ∷ codes "CR_FROM_QTY" ∷ codes "CR_TO_QTY" ∷ codes "CR_RATE" ∷ []
@@ -105,7 +112,8 @@ module _ (schema : Schema) (at tree : ℕ) (h : IsTableAt schema (band_table tre
   shows : result lower (outermost schema) (level_one (codes "COMMISSION_RATE") at []) core (fresh 2 max_budget) ≡ Ok (columns, after 6 binary)
   unfolding sql_lowering_definitions
   shows =
-      columns_shown schema at (band_table tree) found (codes "COMMISSION_RATE") (band_table tree).columns (refl, refl, (refl, refl, (refl, refl, (refl, refl, (refl, refl, (refl, refl, tt)))))) max_budget (max_budget - 7) refl core refl
+      columns_shown schema at (band_table tree) found (codes "COMMISSION_RATE") (band_table tree).columns
+      (refl, refl, (refl, refl, (refl, refl, (refl, refl, (refl, refl, (refl, refl, tt)))))) max_budget (max_budget - 7) refl core refl
 
   matches : matching lower (outermost schema) (level_one (codes "COMMISSION_RATE") at columns) core (after 6 binary)
       ≡ Ok (record { steps = Inner tree ∷ []; filter = terms }, after 6 binary)
@@ -128,9 +136,12 @@ module _ (schema : Schema) (at tree : ℕ) (h : IsTableAt schema (band_table tre
       (named_is schema core source (codes "COMMISSION_RATE") at h.named refl refl refl refl columns (after 6 binary)
       (record { steps = Inner tree ∷ []; filter = terms }) (after 6 binary) shows matches by _ (after 10 binary) _ refl refl sorted)
 
-  pub understood_as : (compiled schema statement ≡ Ok (meant (read statement) [] (Select (record { lets = []; body = selection tree terms project order paging }) names))) ⊎ (compiled schema statement ≡ Err Mismatch)
+  pub understood_as : (compiled schema statement
+      ≡ Ok (meant (read statement) [] (Select (record { lets = []; body = selection tree terms project order paging }) names)))
+      ⊎ (compiled schema statement ≡ Err Mismatch)
   unfolding everything
-  understood_as = reads_or schema statement (read statement) is_read.0 is_read.1 select (draft tree) names (Some Binary ∷ Some Binary ∷ Some Binary ∷ Some Binary ∷ Some Binary ∷ Some Binary ∷ []) is_read.2 meaning_is
+  understood_as = reads_or schema statement (read statement) is_read.0 is_read.1 select (draft tree) names
+      (Some Binary ∷ Some Binary ∷ Some Binary ∷ Some Binary ∷ Some Binary ∷ Some Binary ∷ []) is_read.2 meaning_is
 
 pub plain : (schema : Schema) (c : Compiled) → understood schema statement ≡ Ok c → c.returning ≡ None
 plain = no_returning statement (read statement) select is_read.0 is_read.1 is_read.2

@@ -51,7 +51,8 @@ source = roll-Source (record { is_left = false; origin = Table (codes "BROKER");
 abbrev pub core : Core
 core = roll-Core (record {
   distinct = false;
-  shown = One (e.Column None (codes "B_ID")) None (codes "B_ID") ∷ One (e.Column None (codes "B_NAME")) None (codes "B_NAME") ∷ One (e.Column None (codes "B_NUM_TRADES")) None (codes "B_NUM_TRADES") ∷ One (e.Column None (codes "B_COMM_TOTAL")) None (codes "B_COMM_TOTAL") ∷ [];
+  shown = One (e.Column None (codes "B_ID")) None (codes "B_ID") ∷ One (e.Column None (codes "B_NAME")) None (codes "B_NAME")
+      ∷ One (e.Column None (codes "B_NUM_TRADES")) None (codes "B_NUM_TRADES") ∷ One (e.Column None (codes "B_COMM_TOTAL")) None (codes "B_COMM_TOTAL") ∷ [];
   from = source ∷ [];
   filter = None;
   group = [];
@@ -105,7 +106,8 @@ module _ (schema : Schema) (at tree : ℕ) (h : IsTableAt schema (broker_table t
   shows : result lower (outermost schema) (level_one (codes "BROKER") at []) core (fresh 2 max_budget) ≡ Ok (columns, after 4 binary)
   unfolding sql_lowering_definitions
   shows =
-      columns_shown schema at (broker_table tree) found (codes "BROKER") (broker_table tree).columns (refl, refl, (refl, refl, (refl, refl, (refl, refl, tt)))) max_budget (max_budget - 5) refl core refl
+      columns_shown schema at (broker_table tree) found (codes "BROKER") (broker_table tree).columns (refl, refl, (refl, refl, (refl, refl, (refl, refl, tt))))
+      max_budget (max_budget - 5) refl core refl
 
   matches : matching lower (outermost schema) (level_one (codes "BROKER") at columns) core (after 4 binary)
       ≡ Ok (record { steps = Inner tree ∷ []; filter = terms }, after 4 binary)
@@ -123,7 +125,9 @@ module _ (schema : Schema) (at tree : ℕ) (h : IsTableAt schema (broker_table t
       (named_is schema core source (codes "BROKER") at h.named refl refl refl refl columns (after 4 binary)
       (record { steps = Inner tree ∷ []; filter = terms }) (after 4 binary) shows matches by _ (after 5 nothing) _ refl refl sorted)
 
-  pub understood_as : (compiled schema statement ≡ Ok (meant (read statement) [] (Select (record { lets = []; body = selection tree terms project order paging }) names))) ⊎ (compiled schema statement ≡ Err Mismatch)
+  pub understood_as : (compiled schema statement
+      ≡ Ok (meant (read statement) [] (Select (record { lets = []; body = selection tree terms project order paging }) names)))
+      ⊎ (compiled schema statement ≡ Err Mismatch)
   unfolding everything
   understood_as = reads_or schema statement (read statement) is_read.0 is_read.1 select (draft tree) names (None ∷ Some Binary ∷ Some Binary ∷ Some Binary ∷ []) is_read.2 meaning_is
 

@@ -51,7 +51,8 @@ source = roll-Source (record { is_left = false; origin = Table (codes "CHARGE");
 abbrev pub core : Core
 core = roll-Core (record {
   distinct = false;
-  shown = One (e.Column None (codes "CH_TT_ID")) None (codes "CH_TT_ID") ∷ One (e.Column None (codes "CH_C_TIER")) None (codes "CH_C_TIER") ∷ One (e.Column None (codes "CH_CHRG")) None (codes "CH_CHRG") ∷ [];
+  shown = One (e.Column None (codes "CH_TT_ID")) None (codes "CH_TT_ID") ∷ One (e.Column None (codes "CH_C_TIER")) None (codes "CH_C_TIER")
+      ∷ One (e.Column None (codes "CH_CHRG")) None (codes "CH_CHRG") ∷ [];
   from = source ∷ [];
   filter = None;
   group = [];
@@ -59,7 +60,8 @@ core = roll-Core (record {
 })
 
 abbrev pub by : List Sort
-by = roll-Sort (record { key = e.Column None (codes "CH_TT_ID"); descending = false; nulls_first = None }) ∷ roll-Sort (record { key = e.Column None (codes "CH_C_TIER"); descending = false; nulls_first = None }) ∷ []
+by = roll-Sort (record { key = e.Column None (codes "CH_TT_ID"); descending = false; nulls_first = None })
+    ∷ roll-Sort (record { key = e.Column None (codes "CH_C_TIER"); descending = false; nulls_first = None }) ∷ []
 
 abbrev pub select : ast.Select
 select = ast.roll-Select (record { with = []; first = core; others = []; order = by; limit = None; offset = None })
@@ -126,7 +128,9 @@ module _ (schema : Schema) (at tree : ℕ) (h : IsTableAt schema (charge_table t
       (named_is schema core source (codes "CHARGE") at h.named refl refl refl refl columns (after 3 binary)
       (record { steps = Inner tree ∷ []; filter = terms }) (after 3 binary) shows matches by _ (after 5 binary) _ refl refl sorted)
 
-  pub understood_as : (compiled schema statement ≡ Ok (meant (read statement) [] (Select (record { lets = []; body = selection tree terms project order paging }) names))) ⊎ (compiled schema statement ≡ Err Mismatch)
+  pub understood_as : (compiled schema statement
+      ≡ Ok (meant (read statement) [] (Select (record { lets = []; body = selection tree terms project order paging }) names)))
+      ⊎ (compiled schema statement ≡ Err Mismatch)
   unfolding everything
   understood_as = reads_or schema statement (read statement) is_read.0 is_read.1 select (draft tree) names (Some Binary ∷ Some Binary ∷ Some Binary ∷ []) is_read.2 meaning_is
 

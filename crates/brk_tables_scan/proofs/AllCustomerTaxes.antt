@@ -59,7 +59,8 @@ core = roll-Core (record {
 })
 
 abbrev pub by : List Sort
-by = roll-Sort (record { key = e.Column None (codes "CX_C_ID"); descending = false; nulls_first = None }) ∷ roll-Sort (record { key = e.Column None (codes "CX_TX_ID"); descending = false; nulls_first = None }) ∷ []
+by = roll-Sort (record { key = e.Column None (codes "CX_C_ID"); descending = false; nulls_first = None })
+    ∷ roll-Sort (record { key = e.Column None (codes "CX_TX_ID"); descending = false; nulls_first = None }) ∷ []
 
 abbrev pub select : ast.Select
 select = ast.roll-Select (record { with = []; first = core; others = []; order = by; limit = None; offset = None })
@@ -126,7 +127,9 @@ module _ (schema : Schema) (at tree : ℕ) (h : IsTableAt schema (customer_tax_t
       (named_is schema core source (codes "CUSTOMER_TAXRATE") at h.named refl refl refl refl columns (after 2 binary)
       (record { steps = Inner tree ∷ []; filter = terms }) (after 2 binary) shows matches by _ (after 4 binary) _ refl refl sorted)
 
-  pub understood_as : (compiled schema statement ≡ Ok (meant (read statement) [] (Select (record { lets = []; body = selection tree terms project order paging }) names))) ⊎ (compiled schema statement ≡ Err Mismatch)
+  pub understood_as : (compiled schema statement
+      ≡ Ok (meant (read statement) [] (Select (record { lets = []; body = selection tree terms project order paging }) names)))
+      ⊎ (compiled schema statement ≡ Err Mismatch)
   unfolding everything
   understood_as = reads_or schema statement (read statement) is_read.0 is_read.1 select (draft tree) names (Some Binary ∷ Some Binary ∷ []) is_read.2 meaning_is
 

@@ -51,7 +51,9 @@ source = roll-Source (record { is_left = false; origin = Table (codes "CUSTOMER"
 abbrev pub core : Core
 core = roll-Core (record {
   distinct = false;
-  shown = One (e.Column None (codes "C_ID")) None (codes "C_ID") ∷ One (e.Column None (codes "C_TIER")) None (codes "C_TIER") ∷ One (e.Column None (codes "C_TAX_ID")) None (codes "C_TAX_ID") ∷ One (e.Column None (codes "C_L_NAME")) None (codes "C_L_NAME") ∷ One (e.Column None (codes "C_F_NAME")) None (codes "C_F_NAME") ∷ [];
+  shown = One (e.Column None (codes "C_ID")) None (codes "C_ID") ∷ One (e.Column None (codes "C_TIER")) None (codes "C_TIER")
+      ∷ One (e.Column None (codes "C_TAX_ID")) None (codes "C_TAX_ID") ∷ One (e.Column None (codes "C_L_NAME")) None (codes "C_L_NAME")
+      ∷ One (e.Column None (codes "C_F_NAME")) None (codes "C_F_NAME") ∷ [];
   from = source ∷ [];
   filter = None;
   group = [];
@@ -105,7 +107,8 @@ module _ (schema : Schema) (at tree : ℕ) (h : IsTableAt schema (customer_table
   shows : result lower (outermost schema) (level_one (codes "CUSTOMER") at []) core (fresh 2 max_budget) ≡ Ok (columns, after 5 binary)
   unfolding sql_lowering_definitions
   shows =
-      columns_shown schema at (customer_table tree) found (codes "CUSTOMER") (customer_table tree).columns (refl, refl, (refl, refl, (refl, refl, (refl, refl, (refl, refl, tt))))) max_budget (max_budget - 6) refl core refl
+      columns_shown schema at (customer_table tree) found (codes "CUSTOMER") (customer_table tree).columns
+      (refl, refl, (refl, refl, (refl, refl, (refl, refl, (refl, refl, tt))))) max_budget (max_budget - 6) refl core refl
 
   matches : matching lower (outermost schema) (level_one (codes "CUSTOMER") at columns) core (after 5 binary)
       ≡ Ok (record { steps = Inner tree ∷ []; filter = terms }, after 5 binary)
@@ -123,7 +126,9 @@ module _ (schema : Schema) (at tree : ℕ) (h : IsTableAt schema (customer_table
       (named_is schema core source (codes "CUSTOMER") at h.named refl refl refl refl columns (after 5 binary)
       (record { steps = Inner tree ∷ []; filter = terms }) (after 5 binary) shows matches by _ (after 6 nothing) _ refl refl sorted)
 
-  pub understood_as : (compiled schema statement ≡ Ok (meant (read statement) [] (Select (record { lets = []; body = selection tree terms project order paging }) names))) ⊎ (compiled schema statement ≡ Err Mismatch)
+  pub understood_as : (compiled schema statement
+      ≡ Ok (meant (read statement) [] (Select (record { lets = []; body = selection tree terms project order paging }) names)))
+      ⊎ (compiled schema statement ≡ Err Mismatch)
   unfolding everything
   understood_as = reads_or schema statement (read statement) is_read.0 is_read.1 select (draft tree) names (None ∷ Some Binary ∷ Some Binary ∷ Some Binary ∷ Some Binary ∷ []) is_read.2 meaning_is
 

@@ -51,7 +51,8 @@ source = roll-Source (record { is_left = false; origin = Table (codes "HOLDING_H
 abbrev pub core : Core
 core = roll-Core (record {
   distinct = false;
-  shown = One (e.Column None (codes "HH_H_T_ID")) None (codes "HH_H_T_ID") ∷ One (e.Column None (codes "HH_T_ID")) None (codes "HH_T_ID") ∷ One (e.Column None (codes "HH_BEFORE_QTY")) None (codes "HH_BEFORE_QTY") ∷ One (e.Column None (codes "HH_AFTER_QTY")) None (codes "HH_AFTER_QTY") ∷ [];
+  shown = One (e.Column None (codes "HH_H_T_ID")) None (codes "HH_H_T_ID") ∷ One (e.Column None (codes "HH_T_ID")) None (codes "HH_T_ID")
+      ∷ One (e.Column None (codes "HH_BEFORE_QTY")) None (codes "HH_BEFORE_QTY") ∷ One (e.Column None (codes "HH_AFTER_QTY")) None (codes "HH_AFTER_QTY") ∷ [];
   from = source ∷ [];
   filter = None;
   group = [];
@@ -59,7 +60,8 @@ core = roll-Core (record {
 })
 
 abbrev pub by : List Sort
-by = roll-Sort (record { key = e.Column None (codes "HH_H_T_ID"); descending = false; nulls_first = None }) ∷ roll-Sort (record { key = e.Column None (codes "HH_T_ID"); descending = false; nulls_first = None }) ∷ []
+by = roll-Sort (record { key = e.Column None (codes "HH_H_T_ID"); descending = false; nulls_first = None })
+    ∷ roll-Sort (record { key = e.Column None (codes "HH_T_ID"); descending = false; nulls_first = None }) ∷ []
 
 abbrev pub select : ast.Select
 select = ast.roll-Select (record { with = []; first = core; others = []; order = by; limit = None; offset = None })
@@ -105,7 +107,8 @@ module _ (schema : Schema) (at tree : ℕ) (h : IsTableAt schema (holding_histor
   shows : result lower (outermost schema) (level_one (codes "HOLDING_HISTORY") at []) core (fresh 2 max_budget) ≡ Ok (columns, after 4 binary)
   unfolding sql_lowering_definitions
   shows =
-      columns_shown schema at (holding_history_table tree) found (codes "HOLDING_HISTORY") (holding_history_table tree).columns (refl, refl, (refl, refl, (refl, refl, (refl, refl, tt)))) max_budget (max_budget - 5) refl core refl
+      columns_shown schema at (holding_history_table tree) found (codes "HOLDING_HISTORY") (holding_history_table tree).columns
+      (refl, refl, (refl, refl, (refl, refl, (refl, refl, tt)))) max_budget (max_budget - 5) refl core refl
 
   matches : matching lower (outermost schema) (level_one (codes "HOLDING_HISTORY") at columns) core (after 4 binary)
       ≡ Ok (record { steps = Inner tree ∷ []; filter = terms }, after 4 binary)
@@ -126,7 +129,9 @@ module _ (schema : Schema) (at tree : ℕ) (h : IsTableAt schema (holding_histor
       (named_is schema core source (codes "HOLDING_HISTORY") at h.named refl refl refl refl columns (after 4 binary)
       (record { steps = Inner tree ∷ []; filter = terms }) (after 4 binary) shows matches by _ (after 6 binary) _ refl refl sorted)
 
-  pub understood_as : (compiled schema statement ≡ Ok (meant (read statement) [] (Select (record { lets = []; body = selection tree terms project order paging }) names))) ⊎ (compiled schema statement ≡ Err Mismatch)
+  pub understood_as : (compiled schema statement
+      ≡ Ok (meant (read statement) [] (Select (record { lets = []; body = selection tree terms project order paging }) names)))
+      ⊎ (compiled schema statement ≡ Err Mismatch)
   unfolding everything
   understood_as = reads_or schema statement (read statement) is_read.0 is_read.1 select (draft tree) names (Some Binary ∷ Some Binary ∷ Some Binary ∷ Some Binary ∷ []) is_read.2 meaning_is
 

@@ -51,7 +51,9 @@ source = roll-Source (record { is_left = false; origin = Table (codes "HOLDING")
 abbrev pub core : Core
 core = roll-Core (record {
   distinct = false;
-  shown = One (e.Column None (codes "H_T_ID")) None (codes "H_T_ID") ∷ One (e.Column None (codes "H_CA_ID")) None (codes "H_CA_ID") ∷ One (e.Column None (codes "H_S_SYMB")) None (codes "H_S_SYMB") ∷ One (e.Column None (codes "H_DTS")) None (codes "H_DTS") ∷ One (e.Column None (codes "H_PRICE")) None (codes "H_PRICE") ∷ One (e.Column None (codes "H_QTY")) None (codes "H_QTY") ∷ [];
+  shown = One (e.Column None (codes "H_T_ID")) None (codes "H_T_ID") ∷ One (e.Column None (codes "H_CA_ID")) None (codes "H_CA_ID")
+      ∷ One (e.Column None (codes "H_S_SYMB")) None (codes "H_S_SYMB") ∷ One (e.Column None (codes "H_DTS")) None (codes "H_DTS")
+      ∷ One (e.Column None (codes "H_PRICE")) None (codes "H_PRICE") ∷ One (e.Column None (codes "H_QTY")) None (codes "H_QTY") ∷ [];
   from = source ∷ [];
   filter = None;
   group = [];
@@ -86,7 +88,8 @@ abbrev pub output : List ℕ → ℕ → Carried → Output
 output name place carried = record { name = name; is_alias = false; is_column = true; term = col 1 place; carried = carried }
 
 abbrev pub columns : List Output
-columns = output (codes "H_T_ID") 0 nothing ∷ output (codes "H_CA_ID") 2 binary ∷ output (codes "H_S_SYMB") 3 binary ∷ output (codes "H_DTS") 4 binary ∷ output (codes "H_PRICE") 5 binary ∷ output (codes "H_QTY") 6 binary ∷ []
+columns = output (codes "H_T_ID") 0 nothing ∷ output (codes "H_CA_ID") 2 binary ∷ output (codes "H_S_SYMB") 3 binary ∷ output (codes "H_DTS") 4 binary
+    ∷ output (codes "H_PRICE") 5 binary ∷ output (codes "H_QTY") 6 binary ∷ []
 
 abbrev pub names : List (List ℕ)
 names = codes "H_T_ID" ∷ codes "H_CA_ID" ∷ codes "H_S_SYMB" ∷ codes "H_DTS" ∷ codes "H_PRICE" ∷ codes "H_QTY" ∷ []
@@ -105,7 +108,8 @@ module _ (schema : Schema) (at tree : ℕ) (h : IsTableAt schema (holding_table 
   shows : result lower (outermost schema) (level_one (codes "HOLDING") at []) core (fresh 2 max_budget) ≡ Ok (columns, after 6 binary)
   unfolding sql_lowering_definitions
   shows =
-      columns_shown schema at (holding_table tree) found (codes "HOLDING") (holding_table tree).columns (refl, refl, (refl, refl, (refl, refl, (refl, refl, (refl, refl, (refl, refl, tt)))))) max_budget (max_budget - 7) refl core refl
+      columns_shown schema at (holding_table tree) found (codes "HOLDING") (holding_table tree).columns
+      (refl, refl, (refl, refl, (refl, refl, (refl, refl, (refl, refl, (refl, refl, tt)))))) max_budget (max_budget - 7) refl core refl
 
   matches : matching lower (outermost schema) (level_one (codes "HOLDING") at columns) core (after 6 binary)
       ≡ Ok (record { steps = Inner tree ∷ []; filter = terms }, after 6 binary)
@@ -123,9 +127,12 @@ module _ (schema : Schema) (at tree : ℕ) (h : IsTableAt schema (holding_table 
       (named_is schema core source (codes "HOLDING") at h.named refl refl refl refl columns (after 6 binary)
       (record { steps = Inner tree ∷ []; filter = terms }) (after 6 binary) shows matches by _ (after 7 nothing) _ refl refl sorted)
 
-  pub understood_as : (compiled schema statement ≡ Ok (meant (read statement) [] (Select (record { lets = []; body = selection tree terms project order paging }) names))) ⊎ (compiled schema statement ≡ Err Mismatch)
+  pub understood_as : (compiled schema statement
+      ≡ Ok (meant (read statement) [] (Select (record { lets = []; body = selection tree terms project order paging }) names)))
+      ⊎ (compiled schema statement ≡ Err Mismatch)
   unfolding everything
-  understood_as = reads_or schema statement (read statement) is_read.0 is_read.1 select (draft tree) names (None ∷ Some Binary ∷ Some Binary ∷ Some Binary ∷ Some Binary ∷ Some Binary ∷ []) is_read.2 meaning_is
+  understood_as = reads_or schema statement (read statement) is_read.0 is_read.1 select (draft tree) names
+      (None ∷ Some Binary ∷ Some Binary ∷ Some Binary ∷ Some Binary ∷ Some Binary ∷ []) is_read.2 meaning_is
 
 pub plain : (schema : Schema) (c : Compiled) → understood schema statement ≡ Ok c → c.returning ≡ None
 plain = no_returning statement (read statement) select is_read.0 is_read.1 is_read.2

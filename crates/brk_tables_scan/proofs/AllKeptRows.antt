@@ -51,7 +51,8 @@ source = roll-Source (record { is_left = false; origin = Table (codes "KEPT"); a
 abbrev pub core : Core
 core = roll-Core (record {
   distinct = false;
-  shown = One (e.Column None (codes "K_BATCH")) None (codes "K_BATCH") ∷ One (e.Column None (codes "K_N")) None (codes "K_N") ∷ One (e.Column None (codes "K_ROW")) None (codes "K_ROW") ∷ One (e.Column None (codes "K_LINE")) None (codes "K_LINE") ∷ [];
+  shown = One (e.Column None (codes "K_BATCH")) None (codes "K_BATCH") ∷ One (e.Column None (codes "K_N")) None (codes "K_N")
+      ∷ One (e.Column None (codes "K_ROW")) None (codes "K_ROW") ∷ One (e.Column None (codes "K_LINE")) None (codes "K_LINE") ∷ [];
   from = source ∷ [];
   filter = None;
   group = [];
@@ -59,7 +60,8 @@ core = roll-Core (record {
 })
 
 abbrev pub by : List Sort
-by = roll-Sort (record { key = e.Column None (codes "K_BATCH"); descending = false; nulls_first = None }) ∷ roll-Sort (record { key = e.Column None (codes "K_N"); descending = false; nulls_first = None }) ∷ []
+by = roll-Sort (record { key = e.Column None (codes "K_BATCH"); descending = false; nulls_first = None })
+    ∷ roll-Sort (record { key = e.Column None (codes "K_N"); descending = false; nulls_first = None }) ∷ []
 
 abbrev pub select : ast.Select
 select = ast.roll-Select (record { with = []; first = core; others = []; order = by; limit = None; offset = None })
@@ -126,7 +128,9 @@ module _ (schema : Schema) (at tree : ℕ) (h : IsTableAt schema (kept_table tre
       (named_is schema core source (codes "KEPT") at h.named refl refl refl refl columns (after 4 binary)
       (record { steps = Inner tree ∷ []; filter = terms }) (after 4 binary) shows matches by _ (after 6 binary) _ refl refl sorted)
 
-  pub understood_as : (compiled schema statement ≡ Ok (meant (read statement) [] (Select (record { lets = []; body = selection tree terms project order paging }) names))) ⊎ (compiled schema statement ≡ Err Mismatch)
+  pub understood_as : (compiled schema statement
+      ≡ Ok (meant (read statement) [] (Select (record { lets = []; body = selection tree terms project order paging }) names)))
+      ⊎ (compiled schema statement ≡ Err Mismatch)
   unfolding everything
   understood_as = reads_or schema statement (read statement) is_read.0 is_read.1 select (draft tree) names (Some Binary ∷ Some Binary ∷ Some Binary ∷ Some Binary ∷ []) is_read.2 meaning_is
 

@@ -51,7 +51,8 @@ source = roll-Source (record { is_left = false; origin = Table (codes "LAST_TRAD
 abbrev pub core : Core
 core = roll-Core (record {
   distinct = false;
-  shown = One (e.Column None (codes "LT_S_SYMB")) None (codes "LT_S_SYMB") ∷ One (e.Column None (codes "LT_DTS")) None (codes "LT_DTS") ∷ One (e.Column None (codes "LT_PRICE")) None (codes "LT_PRICE") ∷ One (e.Column None (codes "LT_VOL")) None (codes "LT_VOL") ∷ [];
+  shown = One (e.Column None (codes "LT_S_SYMB")) None (codes "LT_S_SYMB") ∷ One (e.Column None (codes "LT_DTS")) None (codes "LT_DTS")
+      ∷ One (e.Column None (codes "LT_PRICE")) None (codes "LT_PRICE") ∷ One (e.Column None (codes "LT_VOL")) None (codes "LT_VOL") ∷ [];
   from = source ∷ [];
   filter = None;
   group = [];
@@ -105,7 +106,8 @@ module _ (schema : Schema) (at tree : ℕ) (h : IsTableAt schema (last_trade_tab
   shows : result lower (outermost schema) (level_one (codes "LAST_TRADE") at []) core (fresh 2 max_budget) ≡ Ok (columns, after 4 binary)
   unfolding sql_lowering_definitions
   shows =
-      columns_shown schema at (last_trade_table tree) found (codes "LAST_TRADE") (last_trade_table tree).columns (refl, refl, (refl, refl, (refl, refl, (refl, refl, tt)))) max_budget (max_budget - 5) refl core refl
+      columns_shown schema at (last_trade_table tree) found (codes "LAST_TRADE") (last_trade_table tree).columns
+      (refl, refl, (refl, refl, (refl, refl, (refl, refl, tt)))) max_budget (max_budget - 5) refl core refl
 
   matches : matching lower (outermost schema) (level_one (codes "LAST_TRADE") at columns) core (after 4 binary)
       ≡ Ok (record { steps = Inner tree ∷ []; filter = terms }, after 4 binary)
@@ -123,7 +125,9 @@ module _ (schema : Schema) (at tree : ℕ) (h : IsTableAt schema (last_trade_tab
       (named_is schema core source (codes "LAST_TRADE") at h.named refl refl refl refl columns (after 4 binary)
       (record { steps = Inner tree ∷ []; filter = terms }) (after 4 binary) shows matches by _ (after 5 binary) _ refl refl sorted)
 
-  pub understood_as : (compiled schema statement ≡ Ok (meant (read statement) [] (Select (record { lets = []; body = selection tree terms project order paging }) names))) ⊎ (compiled schema statement ≡ Err Mismatch)
+  pub understood_as : (compiled schema statement
+      ≡ Ok (meant (read statement) [] (Select (record { lets = []; body = selection tree terms project order paging }) names)))
+      ⊎ (compiled schema statement ≡ Err Mismatch)
   unfolding everything
   understood_as = reads_or schema statement (read statement) is_read.0 is_read.1 select (draft tree) names (Some Binary ∷ Some Binary ∷ Some Binary ∷ Some Binary ∷ []) is_read.2 meaning_is
 

@@ -51,7 +51,9 @@ source = roll-Source (record { is_left = false; origin = Table (codes "ACCOUNT_P
 abbrev pub core : Core
 core = roll-Core (record {
   distinct = false;
-  shown = One (e.Column None (codes "AP_CA_ID")) None (codes "AP_CA_ID") ∷ One (e.Column None (codes "AP_TAX_ID")) None (codes "AP_TAX_ID") ∷ One (e.Column None (codes "AP_ACL")) None (codes "AP_ACL") ∷ One (e.Column None (codes "AP_L_NAME")) None (codes "AP_L_NAME") ∷ One (e.Column None (codes "AP_F_NAME")) None (codes "AP_F_NAME") ∷ [];
+  shown = One (e.Column None (codes "AP_CA_ID")) None (codes "AP_CA_ID") ∷ One (e.Column None (codes "AP_TAX_ID")) None (codes "AP_TAX_ID")
+      ∷ One (e.Column None (codes "AP_ACL")) None (codes "AP_ACL") ∷ One (e.Column None (codes "AP_L_NAME")) None (codes "AP_L_NAME")
+      ∷ One (e.Column None (codes "AP_F_NAME")) None (codes "AP_F_NAME") ∷ [];
   from = source ∷ [];
   filter = None;
   group = [];
@@ -59,7 +61,8 @@ core = roll-Core (record {
 })
 
 abbrev pub by : List Sort
-by = roll-Sort (record { key = e.Column None (codes "AP_CA_ID"); descending = false; nulls_first = None }) ∷ roll-Sort (record { key = e.Column None (codes "AP_TAX_ID"); descending = false; nulls_first = None }) ∷ []
+by = roll-Sort (record { key = e.Column None (codes "AP_CA_ID"); descending = false; nulls_first = None })
+    ∷ roll-Sort (record { key = e.Column None (codes "AP_TAX_ID"); descending = false; nulls_first = None }) ∷ []
 
 abbrev pub select : ast.Select
 select = ast.roll-Select (record { with = []; first = core; others = []; order = by; limit = None; offset = None })
@@ -105,7 +108,8 @@ module _ (schema : Schema) (at tree : ℕ) (h : IsTableAt schema (permission_tab
   shows : result lower (outermost schema) (level_one (codes "ACCOUNT_PERMISSION") at []) core (fresh 2 max_budget) ≡ Ok (columns, after 5 binary)
   unfolding sql_lowering_definitions
   shows =
-      columns_shown schema at (permission_table tree) found (codes "ACCOUNT_PERMISSION") (permission_table tree).columns (refl, refl, (refl, refl, (refl, refl, (refl, refl, (refl, refl, tt))))) max_budget (max_budget - 6) refl core refl
+      columns_shown schema at (permission_table tree) found (codes "ACCOUNT_PERMISSION") (permission_table tree).columns
+      (refl, refl, (refl, refl, (refl, refl, (refl, refl, (refl, refl, tt))))) max_budget (max_budget - 6) refl core refl
 
   matches : matching lower (outermost schema) (level_one (codes "ACCOUNT_PERMISSION") at columns) core (after 5 binary)
       ≡ Ok (record { steps = Inner tree ∷ []; filter = terms }, after 5 binary)
@@ -126,9 +130,12 @@ module _ (schema : Schema) (at tree : ℕ) (h : IsTableAt schema (permission_tab
       (named_is schema core source (codes "ACCOUNT_PERMISSION") at h.named refl refl refl refl columns (after 5 binary)
       (record { steps = Inner tree ∷ []; filter = terms }) (after 5 binary) shows matches by _ (after 7 binary) _ refl refl sorted)
 
-  pub understood_as : (compiled schema statement ≡ Ok (meant (read statement) [] (Select (record { lets = []; body = selection tree terms project order paging }) names))) ⊎ (compiled schema statement ≡ Err Mismatch)
+  pub understood_as : (compiled schema statement
+      ≡ Ok (meant (read statement) [] (Select (record { lets = []; body = selection tree terms project order paging }) names)))
+      ⊎ (compiled schema statement ≡ Err Mismatch)
   unfolding everything
-  understood_as = reads_or schema statement (read statement) is_read.0 is_read.1 select (draft tree) names (Some Binary ∷ Some Binary ∷ Some Binary ∷ Some Binary ∷ Some Binary ∷ []) is_read.2 meaning_is
+  understood_as = reads_or schema statement (read statement) is_read.0 is_read.1 select (draft tree) names
+      (Some Binary ∷ Some Binary ∷ Some Binary ∷ Some Binary ∷ Some Binary ∷ []) is_read.2 meaning_is
 
 pub plain : (schema : Schema) (c : Compiled) → understood schema statement ≡ Ok c → c.returning ≡ None
 plain = no_returning statement (read statement) select is_read.0 is_read.1 is_read.2

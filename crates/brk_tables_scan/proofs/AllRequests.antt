@@ -51,7 +51,9 @@ source = roll-Source (record { is_left = false; origin = Table (codes "TRADE_REQ
 abbrev pub core : Core
 core = roll-Core (record {
   distinct = false;
-  shown = One (e.Column None (codes "TR_T_ID")) None (codes "TR_T_ID") ∷ One (e.Column None (codes "TR_TT_ID")) None (codes "TR_TT_ID") ∷ One (e.Column None (codes "TR_S_SYMB")) None (codes "TR_S_SYMB") ∷ One (e.Column None (codes "TR_QTY")) None (codes "TR_QTY") ∷ One (e.Column None (codes "TR_BID_PRICE")) None (codes "TR_BID_PRICE") ∷ One (e.Column None (codes "TR_B_ID")) None (codes "TR_B_ID") ∷ [];
+  shown = One (e.Column None (codes "TR_T_ID")) None (codes "TR_T_ID") ∷ One (e.Column None (codes "TR_TT_ID")) None (codes "TR_TT_ID")
+      ∷ One (e.Column None (codes "TR_S_SYMB")) None (codes "TR_S_SYMB") ∷ One (e.Column None (codes "TR_QTY")) None (codes "TR_QTY")
+      ∷ One (e.Column None (codes "TR_BID_PRICE")) None (codes "TR_BID_PRICE") ∷ One (e.Column None (codes "TR_B_ID")) None (codes "TR_B_ID") ∷ [];
   from = source ∷ [];
   filter = None;
   group = [];
@@ -86,7 +88,8 @@ abbrev pub output : List ℕ → ℕ → Carried → Output
 output name place carried = record { name = name; is_alias = false; is_column = true; term = col 1 place; carried = carried }
 
 abbrev pub columns : List Output
-columns = output (codes "TR_T_ID") 0 nothing ∷ output (codes "TR_TT_ID") 2 binary ∷ output (codes "TR_S_SYMB") 3 binary ∷ output (codes "TR_QTY") 4 binary ∷ output (codes "TR_BID_PRICE") 5 binary ∷ output (codes "TR_B_ID") 6 binary ∷ []
+columns = output (codes "TR_T_ID") 0 nothing ∷ output (codes "TR_TT_ID") 2 binary ∷ output (codes "TR_S_SYMB") 3 binary ∷ output (codes "TR_QTY") 4 binary
+    ∷ output (codes "TR_BID_PRICE") 5 binary ∷ output (codes "TR_B_ID") 6 binary ∷ []
 
 abbrev pub names : List (List ℕ)
 names = codes "TR_T_ID" ∷ codes "TR_TT_ID" ∷ codes "TR_S_SYMB" ∷ codes "TR_QTY" ∷ codes "TR_BID_PRICE" ∷ codes "TR_B_ID" ∷ []
@@ -105,7 +108,8 @@ module _ (schema : Schema) (at tree : ℕ) (h : IsTableAt schema (request_table 
   shows : result lower (outermost schema) (level_one (codes "TRADE_REQUEST") at []) core (fresh 2 max_budget) ≡ Ok (columns, after 6 binary)
   unfolding sql_lowering_definitions
   shows =
-      columns_shown schema at (request_table tree) found (codes "TRADE_REQUEST") (request_table tree).columns (refl, refl, (refl, refl, (refl, refl, (refl, refl, (refl, refl, (refl, refl, tt)))))) max_budget (max_budget - 7) refl core refl
+      columns_shown schema at (request_table tree) found (codes "TRADE_REQUEST") (request_table tree).columns
+      (refl, refl, (refl, refl, (refl, refl, (refl, refl, (refl, refl, (refl, refl, tt)))))) max_budget (max_budget - 7) refl core refl
 
   matches : matching lower (outermost schema) (level_one (codes "TRADE_REQUEST") at columns) core (after 6 binary)
       ≡ Ok (record { steps = Inner tree ∷ []; filter = terms }, after 6 binary)
@@ -123,9 +127,12 @@ module _ (schema : Schema) (at tree : ℕ) (h : IsTableAt schema (request_table 
       (named_is schema core source (codes "TRADE_REQUEST") at h.named refl refl refl refl columns (after 6 binary)
       (record { steps = Inner tree ∷ []; filter = terms }) (after 6 binary) shows matches by _ (after 7 nothing) _ refl refl sorted)
 
-  pub understood_as : (compiled schema statement ≡ Ok (meant (read statement) [] (Select (record { lets = []; body = selection tree terms project order paging }) names))) ⊎ (compiled schema statement ≡ Err Mismatch)
+  pub understood_as : (compiled schema statement
+      ≡ Ok (meant (read statement) [] (Select (record { lets = []; body = selection tree terms project order paging }) names)))
+      ⊎ (compiled schema statement ≡ Err Mismatch)
   unfolding everything
-  understood_as = reads_or schema statement (read statement) is_read.0 is_read.1 select (draft tree) names (None ∷ Some Binary ∷ Some Binary ∷ Some Binary ∷ Some Binary ∷ Some Binary ∷ []) is_read.2 meaning_is
+  understood_as = reads_or schema statement (read statement) is_read.0 is_read.1 select (draft tree) names
+      (None ∷ Some Binary ∷ Some Binary ∷ Some Binary ∷ Some Binary ∷ Some Binary ∷ []) is_read.2 meaning_is
 
 pub plain : (schema : Schema) (c : Compiled) → understood schema statement ≡ Ok c → c.returning ≡ None
 plain = no_returning statement (read statement) select is_read.0 is_read.1 is_read.2

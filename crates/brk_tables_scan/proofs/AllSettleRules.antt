@@ -123,7 +123,9 @@ module _ (schema : Schema) (at tree : ℕ) (h : IsTableAt schema (rule_table tre
       (named_is schema core source (codes "SETTLE_RULE") at h.named refl refl refl refl columns (after 2 binary)
       (record { steps = Inner tree ∷ []; filter = terms }) (after 2 binary) shows matches by _ (after 3 nothing) _ refl refl sorted)
 
-  pub understood_as : (compiled schema statement ≡ Ok (meant (read statement) [] (Select (record { lets = []; body = selection tree terms project order paging }) names))) ⊎ (compiled schema statement ≡ Err Mismatch)
+  pub understood_as : (compiled schema statement
+      ≡ Ok (meant (read statement) [] (Select (record { lets = []; body = selection tree terms project order paging }) names)))
+      ⊎ (compiled schema statement ≡ Err Mismatch)
   unfolding everything
   understood_as = reads_or schema statement (read statement) is_read.0 is_read.1 select (draft tree) names (None ∷ Some Binary ∷ []) is_read.2 meaning_is
 

@@ -7,10 +7,18 @@ use Rattle.sqlite.specs.State.{State}
 use Rattle.brk_money.specs.declared.fault.Fault.{Fault}
 use Rattle.brk_sql.specs.Model.{IsTransactionStep}
 use Rattle.brk_sql.proofs.Inside.{step_then, step_read, step_weaker}
-use Rattle.brk_tables_schema.specs.Desk.{DeskTable, TheDesk, KeptRows, Brokers, Customers, Accounts, Permissions, Securities, LastTrades, Charges, Bands, TaxRates, CustomerTaxes, Trades, TradeHistory, Requests, Holdings, Summaries, HoldingHistory, Settlements, CashRows, CashMoves, SettleRules, schema_has_table}
+use Rattle.brk_tables_schema.specs.Desk.{DeskTable, TheDesk, KeptRows, Brokers, Customers, Accounts, Permissions, Securities, LastTrades, Charges, Bands}
+use Rattle.brk_tables_schema.specs.Desk.{TaxRates, CustomerTaxes, Trades, TradeHistory, Requests, Holdings, Summaries, HoldingHistory, Settlements, CashRows}
+use Rattle.brk_tables_schema.specs.Desk.{CashMoves, SettleRules, schema_has_table}
 use Rattle.brk_tables_scan.specs.Whole.{ShowsAllRows, ShowsRowsIfInSchema}
 use Rattle.brk_tables_scan.specs.Raw.{RawSheets, IsUnchangedAndOpen, raw_rows_of_table}
-use Rattle.brk_tables_scan.specs.Decoded.{ReadsDeskAndCustomerTables, ReadsAccountAndSecurityTables, ReadsChargeAndRateTables, ReadsTradeAndHoldingTables, ReadsSummaryAndSettlementTables, ReadsLaterSchemaTables, ReadsAndDecodesDeskTables, DecodesSheets, DecodesDeskAndCustomerTables, DecodesAccountAndSecurityTables, DecodesChargeAndRateTables, DecodesTradeAndHoldingTables, DecodesSummaryAndSettlementTables, DecodesLaterSchemaTables, are_desk_and_customer_rows_well_formed, are_account_and_security_rows_well_formed, are_charge_and_rate_rows_well_formed, are_trade_and_holding_rows_well_formed, are_summary_and_settlement_rows_well_formed, are_later_schema_rows_well_formed}
+use Rattle.brk_tables_scan.specs.Decoded.{ReadsDeskAndCustomerTables, ReadsAccountAndSecurityTables, ReadsChargeAndRateTables, ReadsTradeAndHoldingTables}
+use Rattle.brk_tables_scan.specs.Decoded.{ReadsSummaryAndSettlementTables, ReadsLaterSchemaTables, ReadsAndDecodesDeskTables, DecodesSheets}
+use Rattle.brk_tables_scan.specs.Decoded.{DecodesDeskAndCustomerTables, DecodesAccountAndSecurityTables, DecodesChargeAndRateTables}
+use Rattle.brk_tables_scan.specs.Decoded.{DecodesTradeAndHoldingTables, DecodesSummaryAndSettlementTables, DecodesLaterSchemaTables}
+use Rattle.brk_tables_scan.specs.Decoded.{are_desk_and_customer_rows_well_formed, are_account_and_security_rows_well_formed}
+use Rattle.brk_tables_scan.specs.Decoded.{are_charge_and_rate_rows_well_formed, are_trade_and_holding_rows_well_formed}
+use Rattle.brk_tables_scan.specs.Decoded.{are_summary_and_settlement_rows_well_formed, are_later_schema_rows_well_formed}
 use Rattle.brk_tables_scan.specs.declared.all_tables.DeskAndCustomerSheets.{DeskAndCustomerSheets}
 use Rattle.brk_tables_scan.specs.declared.all_tables.AccountAndSecuritySheets.{AccountAndSecuritySheets}
 use Rattle.brk_tables_scan.specs.declared.all_tables.ChargeAndRateSheets.{ChargeAndRateSheets}
@@ -80,8 +88,13 @@ module _ (desk : Schema) (a b c d e f g : State) (n0 n1 n2 n3 n4 n5 n6 : Bool) (
       raw = raw;
       stays = (ab.0, in_later.shown.same ∙ af.1);
       shown = shows;
-      decoded = continues_six n0 n1 n2 n3 n4 n5 n6 (are_desk_and_customer_rows_well_formed desk raw.first) (are_account_and_security_rows_well_formed raw.accounts) (are_charge_and_rate_rows_well_formed raw.rates) (are_trade_and_holding_rows_well_formed raw.trades) (are_summary_and_settlement_rows_well_formed raw.last) (are_later_schema_rows_well_formed raw.later)
-          (DecodesDeskAndCustomerTables desk first raw.first) (DecodesAccountAndSecurityTables accounts raw.accounts) (DecodesChargeAndRateTables rates raw.rates) (DecodesTradeAndHoldingTables trades raw.trades) (DecodesSummaryAndSettlementTables last raw.last) (DecodesLaterSchemaTables later raw.later) (DecodesSheets desk all raw)
+      decoded = continues_six n0 n1 n2 n3 n4 n5 n6 (are_desk_and_customer_rows_well_formed desk raw.first)
+          (are_account_and_security_rows_well_formed raw.accounts) (are_charge_and_rate_rows_well_formed raw.rates)
+          (are_trade_and_holding_rows_well_formed raw.trades) (are_summary_and_settlement_rows_well_formed raw.last)
+          (are_later_schema_rows_well_formed raw.later)
+          (DecodesDeskAndCustomerTables desk first raw.first) (DecodesAccountAndSecurityTables accounts raw.accounts)
+          (DecodesChargeAndRateTables rates raw.rates) (DecodesTradeAndHoldingTables trades raw.trades) (DecodesSummaryAndSettlementTables last raw.last)
+          (DecodesLaterSchemaTables later raw.later) (DecodesSheets desk all raw)
           (are_sheets first accounts rates trades last later desk raw)
           in_first.decoded in_accounts.decoded in_rates.decoded in_trades.decoded in_last.decoded in_later.decoded;
     }
@@ -109,7 +122,8 @@ module _ (desk : Schema) (a b c d e f g : State) (n0 n1 n2 n3 n4 n5 n6 : Bool) (
 
     pub reads_desk : {V F : Type 0} (v : V) (made : V → State → State → Type 0) → (ReadsAndDecodesDeskTables desk n0 n6 all a g → made v a g) → IsTransactionStep {V = V} {E = F} a g (Ok v) made
     reads_desk {V} {F} v made makes =
-        let p2 = step_then a b c first (Ok accounts) (λ read. ReadsDeskAndCustomerTables desk n0 n1 read) (λ read. ReadsAccountAndSecurityTables n1 n2 read) To2 (λ read p q. (p, q)) step_first step_accounts in
+        let p2 = step_then a b c first (Ok accounts) (λ read. ReadsDeskAndCustomerTables desk n0 n1 read) (λ read. ReadsAccountAndSecurityTables n1 n2 read) To2
+        (λ read p q. (p, q)) step_first step_accounts in
         let p3 = step_then a c d accounts (Ok rates) To2 (λ read. ReadsChargeAndRateTables n2 n3 read) To3 (λ read p q. (p, q)) p2 step_rates in
         let p4 = step_then a d e rates (Ok trades) To3 (λ read. ReadsTradeAndHoldingTables n3 n4 read) To4 (λ read p q. (p, q)) p3 step_trades in
         let p5 = step_then a e f trades (Ok last) To4 (λ read. ReadsSummaryAndSettlementTables n4 n5 read) To5 (λ read p q. (p, q)) p4 step_last in

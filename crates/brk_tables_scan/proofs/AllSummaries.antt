@@ -51,7 +51,8 @@ source = roll-Source (record { is_left = false; origin = Table (codes "HOLDING_S
 abbrev pub core : Core
 core = roll-Core (record {
   distinct = false;
-  shown = One (e.Column None (codes "HS_CA_ID")) None (codes "HS_CA_ID") ∷ One (e.Column None (codes "HS_S_SYMB")) None (codes "HS_S_SYMB") ∷ One (e.Column None (codes "HS_QTY")) None (codes "HS_QTY") ∷ [];
+  shown = One (e.Column None (codes "HS_CA_ID")) None (codes "HS_CA_ID") ∷ One (e.Column None (codes "HS_S_SYMB")) None (codes "HS_S_SYMB")
+      ∷ One (e.Column None (codes "HS_QTY")) None (codes "HS_QTY") ∷ [];
   from = source ∷ [];
   filter = None;
   group = [];
@@ -59,7 +60,8 @@ core = roll-Core (record {
 })
 
 abbrev pub by : List Sort
-by = roll-Sort (record { key = e.Column None (codes "HS_CA_ID"); descending = false; nulls_first = None }) ∷ roll-Sort (record { key = e.Column None (codes "HS_S_SYMB"); descending = false; nulls_first = None }) ∷ []
+by = roll-Sort (record { key = e.Column None (codes "HS_CA_ID"); descending = false; nulls_first = None })
+    ∷ roll-Sort (record { key = e.Column None (codes "HS_S_SYMB"); descending = false; nulls_first = None }) ∷ []
 
 abbrev pub select : ast.Select
 select = ast.roll-Select (record { with = []; first = core; others = []; order = by; limit = None; offset = None })
@@ -126,7 +128,9 @@ module _ (schema : Schema) (at tree : ℕ) (h : IsTableAt schema (summary_table 
       (named_is schema core source (codes "HOLDING_SUMMARY") at h.named refl refl refl refl columns (after 3 binary)
       (record { steps = Inner tree ∷ []; filter = terms }) (after 3 binary) shows matches by _ (after 5 binary) _ refl refl sorted)
 
-  pub understood_as : (compiled schema statement ≡ Ok (meant (read statement) [] (Select (record { lets = []; body = selection tree terms project order paging }) names))) ⊎ (compiled schema statement ≡ Err Mismatch)
+  pub understood_as : (compiled schema statement
+      ≡ Ok (meant (read statement) [] (Select (record { lets = []; body = selection tree terms project order paging }) names)))
+      ⊎ (compiled schema statement ≡ Err Mismatch)
   unfolding everything
   understood_as = reads_or schema statement (read statement) is_read.0 is_read.1 select (draft tree) names (Some Binary ∷ Some Binary ∷ Some Binary ∷ []) is_read.2 meaning_is
 

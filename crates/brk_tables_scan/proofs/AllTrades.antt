@@ -51,7 +51,14 @@ source = roll-Source (record { is_left = false; origin = Table (codes "TRADE"); 
 abbrev pub core : Core
 core = roll-Core (record {
   distinct = false;
-  shown = One (e.Column None (codes "T_ID")) None (codes "T_ID") ∷ One (e.Column None (codes "T_DTS")) None (codes "T_DTS") ∷ One (e.Column None (codes "T_ST_ID")) None (codes "T_ST_ID") ∷ One (e.Column None (codes "T_TT_ID")) None (codes "T_TT_ID") ∷ One (e.Column None (codes "T_IS_CASH")) None (codes "T_IS_CASH") ∷ One (e.Column None (codes "T_S_SYMB")) None (codes "T_S_SYMB") ∷ One (e.Column None (codes "T_QTY")) None (codes "T_QTY") ∷ One (e.Column None (codes "T_BID_PRICE")) None (codes "T_BID_PRICE") ∷ One (e.Column None (codes "T_CA_ID")) None (codes "T_CA_ID") ∷ One (e.Column None (codes "T_EXEC_NAME")) None (codes "T_EXEC_NAME") ∷ One (e.Column None (codes "T_TRADE_PRICE")) None (codes "T_TRADE_PRICE") ∷ One (e.Column None (codes "T_CHRG")) None (codes "T_CHRG") ∷ One (e.Column None (codes "T_COMM")) None (codes "T_COMM") ∷ One (e.Column None (codes "T_TAX")) None (codes "T_TAX") ∷ One (e.Column None (codes "T_LIFO")) None (codes "T_LIFO") ∷ [];
+  shown = One (e.Column None (codes "T_ID")) None (codes "T_ID") ∷ One (e.Column None (codes "T_DTS")) None (codes "T_DTS")
+      ∷ One (e.Column None (codes "T_ST_ID")) None (codes "T_ST_ID") ∷ One (e.Column None (codes "T_TT_ID")) None (codes "T_TT_ID")
+      ∷ One (e.Column None (codes "T_IS_CASH")) None (codes "T_IS_CASH") ∷ One (e.Column None (codes "T_S_SYMB")) None (codes "T_S_SYMB")
+      ∷ One (e.Column None (codes "T_QTY")) None (codes "T_QTY") ∷ One (e.Column None (codes "T_BID_PRICE")) None (codes "T_BID_PRICE")
+      ∷ One (e.Column None (codes "T_CA_ID")) None (codes "T_CA_ID") ∷ One (e.Column None (codes "T_EXEC_NAME")) None (codes "T_EXEC_NAME")
+      ∷ One (e.Column None (codes "T_TRADE_PRICE")) None (codes "T_TRADE_PRICE") ∷ One (e.Column None (codes "T_CHRG")) None (codes "T_CHRG")
+      ∷ One (e.Column None (codes "T_COMM")) None (codes "T_COMM") ∷ One (e.Column None (codes "T_TAX")) None (codes "T_TAX")
+      ∷ One (e.Column None (codes "T_LIFO")) None (codes "T_LIFO") ∷ [];
   from = source ∷ [];
   filter = None;
   group = [];
@@ -86,10 +93,14 @@ abbrev pub output : List ℕ → ℕ → Carried → Output
 output name place carried = record { name = name; is_alias = false; is_column = true; term = col 1 place; carried = carried }
 
 abbrev pub columns : List Output
-columns = output (codes "T_ID") 0 nothing ∷ output (codes "T_DTS") 2 binary ∷ output (codes "T_ST_ID") 3 binary ∷ output (codes "T_TT_ID") 4 binary ∷ output (codes "T_IS_CASH") 5 binary ∷ output (codes "T_S_SYMB") 6 binary ∷ output (codes "T_QTY") 7 binary ∷ output (codes "T_BID_PRICE") 8 binary ∷ output (codes "T_CA_ID") 9 binary ∷ output (codes "T_EXEC_NAME") 10 binary ∷ output (codes "T_TRADE_PRICE") 11 binary ∷ output (codes "T_CHRG") 12 binary ∷ output (codes "T_COMM") 13 binary ∷ output (codes "T_TAX") 14 binary ∷ output (codes "T_LIFO") 15 binary ∷ []
+columns = output (codes "T_ID") 0 nothing ∷ output (codes "T_DTS") 2 binary ∷ output (codes "T_ST_ID") 3 binary ∷ output (codes "T_TT_ID") 4 binary
+    ∷ output (codes "T_IS_CASH") 5 binary ∷ output (codes "T_S_SYMB") 6 binary ∷ output (codes "T_QTY") 7 binary ∷ output (codes "T_BID_PRICE") 8 binary
+    ∷ output (codes "T_CA_ID") 9 binary ∷ output (codes "T_EXEC_NAME") 10 binary ∷ output (codes "T_TRADE_PRICE") 11 binary ∷ output (codes "T_CHRG") 12 binary
+    ∷ output (codes "T_COMM") 13 binary ∷ output (codes "T_TAX") 14 binary ∷ output (codes "T_LIFO") 15 binary ∷ []
 
 abbrev pub names : List (List ℕ)
-names = codes "T_ID" ∷ codes "T_DTS" ∷ codes "T_ST_ID" ∷ codes "T_TT_ID" ∷ codes "T_IS_CASH" ∷ codes "T_S_SYMB" ∷ codes "T_QTY" ∷ codes "T_BID_PRICE" ∷ codes "T_CA_ID" ∷ codes "T_EXEC_NAME" ∷ codes "T_TRADE_PRICE" ∷ codes "T_CHRG" ∷ codes "T_COMM" ∷ codes "T_TAX" ∷ codes "T_LIFO" ∷ []
+names = codes "T_ID" ∷ codes "T_DTS" ∷ codes "T_ST_ID" ∷ codes "T_TT_ID" ∷ codes "T_IS_CASH" ∷ codes "T_S_SYMB" ∷ codes "T_QTY" ∷ codes "T_BID_PRICE"
+    ∷ codes "T_CA_ID" ∷ codes "T_EXEC_NAME" ∷ codes "T_TRADE_PRICE" ∷ codes "T_CHRG" ∷ codes "T_COMM" ∷ codes "T_TAX" ∷ codes "T_LIFO" ∷ []
 
 abbrev after : ℕ → Carried → State
 after spent last = record (fresh 2 max_budget) { budget = max_budget - spent; last = last }
@@ -105,7 +116,32 @@ module _ (schema : Schema) (at tree : ℕ) (h : IsTableAt schema (trade_table tr
   shows : result lower (outermost schema) (level_one (codes "TRADE") at []) core (fresh 2 max_budget) ≡ Ok (columns, after 15 binary)
   unfolding sql_lowering_definitions
   shows =
-      columns_shown schema at (trade_table tree) found (codes "TRADE") (trade_table tree).columns (refl, refl, (refl, refl, (refl, refl, (refl, refl, (refl, refl, (refl, refl, (refl, refl, (refl, refl, (refl, refl, (refl, refl, (refl, refl, (refl, refl, (refl, refl, (refl, refl, (refl, refl, tt))))))))))))))) max_budget (max_budget - 16) refl core refl
+      columns_shown schema at (trade_table tree) found (codes "TRADE") (trade_table tree).columns (
+        refl,
+        refl,
+        (
+          refl,
+          refl,
+          (
+            refl,
+            refl,
+            (
+              refl,
+              refl,
+              (
+                refl,
+                refl,
+                (
+                  refl,
+                  refl,
+                  (refl, refl, (refl, refl, (refl, refl, (refl, refl, (refl, refl, (refl, refl, (refl, refl, (refl, refl, (refl, refl, tt))))))))),
+                ),
+              ),
+            ),
+          ),
+        ),
+      ) max_budget
+      (max_budget - 16) refl core refl
 
   matches : matching lower (outermost schema) (level_one (codes "TRADE") at columns) core (after 15 binary)
       ≡ Ok (record { steps = Inner tree ∷ []; filter = terms }, after 15 binary)
@@ -117,15 +153,28 @@ module _ (schema : Schema) (at tree : ℕ) (h : IsTableAt schema (trade_table tr
   sorted =
       rw (column_is schema at (trade_table tree) found (codes "TRADE") columns [] false true (codes "T_ID") 0 (integer_column (codes "T_ID")) refl refl)
 
-  meaning_is : meaning schema select ≡ Ok ((draft tree, names, None ∷ Some Binary ∷ Some Binary ∷ Some Binary ∷ Some Binary ∷ Some Binary ∷ Some Binary ∷ Some Binary ∷ Some Binary ∷ Some Binary ∷ Some Binary ∷ Some Binary ∷ Some Binary ∷ Some Binary ∷ Some Binary ∷ []), [])
+  meaning_is : meaning schema select
+      ≡ Ok (
+        (
+          draft tree,
+          names,
+          None ∷ Some Binary ∷ Some Binary ∷ Some Binary ∷ Some Binary ∷ Some Binary ∷ Some Binary ∷ Some Binary ∷ Some Binary
+              ∷ Some Binary ∷ Some Binary ∷ Some Binary ∷ Some Binary ∷ Some Binary ∷ Some Binary ∷ [],
+        ),
+        [],
+      )
   unfolding everything
   meaning_is = query_is schema select core source (codes "TRADE") paging _ refl refl refl refl refl refl
       (named_is schema core source (codes "TRADE") at h.named refl refl refl refl columns (after 15 binary)
       (record { steps = Inner tree ∷ []; filter = terms }) (after 15 binary) shows matches by _ (after 16 nothing) _ refl refl sorted)
 
-  pub understood_as : (compiled schema statement ≡ Ok (meant (read statement) [] (Select (record { lets = []; body = selection tree terms project order paging }) names))) ⊎ (compiled schema statement ≡ Err Mismatch)
+  pub understood_as : (compiled schema statement
+      ≡ Ok (meant (read statement) [] (Select (record { lets = []; body = selection tree terms project order paging }) names)))
+      ⊎ (compiled schema statement ≡ Err Mismatch)
   unfolding everything
-  understood_as = reads_or schema statement (read statement) is_read.0 is_read.1 select (draft tree) names (None ∷ Some Binary ∷ Some Binary ∷ Some Binary ∷ Some Binary ∷ Some Binary ∷ Some Binary ∷ Some Binary ∷ Some Binary ∷ Some Binary ∷ Some Binary ∷ Some Binary ∷ Some Binary ∷ Some Binary ∷ Some Binary ∷ []) is_read.2 meaning_is
+  understood_as = reads_or schema statement (read statement) is_read.0 is_read.1 select (draft tree) names
+      (None ∷ Some Binary ∷ Some Binary ∷ Some Binary ∷ Some Binary ∷ Some Binary ∷ Some Binary ∷ Some Binary ∷ Some Binary ∷ Some Binary ∷ Some Binary
+      ∷ Some Binary ∷ Some Binary ∷ Some Binary ∷ Some Binary ∷ []) is_read.2 meaning_is
 
 pub plain : (schema : Schema) (c : Compiled) → understood schema statement ≡ Ok c → c.returning ≡ None
 plain = no_returning statement (read statement) select is_read.0 is_read.1 is_read.2

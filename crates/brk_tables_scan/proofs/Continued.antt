@@ -22,7 +22,8 @@ module _ (a b c d e p q r s : Bool) (P Q R S D : Type 0) (all : P → Q → R �
       continues_then a d e (p && q && r) s ((P × Q) × R) S D (λ x y. all x.0.0 x.0.1 x.1 y) abc four
 
 module _ (a b c d e f g p q r s t u : Bool) (P Q R S T U D : Type 0) (all : P → Q → R → S → T → U → D) where
-  pub continues_six : ContinuesDecoding a b p P → ContinuesDecoding b c q Q → ContinuesDecoding c d r R → ContinuesDecoding d e s S → ContinuesDecoding e f t T → ContinuesDecoding f g u U → ContinuesDecoding a g (p && q && r && s && t && u) D
+  pub continues_six : ContinuesDecoding a b p P → ContinuesDecoding b c q Q → ContinuesDecoding c d r R → ContinuesDecoding d e s S → ContinuesDecoding e f t T
+      → ContinuesDecoding f g u U → ContinuesDecoding a g (p && q && r && s && t && u) D
   continues_six one two three four five six =
       let abcd = continues_four a b c d e p q r s P Q R S (((P × Q) × R) × S) (λ x y z w. (((x, y), z), w)) one two three four in
       let abcde = continues_then a e f (p && q && r && s) t (((P × Q) × R) × S) T ((((P × Q) × R) × S) × T) (λ x y. (x, y)) abcd five in

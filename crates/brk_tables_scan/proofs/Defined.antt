@@ -47,14 +47,16 @@ module _ (desk : Schema) (t : Tables) (db : Database) (has : HasDeskTablesInSche
   is_table w of = has.1.is_table w of
 
   -- whatever is found by its name is the desk's
-  found_table : (w : DeskTable) → IsTableOfSchema desk w → (at : ℕ) (table : Table) → table_named db.schema (table_name w) ≡ Some at → slice_get db.schema.tables at ≡ Some table → table ≡ table_definition_at_tree w (tree w)
+  found_table : (w : DeskTable) → IsTableOfSchema desk w → (at : ℕ) (table : Table) → table_named db.schema (table_name w) ≡ Some at
+      → slice_get db.schema.tables at ≡ Some table → table ≡ table_definition_at_tree w (tree w)
   found_table w of at table named found =
       let e : at ≡ has.1.place w = some_same at (has.1.place w) (sym named ∙ ap (λ n. table_named db.schema n.name) (names_alike w 0 (tree w)) ∙ (is_table w of).named) in
       some_same table (table_definition_at_tree w (tree w)) (sym found ∙ ap (slice_get db.schema.tables) e ∙ (is_table w of).found)
 
   at_its_tree : (w : DeskTable) → IsTableOfSchema desk w → (at n : ℕ) → IsTableAt db.schema (table_definition_at_tree w n) at → n ≡ tree w
   at_its_tree w of at n s =
-      let e : table_definition_at_tree w n ≡ table_definition_at_tree w (tree w) = found_table w of at (table_definition_at_tree w n) (ap (λ n. table_named db.schema n.name) (names_alike w 0 n) ∙ s.named) s.found in
+      let e : table_definition_at_tree w n ≡ table_definition_at_tree w (tree w) =
+      found_table w of at (table_definition_at_tree w n) (ap (λ n. table_named db.schema n.name) (names_alike w 0 n) ∙ s.named) s.found in
       sym (table_definition_has_tree w n) ∙ ap (λ (table : Table). table.tree) e ∙ table_definition_has_tree w (tree w)
 
   there : (w : DeskTable) → IsTableOfSchema desk w → HasTableWithNames db.schema (table_and_column_names (table_definition_at_tree w 0))
@@ -70,11 +72,19 @@ module _ (desk : Schema) (t : Tables) (db : Database) (has : HasDeskTablesInSche
 
   -- ---- the row of DESK
 
-  desk_row_shown : map (cells_in_column_order (desk_row_table (tree TheDesk))) (db.trees (tree TheDesk)) ≡ (natural_as_value 1 ∷ natural_as_value desk.number ∷ optional_natural_as_value t.last ∷ []) ∷ []
-  desk_row_shown = one_row (natural_as_value 1 ∷ natural_as_value desk.number ∷ optional_natural_as_value t.last ∷ []) (map (cells_in_column_order (desk_row_table (tree TheDesk))) (db.trees (tree TheDesk))) (has.1.rows TheDesk refl).shown
+  desk_row_shown : map (cells_in_column_order (desk_row_table (tree TheDesk))) (db.trees (tree TheDesk))
+      ≡ (natural_as_value 1 ∷ natural_as_value desk.number ∷ optional_natural_as_value t.last ∷ []) ∷ []
+  desk_row_shown = one_row (natural_as_value 1 ∷ natural_as_value desk.number ∷ optional_natural_as_value t.last ∷ [])
+      (map (cells_in_column_order (desk_row_table (tree TheDesk))) (db.trees (tree TheDesk))) (has.1.rows TheDesk refl).shown
 
   the_row : (at n : ℕ) → IsTableAt db.schema (desk_row_table n) at → IsOneDeskRowOfSchema desk (map (cells_in_column_order (desk_row_table n)) (db.trees n))
-  the_row at n s = (optional_natural_as_value t.last, subst (λ k. map (cells_in_column_order (desk_row_table k)) (db.trees k) ≡ (natural_as_value 1 ∷ natural_as_value desk.number ∷ optional_natural_as_value t.last ∷ []) ∷ []) (sym (at_its_tree TheDesk refl at n s)) desk_row_shown)
+  the_row at n s = (
+    optional_natural_as_value t.last,
+    subst
+        (λ k. map (cells_in_column_order (desk_row_table k)) (db.trees k)
+        ≡ (natural_as_value 1 ∷ natural_as_value desk.number ∷ optional_natural_as_value t.last ∷ []) ∷ []) (sym (at_its_tree TheDesk refl at n s))
+        desk_row_shown,
+  )
 
   not_not : (b : _) → not b ≡ true → b ≡ false
   not_not true h = absurd (let e = h in cc)
@@ -82,8 +92,10 @@ module _ (desk : Schema) (t : Tables) (db : Database) (has : HasDeskTablesInSche
 
   pub desk_is_there : DatabaseHasSchema desk db
   desk_is_there = record {
-    tables = all_from (λ w. HasTableWithNames db.schema (table_and_column_names (table_definition_at_tree w 0))) (tables_in_schema desk) (λ w listed. there w (has_filtered (schema_has_table desk) all_tables w listed).1);
-    later = all_from (λ w. table_named db.schema (table_name w) ≡ None) (tables_of_later_schemas desk) (λ w listed. (has.2 w (not_not (schema_has_table desk w) (has_filtered (λ w. not (schema_has_table desk w)) all_tables w listed).1)).0);
+    tables = all_from (λ w. HasTableWithNames db.schema (table_and_column_names (table_definition_at_tree w 0))) (tables_in_schema desk)
+        (λ w listed. there w (has_filtered (schema_has_table desk) all_tables w listed).1);
+    later = all_from (λ w. table_named db.schema (table_name w) ≡ None) (tables_of_later_schemas desk)
+        (λ w listed. (has.2 w (not_not (schema_has_table desk w) (has_filtered (λ w. not (schema_has_table desk w)) all_tables w listed).1)).0);
     row = the_row;
   }
 

@@ -38,7 +38,8 @@ fault_of_decoding (Ok x) P memory is = tt
 fault_of_decoding (Err f) P memory is = let e : Memory ≡ f = cc in subst P e is
 
 -- the fault of the decoding of a read
-pub fault_of_read : {X : Type 0} (read : Result (Vec Row) Fault) (decoded : Result X Fault) (fault : Fault) → OnErr read (read ≡ Err Store) → IfErr decoded (λ f. (f ≡ Memory) ⊎ (read ≡ Err f)) → decoded ≡ Err fault → IsCallFault fault
+pub fault_of_read : {X : Type 0} (read : Result (Vec Row) Fault) (decoded : Result X Fault) (fault : Fault) → OnErr read (read ≡ Err Store)
+    → IfErr decoded (λ f. (f ≡ Memory) ⊎ (read ≡ Err f)) → decoded ≡ Err fault → IsCallFault fault
 fault_of_read read decoded fault store told was = elim (subst (λ d. IfErr d (λ f. (f ≡ Memory) ⊎ (read ≡ Err f))) was told) [
   | inl memory ↦ inl memory
   | inr is ↦ inr (let e : Err fault ≡ Err Store = subst (λ r. OnErr r (r ≡ Err Store)) is store in cc)

@@ -23,17 +23,23 @@ shown_before w rows a b s = subst (ShowsAllRows w rows) s.1
 module _ (first second third fourth : DeskTable) (a b c d e : State) (r s t u : Vec Row)
     (one : IsTransactionStep {V = Vec Row} {E = Fault} a b (Ok r) (λ rows x y. Shown first rows x y)) (two : IsTransactionStep {V = Vec Row} {E = Fault} b c (Ok s) (λ rows x y. Shown second rows x y))
     (three : IsTransactionStep {V = Vec Row} {E = Fault} c d (Ok t) (λ rows x y. Shown third rows x y)) (four : IsTransactionStep {V = Vec Row} {E = Fault} d e (Ok u) (λ rows x y. Shown fourth rows x y)) where
-  pub shows_four : {V F : Type 0} (v : V) (made : V → State → State → Type 0) → (ShowsFourTables first second third fourth r.items s.items t.items u.items a e → made v a e) → IsTransactionStep {V = V} {E = F} a e (Ok v) made
+  pub shows_four : {V F : Type 0} (v : V) (made : V → State → State → Type 0)
+      → (ShowsFourTables first second third fourth r.items s.items t.items u.items a e → made v a e) → IsTransactionStep {V = V} {E = F} a e (Ok v) made
   shows_four {V} {F} v made makes =
-      let ab = step_then a b c r (Ok s) (λ rows x y. Shown first rows x y) (λ rows x y. Shown second rows x y) (λ rows x y. IsUnchangedAndOpen x y × ShowsAllRows first r.items x.now × ShowsAllRows second rows.items x.now)
+      let ab = step_then a b c r (Ok s) (λ rows x y. Shown first rows x y) (λ rows x y. Shown second rows x y)
+      (λ rows x y. IsUnchangedAndOpen x y × ShowsAllRows first r.items x.now × ShowsAllRows second rows.items x.now)
       (λ rows p q. (stays_then a b c (p.0, p.1) (q.0, q.1), p.2, shown_before second rows.items a b (p.0, p.1) q.2)) one two in
       let abc = step_then a c d s (Ok t) (λ rows x y. IsUnchangedAndOpen x y × ShowsAllRows first r.items x.now × ShowsAllRows second rows.items x.now) (λ rows x y. Shown third rows x y)
       (λ rows x y. IsUnchangedAndOpen x y × ShowsAllRows first r.items x.now × ShowsAllRows second s.items x.now × ShowsAllRows third rows.items x.now)
       (λ rows p q. (stays_then a c d p.0 (q.0, q.1), p.1, p.2, shown_before third rows.items a c p.0 q.2)) ab three in
-      let all = step_then a d e t (Ok u) (λ rows x y. IsUnchangedAndOpen x y × ShowsAllRows first r.items x.now × ShowsAllRows second s.items x.now × ShowsAllRows third rows.items x.now) (λ rows x y. Shown fourth rows x y)
+      let all = step_then a d e t (Ok u)
+      (λ rows x y. IsUnchangedAndOpen x y × ShowsAllRows first r.items x.now × ShowsAllRows second s.items x.now × ShowsAllRows third rows.items x.now)
+      (λ rows x y. Shown fourth rows x y)
       (λ rows x y. IsUnchangedAndOpen x y × ShowsAllRows first r.items x.now × ShowsAllRows second s.items x.now × ShowsAllRows third t.items x.now × ShowsAllRows fourth rows.items x.now)
       (λ rows p q. (stays_then a d e p.0 (q.0, q.1), p.1, p.2, p.3, shown_before fourth rows.items a d p.0 q.2)) abc four in
-      step_read a e u (Ok v) (λ rows x y. IsUnchangedAndOpen x y × ShowsAllRows first r.items x.now × ShowsAllRows second s.items x.now × ShowsAllRows third t.items x.now × ShowsAllRows fourth rows.items x.now)
+      step_read a e u (Ok v)
+      (λ rows x y. IsUnchangedAndOpen x y × ShowsAllRows first r.items x.now × ShowsAllRows second s.items x.now × ShowsAllRows third t.items x.now
+      × ShowsAllRows fourth rows.items x.now)
       made (λ w is p. let same : v ≡ w = cc in subst (λ w. made w a e) same (makes (record { stays = p.0; one = p.1; two = p.2; three = p.3; four = p.4 }))) all
 
 abbrev pub ShownIfPresent : Schema → DeskTable → Vec Row → State → State → Type 0
@@ -41,7 +47,8 @@ ShownIfPresent desk w rows a b = (b.now ≡ a.now) × ShowsRowsIfInSchema desk w
 
 module _ (desk : Schema) (a b c : State) (r s : Vec Row)
     (one : IsTransactionStep {V = Vec Row} {E = Fault} a b (Ok r) (λ rows x y. ShownIfPresent desk CashMoves rows x y)) (two : IsTransactionStep {V = Vec Row} {E = Fault} b c (Ok s) (λ rows x y. ShownIfPresent desk SettleRules rows x y)) where
-  pub shows_later : {V F : Type 0} (v : V) (made : V → State → State → Type 0) → (ShowsLaterSchemaTables desk (record { moves = r.items; rule = s.items }) a c → made v a c) → IsTransactionStep {V = V} {E = F} a c (Ok v) made
+  pub shows_later : {V F : Type 0} (v : V) (made : V → State → State → Type 0)
+      → (ShowsLaterSchemaTables desk (record { moves = r.items; rule = s.items }) a c → made v a c) → IsTransactionStep {V = V} {E = F} a c (Ok v) made
   shows_later {V} {F} v made makes =
       let both : Vec Row → State → State → Type 0 = λ rows x y. ShowsLaterSchemaTables desk (record { moves = r.items; rule = rows.items }) x y in
       let all = step_then a b c r (Ok s) (λ rows x y. ShownIfPresent desk CashMoves rows x y) (λ rows x y. ShownIfPresent desk SettleRules rows x y) both

@@ -1,5 +1,6 @@
 -- Tables that are there by their names have the columns that they show.
-use Rattle.std.proofs.Common.{◌≡◌, ◌∙◌, ◌↔◌, inl, inr, ℕ, zero, suc, ◌+◌, ◌<◌, List, [], ◌∷◌, map, take, length, get_or, Bool, true, false, not, ◌&&◌, ◌||◌, Option, Some, None, is_some, refl, sym, ap, subst, arith, add-one, slice_get, Result}
+use Rattle.std.proofs.Common.{◌≡◌, ◌∙◌, ◌↔◌, inl, inr, ℕ, zero, suc, ◌+◌, ◌<◌, List, [], ◌∷◌, map, take, length, get_or, Bool, true, false, not, ◌&&◌, ◌||◌}
+use Rattle.std.proofs.Common.{Option, Some, None, is_some, refl, sym, ap, subst, arith, add-one, slice_get, Result}
 use Rattle.std.specs.Prelude.{IsTrue}
 use Rattle.std.specs.Borrow.{Bor}
 use Rattle.std.specs.List.{AllByRecursion, list_all, list_any}
@@ -32,20 +33,26 @@ Told = Bor (List ℕ) × Bor (List (Bor (List ℕ)))
 
 module _ (schema : Schema) (d : Told) where
   -- all before it, and not this one
-  pub wrong_at : (all : List Told) (i : ℕ) → i < length all → IsHeadingCheckOutcome (map heading_of_borrowed_texts (take i all)) true schema → IsResultColumnCheckOutcome (heading_of_borrowed_texts (get_or all i d)).0 (heading_of_borrowed_texts (get_or all i d)).1 false schema → IsHeadingCheckOutcome (map heading_of_borrowed_texts all) false schema
+  pub wrong_at : (all : List Told) (i : ℕ) → i < length all → IsHeadingCheckOutcome (map heading_of_borrowed_texts (take i all)) true schema
+      → IsResultColumnCheckOutcome (heading_of_borrowed_texts (get_or all i d)).0 (heading_of_borrowed_texts (get_or all i d)).1 false schema
+      → IsHeadingCheckOutcome (map heading_of_borrowed_texts all) false schema
   wrong_at [] i lt before this = absurd (omega (arith, lt))
   wrong_at (t ∷ all) zero lt before this = inl (this, refl)
   wrong_at (t ∷ all) (suc i) lt (inl (other, e)) this = absurd (let f = e in cc)
   wrong_at (t ∷ all) (suc i) lt (inr (one, before)) this = inr (one, wrong_at all i (omega (arith, lt)) before this)
 
-  next_at : (all : List Told) (i : ℕ) → i < length all → IsHeadingCheckOutcome (map heading_of_borrowed_texts (take i all)) true schema → IsResultColumnCheckOutcome (heading_of_borrowed_texts (get_or all i d)).0 (heading_of_borrowed_texts (get_or all i d)).1 true schema → IsHeadingCheckOutcome (map heading_of_borrowed_texts (take (suc i) all)) true schema
+  next_at : (all : List Told) (i : ℕ) → i < length all → IsHeadingCheckOutcome (map heading_of_borrowed_texts (take i all)) true schema
+      → IsResultColumnCheckOutcome (heading_of_borrowed_texts (get_or all i d)).0 (heading_of_borrowed_texts (get_or all i d)).1 true schema
+      → IsHeadingCheckOutcome (map heading_of_borrowed_texts (take (suc i) all)) true schema
   next_at [] i lt before this = absurd (omega (arith, lt))
   next_at (t ∷ all) zero lt before this = inr (this, refl)
   next_at (t ∷ all) (suc i) lt (inl (other, e)) this = absurd (let f = e in cc)
   next_at (t ∷ all) (suc i) lt (inr (one, before)) this = inr (one, next_at all i (omega (arith, lt)) before this)
 
   -- all before it, and this one
-  pub right_at : (all : List Told) (i : ℕ) → i < length all → IsHeadingCheckOutcome (map heading_of_borrowed_texts (take i all)) true schema → IsResultColumnCheckOutcome (heading_of_borrowed_texts (get_or all i d)).0 (heading_of_borrowed_texts (get_or all i d)).1 true schema → IsHeadingCheckOutcome (map heading_of_borrowed_texts (take (i + 1) all)) true schema
+  pub right_at : (all : List Told) (i : ℕ) → i < length all → IsHeadingCheckOutcome (map heading_of_borrowed_texts (take i all)) true schema
+      → IsResultColumnCheckOutcome (heading_of_borrowed_texts (get_or all i d)).0 (heading_of_borrowed_texts (get_or all i d)).1 true schema
+      → IsHeadingCheckOutcome (map heading_of_borrowed_texts (take (i + 1) all)) true schema
   right_at all i lt before this = rw (add-one i) (next_at all i lt before this)
 
 -- ---- the tables of a schema are the first of all tables
@@ -74,7 +81,9 @@ module _ (schema : Schema) where
   ]
 
   -- one that shows its columns has them
-  table_there : (w : DeskTable) → has_table_named schema w ≡ true → IsResultColumnCheckOutcome (select_all_text w) (table_and_column_names (table_definition_at_tree w 0)).columns true schema → HasTableWithNames schema (table_and_column_names (table_definition_at_tree w 0))
+  table_there : (w : DeskTable) → has_table_named schema w ≡ true
+      → IsResultColumnCheckOutcome (select_all_text w) (table_and_column_names (table_definition_at_tree w 0)).columns true schema
+      → HasTableWithNames schema (table_and_column_names (table_definition_at_tree w 0))
   table_there w there shows = go (table_named schema (table_name w)) refl
     where
       go : (r : Option ℕ) → table_named schema (table_name w) ≡ r → HasTableWithNames schema (table_and_column_names (table_definition_at_tree w 0))
@@ -84,14 +93,20 @@ module _ (schema : Schema) where
           (at, t.0, record { named = named; found = t.1; columns = sym (columns_told w schema at t.0 named t.1 shows.0 shows.1) ∙ shows.2.0 refl })
 
   -- and one that has them shows them
-  columns_shown : (w : DeskTable) → HasTableWithNames schema (table_and_column_names (table_definition_at_tree w 0)) → IsResultColumnCheckOutcome (select_all_text w) (table_and_column_names (table_definition_at_tree w 0)).columns false schema → ⊥
+  columns_shown : (w : DeskTable) → HasTableWithNames schema (table_and_column_names (table_definition_at_tree w 0))
+      → IsResultColumnCheckOutcome (select_all_text w) (table_and_column_names (table_definition_at_tree w 0)).columns false schema → ⊥
   columns_shown w has shows =
       let e : false ≡ true = shows.2.1 (columns_told w schema has.0 has.1 has.2.named has.2.found shows.0 shows.1 ∙ has.2.columns) in
       cc
 
-  told_by : (ws : List DeskTable) → list_all (has_table_named schema) ws ≡ true → (has : Bool) → IsHeadingCheckOutcome (map heading_of_table ws) has schema → IsTrue has ↔ AllByRecursion (λ w. HasTableWithNames schema (table_and_column_names (table_definition_at_tree w 0))) ws
+  told_by : (ws : List DeskTable) → list_all (has_table_named schema) ws ≡ true → (has : Bool) → IsHeadingCheckOutcome (map heading_of_table ws) has schema
+      → IsTrue has ↔ AllByRecursion (λ w. HasTableWithNames schema (table_and_column_names (table_definition_at_tree w 0))) ws
   told_by [] there has e = ((λ _. tt), (λ _. e))
-  told_by (w ∷ ws) there has (inl (wrong, e)) = ((λ sure. absurd (let f = sym e ∙ sure in cc)), (λ (all : AllByRecursion (λ w. HasTableWithNames schema (table_and_column_names (table_definition_at_tree w 0))) (w ∷ ws)). absurd (columns_shown w all.0 wrong)))
+  told_by (w ∷ ws) there has (inl (wrong, e)) = (
+    (λ sure. absurd (let f = sym e ∙ sure in cc)),
+    (λ (all : AllByRecursion (λ w. HasTableWithNames schema (table_and_column_names (table_definition_at_tree w 0))) (w ∷ ws)). absurd
+        (columns_shown w all.0 wrong)),
+  )
   told_by (w ∷ ws) there has (inr (right, rest)) =
       let p = and_parts (has_table_named schema w) (list_all (has_table_named schema) ws) there in
       let more = told_by ws p.1 has rest in
@@ -106,7 +121,9 @@ module _ (schema : Schema) where
   none_named [] h = tt
   none_named (w ∷ ws) h = go (has_table_named schema w) refl h (λ off. none_named ws off)
     where
-      go : (b : Bool) → has_table_named schema w ≡ b → (b || list_any (has_table_named schema) ws) ≡ false → (list_any (has_table_named schema) ws ≡ false → AllByRecursion (λ w. table_named schema (table_name w) ≡ None) ws) → AllByRecursion (λ w. table_named schema (table_name w) ≡ None) (w ∷ ws)
+      go : (b : Bool) → has_table_named schema w ≡ b → (b || list_any (has_table_named schema) ws) ≡ false
+          → (list_any (has_table_named schema) ws ≡ false → AllByRecursion (λ w. table_named schema (table_name w) ≡ None) ws)
+          → AllByRecursion (λ w. table_named schema (table_name w) ≡ None) (w ∷ ws)
       go true e h more = absurd (let f = h in cc)
       go false e h more = (unnamed (table_named schema (table_name w)) e, more h)
 
@@ -120,7 +137,8 @@ module _ (schema : Schema) where
   all_named (w ∷ ws) all = rw (all.0.2.named) (all_named ws all.1)
 
   module _ (desk : Desk) where
-    pub columns_tell : has_exact_table_names desk schema ≡ true → (has : Bool) → IsHeadingCheckOutcome (map heading_of_table (tables_in_schema desk)) has schema → IsTrue has ↔ HasTablesOfSchema desk schema × LacksTablesOfLaterSchemas desk schema
+    pub columns_tell : has_exact_table_names desk schema ≡ true → (has : Bool) → IsHeadingCheckOutcome (map heading_of_table (tables_in_schema desk)) has schema
+        → IsTrue has ↔ HasTablesOfSchema desk schema × LacksTablesOfLaterSchemas desk schema
     columns_tell there has heads =
         let p = and_parts (list_all (has_table_named schema) (tables_in_schema desk)) (not (list_any (has_table_named schema) (tables_of_later_schemas desk))) there in
         let told = told_by (tables_in_schema desk) p.0 has heads in
@@ -134,5 +152,6 @@ module _ (schema : Schema) where
     none_there has e other = (
       (λ sure. absurd (let f = sym other ∙ sure in cc)),
       (λ (both : HasTablesOfSchema desk schema × LacksTablesOfLaterSchemas desk schema).
-          absurd (let sure : has_exact_table_names desk schema ≡ true = rw (all_named (tables_in_schema desk) both.0, named_none (tables_of_later_schemas desk) both.1) refl in let f = sym sure ∙ e in cc)),
+          absurd (let sure : has_exact_table_names desk schema ≡ true =
+          rw (all_named (tables_in_schema desk) both.0, named_none (tables_of_later_schemas desk) both.1) refl in let f = sym sure ∙ e in cc)),
     )

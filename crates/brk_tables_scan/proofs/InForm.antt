@@ -16,7 +16,9 @@ use Rattle.brk_money.specs.declared.status.Status.TheVariants.{Completed, Active
 use Rattle.brk_money.specs.declared.tax_status.TaxStatus.{TaxStatus}
 use Rattle.brk_money.specs.declared.tax_status.TaxStatus.TheVariants.{Untaxed, Withheld, Reported}
 use Rattle.brk_model.specs.Forms.{is_symbol}
-use Rattle.brk_model.specs.Form.{is_id, is_quantity_in_schema, is_at_most_last_stamp, has_trade, has_account, has_security, has_customer, has_broker, is_well_formed_customer_row, is_well_formed_broker_row, is_well_formed_account_row, is_well_formed_security_row, is_well_formed_trade_row, is_well_formed_tax_rate_row, is_cash_type_of_trade}
+use Rattle.brk_model.specs.Form.{is_id, is_quantity_in_schema, is_at_most_last_stamp, has_trade, has_account, has_security, has_customer, has_broker}
+use Rattle.brk_model.specs.Form.{is_well_formed_customer_row, is_well_formed_broker_row, is_well_formed_account_row, is_well_formed_security_row}
+use Rattle.brk_model.specs.Form.{is_well_formed_trade_row, is_well_formed_tax_rate_row, is_cash_type_of_trade}
 use Rattle.brk_model.specs.Schemas.{Schema, third_schema}
 use Rattle.brk_model.specs.Tables.{Tables}
 use Rattle.brk_model_theorems.specs.FormParts.{SatisfiesFormParts}
@@ -26,7 +28,9 @@ use Rattle.brk_tables_schema.specs.Formed.{passes_all_cell_checks, is_trade_type
 pub both : {a b : Bool} → a ≡ true → b ≡ true → a && b ≡ true
 both {a} {b} p q = rw p q
 
-pub each_formed : {X : Type 0} (forms : List (Value → Bool)) (cells : X → Row) (form : X → Bool) → ((x : X) → form x ≡ true → passes_all_cell_checks forms (cells x) ≡ true) → (xs : List X) → list_all form xs ≡ true → list_all (passes_all_cell_checks forms) (map cells xs) ≡ true
+pub each_formed : {X : Type 0} (forms : List (Value → Bool)) (cells : X → Row) (form : X → Bool)
+    → ((x : X) → form x ≡ true → passes_all_cell_checks forms (cells x) ≡ true) → (xs : List X) → list_all form xs ≡ true
+    → list_all (passes_all_cell_checks forms) (map cells xs) ≡ true
 each_formed forms cells form is [] h = refl
 each_formed forms cells form is (x ∷ xs) h = let p = and_parts (form x) (list_all form xs) h in both (is x p.0) (each_formed forms cells form is xs p.1)
 
@@ -63,10 +67,12 @@ module _ (schema : Schema) (t : Tables) (p : SatisfiesFormParts schema t) where
   account_id id h = let a = find_gives (λ a. a.id == id) (is_well_formed_account_row t) t.accounts h p.accounts in subst (λ n. is_id n ≡ true) (eqb-true a.0.id id a.1) (parts6 _ _ _ _ _ _ a.2).0
 
   pub trade_id : (id : ℕ) → has_trade t id ≡ true → is_id id ≡ true
-  trade_id id h = let r = find_gives (λ r. r.id == id) (is_well_formed_trade_row schema t) t.trades h p.trades in subst (λ n. is_id n ≡ true) (eqb-true r.0.id id r.1) (parts10 _ _ _ _ _ _ _ _ _ _ r.2).0
+  trade_id id h = let r = find_gives (λ r. r.id == id) (is_well_formed_trade_row schema t) t.trades h p.trades in
+      subst (λ n. is_id n ≡ true) (eqb-true r.0.id id r.1) (parts10 _ _ _ _ _ _ _ _ _ _ r.2).0
 
   pub symbol_of : (symbol : List ℕ) → has_security t symbol ≡ true → is_symbol symbol ≡ true
-  symbol_of symbol h = let s = find_gives (λ s. bytes_eq s.symbol symbol) (is_well_formed_security_row t) t.securities h p.securities in subst (λ w. is_symbol w ≡ true) (same_bytes s.0.symbol symbol s.1) (parts5 _ _ _ _ _ s.2).0
+  symbol_of symbol h = let s = find_gives (λ s. bytes_eq s.symbol symbol) (is_well_formed_security_row t) t.securities h p.securities in
+      subst (λ w. is_symbol w ≡ true) (same_bytes s.0.symbol symbol s.1) (parts5 _ _ _ _ _ s.2).0
 
   pub stamp_of : (stamp : ℕ) → is_at_most_last_stamp t stamp ≡ true → nat_le stamp greatest_stamp ≡ true
   stamp_of stamp h = go t.last p.clock h
@@ -115,4 +121,5 @@ pub cash_word_formed : (is_cash : Bool) (word : List ℕ) → is_cash_type_of_tr
 cash_word_formed true word h = one_of _ _ _ h
     (λ e. subst (λ w. is_cash_type_text w ≡ true) (sym (same_bytes word (codes "Cash Account") e)) refl) (λ e. subst (λ w. is_cash_type_text w ≡ true) (sym (same_bytes word (codes "Cash") e)) refl)
 cash_word_formed false word h = one_of _ _ _ h
-    (λ e. subst (λ w. is_cash_type_text w ≡ true) (sym (same_bytes word (codes "Margin") e)) refl) (λ e. subst (λ w. is_cash_type_text w ≡ true) (sym (same_bytes word (codes "Margin Account") e)) refl)
+    (λ e. subst (λ w. is_cash_type_text w ≡ true) (sym (same_bytes word (codes "Margin") e)) refl)
+    (λ e. subst (λ w. is_cash_type_text w ≡ true) (sym (same_bytes word (codes "Margin Account") e)) refl)

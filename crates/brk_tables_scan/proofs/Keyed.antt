@@ -5,7 +5,9 @@ use Rattle.sqlite_value.specs.Order.{column}
 use Rattle.sqlite_value.proofs.OrderLemmas.{then-Equal}
 use Rattle.brk_model.specs.Keys.{history_key, summary_key, holding_history_key}
 use Rattle.brk_sql.proofs.Writes.{IsRowidKey, IsUniqueKey}
-use Rattle.brk_tables_schema.specs.Desk.{DeskTable, TheDesk, KeptRows, Brokers, Customers, Accounts, Permissions, Securities, LastTrades, Charges, Bands, TaxRates, CustomerTaxes, Trades, TradeHistory, Requests, Holdings, Summaries, HoldingHistory, Settlements, CashRows, CashMoves, SettleRules, table_definition_at_tree, encoded_row, ordering_by_primary_key}
+use Rattle.brk_tables_schema.specs.Desk.{DeskTable, TheDesk, KeptRows, Brokers, Customers, Accounts, Permissions, Securities, LastTrades, Charges, Bands}
+use Rattle.brk_tables_schema.specs.Desk.{TaxRates, CustomerTaxes, Trades, TradeHistory, Requests, Holdings, Summaries, HoldingHistory, Settlements, CashRows}
+use Rattle.brk_tables_schema.specs.Desk.{CashMoves, SettleRules, table_definition_at_tree, encoded_row, ordering_by_primary_key}
 use Rattle.brk_tables_schema.proofs.Places.{desk_keyed, broker_keyed, customer_keyed, account_keyed, tax_rate_keyed}
 use Rattle.brk_tables_schema.proofs.Unique.{same_key, kept_keyed, permission_keyed, security_keyed, last_trade_keyed, charge_keyed, band_keyed, customer_tax_keyed}
 
@@ -76,7 +78,13 @@ pub summary_once : IsOnce Summaries
 summary_once = inr (record { key = 1 ∷ 2 ∷ []; first = λ tree. refl; tied = λ tree r s x y e f. same_key (summary_key x) (summary_key y) (1 ∷ 2 ∷ []) r s (ap (take 2) e) (ap (take 2) f) })
 
 pub holding_history_once : IsOnce HoldingHistory
-holding_history_once = inr (record { key = 1 ∷ 2 ∷ []; first = λ tree. refl; tied = λ tree r s x y e f. same_key (holding_history_key x) (holding_history_key y) (1 ∷ 2 ∷ []) r s (ap (take 2) e) (ap (take 2) f) })
+holding_history_once =
+    inr (record {
+      key = 1 ∷ 2 ∷ [];
+      first = λ tree. refl;
+      tied =
+          λ tree r s x y e f. same_key (holding_history_key x) (holding_history_key y) (1 ∷ 2 ∷ []) r s (ap (take 2) e) (ap (take 2) f);
+    })
 
 pub move_once : IsOnce CashMoves
 move_once =

@@ -32,7 +32,8 @@ unshown f (x ∷ xs) e = absurd (let g = e in cc)
 
 module _ (desk : Schema) (db : Database) (has : DatabaseHasSchema desk db) (defined : TablesWithSchemaNamesAreDeskTables desk db) where
   pub table_of : (w : DeskTable) → IsTableOfSchema desk w → HasTableWithNames db.schema (table_and_column_names (table_definition_at_tree w 0))
-  table_of w of = all_has (λ w. HasTableWithNames db.schema (table_and_column_names (table_definition_at_tree w 0))) (tables_in_schema desk) w has.tables (has_kept (schema_has_table desk) all_tables w (all_listed w) of)
+  table_of w of = all_has (λ w. HasTableWithNames db.schema (table_and_column_names (table_definition_at_tree w 0))) (tables_in_schema desk) w has.tables
+      (has_kept (schema_has_table desk) all_tables w (all_listed w) of)
 
   alike : HasDeskDefinitions desk db
   alike = defined has.tables
@@ -65,7 +66,8 @@ module _ (desk : Schema) (db : Database) (has : DatabaseHasSchema desk db) (defi
   is_table w of = stood w (schema_has_table desk w) refl of
 
   -- what was read is what the tables hold
-  pub rows_read : (raw : RawSheets) → ((w : DeskTable) → ShowsRowsIfInSchema desk w (raw_rows_of_table raw w) db) → (t : Tables) → ((w : DeskTable) → map (encoded_row w) (rows_of_table_in_schema desk w t) ≡ raw_rows_of_table raw w) → HasDeskTablesInSchema desk t db
+  pub rows_read : (raw : RawSheets) → ((w : DeskTable) → ShowsRowsIfInSchema desk w (raw_rows_of_table raw w) db) → (t : Tables)
+      → ((w : DeskTable) → map (encoded_row w) (rows_of_table_in_schema desk w t) ≡ raw_rows_of_table raw w) → HasDeskTablesInSchema desk t db
   rows_read raw shown t are = (
     tree,
     record {
@@ -74,7 +76,8 @@ module _ (desk : Schema) (db : Database) (has : DatabaseHasSchema desk db) (defi
       apart = λ v w a b same. alike.apart v w a b (place v) (place w) (tree v) (is_table v a) (subst (λ n. IsTableAt db.schema (table_definition_at_tree w n) (place w)) (sym same) (is_table w b));
       keys_write_nothing = λ w of. alike.keys_write_nothing w of (place w) (tree w) (is_table w of);
       sound = alike.sound;
-      rows = λ w of. ((shown w).0 of (place w) (tree w) (is_table w of)).table_holds_records (rows_of_table_in_schema desk w t) alike.sound (alike.keyed w of (place w) (tree w) (is_table w of)) (are w);
+      rows = λ w of. ((shown w).0 of (place w) (tree w) (is_table w of)).table_holds_records (rows_of_table_in_schema desk w t) alike.sound
+          (alike.keyed w of (place w) (tree w) (is_table w of)) (are w);
     },
     λ w lacks. (
       all_has (λ w. table_named db.schema (table_name w) ≡ None) (tables_of_later_schemas desk) w has.later (has_kept (λ w. not (schema_has_table desk w)) all_tables w (all_listed w) (ap not lacks)),
@@ -83,7 +86,8 @@ module _ (desk : Schema) (db : Database) (has : DatabaseHasSchema desk db) (defi
   )
 
 -- the rows of tables are those that are shown, also where the schema lacks the table
-rows_shown : (desk : Schema) (db : Database) (raw : RawSheets) → ((w : DeskTable) → ShowsRowsIfInSchema desk w (raw_rows_of_table raw w) db) → (t : Tables) → HasDeskTablesInSchema desk t db → (w : DeskTable) → raw_rows_of_table raw w ≡ map (encoded_row w) (rows_of_table_in_schema desk w t)
+rows_shown : (desk : Schema) (db : Database) (raw : RawSheets) → ((w : DeskTable) → ShowsRowsIfInSchema desk w (raw_rows_of_table raw w) db) → (t : Tables)
+    → HasDeskTablesInSchema desk t db → (w : DeskTable) → raw_rows_of_table raw w ≡ map (encoded_row w) (rows_of_table_in_schema desk w t)
 rows_shown desk db raw shown t h w = by_test (schema_has_table desk w) refl
   where
     by_test : (b : Bool) → schema_has_table desk w ≡ b → raw_rows_of_table raw w ≡ map (encoded_row w) (rows_of_table_in_schema desk w t)
@@ -91,7 +95,9 @@ rows_shown desk db raw shown t h w = by_test (schema_has_table desk w) refl
     by_test false lacks = (shown w).1 lacks ∙ sym (ap (map (encoded_row w)) (h.2 w lacks).1)
 
 -- no tables in form have rows of which one has no form
-pub none_in_form : (desk : Schema) → desk.greatest_qty ≤ third_schema.greatest_qty → (db : Database) (raw : RawSheets) → ((w : DeskTable) → ShowsRowsIfInSchema desk w (raw_rows_of_table raw w) db) → are_raw_sheets_well_formed desk raw ≡ false → (t : Tables) → HasDeskTablesInSchema desk t db → satisfies_form_condition desk t && has_utf8_texts t ≡ false
+pub none_in_form : (desk : Schema) → desk.greatest_qty ≤ third_schema.greatest_qty → (db : Database) (raw : RawSheets)
+    → ((w : DeskTable) → ShowsRowsIfInSchema desk w (raw_rows_of_table raw w) db) → are_raw_sheets_well_formed desk raw ≡ false → (t : Tables)
+    → HasDeskTablesInSchema desk t db → satisfies_form_condition desk t && has_utf8_texts t ≡ false
 none_in_form desk narrow db raw shown unformed t h = elim (cases_Bool (satisfies_form_condition desk t && has_utf8_texts t)) [
   | inl e ↦
       let p = and_parts (satisfies_form_condition desk t) (has_utf8_texts t) e in

@@ -2,13 +2,20 @@
 use Rattle.std.proofs.Common.{◌≡◌, ◌∙◌, map}
 use Rattle.brk_sql.proofs.Order.{map_twice}
 use Rattle.brk_model.specs.Schemas.{Schema}
-use Rattle.brk_ref.specs.Records.{abstract_kept_row, abstract_broker_row, abstract_customer, abstract_account_row, abstract_permission, abstract_security_row, abstract_last_trade_row, abstract_charge, abstract_band, abstract_tax_rate, abstract_customer_tax}
-use Rattle.brk_changes.specs.Rows.{abstract_trade_row, abstract_history_row, abstract_request_row, abstract_holding_row, abstract_summary_row, abstract_lot_change_row, abstract_settlement_row, abstract_cash_row, abstract_move_row}
+use Rattle.brk_ref.specs.Records.{abstract_kept_row, abstract_broker_row, abstract_customer, abstract_account_row, abstract_permission, abstract_security_row}
+use Rattle.brk_ref.specs.Records.{abstract_last_trade_row, abstract_charge, abstract_band, abstract_tax_rate, abstract_customer_tax}
+use Rattle.brk_changes.specs.Rows.{abstract_trade_row, abstract_history_row, abstract_request_row, abstract_holding_row, abstract_summary_row}
+use Rattle.brk_changes.specs.Rows.{abstract_lot_change_row, abstract_settlement_row, abstract_cash_row, abstract_move_row}
 use Rattle.brk_changes.specs.declared.sheets.Sheets.{Sheets}
-use Rattle.brk_tables_schema.specs.Cells.{kept_cells, broker_cells, customer_cells, account_cells, permission_cells, security_cells, last_trade_cells, charge_cells, band_cells, tax_rate_cells, customer_tax_cells, trade_cells, history_cells, request_cells, holding_cells, summary_cells, holding_history_cells, settlement_cells, cash_cells, move_cells}
-use Rattle.brk_tables_schema.specs.Desk.{DeskTable, encoded_row, rows_of_table_in_schema, TheDesk, KeptRows, Brokers, Customers, Accounts, Permissions, Securities, LastTrades, Charges, Bands, TaxRates, CustomerTaxes, Trades, TradeHistory, Requests, Holdings, Summaries, HoldingHistory, Settlements, CashRows, CashMoves, SettleRules}
+use Rattle.brk_tables_schema.specs.Cells.{kept_cells, broker_cells, customer_cells, account_cells, permission_cells, security_cells, last_trade_cells}
+use Rattle.brk_tables_schema.specs.Cells.{charge_cells, band_cells, tax_rate_cells, customer_tax_cells, trade_cells, history_cells, request_cells}
+use Rattle.brk_tables_schema.specs.Cells.{holding_cells, summary_cells, holding_history_cells, settlement_cells, cash_cells, move_cells}
+use Rattle.brk_tables_schema.specs.Desk.{DeskTable, encoded_row, rows_of_table_in_schema, TheDesk, KeptRows, Brokers, Customers, Accounts, Permissions}
+use Rattle.brk_tables_schema.specs.Desk.{Securities, LastTrades, Charges, Bands, TaxRates, CustomerTaxes, Trades, TradeHistory, Requests, Holdings, Summaries}
+use Rattle.brk_tables_schema.specs.Desk.{HoldingHistory, Settlements, CashRows, CashMoves, SettleRules}
 use Rattle.brk_tables_scan.specs.KeptKeys.{tables_with_whole_kept_rows}
-use Rattle.brk_tables_scan.specs.Decoded.{DecodesSheets, DecodesDeskAndCustomerTables, DecodesAccountAndSecurityTables, DecodesChargeAndRateTables, DecodesTradeAndHoldingTables, DecodesSummaryAndSettlementTables, DecodesLaterSchemaTables}
+use Rattle.brk_tables_scan.specs.Decoded.{DecodesSheets, DecodesDeskAndCustomerTables, DecodesAccountAndSecurityTables, DecodesChargeAndRateTables}
+use Rattle.brk_tables_scan.specs.Decoded.{DecodesTradeAndHoldingTables, DecodesSummaryAndSettlementTables, DecodesLaterSchemaTables}
 use Rattle.brk_tables_scan.specs.Raw.{RawSheets, raw_rows_of_table}
 use Rattle.brk_tables_scan.specs.declared.all_tables.DeskAndCustomerSheets.{DeskAndCustomerSheets}
 use Rattle.brk_tables_scan.specs.declared.all_tables.AccountAndSecuritySheets.{AccountAndSecuritySheets}
@@ -19,7 +26,33 @@ use Rattle.brk_tables_scan.specs.declared.all_tables.LaterSchemaSheets.{LaterSch
 
 module _ (f : DeskAndCustomerSheets) (a : AccountAndSecuritySheets) (r : ChargeAndRateSheets) (t : TradeAndHoldingSheets) (l : SummaryAndSettlementSheets) (n : LaterSchemaSheets) where
   abbrev pub sheets : Sheets
-  sheets = record { last = f.last; kept = f.kept; brokers = f.brokers; customers = f.customers; accounts = a.accounts; permissions = a.permissions; securities = a.securities; last_trades = a.last_trades; charges = r.charges; bands = r.bands; tax_rates = r.tax_rates; customer_taxes = r.customer_taxes; trades = t.trades; history = t.history; requests = t.requests; holdings = t.holdings; summaries = l.summaries; holding_history = l.holding_history; settlements = l.settlements; cash = l.cash; moves = n.moves; rule = n.rule }
+  sheets = record {
+    last = f.last;
+    kept = f.kept;
+    brokers = f.brokers;
+    customers = f.customers;
+    accounts = a.accounts;
+    permissions = a.permissions;
+    securities =
+        a.securities;
+    last_trades = a.last_trades;
+    charges = r.charges;
+    bands = r.bands;
+    tax_rates = r.tax_rates;
+    customer_taxes = r.customer_taxes;
+    trades =
+        t.trades;
+    history = t.history;
+    requests = t.requests;
+    holdings = t.holdings;
+    summaries = l.summaries;
+    holding_history = l.holding_history;
+    settlements =
+        l.settlements;
+    cash = l.cash;
+    moves = n.moves;
+    rule = n.rule;
+  }
 
 module _ (f : DeskAndCustomerSheets) (a : AccountAndSecuritySheets) (r : ChargeAndRateSheets) (t : TradeAndHoldingSheets) (l : SummaryAndSettlementSheets) (n : LaterSchemaSheets) (desk : Schema) (raw : RawSheets) (is_f : DecodesDeskAndCustomerTables desk f raw.first) (is_a : DecodesAccountAndSecurityTables a raw.accounts) (is_r : DecodesChargeAndRateTables r raw.rates) (is_t : DecodesTradeAndHoldingTables t raw.trades) (is_l : DecodesSummaryAndSettlementTables l raw.last) (is_n : DecodesLaterSchemaTables n raw.later) where
   each : (w : DeskTable) → map (encoded_row w) (rows_of_table_in_schema desk w (tables_with_whole_kept_rows is_f.kept.0 (sheets f a r t l n))) ≡ raw_rows_of_table raw w

@@ -56,7 +56,13 @@ module _ (schema : Schema) (at : ℕ) (table : Table) (found : slice_get schema.
       → (last : Carried) (done : List Output) → shown lower cx bounds done (one c) (left budget last) ≡ Ok (done ++ output_at table k c ∷ [], left next (declared table k c))
   unfolding sql_lowering_definitions
   one_is k c named there budget next more less last done =
-      rw (more, less, column_is schema at table found name [] [] true true c.name k c named there, heading_is schema at table found name [] [] true true (e.Column None c.name) c.name c.name k c refl named there)
+      rw (
+        more,
+        less,
+        column_is schema at table found name [] [] true true c.name k c named there,
+        heading_is schema at table found name [] [] true true
+            (e.Column None c.name) c.name c.name k c refl named there,
+      )
 
   enough : (budget n rest : ℕ) → budget ≡ suc n + suc rest → nat_lt 1 budget ≡ true
   enough budget n rest is = grind (arith, nat_tests)

@@ -9,7 +9,9 @@ use Rattle.sqlite.specs.Steps.{column_names}
 use Rattle.sqlite_tied.specs.Compute.{everything}
 use Rattle.brk_sql.proofs.Stars.{shown_columns}
 use Rattle.brk_sql.proofs.Texts.{read}
-use Rattle.brk_tables_schema.specs.Desk.{DeskTable, TheDesk, KeptRows, Brokers, Customers, Accounts, Permissions, Securities, LastTrades, Charges, Bands, TaxRates, CustomerTaxes, Trades, TradeHistory, Requests, Holdings, Summaries, HoldingHistory, Settlements, CashRows, CashMoves, SettleRules, table_definition_at_tree}
+use Rattle.brk_tables_schema.specs.Desk.{DeskTable, TheDesk, KeptRows, Brokers, Customers, Accounts, Permissions, Securities, LastTrades, Charges, Bands}
+use Rattle.brk_tables_schema.specs.Desk.{TaxRates, CustomerTaxes, Trades, TradeHistory, Requests, Holdings, Summaries, HoldingHistory, Settlements, CashRows}
+use Rattle.brk_tables_schema.specs.Desk.{CashMoves, SettleRules, table_definition_at_tree}
 use Rattle.brk_tables_scan.specs.Headings.{select_all_text}
 
 pub columns_told : (w : DeskTable) (schema : Schema) (at : ℕ) (table : Table) → table_named schema (table_definition_at_tree w 0).name ≡ Some at → slice_get schema.tables at ≡ Some table

@@ -25,7 +25,9 @@ module _ (desk : Schema) (db : Database) where
   desk_is_not has b told e other = ((λ sure. absurd (let f = sym other ∙ sure in cc)), (λ (there : DatabaseHasSchema desk db). absurd (let f = sym e ∙ told.1 (there.tables, there.later) in cc)))
 
   -- where they are, DESK tells by its row
-  pub row_tells : TablesWithSchemaNamesAreDeskTables desk db → HasTablesOfSchema desk db.schema × LacksTablesOfLaterSchemas desk db.schema → (b : Bool) (rows : List Row) → ShowsAllRows TheDesk rows db → (b ≡ true → IsOneDeskRowOfSchema desk rows) → (b ≡ false → IsOneDeskRowOfSchema desk rows → ⊥) → IsTrue b ↔ DatabaseHasSchema desk db
+  pub row_tells : TablesWithSchemaNamesAreDeskTables desk db → HasTablesOfSchema desk db.schema × LacksTablesOfLaterSchemas desk db.schema
+      → (b : Bool) (rows : List Row) → ShowsAllRows TheDesk rows db → (b ≡ true → IsOneDeskRowOfSchema desk rows)
+      → (b ≡ false → IsOneDeskRowOfSchema desk rows → ⊥) → IsTrue b ↔ DatabaseHasSchema desk db
   row_tells defined tables b rows shown first other = (there, back)
     where
       there : IsTrue b → DatabaseHasSchema desk db
@@ -35,15 +37,24 @@ module _ (desk : Schema) (db : Database) where
         row = λ at tree s.
             let says = first e in
             let x : Row = natural_as_value 1 ∷ natural_as_value desk.number ∷ says.0 ∷ [] in
-            let all : IsPermutation (map (cells_in_column_order (desk_row_table tree)) (db.trees tree)) (x ∷ []) = subst (IsPermutation (map (cells_in_column_order (desk_row_table tree)) (db.trees tree))) says.1 (shown at tree s).all in
-            (says.0, one_row x (map (cells_in_column_order (desk_row_table tree)) (db.trees tree)) (IsPermutation-sym (map (cells_in_column_order (desk_row_table tree)) (db.trees tree)) (x ∷ []) all));
+            let all : IsPermutation (map (cells_in_column_order (desk_row_table tree)) (db.trees tree)) (x ∷ []) =
+            subst (IsPermutation (map (cells_in_column_order (desk_row_table tree)) (db.trees tree))) says.1 (shown at tree s).all in (
+              says.0,
+              one_row x (map (cells_in_column_order (desk_row_table tree)) (db.trees tree))
+                  (IsPermutation-sym (map (cells_in_column_order (desk_row_table tree)) (db.trees tree)) (x ∷ []) all),
+            );
       }
 
       says_so : DatabaseHasSchema desk db → IsOneDeskRowOfSchema desk rows
       says_so has =
           let t = has.tables.0 in
           let same : t.1 ≡ table_definition_at_tree TheDesk t.1.tree = (defined has.tables).shaped TheDesk refl t.0 t.1 t.2.named t.2.found in
-          let s : IsTableAt db.schema (table_definition_at_tree TheDesk t.1.tree) t.0 = record { named = subst (λ name. table_named db.schema name ≡ Some t.0) (same_name_at TheDesk 0 t.1.tree) t.2.named; found = t.2.found ∙ ap Some same } in
+          let s : IsTableAt db.schema (table_definition_at_tree TheDesk t.1.tree) t.0 =
+          record {
+            named = subst (λ name. table_named db.schema name ≡ Some t.0) (same_name_at TheDesk 0 t.1.tree) t.2.named;
+            found =
+                t.2.found ∙ ap Some same;
+          } in
           let r = has.row t.0 t.1.tree s in
           let x : Row = natural_as_value 1 ∷ natural_as_value desk.number ∷ r.0 ∷ [] in
           (r.0, one_row x rows (subst (λ l. IsPermutation l rows) r.1 (shown t.0 t.1.tree s).all))

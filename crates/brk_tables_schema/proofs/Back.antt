@@ -13,7 +13,9 @@ use Rattle.brk_model.specs.Forms.{trade_type_with_code}
 use Rattle.brk_model.specs.Records.{Customer, Permission, Charge, Band, TaxRate, CustomerTax, Kept}
 use Rattle.brk_model.specs.Tables.{BrokerRow, AccountRow, SecurityRow, MoveRow}
 use Rattle.brk_sql.proofs.Decode.{text_in}
-use Rattle.brk_tables_schema.specs.Cells.{DeskRow, RuleRow, optional_natural_as_value, move_cells, rule_cells, desk_row_cells, kept_cells, broker_cells, customer_cells, account_cells, permission_cells, security_cells, charge_cells, band_cells, tax_rate_cells, customer_tax_cells}
+use Rattle.brk_tables_schema.specs.Cells.{DeskRow, RuleRow, optional_natural_as_value, move_cells, rule_cells, desk_row_cells, kept_cells, broker_cells}
+use Rattle.brk_tables_schema.specs.Cells.{customer_cells, account_cells, permission_cells, security_cells, charge_cells, band_cells, tax_rate_cells}
+use Rattle.brk_tables_schema.specs.Cells.{customer_tax_cells}
 
 abbrev pub natural : ℤ → ℕ
 natural (pos n) = n
@@ -115,7 +117,15 @@ unfolding charge_back text_in
 charge_is_back c = ap (λ k. let r : Charge = record c { kind = k } in r) (type_back c.kind)
 
 pub band_back : Row → Band
-band_back r = record { tier = number_in (column r 0); kind = type_at (text_in (column r 1)); exchange = text_in (column r 2); from_qty = number_in (column r 3); to_qty = number_in (column r 4); rate = number_in (column r 5) }
+band_back r = record {
+  tier = number_in (column r 0);
+  kind = type_at (text_in (column r 1));
+  exchange = text_in (column r 2);
+  from_qty =
+      number_in (column r 3);
+  to_qty = number_in (column r 4);
+  rate = number_in (column r 5);
+}
 
 pub band_is_back : (b : Band) → band_back (band_cells b) ≡ b
 unfolding band_back text_in
@@ -136,7 +146,15 @@ unfolding customer_tax_back
 customer_tax_is_back x = refl
 
 pub move_back : Row → MoveRow
-move_back r = record { id = number_in (column r 0); account = number_in (column r 1); trade = maybe_in (column r 2); stamp = number_in (column r 3); amount = id_in (column r 4); name = text_in (column r 5) }
+move_back r = record {
+  id = number_in (column r 0);
+  account = number_in (column r 1);
+  trade = maybe_in (column r 2);
+  stamp = number_in (column r 3);
+  amount =
+      id_in (column r 4);
+  name = text_in (column r 5);
+}
 
 pub move_is_back : (m : MoveRow) → move_back (move_cells m) ≡ m
 unfolding move_back text_in

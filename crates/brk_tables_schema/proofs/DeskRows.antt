@@ -103,9 +103,11 @@ module _ (schema : Schema) (at tree : ℕ) (h : IsTableAt schema (desk_row_table
         column_is schema at (desk_row_table tree) found (codes "DESK") [] [] true true (codes "D_ID") 0 (integer_column (codes "D_ID")) refl refl,
         heading_is schema at (desk_row_table tree) found (codes "DESK") [] [] true true (e.Column None (codes "D_ID")) (codes "D_ID") (codes "D_ID") 0 (integer_column (codes "D_ID")) refl refl refl,
         column_is schema at (desk_row_table tree) found (codes "DESK") [] [] true true (codes "D_SCHEMA") 1 (integer_column (codes "D_SCHEMA")) refl refl,
-        heading_is schema at (desk_row_table tree) found (codes "DESK") [] [] true true (e.Column None (codes "D_SCHEMA")) (codes "D_SCHEMA") (codes "D_SCHEMA") 1 (integer_column (codes "D_SCHEMA")) refl refl refl,
+        heading_is schema at (desk_row_table tree) found (codes "DESK") [] [] true true (e.Column None (codes "D_SCHEMA")) (codes "D_SCHEMA") (codes "D_SCHEMA")
+            1 (integer_column (codes "D_SCHEMA")) refl refl refl,
         column_is schema at (desk_row_table tree) found (codes "DESK") [] [] true true (codes "D_LAST") 2 (nullable_integer_column (codes "D_LAST")) refl refl,
-        heading_is schema at (desk_row_table tree) found (codes "DESK") [] [] true true (e.Column None (codes "D_LAST")) (codes "D_LAST") (codes "D_LAST") 2 (nullable_integer_column (codes "D_LAST")) refl refl refl,
+        heading_is schema at (desk_row_table tree) found (codes "DESK") [] [] true true (e.Column None (codes "D_LAST")) (codes "D_LAST") (codes "D_LAST") 2
+            (nullable_integer_column (codes "D_LAST")) refl refl refl,
       )
 
   matches : matching lower (outermost schema) (level_one (codes "DESK") at columns) core (after 3 binary)
@@ -124,7 +126,9 @@ module _ (schema : Schema) (at tree : ℕ) (h : IsTableAt schema (desk_row_table
       (named_is schema core source (codes "DESK") at h.named refl refl refl refl columns (after 3 binary)
       (record { steps = Inner tree ∷ []; filter = terms }) (after 3 binary) shows matches by _ (after 4 nothing) _ refl refl sorted)
 
-  pub understood_as : (compiled schema statement ≡ Ok (meant (read statement) [] (Select (record { lets = []; body = selection tree terms project order paging }) names))) ⊎ (compiled schema statement ≡ Err Mismatch)
+  pub understood_as : (compiled schema statement
+      ≡ Ok (meant (read statement) [] (Select (record { lets = []; body = selection tree terms project order paging }) names)))
+      ⊎ (compiled schema statement ≡ Err Mismatch)
   unfolding everything
   understood_as = reads_or schema statement (read statement) refl refl select (draft tree) names (None ∷ Some Binary ∷ Some Binary ∷ []) refl meaning_is
 

@@ -29,8 +29,16 @@ adds_kept old new x ran =
     (inserts_as desk_tables KeptRows kept_rows AddKept.statement (kept_cells x) (read AddKept.statement) AddKept.terms 5
     (Null ∷ kept_cells x) x AddKept.understood_as (λ tree. refl) (λ tree rows. rw (cast_null, cast_int (pos x.key.row)) refl) old new ran.0 ran.1)
 
-pub tells_kept : (old new : State) (batch : List ℕ) (row : ℕ) (rows : List Row) → Shown KeptByKey.statement (Words batch ∷ natural_as_value row ∷ []) old new rows → TablesSatisfy desk_tables (λ t. rows ≡ map kept_cells (filter (λ r. bytes_eq r.key.batch batch && (r.key.row == row)) t.kept)) old.now
+pub tells_kept : (old new : State) (batch : List ℕ) (row : ℕ) (rows : List Row)
+    → Shown KeptByKey.statement (Words batch ∷ natural_as_value row ∷ []) old new rows
+    → TablesSatisfy desk_tables (λ t. rows ≡ map kept_cells (filter (λ r. bytes_eq r.key.batch batch && (r.key.row == row)) t.kept)) old.now
 tells_kept old new batch row rows shown =
-    tells_rising desk_tables KeptRows KeptByKey.statement (Words batch ∷ natural_as_value row ∷ []) (read KeptByKey.statement) KeptByKey.terms KeptByKey.project KeptByKey.order KeptByKey.paging KeptByKey.names KeptByKey.understood_as
-    (λ (r : Kept). bytes_eq r.key.batch batch && (r.key.row == row)) (λ tree r x e. let a0 : column r 1 ≡ Words x.key.batch = cc in let a1 : column r 2 ≡ natural_as_value x.key.row = cc in rw (a0, a1, same_text x.key.batch batch, same_number x.key.row row) (ap (λ c. bytes_eq x.key.batch batch && c) (and_true _))) kept_cells (λ tree r x e. e) (ordering_by_primary_key KeptRows) (key_total kept_key)
-    (λ tree a b x y e f. let p0 : column a 1 ≡ Words x.key.batch = cc in let q0 : column b 1 ≡ Words y.key.batch = cc in let p1 : column a 2 ≡ natural_as_value x.key.row = cc in let q1 : column b 2 ≡ natural_as_value y.key.row = cc in rw (p0, q0, p1, q1) refl) old new rows shown (λ x y. refl)
+    tells_rising desk_tables KeptRows KeptByKey.statement (Words batch ∷ natural_as_value row ∷ []) (read KeptByKey.statement) KeptByKey.terms KeptByKey.project
+    KeptByKey.order KeptByKey.paging KeptByKey.names KeptByKey.understood_as
+    (λ (r : Kept). bytes_eq r.key.batch batch && (r.key.row == row)) (λ tree r x e. let a0 : column r 1 ≡ Words x.key.batch = cc in
+    let a1 : column r 2 ≡ natural_as_value x.key.row = cc in
+    rw (a0, a1, same_text x.key.batch batch, same_number x.key.row row) (ap (λ c. bytes_eq x.key.batch batch && c) (and_true _))) kept_cells
+    (λ tree r x e. e) (ordering_by_primary_key KeptRows) (key_total kept_key)
+    (λ tree a b x y e f. let p0 : column a 1 ≡ Words x.key.batch = cc in let q0 : column b 1 ≡ Words y.key.batch = cc in
+    let p1 : column a 2 ≡ natural_as_value x.key.row = cc in let q1 : column b 2 ≡ natural_as_value y.key.row = cc in rw (p0, q0, p1, q1) refl) old new rows
+    shown (λ x y. refl)

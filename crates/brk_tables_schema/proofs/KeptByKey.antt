@@ -52,7 +52,8 @@ source = roll-Source (record { is_left = false; origin = Table (codes "KEPT"); a
 abbrev pub core : Core
 core = roll-Core (record {
   distinct = false;
-  shown = One (e.Column None (codes "K_BATCH")) None (codes "K_BATCH") ∷ One (e.Column None (codes "K_N")) None (codes "K_N") ∷ One (e.Column None (codes "K_ROW")) None (codes "K_ROW") ∷ One (e.Column None (codes "K_LINE")) None (codes "K_LINE") ∷ [];
+  shown = One (e.Column None (codes "K_BATCH")) None (codes "K_BATCH") ∷ One (e.Column None (codes "K_N")) None (codes "K_N")
+      ∷ One (e.Column None (codes "K_ROW")) None (codes "K_ROW") ∷ One (e.Column None (codes "K_LINE")) None (codes "K_LINE") ∷ [];
   from = source ∷ [];
   filter = Some (e.Binary operator.And (e.Binary operator.Eq (e.Column None (codes "K_BATCH")) (e.Parameter 1)) (e.Binary operator.Eq (e.Column None (codes "K_N")) (e.Parameter 2)));
   group = [];
@@ -60,7 +61,8 @@ core = roll-Core (record {
 })
 
 abbrev pub by : List Sort
-by = roll-Sort (record { key = e.Column None (codes "K_BATCH"); descending = false; nulls_first = None }) ∷ roll-Sort (record { key = e.Column None (codes "K_N"); descending = false; nulls_first = None }) ∷ []
+by = roll-Sort (record { key = e.Column None (codes "K_BATCH"); descending = false; nulls_first = None })
+    ∷ roll-Sort (record { key = e.Column None (codes "K_N"); descending = false; nulls_first = None }) ∷ []
 
 abbrev pub select : ast.Select
 select = ast.roll-Select (record { with = []; first = core; others = []; order = by; limit = None; offset = None })
@@ -104,7 +106,8 @@ module _ (schema : Schema) (at tree : ℕ) (h : IsTableAt schema (kept_table tre
   shows =
       rw (
         column_is schema at (kept_table tree) found (codes "KEPT") [] [] true true (codes "K_BATCH") 0 (text_column (codes "K_BATCH")) refl refl,
-        heading_is schema at (kept_table tree) found (codes "KEPT") [] [] true true (e.Column None (codes "K_BATCH")) (codes "K_BATCH") (codes "K_BATCH") 0 (text_column (codes "K_BATCH")) refl refl refl,
+        heading_is schema at (kept_table tree) found (codes "KEPT") [] [] true true (e.Column None (codes "K_BATCH")) (codes "K_BATCH") (codes "K_BATCH") 0
+            (text_column (codes "K_BATCH")) refl refl refl,
         column_is schema at (kept_table tree) found (codes "KEPT") [] [] true true (codes "K_N") 1 (integer_column (codes "K_N")) refl refl,
         heading_is schema at (kept_table tree) found (codes "KEPT") [] [] true true (e.Column None (codes "K_N")) (codes "K_N") (codes "K_N") 1 (integer_column (codes "K_N")) refl refl refl,
         column_is schema at (kept_table tree) found (codes "KEPT") [] [] true true (codes "K_ROW") 2 (text_column (codes "K_ROW")) refl refl,
@@ -116,7 +119,14 @@ module _ (schema : Schema) (at tree : ℕ) (h : IsTableAt schema (kept_table tre
   matches : matching lower (outermost schema) (level_one (codes "KEPT") at columns) core (after 4 binary)
       ≡ Ok (record { steps = Inner tree ∷ []; filter = terms }, after 11 nothing)
   unfolding sql_lowering_definitions
-  matches = rw (found, column_is schema at (kept_table tree) found (codes "KEPT") columns [] false true (codes "K_BATCH") 0 (text_column (codes "K_BATCH")) refl refl, found, column_is schema at (kept_table tree) found (codes "KEPT") columns [] false true (codes "K_N") 1 (integer_column (codes "K_N")) refl refl, found)
+  matches = rw (
+    found,
+    column_is schema at (kept_table tree) found (codes "KEPT") columns [] false true (codes "K_BATCH") 0 (text_column (codes "K_BATCH")) refl
+        refl,
+    found,
+    column_is schema at (kept_table tree) found (codes "KEPT") columns [] false true (codes "K_N") 1 (integer_column (codes "K_N")) refl refl,
+    found,
+  )
 
   sorted : sorts lower (inside schema (level_one (codes "KEPT") at columns) false) columns by (after 11 nothing) ≡ Ok ((draft tree).order, after 13 binary)
   unfolding sql_lowering_definitions
@@ -132,7 +142,9 @@ module _ (schema : Schema) (at tree : ℕ) (h : IsTableAt schema (kept_table tre
       (named_is schema core source (codes "KEPT") at h.named refl refl refl refl columns (after 4 binary)
       (record { steps = Inner tree ∷ []; filter = terms }) (after 11 nothing) shows matches by _ (after 13 binary) _ refl refl sorted)
 
-  pub understood_as : (compiled schema statement ≡ Ok (meant (read statement) [] (Select (record { lets = []; body = selection tree terms project order paging }) names))) ⊎ (compiled schema statement ≡ Err Mismatch)
+  pub understood_as : (compiled schema statement
+      ≡ Ok (meant (read statement) [] (Select (record { lets = []; body = selection tree terms project order paging }) names)))
+      ⊎ (compiled schema statement ≡ Err Mismatch)
   unfolding everything
   understood_as = reads_or schema statement (read statement) refl refl select (draft tree) names (Some Binary ∷ Some Binary ∷ Some Binary ∷ Some Binary ∷ []) refl meaning_is
 

@@ -1,5 +1,6 @@
 -- Rising keys: the order of the model and that of the database are one.
-use Rattle.std.proofs.Common.{◌≡◌, ℕ, pos, List, [], ◌∷◌, Bool, true, false, not, ◌&&◌, ◌||◌, if◌then◌else◌, ◌==◌, Ordering, Less, Equal, Greater, int_cmp, nat_cmp, refl, sym, ap, ap₂, ◌∙◌, inl, inr, arith, eq-eqb, ne_eqb}
+use Rattle.std.proofs.Common.{◌≡◌, ℕ, pos, List, [], ◌∷◌, Bool, true, false, not, ◌&&◌, ◌||◌, if◌then◌else◌, ◌==◌, Ordering, Less, Equal, Greater, int_cmp}
+use Rattle.std.proofs.Common.{nat_cmp, refl, sym, ap, ap₂, ◌∙◌, inl, inr, arith, eq-eqb, ne_eqb}
 use Rattle.std.specs.Prelude.{nat_lt}
 use Rattle.std.specs.Ordering.{is_gt, ordering_then, ordering_reverse}
 use Rattle.std.specs.Cmp.{IsTotalOrder}
@@ -55,7 +56,8 @@ keys_before [] [] = refl
 keys_before (j ∷ js) [] = refl
 keys_before [] (k ∷ ks) = refl
 keys_before (j ∷ js) (k ∷ ks) =
-    decided (value_cmp (key_part_value k) (key_part_value j)) _ _ _ _ (parts_before j k) (parts_before k j ∙ ap is_gt (value_cmp_total.antisymm (key_part_value j) (key_part_value k))) refl _ (keys_before js ks)
+    decided (value_cmp (key_part_value k) (key_part_value j)) _ _ _ _ (parts_before j k)
+    (parts_before k j ∙ ap is_gt (value_cmp_total.antisymm (key_part_value j) (key_part_value k))) refl _ (keys_before js ks)
 
 -- a row is put where its key goes
 pub inserted : {X : Type 0} (key : X → List KeyPart) (x : X) (xs : List X) → insert_row_by_key key x xs ≡ insert_sorted (ordering_by_key key) x xs

@@ -9,7 +9,8 @@ use Rattle.brk_model.specs.Keys.{kept_key, broker_key, customer_key, account_key
 use Rattle.brk_sql.proofs.Writes.{Place, IsRowidKey}
 use Rattle.brk_tables_schema.specs.Shapes.{desk_row_table, broker_table, customer_table, account_table, tax_rate_table}
 use Rattle.brk_tables_schema.specs.Cells.{DeskRow, desk_row_cells, broker_cells, customer_cells, account_cells, tax_rate_cells}
-use Rattle.brk_tables_schema.specs.Desk.{DeskTable, TheDesk, KeptRows, Brokers, Customers, Accounts, Permissions, Securities, LastTrades, Charges, Bands, TaxRates, CustomerTaxes, ordering_by_primary_key, rows_of_table, desk_tables, desk_key}
+use Rattle.brk_tables_schema.specs.Desk.{DeskTable, TheDesk, KeptRows, Brokers, Customers, Accounts, Permissions, Securities, LastTrades, Charges, Bands}
+use Rattle.brk_tables_schema.specs.Desk.{TaxRates, CustomerTaxes, ordering_by_primary_key, rows_of_table, desk_tables, desk_key}
 use Rattle.brk_tables_schema.proofs.Order.{key_total}
 use Rattle.brk_tables_schema.proofs.Which.{is_desk_row, is_kept, is_broker, is_customer, is_account, is_permission, is_security, is_last_trade, is_charge, is_band, is_tax_rate, is_customer_tax}
 use Rattle.brk_tables_schema.proofs.Unique.{kept_keyed, permission_keyed, security_keyed, last_trade_keyed, charge_keyed, band_keyed, customer_tax_keyed}
@@ -79,37 +80,145 @@ customer_taxes_alone CustomerTaxes other xs t = absurd (other refl)
 customer_taxes_alone v other xs t = refl
 
 abbrev pub the_desk : Place wide TheDesk
-the_desk = record { split = is_desk_row; put = λ xs p. record p { rows = xs }; put_this = λ xs p. refl; put_others = desk_alone; total = key_total desk_key; keyed = inl desk_keyed; uncounted = λ tree. refl }
+the_desk = record {
+  split = is_desk_row;
+  put = λ xs p. record p { rows = xs };
+  put_this = λ xs p. refl;
+  put_others = desk_alone;
+  total =
+      key_total desk_key;
+  keyed = inl desk_keyed;
+  uncounted = λ tree. refl;
+}
 
 abbrev pub kept_rows : Place desk_tables KeptRows
-kept_rows = record { split = is_kept; put = λ xs t. record t { kept = xs }; put_this = λ xs t. refl; put_others = kept_alone; total = key_total kept_key; keyed = inr kept_keyed; uncounted = λ tree. refl }
+kept_rows = record {
+  split = is_kept;
+  put = λ xs t. record t { kept = xs };
+  put_this = λ xs t. refl;
+  put_others = kept_alone;
+  total =
+      key_total kept_key;
+  keyed = inr kept_keyed;
+  uncounted = λ tree. refl;
+}
 
 abbrev pub brokers : Place desk_tables Brokers
-brokers = record { split = is_broker; put = λ xs t. record t { brokers = xs }; put_this = λ xs t. refl; put_others = brokers_alone; total = key_total broker_key; keyed = inl broker_keyed; uncounted = λ tree. refl }
+brokers = record {
+  split = is_broker;
+  put = λ xs t. record t { brokers = xs };
+  put_this = λ xs t. refl;
+  put_others = brokers_alone;
+  total =
+      key_total broker_key;
+  keyed = inl broker_keyed;
+  uncounted = λ tree. refl;
+}
 
 abbrev pub customers : Place desk_tables Customers
-customers = record { split = is_customer; put = λ xs t. record t { customers = xs }; put_this = λ xs t. refl; put_others = customers_alone; total = key_total customer_key; keyed = inl customer_keyed; uncounted = λ tree. refl }
+customers = record {
+  split = is_customer;
+  put = λ xs t. record t { customers = xs };
+  put_this = λ xs t. refl;
+  put_others = customers_alone;
+  total =
+      key_total customer_key;
+  keyed = inl customer_keyed;
+  uncounted = λ tree. refl;
+}
 
 abbrev pub accounts : Place desk_tables Accounts
-accounts = record { split = is_account; put = λ xs t. record t { accounts = xs }; put_this = λ xs t. refl; put_others = accounts_alone; total = key_total account_key; keyed = inl account_keyed; uncounted = λ tree. refl }
+accounts = record {
+  split = is_account;
+  put = λ xs t. record t { accounts = xs };
+  put_this = λ xs t. refl;
+  put_others = accounts_alone;
+  total =
+      key_total account_key;
+  keyed = inl account_keyed;
+  uncounted = λ tree. refl;
+}
 
 abbrev pub permissions : Place desk_tables Permissions
-permissions = record { split = is_permission; put = λ xs t. record t { permissions = xs }; put_this = λ xs t. refl; put_others = permissions_alone; total = key_total permission_key; keyed = inr permission_keyed; uncounted = λ tree. refl }
+permissions = record {
+  split = is_permission;
+  put = λ xs t. record t { permissions = xs };
+  put_this = λ xs t. refl;
+  put_others = permissions_alone;
+  total =
+      key_total permission_key;
+  keyed = inr permission_keyed;
+  uncounted = λ tree. refl;
+}
 
 abbrev pub securities : Place desk_tables Securities
-securities = record { split = is_security; put = λ xs t. record t { securities = xs }; put_this = λ xs t. refl; put_others = securities_alone; total = key_total security_key; keyed = inr security_keyed; uncounted = λ tree. refl }
+securities = record {
+  split = is_security;
+  put = λ xs t. record t { securities = xs };
+  put_this = λ xs t. refl;
+  put_others = securities_alone;
+  total =
+      key_total security_key;
+  keyed = inr security_keyed;
+  uncounted = λ tree. refl;
+}
 
 abbrev pub last_trades : Place desk_tables LastTrades
-last_trades = record { split = is_last_trade; put = λ xs t. record t { last_trades = xs }; put_this = λ xs t. refl; put_others = last_trades_alone; total = key_total last_trade_key; keyed = inr last_trade_keyed; uncounted = λ tree. refl }
+last_trades = record {
+  split = is_last_trade;
+  put = λ xs t. record t { last_trades = xs };
+  put_this = λ xs t. refl;
+  put_others = last_trades_alone;
+  total =
+      key_total last_trade_key;
+  keyed = inr last_trade_keyed;
+  uncounted = λ tree. refl;
+}
 
 abbrev pub charges : Place desk_tables Charges
-charges = record { split = is_charge; put = λ xs t. record t { charges = xs }; put_this = λ xs t. refl; put_others = charges_alone; total = key_total charge_key; keyed = inr charge_keyed; uncounted = λ tree. refl }
+charges = record {
+  split = is_charge;
+  put = λ xs t. record t { charges = xs };
+  put_this = λ xs t. refl;
+  put_others = charges_alone;
+  total =
+      key_total charge_key;
+  keyed = inr charge_keyed;
+  uncounted = λ tree. refl;
+}
 
 abbrev pub bands : Place desk_tables Bands
-bands = record { split = is_band; put = λ xs t. record t { bands = xs }; put_this = λ xs t. refl; put_others = bands_alone; total = key_total band_key; keyed = inr band_keyed; uncounted = λ tree. refl }
+bands = record {
+  split = is_band;
+  put = λ xs t. record t { bands = xs };
+  put_this = λ xs t. refl;
+  put_others = bands_alone;
+  total = key_total band_key;
+  keyed =
+      inr band_keyed;
+  uncounted = λ tree. refl;
+}
 
 abbrev pub tax_rates : Place desk_tables TaxRates
-tax_rates = record { split = is_tax_rate; put = λ xs t. record t { tax_rates = xs }; put_this = λ xs t. refl; put_others = tax_rates_alone; total = key_total tax_rate_key; keyed = inl tax_rate_keyed; uncounted = λ tree. refl }
+tax_rates = record {
+  split = is_tax_rate;
+  put = λ xs t. record t { tax_rates = xs };
+  put_this = λ xs t. refl;
+  put_others = tax_rates_alone;
+  total =
+      key_total tax_rate_key;
+  keyed = inl tax_rate_keyed;
+  uncounted = λ tree. refl;
+}
 
 abbrev pub customer_taxes : Place desk_tables CustomerTaxes
-customer_taxes = record { split = is_customer_tax; put = λ xs t. record t { customer_taxes = xs }; put_this = λ xs t. refl; put_others = customer_taxes_alone; total = key_total customer_tax_key; keyed = inr customer_tax_keyed; uncounted = λ tree. refl }
+customer_taxes = record {
+  split = is_customer_tax;
+  put = λ xs t. record t { customer_taxes = xs };
+  put_this = λ xs t. refl;
+  put_others =
+      customer_taxes_alone;
+  total = key_total customer_tax_key;
+  keyed = inr customer_tax_keyed;
+  uncounted = λ tree. refl;
+}

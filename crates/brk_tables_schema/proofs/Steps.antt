@@ -28,12 +28,17 @@ use Rattle.brk_tables_schema.proofs.DeskRows
 -- ---- changes
 
 -- a row is put where its key goes
-pub added : (w : DeskTable) (place : Place desk_tables w) (x : RecordOfTable w) (old new : Database) → ChangesTablesBy desk_tables (λ t. place.put (insert_sorted (ordering_by_primary_key w) x (rows_of_table w t)) t) old new → ChangesTablesBy desk_tables (λ t. place.put (insert_row_by_key (primary_key_of_record w) x (rows_of_table w t)) t) old new
-added w place x old new turns = λ t tree h. let turned = turns t tree h in (subst (λ xs. HasTables desk_tables (place.put xs t) tree new) (sym (inserted (primary_key_of_record w) x (rows_of_table w t))) turned.0, turned.1)
+pub added : (w : DeskTable) (place : Place desk_tables w) (x : RecordOfTable w) (old new : Database)
+    → ChangesTablesBy desk_tables (λ t. place.put (insert_sorted (ordering_by_primary_key w) x (rows_of_table w t)) t) old new
+    → ChangesTablesBy desk_tables (λ t. place.put (insert_row_by_key (primary_key_of_record w) x (rows_of_table w t)) t) old new
+added w place x old new turns = λ t tree h. let turned = turns t tree h in
+    (subst (λ xs. HasTables desk_tables (place.put xs t) tree new) (sym (inserted (primary_key_of_record w) x (rows_of_table w t))) turned.0, turned.1)
 
-pub sets_last : (old new : State) (stamp : ℕ) → ExecutesStatement SetLast.statement (natural_as_value stamp ∷ natural_as_value 1 ∷ []) old new → ChangesTablesBy desk_tables (tables_with_last_stamp stamp) old.now new.now
+pub sets_last : (old new : State) (stamp : ℕ) → ExecutesStatement SetLast.statement (natural_as_value stamp ∷ natural_as_value 1 ∷ []) old new
+    → ChangesTablesBy desk_tables (tables_with_last_stamp stamp) old.now new.now
 sets_last old new stamp ran = λ t tree h.
-    let turned = updates_as wide TheDesk the_desk SetLast.statement (natural_as_value stamp ∷ natural_as_value 1 ∷ []) (read SetLast.statement) SetLast.terms SetLast.project (λ (r : DeskRow). r.id == 1)
+    let turned = updates_as wide TheDesk the_desk SetLast.statement (natural_as_value stamp ∷ natural_as_value 1 ∷ []) (read SetLast.statement) SetLast.terms
+    SetLast.project (λ (r : DeskRow). r.id == 1)
     (λ tree r x e. let a : column r 0 ≡ natural_as_value x.id = cc in rw (a, same_number x.id 1) (and_true _)) (λ r. refl) SetLast.understood_as
     (λ r. column r 0 ∷ Null ∷ column r 2 ∷ natural_as_value stamp ∷ []) (λ (r : DeskRow). record r { last = Some stamp }) (λ x y. refl) (λ x y. refl) (λ r. refl)
     (λ tree r x whole e. let a : column r 2 ≡ natural_as_value x.schema = cc in

@@ -8,7 +8,8 @@ use Rattle.brk_money.specs.declared.status.Status.{Status}
 use Rattle.brk_money.specs.declared.status.Status.TheVariants.{Completed, Active, Submitted, Pending, Canceled}
 use Rattle.brk_model.specs.Tables.{TradeRow, RequestRow, LastTradeRow, HistoryRow, HoldingRow, SummaryRow, HoldingHistoryRow, SettlementRow, CashRow}
 use Rattle.brk_sql.proofs.Decode.{text_in}
-use Rattle.brk_tables_schema.specs.Cells.{natural_as_value, flag_as_value, optional_natural_as_value, trade_cells, request_cells, last_trade_cells, history_cells, holding_cells, summary_cells, holding_history_cells, settlement_cells, cash_cells}
+use Rattle.brk_tables_schema.specs.Cells.{natural_as_value, flag_as_value, optional_natural_as_value, trade_cells, request_cells, last_trade_cells}
+use Rattle.brk_tables_schema.specs.Cells.{history_cells, holding_cells, summary_cells, holding_history_cells, settlement_cells, cash_cells}
 use Rattle.brk_tables_schema.proofs.Back.{number_in, maybe_in, maybe_back, type_at, type_back}
 
 -- ---- words
@@ -60,14 +61,37 @@ trade_back r = record {
 pub trade_is_back : (t : TradeRow) → trade_back (trade_cells t) ≡ t
 unfolding trade_back text_in
 trade_is_back t =
-    ap (λ s. let r : TradeRow = record t { status = s; kind = type_at (trade_type_code t.kind); is_cash = flag_at (number_in (flag_as_value t.is_cash)); price = maybe_in (optional_natural_as_value t.price); is_lifo = flag_at (number_in (flag_as_value t.is_lifo)) } in r) (status_back t.status)
-    ∙ ap (λ k. let r : TradeRow = record t { kind = k; is_cash = flag_at (number_in (flag_as_value t.is_cash)); price = maybe_in (optional_natural_as_value t.price); is_lifo = flag_at (number_in (flag_as_value t.is_lifo)) } in r) (type_back t.kind)
+    ap (λ s. let r : TradeRow =
+    record t {
+      status = s;
+      kind = type_at (trade_type_code t.kind);
+      is_cash = flag_at (number_in (flag_as_value t.is_cash));
+      price =
+          maybe_in (optional_natural_as_value t.price);
+      is_lifo = flag_at (number_in (flag_as_value t.is_lifo));
+    } in r) (status_back t.status)
+    ∙ ap (λ k. let r : TradeRow =
+    record t {
+      kind = k;
+      is_cash = flag_at (number_in (flag_as_value t.is_cash));
+      price = maybe_in (optional_natural_as_value t.price);
+      is_lifo =
+          flag_at (number_in (flag_as_value t.is_lifo));
+    } in r) (type_back t.kind)
     ∙ ap (λ b. let r : TradeRow = record t { is_cash = b; price = maybe_in (optional_natural_as_value t.price); is_lifo = flag_at (number_in (flag_as_value t.is_lifo)) } in r) (flag_back t.is_cash)
     ∙ ap (λ o. let r : TradeRow = record t { price = o; is_lifo = flag_at (number_in (flag_as_value t.is_lifo)) } in r) (maybe_back t.price)
     ∙ ap (λ b. let r : TradeRow = record t { is_lifo = b } in r) (flag_back t.is_lifo)
 
 pub request_back : Row → RequestRow
-request_back r = record { trade = number_in (column r 0); kind = type_at (text_in (column r 1)); symbol = text_in (column r 2); qty = number_in (column r 3); bid = number_in (column r 4); broker = number_in (column r 5) }
+request_back r = record {
+  trade = number_in (column r 0);
+  kind = type_at (text_in (column r 1));
+  symbol = text_in (column r 2);
+  qty =
+      number_in (column r 3);
+  bid = number_in (column r 4);
+  broker = number_in (column r 5);
+}
 
 pub request_is_back : (r : RequestRow) → request_back (request_cells r) ≡ r
 unfolding request_back text_in
@@ -81,7 +105,15 @@ unfolding last_trade_back text_in
 last_trade_is_back l = refl
 
 pub holding_back : Row → HoldingRow
-holding_back r = record { trade = number_in (column r 0); account = number_in (column r 1); symbol = text_in (column r 2); stamp = number_in (column r 3); price = number_in (column r 4); qty = id_in (column r 5) }
+holding_back r = record {
+  trade = number_in (column r 0);
+  account = number_in (column r 1);
+  symbol = text_in (column r 2);
+  stamp =
+      number_in (column r 3);
+  price = number_in (column r 4);
+  qty = id_in (column r 5);
+}
 
 pub holding_is_back : (h : HoldingRow) → holding_back (holding_cells h) ≡ h
 unfolding holding_back text_in

@@ -58,7 +58,8 @@ past true = refl
 past false = refl
 
 -- one column has no form
-pub no_form_at : (forms : List (Value → Bool)) (row : Row) (k : ℕ) (form : Value → Bool) → slice_get forms k ≡ Some form → (k < length row → form (column row k) ≡ false) → passes_all_cell_checks forms row ≡ false
+pub no_form_at : (forms : List (Value → Bool)) (row : Row) (k : ℕ) (form : Value → Bool) → slice_get forms k ≡ Some form
+    → (k < length row → form (column row k) ≡ false) → passes_all_cell_checks forms row ≡ false
 no_form_at [] row k form is never = absurd (let e = is in cc)
 no_form_at (f ∷ forms) [] k form is never = refl
 no_form_at (f ∷ forms) (v ∷ row) zero form is never = let e : f ≡ form = cc in rw (e, never (omega arith)) refl
@@ -77,7 +78,9 @@ pub no_text : (v : Value) → (((t : List ℕ) × (v ≡ Words t) × IsUtf8 t) �
 no_text v never = not_words v is_utf8 (λ s e f. never (s, e, IsUtf8-from_is_utf8 s f))
 
 pub no_formed_text : (form : List ℕ → Bool) → ((s : List ℕ) → form s ≡ true → IsUtf8 s) → (v : Value) → is_text_cell is_utf8 v ≡ false → is_text_cell form v ≡ false
-no_formed_text form utf8 v none = not_words v form (λ s e f. let k : is_utf8 s ≡ true = is_utf8-from_IsUtf8 s (utf8 s f) in let other : is_utf8 s ≡ false = rw e at none in let clash = sym k ∙ other in cc)
+no_formed_text form utf8 v none =
+    not_words v form (λ s e f. let k : is_utf8 s ≡ true = is_utf8-from_IsUtf8 s (utf8 s f) in let other : is_utf8 s ≡ false = rw e at none in
+    let clash = sym k ∙ other in cc)
 
 -- ---- rows
 
@@ -85,6 +88,7 @@ pub not_all : {X : Type 0} (p : X → Bool) → (xs : List X) (i : ℕ) (d : X) 
 not_all = list_all_at
 
 -- an error that is handed on
-pub handed_on : {X Y : Type 0} (inner : Result X DecodeError) (outer : Result Y DecodeError) (decode_error : DecodeError) → IsErrAnd outer (λ out. out ≡ decode_error) → inner ≡ Err decode_error → outer ≡ Err Form → inner ≡ Err Form
+pub handed_on : {X Y : Type 0} (inner : Result X DecodeError) (outer : Result Y DecodeError) (decode_error : DecodeError)
+    → IsErrAnd outer (λ out. out ≡ decode_error) → inner ≡ Err decode_error → outer ≡ Err Form → inner ≡ Err Form
 handed_on inner (Err out) decode_error gives was is = let e : out ≡ Form = cc in was ∙ ap Err (sym gives ∙ e)
 handed_on inner (Ok y) decode_error gives was is = absurd gives

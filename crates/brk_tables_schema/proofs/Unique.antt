@@ -41,7 +41,9 @@ same_key (j ∷ js) (k ∷ ks) (p ∷ places) r s e f =
     let b : column s p ≡ key_part_value k = cc in
     let c : map (column r) places ≡ key_values js = cc in
     let d : map (column s) places ≡ key_values ks = cc in
-    rw (a, b, same_part j k) (eq_then (value_cmp (key_part_value j) (key_part_value k)) _ ∙ ap (λ rest. is_eq (value_cmp (key_part_value j) (key_part_value k)) && rest) (same_key js ks places r s c d))
+    rw (a, b, same_part j k)
+    (eq_then (value_cmp (key_part_value j) (key_part_value k)) _
+    ∙ ap (λ rest. is_eq (value_cmp (key_part_value j) (key_part_value k)) && rest) (same_key js ks places r s c d))
 
 pub kept_keyed : IsUniqueKey kept_table kept_cells (ordering_by_primary_key KeptRows)
 kept_keyed = record { key = 1 ∷ 2 ∷ []; first = λ tree. refl; tied = λ tree r s x y e f. same_key (kept_key x) (kept_key y) (1 ∷ 2 ∷ []) r s (ap (take 2) e) (ap (take 2) f) }

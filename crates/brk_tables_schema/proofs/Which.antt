@@ -1,7 +1,9 @@
 -- Written by tools/tables.py: equality of tables is decidable.
 use Rattle.std.proofs.Common.{◌≡◌, ◌≢◌, ◌⊎◌, refl, inl, inr}
 use Rattle.sqlite_rules.specs.Lists.{Has}
-use Rattle.brk_tables_schema.specs.Desk.{DeskTable, TheDesk, KeptRows, Brokers, Customers, Accounts, Permissions, Securities, LastTrades, Charges, Bands, TaxRates, CustomerTaxes, Trades, TradeHistory, Requests, Holdings, Summaries, HoldingHistory, Settlements, CashRows, CashMoves, SettleRules, all_tables}
+use Rattle.brk_tables_schema.specs.Desk.{DeskTable, TheDesk, KeptRows, Brokers, Customers, Accounts, Permissions, Securities, LastTrades, Charges, Bands}
+use Rattle.brk_tables_schema.specs.Desk.{TaxRates, CustomerTaxes, Trades, TradeHistory, Requests, Holdings, Summaries, HoldingHistory, Settlements, CashRows}
+use Rattle.brk_tables_schema.specs.Desk.{CashMoves, SettleRules, all_tables}
 
 pub is_desk_row : (v : DeskTable) → (v ≡ TheDesk) ⊎ (v ≢ TheDesk)
 is_desk_row TheDesk = inl refl

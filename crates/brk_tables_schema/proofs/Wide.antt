@@ -6,7 +6,8 @@ use Rattle.brk_model.specs.Tables.{Tables}
 use Rattle.brk_sql.specs.Rows.{TreeHoldsRecords}
 use Rattle.brk_sql.specs.Desk.{ProgramTables, HasTables}
 use Rattle.brk_tables_schema.specs.Cells.{DeskRow, RuleRow}
-use Rattle.brk_tables_schema.specs.Desk.{DeskTable, TheDesk, SettleRules, RecordOfTable, table_definition_at_tree, table_definition_has_tree, encoded_row, ordering_by_primary_key, rows_of_table, rows_of_table_in_schema, desk_tables_of_schema, desk_rows, rule_rows}
+use Rattle.brk_tables_schema.specs.Desk.{DeskTable, TheDesk, SettleRules, RecordOfTable, table_definition_at_tree, table_definition_has_tree, encoded_row}
+use Rattle.brk_tables_schema.specs.Desk.{ordering_by_primary_key, rows_of_table, rows_of_table_in_schema, desk_tables_of_schema, desk_rows, rule_rows}
 
 pub record Wide : Type 0 where
   pub rows : List DeskRow
@@ -42,7 +43,8 @@ module _ (schema : Schema) (tree : DeskTable → ℕ) (db : Database) where
   }
 
   -- the other lists are the same
-  pub narrowed : (rows : List DeskRow) (rules : List RuleRow) (t u : Tables) → rows ≡ desk_rows schema u.last → rules ≡ rule_rows u.rule → ((w : DeskTable) → w ≢ TheDesk → w ≢ SettleRules → rows_of_table w u ≡ rows_of_table w t)
+  pub narrowed : (rows : List DeskRow) (rules : List RuleRow) (t u : Tables) → rows ≡ desk_rows schema u.last → rules ≡ rule_rows u.rule
+      → ((w : DeskTable) → w ≢ TheDesk → w ≢ SettleRules → rows_of_table w u ≡ rows_of_table w t)
       → HasTables wide (record { rows = rows; rules = rules; tables = t }) tree db → HasTables (desk_tables_of_schema schema) u tree db
   narrowed rows rules t u desk_is rule_is others h = record {
     place = h.place;

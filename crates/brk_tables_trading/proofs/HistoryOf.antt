@@ -52,7 +52,8 @@ source = roll-Source (record { is_left = false; origin = Table (codes "TRADE_HIS
 abbrev pub core : Core
 core = roll-Core (record {
   distinct = false;
-  shown = One (e.Column None (codes "TH_T_ID")) None (codes "TH_T_ID") ∷ One (e.Column None (codes "TH_ST_ID")) None (codes "TH_ST_ID") ∷ One (e.Column None (codes "TH_DTS")) None (codes "TH_DTS") ∷ [];
+  shown = One (e.Column None (codes "TH_T_ID")) None (codes "TH_T_ID") ∷ One (e.Column None (codes "TH_ST_ID")) None (codes "TH_ST_ID")
+      ∷ One (e.Column None (codes "TH_DTS")) None (codes "TH_DTS") ∷ [];
   from = source ∷ [];
   filter = Some (e.Binary operator.Eq (e.Column None (codes "TH_T_ID")) (e.Parameter 1));
   group = [];
@@ -60,7 +61,8 @@ core = roll-Core (record {
 })
 
 abbrev pub by : List Sort
-by = roll-Sort (record { key = e.Column None (codes "TH_T_ID"); descending = false; nulls_first = None }) ∷ roll-Sort (record { key = e.Column None (codes "TH_ST_ID"); descending = false; nulls_first = None }) ∷ []
+by = roll-Sort (record { key = e.Column None (codes "TH_T_ID"); descending = false; nulls_first = None })
+    ∷ roll-Sort (record { key = e.Column None (codes "TH_ST_ID"); descending = false; nulls_first = None }) ∷ []
 
 abbrev pub select : ast.Select
 select = ast.roll-Select (record { with = []; first = core; others = []; order = by; limit = None; offset = None })
@@ -104,11 +106,14 @@ module _ (schema : Schema) (at tree : ℕ) (h : IsTableAt schema (history_table 
   shows =
       rw (
         column_is schema at (history_table tree) found (codes "TRADE_HISTORY") [] [] true true (codes "TH_T_ID") 0 (integer_column (codes "TH_T_ID")) refl refl,
-        heading_is schema at (history_table tree) found (codes "TRADE_HISTORY") [] [] true true (e.Column None (codes "TH_T_ID")) (codes "TH_T_ID") (codes "TH_T_ID") 0 (integer_column (codes "TH_T_ID")) refl refl refl,
+        heading_is schema at (history_table tree) found (codes "TRADE_HISTORY") [] [] true true (e.Column None (codes "TH_T_ID")) (codes "TH_T_ID")
+            (codes "TH_T_ID") 0 (integer_column (codes "TH_T_ID")) refl refl refl,
         column_is schema at (history_table tree) found (codes "TRADE_HISTORY") [] [] true true (codes "TH_ST_ID") 1 (text_column (codes "TH_ST_ID")) refl refl,
-        heading_is schema at (history_table tree) found (codes "TRADE_HISTORY") [] [] true true (e.Column None (codes "TH_ST_ID")) (codes "TH_ST_ID") (codes "TH_ST_ID") 1 (text_column (codes "TH_ST_ID")) refl refl refl,
+        heading_is schema at (history_table tree) found (codes "TRADE_HISTORY") [] [] true true (e.Column None (codes "TH_ST_ID")) (codes "TH_ST_ID")
+            (codes "TH_ST_ID") 1 (text_column (codes "TH_ST_ID")) refl refl refl,
         column_is schema at (history_table tree) found (codes "TRADE_HISTORY") [] [] true true (codes "TH_DTS") 2 (integer_column (codes "TH_DTS")) refl refl,
-        heading_is schema at (history_table tree) found (codes "TRADE_HISTORY") [] [] true true (e.Column None (codes "TH_DTS")) (codes "TH_DTS") (codes "TH_DTS") 2 (integer_column (codes "TH_DTS")) refl refl refl,
+        heading_is schema at (history_table tree) found (codes "TRADE_HISTORY") [] [] true true (e.Column None (codes "TH_DTS")) (codes "TH_DTS")
+            (codes "TH_DTS") 2 (integer_column (codes "TH_DTS")) refl refl refl,
       )
 
   matches : matching lower (outermost schema) (level_one (codes "TRADE_HISTORY") at columns) core (after 3 binary)
@@ -130,7 +135,9 @@ module _ (schema : Schema) (at tree : ℕ) (h : IsTableAt schema (history_table 
       (named_is schema core source (codes "TRADE_HISTORY") at h.named refl refl refl refl columns (after 3 binary)
       (record { steps = Inner tree ∷ []; filter = terms }) (after 6 nothing) shows matches by _ (after 8 binary) _ refl refl sorted)
 
-  pub understood_as : (compiled schema statement ≡ Ok (meant (read statement) [] (Select (record { lets = []; body = selection tree terms project order paging }) names))) ⊎ (compiled schema statement ≡ Err Mismatch)
+  pub understood_as : (compiled schema statement
+      ≡ Ok (meant (read statement) [] (Select (record { lets = []; body = selection tree terms project order paging }) names)))
+      ⊎ (compiled schema statement ≡ Err Mismatch)
   unfolding everything
   understood_as = reads_or schema statement (read statement) refl refl select (draft tree) names (Some Binary ∷ Some Binary ∷ Some Binary ∷ []) refl meaning_is
 

@@ -64,17 +64,20 @@ page_map f n xs = ap (take page_size) (drop-map f n xs) ∙ limited_map f (Some 
 abbrev is_held : ℕ → List ℕ → HoldingRow → Bool
 is_held account symbol r = (r.account == account) && bytes_eq r.symbol symbol
 
-held_test : (account skipped : ℕ) (symbol : List ℕ) (terms : List Term) → terms ≡ OldestLots.terms → (tree : ℕ) (r : Row) (x : HoldingRow) → cells_in_column_order (holding_table tree) r ≡ holding_cells x
+held_test : (account skipped : ℕ) (symbol : List ℕ) (terms : List Term) → terms ≡ OldestLots.terms → (tree : ℕ) (r : Row) (x : HoldingRow)
+    → cells_in_column_order (holding_table tree) r ≡ holding_cells x
     → passes (natural_as_value account ∷ Words symbol ∷ natural_as_value skipped ∷ []) terms r ≡ is_held account symbol x
 held_test account skipped symbol terms is tree r x e =
     let a0 : column r 2 ≡ natural_as_value x.account = ap (λ row. column row 1) e in
     let a1 : column r 3 ≡ Words x.symbol = ap (λ row. column row 2) e in
     rw (is, a0, a1, same_number x.account account, same_text x.symbol symbol) (ap (λ c. (x.account == account) && c) (and_true _))
 
-pub tells_oldest : (old new : State) (account skipped : ℕ) (symbol : List ℕ) (rows : List Row) → Shown OldestLots.statement (natural_as_value account ∷ Words symbol ∷ natural_as_value skipped ∷ []) old new rows
+pub tells_oldest : (old new : State) (account skipped : ℕ) (symbol : List ℕ) (rows : List Row)
+    → Shown OldestLots.statement (natural_as_value account ∷ Words symbol ∷ natural_as_value skipped ∷ []) old new rows
     → TablesSatisfy desk_tables (λ t. rows ≡ map holding_cells (page_after_skipped skipped (lots_oldest_first (filter (is_held account symbol) t.holdings)))) old.now
 tells_oldest old new account skipped symbol rows shown = λ t tree h.
-    tells_sorted desk_tables Holdings OldestLots.statement (natural_as_value account ∷ Words symbol ∷ natural_as_value skipped ∷ []) (read OldestLots.statement) OldestLots.terms OldestLots.project OldestLots.order OldestLots.paging OldestLots.names OldestLots.understood_as
+    tells_sorted desk_tables Holdings OldestLots.statement (natural_as_value account ∷ Words symbol ∷ natural_as_value skipped ∷ []) (read OldestLots.statement)
+    OldestLots.terms OldestLots.project OldestLots.order OldestLots.paging OldestLots.names OldestLots.understood_as
     (is_held account symbol) (held_test account skipped symbol OldestLots.terms refl) holding_cells (λ tree r x e. e) (ordering_by_key lot_age_key) (key_total lot_age_key)
     (λ tree a b x y e f.
     let p0 : column a 4 ≡ natural_as_value x.stamp = ap (λ row. column row 3) e in
@@ -99,11 +102,13 @@ untied (x ∷ xs) up = (each xs up.0, untied xs up.1)
     each [] all = tt
     each (y ∷ ys) all = (off _ (ordering_by_primary_key Holdings x y) all.0 (λ e. second (value_cmp (natural_as_value x.stamp) (natural_as_value y.stamp)) _ e), each ys all.1)
 
-pub tells_newest : (old new : State) (account skipped : ℕ) (symbol : List ℕ) (rows : List Row) → Shown NewestLots.statement (natural_as_value account ∷ Words symbol ∷ natural_as_value skipped ∷ []) old new rows
+pub tells_newest : (old new : State) (account skipped : ℕ) (symbol : List ℕ) (rows : List Row)
+    → Shown NewestLots.statement (natural_as_value account ∷ Words symbol ∷ natural_as_value skipped ∷ []) old new rows
     → TablesSatisfy desk_tables (λ t. rows ≡ map holding_cells (page_after_skipped skipped (reverse (lots_oldest_first (filter (is_held account symbol) t.holdings))))) old.now
 tells_newest old new account skipped symbol rows shown = λ t tree h.
     let held = filter (is_held account symbol) t.holdings in
-    tells_sorted desk_tables Holdings NewestLots.statement (natural_as_value account ∷ Words symbol ∷ natural_as_value skipped ∷ []) (read NewestLots.statement) NewestLots.terms NewestLots.project NewestLots.order NewestLots.paging NewestLots.names NewestLots.understood_as
+    tells_sorted desk_tables Holdings NewestLots.statement (natural_as_value account ∷ Words symbol ∷ natural_as_value skipped ∷ []) (read NewestLots.statement)
+    NewestLots.terms NewestLots.project NewestLots.order NewestLots.paging NewestLots.names NewestLots.understood_as
     (is_held account symbol) (held_test account skipped symbol NewestLots.terms refl) holding_cells (λ tree r x e. e) (flipped (ordering_by_key lot_age_key)) (back_total (key_total lot_age_key))
     (λ tree a b x y e f.
     let p0 : column a 4 ≡ natural_as_value x.stamp = ap (λ row. column row 3) e in
@@ -111,17 +116,22 @@ tells_newest old new account skipped symbol rows shown = λ t tree h.
     let p1 : column a 0 ≡ natural_as_value x.trade = ap (λ row. column row 0) e in
     let q1 : column b 0 ≡ natural_as_value y.trade = ap (λ row. column row 0) f in
     rw (p0, q0, p1, q1) refl)
-    old new rows shown (λ x y e. ap is_eq ((key_total holding_key).antisymm x y) ∙ reversed_eq (ordering_by_primary_key Holdings y x) ∙ second (value_cmp (natural_as_value y.stamp) (natural_as_value x.stamp)) _ e) t tree h
+    old new rows shown (λ x y e. ap is_eq ((key_total holding_key).antisymm x y) ∙ reversed_eq (ordering_by_primary_key Holdings y x)
+    ∙ second (value_cmp (natural_as_value y.stamp) (natural_as_value x.stamp)) _ e) t tree h
     ∙ page_map holding_cells skipped (sort_by (flipped (ordering_by_key lot_age_key)) held)
     ∙ ap (λ (xs : List HoldingRow). map holding_cells (page_after_skipped skipped xs))
-    (turned_sort (ordering_by_key lot_age_key) (key_total lot_age_key) held (untied held (ascending-filter _ (is_held account symbol) t.holdings (h.rows Holdings).rising)) ∙ ap reverse (sym (sorted lot_age_key held)))
+    (turned_sort (ordering_by_key lot_age_key) (key_total lot_age_key) held
+    (untied held (ascending-filter _ (is_held account symbol) t.holdings (h.rows Holdings).rising)) ∙ ap reverse (sym (sorted lot_age_key held)))
 
 -- ---- summaries
 
-pub tells_summaries : (old new : State) (account : ℕ) (rows : List Row) → Shown SummariesOf.statement (natural_as_value account ∷ []) old new rows → TablesSatisfy desk_tables (λ t. rows ≡ map summary_cells (filter (λ r. r.account == account) t.summaries)) old.now
+pub tells_summaries : (old new : State) (account : ℕ) (rows : List Row) → Shown SummariesOf.statement (natural_as_value account ∷ []) old new rows
+    → TablesSatisfy desk_tables (λ t. rows ≡ map summary_cells (filter (λ r. r.account == account) t.summaries)) old.now
 tells_summaries old new account rows shown =
-    tells_rising desk_tables Summaries SummariesOf.statement (natural_as_value account ∷ []) (read SummariesOf.statement) SummariesOf.terms SummariesOf.project SummariesOf.order SummariesOf.paging SummariesOf.names SummariesOf.understood_as
-    (λ (r : SummaryRow). r.account == account) (λ tree r x e. let a0 : column r 1 ≡ natural_as_value x.account = cc in rw (a0, same_number x.account account) (and_true _)) summary_cells (λ tree r x e. e) (ordering_by_primary_key Summaries) (key_total summary_key)
+    tells_rising desk_tables Summaries SummariesOf.statement (natural_as_value account ∷ []) (read SummariesOf.statement) SummariesOf.terms SummariesOf.project
+    SummariesOf.order SummariesOf.paging SummariesOf.names SummariesOf.understood_as
+    (λ (r : SummaryRow). r.account == account) (λ tree r x e. let a0 : column r 1 ≡ natural_as_value x.account = cc in
+    rw (a0, same_number x.account account) (and_true _)) summary_cells (λ tree r x e. e) (ordering_by_primary_key Summaries) (key_total summary_key)
     (λ tree a b x y e f.
     let p0 : column a 1 ≡ natural_as_value x.account = cc in
     let q0 : column b 1 ≡ natural_as_value y.account = cc in
@@ -132,9 +142,11 @@ tells_summaries old new account rows shown =
 pub tells_summary : (old new : State) (account : ℕ) (symbol : List ℕ) (rows : List Row) → Shown SummaryOf.statement (natural_as_value account ∷ Words symbol ∷ []) old new rows
     → TablesSatisfy desk_tables (λ t. rows ≡ map summary_cells (filter (λ r. (r.account == account) && bytes_eq r.symbol symbol) t.summaries)) old.now
 tells_summary old new account symbol rows shown =
-    tells_rising desk_tables Summaries SummaryOf.statement (natural_as_value account ∷ Words symbol ∷ []) (read SummaryOf.statement) SummaryOf.terms SummaryOf.project SummaryOf.order SummaryOf.paging SummaryOf.names SummaryOf.understood_as
+    tells_rising desk_tables Summaries SummaryOf.statement (natural_as_value account ∷ Words symbol ∷ []) (read SummaryOf.statement) SummaryOf.terms
+    SummaryOf.project SummaryOf.order SummaryOf.paging SummaryOf.names SummaryOf.understood_as
     (λ (r : SummaryRow). (r.account == account) && bytes_eq r.symbol symbol)
-    (λ tree r x e. let a0 : column r 1 ≡ natural_as_value x.account = cc in let a1 : column r 2 ≡ Words x.symbol = cc in rw (a0, a1, same_number x.account account, same_text x.symbol symbol) (ap (λ c. (x.account == account) && c) (and_true _)))
+    (λ tree r x e. let a0 : column r 1 ≡ natural_as_value x.account = cc in let a1 : column r 2 ≡ Words x.symbol = cc in
+    rw (a0, a1, same_number x.account account, same_text x.symbol symbol) (ap (λ c. (x.account == account) && c) (and_true _)))
     summary_cells (λ tree r x e. e) (ordering_by_primary_key Summaries) (key_total summary_key)
     (λ tree a b x y e f.
     let p0 : column a 1 ≡ natural_as_value x.account = cc in

@@ -52,7 +52,14 @@ source = roll-Source (record { is_left = false; origin = Table (codes "TRADE"); 
 abbrev pub core : Core
 core = roll-Core (record {
   distinct = false;
-  shown = One (e.Column None (codes "T_ID")) None (codes "T_ID") ∷ One (e.Column None (codes "T_DTS")) None (codes "T_DTS") ∷ One (e.Column None (codes "T_ST_ID")) None (codes "T_ST_ID") ∷ One (e.Column None (codes "T_TT_ID")) None (codes "T_TT_ID") ∷ One (e.Column None (codes "T_IS_CASH")) None (codes "T_IS_CASH") ∷ One (e.Column None (codes "T_S_SYMB")) None (codes "T_S_SYMB") ∷ One (e.Column None (codes "T_QTY")) None (codes "T_QTY") ∷ One (e.Column None (codes "T_BID_PRICE")) None (codes "T_BID_PRICE") ∷ One (e.Column None (codes "T_CA_ID")) None (codes "T_CA_ID") ∷ One (e.Column None (codes "T_EXEC_NAME")) None (codes "T_EXEC_NAME") ∷ One (e.Column None (codes "T_TRADE_PRICE")) None (codes "T_TRADE_PRICE") ∷ One (e.Column None (codes "T_CHRG")) None (codes "T_CHRG") ∷ One (e.Column None (codes "T_COMM")) None (codes "T_COMM") ∷ One (e.Column None (codes "T_TAX")) None (codes "T_TAX") ∷ One (e.Column None (codes "T_LIFO")) None (codes "T_LIFO") ∷ [];
+  shown = One (e.Column None (codes "T_ID")) None (codes "T_ID") ∷ One (e.Column None (codes "T_DTS")) None (codes "T_DTS")
+      ∷ One (e.Column None (codes "T_ST_ID")) None (codes "T_ST_ID") ∷ One (e.Column None (codes "T_TT_ID")) None (codes "T_TT_ID")
+      ∷ One (e.Column None (codes "T_IS_CASH")) None (codes "T_IS_CASH") ∷ One (e.Column None (codes "T_S_SYMB")) None (codes "T_S_SYMB")
+      ∷ One (e.Column None (codes "T_QTY")) None (codes "T_QTY") ∷ One (e.Column None (codes "T_BID_PRICE")) None (codes "T_BID_PRICE")
+      ∷ One (e.Column None (codes "T_CA_ID")) None (codes "T_CA_ID") ∷ One (e.Column None (codes "T_EXEC_NAME")) None (codes "T_EXEC_NAME")
+      ∷ One (e.Column None (codes "T_TRADE_PRICE")) None (codes "T_TRADE_PRICE") ∷ One (e.Column None (codes "T_CHRG")) None (codes "T_CHRG")
+      ∷ One (e.Column None (codes "T_COMM")) None (codes "T_COMM") ∷ One (e.Column None (codes "T_TAX")) None (codes "T_TAX")
+      ∷ One (e.Column None (codes "T_LIFO")) None (codes "T_LIFO") ∷ [];
   from = source ∷ [];
   filter = Some (e.Binary operator.Eq (e.Column None (codes "T_CA_ID")) (e.Parameter 1));
   group = [];
@@ -60,7 +67,8 @@ core = roll-Core (record {
 })
 
 abbrev pub by : List Sort
-by = roll-Sort (record { key = e.Column None (codes "T_DTS"); descending = true; nulls_first = None }) ∷ roll-Sort (record { key = e.Column None (codes "T_ID"); descending = true; nulls_first = None }) ∷ []
+by = roll-Sort (record { key = e.Column None (codes "T_DTS"); descending = true; nulls_first = None })
+    ∷ roll-Sort (record { key = e.Column None (codes "T_ID"); descending = true; nulls_first = None }) ∷ []
 
 abbrev pub select : ast.Select
 select = ast.roll-Select (record { with = []; first = core; others = []; order = by; limit = Some (e.Integer (codes "50")); offset = None })
@@ -87,10 +95,14 @@ abbrev pub output : List ℕ → ℕ → Carried → Output
 output name place carried = record { name = name; is_alias = false; is_column = true; term = col 1 place; carried = carried }
 
 abbrev pub columns : List Output
-columns = output (codes "T_ID") 0 nothing ∷ output (codes "T_DTS") 2 binary ∷ output (codes "T_ST_ID") 3 binary ∷ output (codes "T_TT_ID") 4 binary ∷ output (codes "T_IS_CASH") 5 binary ∷ output (codes "T_S_SYMB") 6 binary ∷ output (codes "T_QTY") 7 binary ∷ output (codes "T_BID_PRICE") 8 binary ∷ output (codes "T_CA_ID") 9 binary ∷ output (codes "T_EXEC_NAME") 10 binary ∷ output (codes "T_TRADE_PRICE") 11 binary ∷ output (codes "T_CHRG") 12 binary ∷ output (codes "T_COMM") 13 binary ∷ output (codes "T_TAX") 14 binary ∷ output (codes "T_LIFO") 15 binary ∷ []
+columns = output (codes "T_ID") 0 nothing ∷ output (codes "T_DTS") 2 binary ∷ output (codes "T_ST_ID") 3 binary ∷ output (codes "T_TT_ID") 4 binary
+    ∷ output (codes "T_IS_CASH") 5 binary ∷ output (codes "T_S_SYMB") 6 binary ∷ output (codes "T_QTY") 7 binary ∷ output (codes "T_BID_PRICE") 8 binary
+    ∷ output (codes "T_CA_ID") 9 binary ∷ output (codes "T_EXEC_NAME") 10 binary ∷ output (codes "T_TRADE_PRICE") 11 binary ∷ output (codes "T_CHRG") 12 binary
+    ∷ output (codes "T_COMM") 13 binary ∷ output (codes "T_TAX") 14 binary ∷ output (codes "T_LIFO") 15 binary ∷ []
 
 abbrev pub names : List (List ℕ)
-names = codes "T_ID" ∷ codes "T_DTS" ∷ codes "T_ST_ID" ∷ codes "T_TT_ID" ∷ codes "T_IS_CASH" ∷ codes "T_S_SYMB" ∷ codes "T_QTY" ∷ codes "T_BID_PRICE" ∷ codes "T_CA_ID" ∷ codes "T_EXEC_NAME" ∷ codes "T_TRADE_PRICE" ∷ codes "T_CHRG" ∷ codes "T_COMM" ∷ codes "T_TAX" ∷ codes "T_LIFO" ∷ []
+names = codes "T_ID" ∷ codes "T_DTS" ∷ codes "T_ST_ID" ∷ codes "T_TT_ID" ∷ codes "T_IS_CASH" ∷ codes "T_S_SYMB" ∷ codes "T_QTY" ∷ codes "T_BID_PRICE"
+    ∷ codes "T_CA_ID" ∷ codes "T_EXEC_NAME" ∷ codes "T_TRADE_PRICE" ∷ codes "T_CHRG" ∷ codes "T_COMM" ∷ codes "T_TAX" ∷ codes "T_LIFO" ∷ []
 
 abbrev after : ℕ → Carried → State
 after spent last = record (fresh 2 max_budget) { budget = max_budget - spent; last = last }
@@ -108,31 +120,43 @@ module _ (schema : Schema) (at tree : ℕ) (h : IsTableAt schema (trade_table tr
         column_is schema at (trade_table tree) found (codes "TRADE") [] [] true true (codes "T_DTS") 1 (integer_column (codes "T_DTS")) refl refl,
         heading_is schema at (trade_table tree) found (codes "TRADE") [] [] true true (e.Column None (codes "T_DTS")) (codes "T_DTS") (codes "T_DTS") 1 (integer_column (codes "T_DTS")) refl refl refl,
         column_is schema at (trade_table tree) found (codes "TRADE") [] [] true true (codes "T_ST_ID") 2 (text_column (codes "T_ST_ID")) refl refl,
-        heading_is schema at (trade_table tree) found (codes "TRADE") [] [] true true (e.Column None (codes "T_ST_ID")) (codes "T_ST_ID") (codes "T_ST_ID") 2 (text_column (codes "T_ST_ID")) refl refl refl,
+        heading_is schema at (trade_table tree) found (codes "TRADE") [] [] true true (e.Column None (codes "T_ST_ID")) (codes "T_ST_ID") (codes "T_ST_ID") 2
+            (text_column (codes "T_ST_ID")) refl refl refl,
         column_is schema at (trade_table tree) found (codes "TRADE") [] [] true true (codes "T_TT_ID") 3 (text_column (codes "T_TT_ID")) refl refl,
-        heading_is schema at (trade_table tree) found (codes "TRADE") [] [] true true (e.Column None (codes "T_TT_ID")) (codes "T_TT_ID") (codes "T_TT_ID") 3 (text_column (codes "T_TT_ID")) refl refl refl,
+        heading_is schema at (trade_table tree) found (codes "TRADE") [] [] true true (e.Column None (codes "T_TT_ID")) (codes "T_TT_ID") (codes "T_TT_ID") 3
+            (text_column (codes "T_TT_ID")) refl refl refl,
         column_is schema at (trade_table tree) found (codes "TRADE") [] [] true true (codes "T_IS_CASH") 4 (integer_column (codes "T_IS_CASH")) refl refl,
-        heading_is schema at (trade_table tree) found (codes "TRADE") [] [] true true (e.Column None (codes "T_IS_CASH")) (codes "T_IS_CASH") (codes "T_IS_CASH") 4 (integer_column (codes "T_IS_CASH")) refl refl refl,
+        heading_is schema at (trade_table tree) found (codes "TRADE") [] [] true true (e.Column None (codes "T_IS_CASH")) (codes "T_IS_CASH")
+            (codes "T_IS_CASH") 4 (integer_column (codes "T_IS_CASH")) refl refl refl,
         column_is schema at (trade_table tree) found (codes "TRADE") [] [] true true (codes "T_S_SYMB") 5 (text_column (codes "T_S_SYMB")) refl refl,
-        heading_is schema at (trade_table tree) found (codes "TRADE") [] [] true true (e.Column None (codes "T_S_SYMB")) (codes "T_S_SYMB") (codes "T_S_SYMB") 5 (text_column (codes "T_S_SYMB")) refl refl refl,
+        heading_is schema at (trade_table tree) found (codes "TRADE") [] [] true true (e.Column None (codes "T_S_SYMB")) (codes "T_S_SYMB") (codes "T_S_SYMB") 5
+            (text_column (codes "T_S_SYMB")) refl refl refl,
         column_is schema at (trade_table tree) found (codes "TRADE") [] [] true true (codes "T_QTY") 6 (integer_column (codes "T_QTY")) refl refl,
         heading_is schema at (trade_table tree) found (codes "TRADE") [] [] true true (e.Column None (codes "T_QTY")) (codes "T_QTY") (codes "T_QTY") 6 (integer_column (codes "T_QTY")) refl refl refl,
         column_is schema at (trade_table tree) found (codes "TRADE") [] [] true true (codes "T_BID_PRICE") 7 (integer_column (codes "T_BID_PRICE")) refl refl,
-        heading_is schema at (trade_table tree) found (codes "TRADE") [] [] true true (e.Column None (codes "T_BID_PRICE")) (codes "T_BID_PRICE") (codes "T_BID_PRICE") 7 (integer_column (codes "T_BID_PRICE")) refl refl refl,
+        heading_is schema at (trade_table tree) found (codes "TRADE") [] [] true true (e.Column None (codes "T_BID_PRICE")) (codes "T_BID_PRICE")
+            (codes "T_BID_PRICE") 7 (integer_column (codes "T_BID_PRICE")) refl refl refl,
         column_is schema at (trade_table tree) found (codes "TRADE") [] [] true true (codes "T_CA_ID") 8 (integer_column (codes "T_CA_ID")) refl refl,
-        heading_is schema at (trade_table tree) found (codes "TRADE") [] [] true true (e.Column None (codes "T_CA_ID")) (codes "T_CA_ID") (codes "T_CA_ID") 8 (integer_column (codes "T_CA_ID")) refl refl refl,
+        heading_is schema at (trade_table tree) found (codes "TRADE") [] [] true true (e.Column None (codes "T_CA_ID")) (codes "T_CA_ID") (codes "T_CA_ID") 8
+            (integer_column (codes "T_CA_ID")) refl refl refl,
         column_is schema at (trade_table tree) found (codes "TRADE") [] [] true true (codes "T_EXEC_NAME") 9 (text_column (codes "T_EXEC_NAME")) refl refl,
-        heading_is schema at (trade_table tree) found (codes "TRADE") [] [] true true (e.Column None (codes "T_EXEC_NAME")) (codes "T_EXEC_NAME") (codes "T_EXEC_NAME") 9 (text_column (codes "T_EXEC_NAME")) refl refl refl,
+        heading_is schema at (trade_table tree) found (codes "TRADE") [] [] true true (e.Column None (codes "T_EXEC_NAME")) (codes "T_EXEC_NAME")
+            (codes "T_EXEC_NAME") 9 (text_column (codes "T_EXEC_NAME")) refl refl refl,
         column_is schema at (trade_table tree) found (codes "TRADE") [] [] true true (codes "T_TRADE_PRICE") 10 (nullable_integer_column (codes "T_TRADE_PRICE")) refl refl,
-        heading_is schema at (trade_table tree) found (codes "TRADE") [] [] true true (e.Column None (codes "T_TRADE_PRICE")) (codes "T_TRADE_PRICE") (codes "T_TRADE_PRICE") 10 (nullable_integer_column (codes "T_TRADE_PRICE")) refl refl refl,
+        heading_is schema at (trade_table tree) found (codes "TRADE") [] [] true true (e.Column None (codes "T_TRADE_PRICE")) (codes "T_TRADE_PRICE")
+            (codes "T_TRADE_PRICE") 10 (nullable_integer_column (codes "T_TRADE_PRICE")) refl refl refl,
         column_is schema at (trade_table tree) found (codes "TRADE") [] [] true true (codes "T_CHRG") 11 (integer_column (codes "T_CHRG")) refl refl,
-        heading_is schema at (trade_table tree) found (codes "TRADE") [] [] true true (e.Column None (codes "T_CHRG")) (codes "T_CHRG") (codes "T_CHRG") 11 (integer_column (codes "T_CHRG")) refl refl refl,
+        heading_is schema at (trade_table tree) found (codes "TRADE") [] [] true true (e.Column None (codes "T_CHRG")) (codes "T_CHRG") (codes "T_CHRG") 11
+            (integer_column (codes "T_CHRG")) refl refl refl,
         column_is schema at (trade_table tree) found (codes "TRADE") [] [] true true (codes "T_COMM") 12 (integer_column (codes "T_COMM")) refl refl,
-        heading_is schema at (trade_table tree) found (codes "TRADE") [] [] true true (e.Column None (codes "T_COMM")) (codes "T_COMM") (codes "T_COMM") 12 (integer_column (codes "T_COMM")) refl refl refl,
+        heading_is schema at (trade_table tree) found (codes "TRADE") [] [] true true (e.Column None (codes "T_COMM")) (codes "T_COMM") (codes "T_COMM") 12
+            (integer_column (codes "T_COMM")) refl refl refl,
         column_is schema at (trade_table tree) found (codes "TRADE") [] [] true true (codes "T_TAX") 13 (integer_column (codes "T_TAX")) refl refl,
-        heading_is schema at (trade_table tree) found (codes "TRADE") [] [] true true (e.Column None (codes "T_TAX")) (codes "T_TAX") (codes "T_TAX") 13 (integer_column (codes "T_TAX")) refl refl refl,
+        heading_is schema at (trade_table tree) found (codes "TRADE") [] [] true true (e.Column None (codes "T_TAX")) (codes "T_TAX") (codes "T_TAX") 13
+            (integer_column (codes "T_TAX")) refl refl refl,
         column_is schema at (trade_table tree) found (codes "TRADE") [] [] true true (codes "T_LIFO") 14 (integer_column (codes "T_LIFO")) refl refl,
-        heading_is schema at (trade_table tree) found (codes "TRADE") [] [] true true (e.Column None (codes "T_LIFO")) (codes "T_LIFO") (codes "T_LIFO") 14 (integer_column (codes "T_LIFO")) refl refl refl,
+        heading_is schema at (trade_table tree) found (codes "TRADE") [] [] true true (e.Column None (codes "T_LIFO")) (codes "T_LIFO") (codes "T_LIFO") 14
+            (integer_column (codes "T_LIFO")) refl refl refl,
       )
 
   matches : matching lower (outermost schema) (level_one (codes "TRADE") at columns) core (after 15 binary)
@@ -148,15 +172,28 @@ module _ (schema : Schema) (at tree : ℕ) (h : IsTableAt schema (trade_table tr
         column_is schema at (trade_table tree) found (codes "TRADE") columns [] false true (codes "T_ID") 0 (integer_column (codes "T_ID")) refl refl,
       )
 
-  meaning_is : meaning schema select ≡ Ok ((draft tree, names, None ∷ Some Binary ∷ Some Binary ∷ Some Binary ∷ Some Binary ∷ Some Binary ∷ Some Binary ∷ Some Binary ∷ Some Binary ∷ Some Binary ∷ Some Binary ∷ Some Binary ∷ Some Binary ∷ Some Binary ∷ Some Binary ∷ []), [])
+  meaning_is : meaning schema select
+      ≡ Ok (
+        (
+          draft tree,
+          names,
+          None ∷ Some Binary ∷ Some Binary ∷ Some Binary ∷ Some Binary ∷ Some Binary ∷ Some Binary ∷ Some Binary ∷ Some Binary
+              ∷ Some Binary ∷ Some Binary ∷ Some Binary ∷ Some Binary ∷ Some Binary ∷ Some Binary ∷ [],
+        ),
+        [],
+      )
   unfolding everything
   meaning_is = query_is schema select core source (codes "TRADE") paging _ refl refl refl refl refl refl
       (named_is schema core source (codes "TRADE") at h.named refl refl refl refl columns (after 15 binary)
       (record { steps = Inner tree ∷ []; filter = terms }) (after 18 nothing) shows matches by _ (after 20 nothing) _ refl refl sorted)
 
-  pub understood_as : (compiled schema statement ≡ Ok (meant (read statement) [] (Select (record { lets = []; body = selection tree terms project order paging }) names))) ⊎ (compiled schema statement ≡ Err Mismatch)
+  pub understood_as : (compiled schema statement
+      ≡ Ok (meant (read statement) [] (Select (record { lets = []; body = selection tree terms project order paging }) names)))
+      ⊎ (compiled schema statement ≡ Err Mismatch)
   unfolding everything
-  understood_as = reads_or schema statement (read statement) refl refl select (draft tree) names (None ∷ Some Binary ∷ Some Binary ∷ Some Binary ∷ Some Binary ∷ Some Binary ∷ Some Binary ∷ Some Binary ∷ Some Binary ∷ Some Binary ∷ Some Binary ∷ Some Binary ∷ Some Binary ∷ Some Binary ∷ Some Binary ∷ []) refl meaning_is
+  understood_as = reads_or schema statement (read statement) refl refl select (draft tree) names
+      (None ∷ Some Binary ∷ Some Binary ∷ Some Binary ∷ Some Binary ∷ Some Binary ∷ Some Binary ∷ Some Binary ∷ Some Binary ∷ Some Binary ∷ Some Binary
+      ∷ Some Binary ∷ Some Binary ∷ Some Binary ∷ Some Binary ∷ []) refl meaning_is
 
 pub plain : (schema : Schema) (c : Compiled) → understood schema statement ≡ Ok c → c.returning ≡ None
 unfolding everything

@@ -52,7 +52,8 @@ source = roll-Source (record { is_left = false; origin = Table (codes "LAST_TRAD
 abbrev pub core : Core
 core = roll-Core (record {
   distinct = false;
-  shown = One (e.Column None (codes "LT_S_SYMB")) None (codes "LT_S_SYMB") ∷ One (e.Column None (codes "LT_DTS")) None (codes "LT_DTS") ∷ One (e.Column None (codes "LT_PRICE")) None (codes "LT_PRICE") ∷ One (e.Column None (codes "LT_VOL")) None (codes "LT_VOL") ∷ [];
+  shown = One (e.Column None (codes "LT_S_SYMB")) None (codes "LT_S_SYMB") ∷ One (e.Column None (codes "LT_DTS")) None (codes "LT_DTS")
+      ∷ One (e.Column None (codes "LT_PRICE")) None (codes "LT_PRICE") ∷ One (e.Column None (codes "LT_VOL")) None (codes "LT_VOL") ∷ [];
   from = source ∷ [];
   filter = Some (e.Binary operator.Eq (e.Column None (codes "LT_S_SYMB")) (e.Parameter 1));
   group = [];
@@ -104,13 +105,17 @@ module _ (schema : Schema) (at tree : ℕ) (h : IsTableAt schema (last_trade_tab
   shows =
       rw (
         column_is schema at (last_trade_table tree) found (codes "LAST_TRADE") [] [] true true (codes "LT_S_SYMB") 0 (text_column (codes "LT_S_SYMB")) refl refl,
-        heading_is schema at (last_trade_table tree) found (codes "LAST_TRADE") [] [] true true (e.Column None (codes "LT_S_SYMB")) (codes "LT_S_SYMB") (codes "LT_S_SYMB") 0 (text_column (codes "LT_S_SYMB")) refl refl refl,
+        heading_is schema at (last_trade_table tree) found (codes "LAST_TRADE") [] [] true true (e.Column None (codes "LT_S_SYMB")) (codes "LT_S_SYMB")
+            (codes "LT_S_SYMB") 0 (text_column (codes "LT_S_SYMB")) refl refl refl,
         column_is schema at (last_trade_table tree) found (codes "LAST_TRADE") [] [] true true (codes "LT_DTS") 1 (integer_column (codes "LT_DTS")) refl refl,
-        heading_is schema at (last_trade_table tree) found (codes "LAST_TRADE") [] [] true true (e.Column None (codes "LT_DTS")) (codes "LT_DTS") (codes "LT_DTS") 1 (integer_column (codes "LT_DTS")) refl refl refl,
+        heading_is schema at (last_trade_table tree) found (codes "LAST_TRADE") [] [] true true (e.Column None (codes "LT_DTS")) (codes "LT_DTS")
+            (codes "LT_DTS") 1 (integer_column (codes "LT_DTS")) refl refl refl,
         column_is schema at (last_trade_table tree) found (codes "LAST_TRADE") [] [] true true (codes "LT_PRICE") 2 (integer_column (codes "LT_PRICE")) refl refl,
-        heading_is schema at (last_trade_table tree) found (codes "LAST_TRADE") [] [] true true (e.Column None (codes "LT_PRICE")) (codes "LT_PRICE") (codes "LT_PRICE") 2 (integer_column (codes "LT_PRICE")) refl refl refl,
+        heading_is schema at (last_trade_table tree) found (codes "LAST_TRADE") [] [] true true (e.Column None (codes "LT_PRICE")) (codes "LT_PRICE")
+            (codes "LT_PRICE") 2 (integer_column (codes "LT_PRICE")) refl refl refl,
         column_is schema at (last_trade_table tree) found (codes "LAST_TRADE") [] [] true true (codes "LT_VOL") 3 (integer_column (codes "LT_VOL")) refl refl,
-        heading_is schema at (last_trade_table tree) found (codes "LAST_TRADE") [] [] true true (e.Column None (codes "LT_VOL")) (codes "LT_VOL") (codes "LT_VOL") 3 (integer_column (codes "LT_VOL")) refl refl refl,
+        heading_is schema at (last_trade_table tree) found (codes "LAST_TRADE") [] [] true true (e.Column None (codes "LT_VOL")) (codes "LT_VOL")
+            (codes "LT_VOL") 3 (integer_column (codes "LT_VOL")) refl refl refl,
       )
 
   matches : matching lower (outermost schema) (level_one (codes "LAST_TRADE") at columns) core (after 4 binary)
@@ -129,7 +134,9 @@ module _ (schema : Schema) (at tree : ℕ) (h : IsTableAt schema (last_trade_tab
       (named_is schema core source (codes "LAST_TRADE") at h.named refl refl refl refl columns (after 4 binary)
       (record { steps = Inner tree ∷ []; filter = terms }) (after 7 nothing) shows matches by _ (after 8 binary) _ refl refl sorted)
 
-  pub understood_as : (compiled schema statement ≡ Ok (meant (read statement) [] (Select (record { lets = []; body = selection tree terms project order paging }) names))) ⊎ (compiled schema statement ≡ Err Mismatch)
+  pub understood_as : (compiled schema statement
+      ≡ Ok (meant (read statement) [] (Select (record { lets = []; body = selection tree terms project order paging }) names)))
+      ⊎ (compiled schema statement ≡ Err Mismatch)
   unfolding everything
   understood_as = reads_or schema statement (read statement) refl refl select (draft tree) names (Some Binary ∷ Some Binary ∷ Some Binary ∷ Some Binary ∷ []) refl meaning_is
 

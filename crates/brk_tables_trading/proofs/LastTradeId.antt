@@ -120,7 +120,9 @@ module _ (schema : Schema) (at tree : ℕ) (h : IsTableAt schema (trade_table tr
       (named_is schema core source (codes "TRADE") at h.named refl refl refl refl columns (after 1 nothing)
       (record { steps = Inner tree ∷ []; filter = terms }) (after 1 nothing) shows matches by _ (after 2 nothing) _ refl refl sorted)
 
-  pub understood_as : (compiled schema statement ≡ Ok (meant (read statement) [] (Select (record { lets = []; body = selection tree terms project order paging }) names))) ⊎ (compiled schema statement ≡ Err Mismatch)
+  pub understood_as : (compiled schema statement
+      ≡ Ok (meant (read statement) [] (Select (record { lets = []; body = selection tree terms project order paging }) names)))
+      ⊎ (compiled schema statement ≡ Err Mismatch)
   unfolding everything
   understood_as = reads_or schema statement (read statement) refl refl select (draft tree) names (None ∷ []) refl meaning_is
 

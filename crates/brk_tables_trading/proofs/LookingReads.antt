@@ -35,8 +35,10 @@ use Rattle.brk_tables_trading.proofs.LastTenOfAccount
 pub tells_history : (old new : State) (trade : ℕ) (rows : List Row) → Shown HistoryOf.statement (natural_as_value trade ∷ []) old new rows
     → TablesSatisfy desk_tables (λ t. rows ≡ map history_cells (filter (λ r. r.trade == trade) t.history)) old.now
 tells_history old new trade rows shown =
-    tells_rising desk_tables TradeHistory HistoryOf.statement (natural_as_value trade ∷ []) (read HistoryOf.statement) HistoryOf.terms HistoryOf.project HistoryOf.order HistoryOf.paging HistoryOf.names HistoryOf.understood_as
-    (λ (r : HistoryRow). r.trade == trade) (λ tree r x e. let a : column r 1 ≡ natural_as_value x.trade = cc in rw (a, same_number x.trade trade) (and_true _)) history_cells (λ tree r x e. e) (ordering_by_primary_key TradeHistory) (key_total history_key)
+    tells_rising desk_tables TradeHistory HistoryOf.statement (natural_as_value trade ∷ []) (read HistoryOf.statement) HistoryOf.terms HistoryOf.project
+    HistoryOf.order HistoryOf.paging HistoryOf.names HistoryOf.understood_as
+    (λ (r : HistoryRow). r.trade == trade) (λ tree r x e. let a : column r 1 ≡ natural_as_value x.trade = cc in rw (a, same_number x.trade trade) (and_true _))
+    history_cells (λ tree r x e. e) (ordering_by_primary_key TradeHistory) (key_total history_key)
     (λ tree a b x y e f.
     let p0 : column a 1 ≡ natural_as_value x.trade = ap (λ row. column row 0) e in
     let q0 : column b 1 ≡ natural_as_value y.trade = ap (λ row. column row 0) f in
@@ -96,7 +98,8 @@ same_id x y e = ap is_eq ((key_total trade_key).antisymm x y) ∙ turned (orderi
 pub tells_last_ten : (old new : State) (account : ℕ) (rows : List Row) → Shown LastTenOfAccount.statement (natural_as_value account ∷ []) old new rows
     → TablesSatisfy desk_tables (λ t. rows ≡ map trade_cells (take 10 (trade_rows_recent_first (trade_rows_of_account t account)))) old.now
 tells_last_ten old new account rows shown = λ t tree h.
-    tells_sorted desk_tables Trades LastTenOfAccount.statement (natural_as_value account ∷ []) (read LastTenOfAccount.statement) LastTenOfAccount.terms LastTenOfAccount.project LastTenOfAccount.order LastTenOfAccount.paging LastTenOfAccount.names LastTenOfAccount.understood_as
+    tells_sorted desk_tables Trades LastTenOfAccount.statement (natural_as_value account ∷ []) (read LastTenOfAccount.statement) LastTenOfAccount.terms
+    LastTenOfAccount.project LastTenOfAccount.order LastTenOfAccount.paging LastTenOfAccount.names LastTenOfAccount.understood_as
     (λ (r : TradeRow). r.account == account) (λ tree r x e. let a : column r 9 ≡ natural_as_value x.account = ap (λ row. column row 8) e in rw (a, same_number x.account account) (and_true _))
     trade_cells (λ tree r x e. e) falling (back_total (key_total trade_age))
     (λ tree a b x y e f.
@@ -112,7 +115,8 @@ tells_last_ten old new account rows shown = λ t tree h.
 pub tells_last_fifty : (old new : State) (account : ℕ) (rows : List Row) → Shown LastFiftyOfAccount.statement (natural_as_value account ∷ []) old new rows
     → TablesSatisfy desk_tables (λ t. rows ≡ map trade_cells (take 50 (trade_rows_recent_first (trade_rows_of_account t account)))) old.now
 tells_last_fifty old new account rows shown = λ t tree h.
-    tells_sorted desk_tables Trades LastFiftyOfAccount.statement (natural_as_value account ∷ []) (read LastFiftyOfAccount.statement) LastFiftyOfAccount.terms LastFiftyOfAccount.project LastFiftyOfAccount.order LastFiftyOfAccount.paging LastFiftyOfAccount.names LastFiftyOfAccount.understood_as
+    tells_sorted desk_tables Trades LastFiftyOfAccount.statement (natural_as_value account ∷ []) (read LastFiftyOfAccount.statement) LastFiftyOfAccount.terms
+    LastFiftyOfAccount.project LastFiftyOfAccount.order LastFiftyOfAccount.paging LastFiftyOfAccount.names LastFiftyOfAccount.understood_as
     (λ (r : TradeRow). r.account == account) (λ tree r x e. let a : column r 9 ≡ natural_as_value x.account = ap (λ row. column row 8) e in rw (a, same_number x.account account) (and_true _))
     trade_cells (λ tree r x e. e) falling (back_total (key_total trade_age))
     (λ tree a b x y e f.

@@ -52,7 +52,9 @@ source = roll-Source (record { is_left = false; origin = Table (codes "HOLDING")
 abbrev pub core : Core
 core = roll-Core (record {
   distinct = false;
-  shown = One (e.Column None (codes "H_T_ID")) None (codes "H_T_ID") ∷ One (e.Column None (codes "H_CA_ID")) None (codes "H_CA_ID") ∷ One (e.Column None (codes "H_S_SYMB")) None (codes "H_S_SYMB") ∷ One (e.Column None (codes "H_DTS")) None (codes "H_DTS") ∷ One (e.Column None (codes "H_PRICE")) None (codes "H_PRICE") ∷ One (e.Column None (codes "H_QTY")) None (codes "H_QTY") ∷ [];
+  shown = One (e.Column None (codes "H_T_ID")) None (codes "H_T_ID") ∷ One (e.Column None (codes "H_CA_ID")) None (codes "H_CA_ID")
+      ∷ One (e.Column None (codes "H_S_SYMB")) None (codes "H_S_SYMB") ∷ One (e.Column None (codes "H_DTS")) None (codes "H_DTS")
+      ∷ One (e.Column None (codes "H_PRICE")) None (codes "H_PRICE") ∷ One (e.Column None (codes "H_QTY")) None (codes "H_QTY") ∷ [];
   from = source ∷ [];
   filter = Some (e.Binary operator.And (e.Binary operator.Eq (e.Column None (codes "H_CA_ID")) (e.Parameter 1)) (e.Binary operator.Eq (e.Column None (codes "H_S_SYMB")) (e.Parameter 2)));
   group = [];
@@ -60,7 +62,8 @@ core = roll-Core (record {
 })
 
 abbrev pub by : List Sort
-by = roll-Sort (record { key = e.Column None (codes "H_DTS"); descending = true; nulls_first = None }) ∷ roll-Sort (record { key = e.Column None (codes "H_T_ID"); descending = true; nulls_first = None }) ∷ []
+by = roll-Sort (record { key = e.Column None (codes "H_DTS"); descending = true; nulls_first = None })
+    ∷ roll-Sort (record { key = e.Column None (codes "H_T_ID"); descending = true; nulls_first = None }) ∷ []
 
 abbrev pub select : ast.Select
 select = ast.roll-Select (record { with = []; first = core; others = []; order = by; limit = Some (e.Integer (codes "16")); offset = Some (e.Parameter 3) })
@@ -87,7 +90,8 @@ abbrev pub output : List ℕ → ℕ → Carried → Output
 output name place carried = record { name = name; is_alias = false; is_column = true; term = col 1 place; carried = carried }
 
 abbrev pub columns : List Output
-columns = output (codes "H_T_ID") 0 nothing ∷ output (codes "H_CA_ID") 2 binary ∷ output (codes "H_S_SYMB") 3 binary ∷ output (codes "H_DTS") 4 binary ∷ output (codes "H_PRICE") 5 binary ∷ output (codes "H_QTY") 6 binary ∷ []
+columns = output (codes "H_T_ID") 0 nothing ∷ output (codes "H_CA_ID") 2 binary ∷ output (codes "H_S_SYMB") 3 binary ∷ output (codes "H_DTS") 4 binary
+    ∷ output (codes "H_PRICE") 5 binary ∷ output (codes "H_QTY") 6 binary ∷ []
 
 abbrev pub names : List (List ℕ)
 names = codes "H_T_ID" ∷ codes "H_CA_ID" ∷ codes "H_S_SYMB" ∷ codes "H_DTS" ∷ codes "H_PRICE" ∷ codes "H_QTY" ∷ []
@@ -104,23 +108,37 @@ module _ (schema : Schema) (at tree : ℕ) (h : IsTableAt schema (holding_table 
   shows =
       rw (
         column_is schema at (holding_table tree) found (codes "HOLDING") [] [] true true (codes "H_T_ID") 0 (integer_column (codes "H_T_ID")) refl refl,
-        heading_is schema at (holding_table tree) found (codes "HOLDING") [] [] true true (e.Column None (codes "H_T_ID")) (codes "H_T_ID") (codes "H_T_ID") 0 (integer_column (codes "H_T_ID")) refl refl refl,
+        heading_is schema at (holding_table tree) found (codes "HOLDING") [] [] true true (e.Column None (codes "H_T_ID")) (codes "H_T_ID") (codes "H_T_ID") 0
+            (integer_column (codes "H_T_ID")) refl refl refl,
         column_is schema at (holding_table tree) found (codes "HOLDING") [] [] true true (codes "H_CA_ID") 1 (integer_column (codes "H_CA_ID")) refl refl,
-        heading_is schema at (holding_table tree) found (codes "HOLDING") [] [] true true (e.Column None (codes "H_CA_ID")) (codes "H_CA_ID") (codes "H_CA_ID") 1 (integer_column (codes "H_CA_ID")) refl refl refl,
+        heading_is schema at (holding_table tree) found (codes "HOLDING") [] [] true true (e.Column None (codes "H_CA_ID")) (codes "H_CA_ID") (codes "H_CA_ID")
+            1 (integer_column (codes "H_CA_ID")) refl refl refl,
         column_is schema at (holding_table tree) found (codes "HOLDING") [] [] true true (codes "H_S_SYMB") 2 (text_column (codes "H_S_SYMB")) refl refl,
-        heading_is schema at (holding_table tree) found (codes "HOLDING") [] [] true true (e.Column None (codes "H_S_SYMB")) (codes "H_S_SYMB") (codes "H_S_SYMB") 2 (text_column (codes "H_S_SYMB")) refl refl refl,
+        heading_is schema at (holding_table tree) found (codes "HOLDING") [] [] true true (e.Column None (codes "H_S_SYMB")) (codes "H_S_SYMB")
+            (codes "H_S_SYMB") 2 (text_column (codes "H_S_SYMB")) refl refl refl,
         column_is schema at (holding_table tree) found (codes "HOLDING") [] [] true true (codes "H_DTS") 3 (integer_column (codes "H_DTS")) refl refl,
-        heading_is schema at (holding_table tree) found (codes "HOLDING") [] [] true true (e.Column None (codes "H_DTS")) (codes "H_DTS") (codes "H_DTS") 3 (integer_column (codes "H_DTS")) refl refl refl,
+        heading_is schema at (holding_table tree) found (codes "HOLDING") [] [] true true (e.Column None (codes "H_DTS")) (codes "H_DTS") (codes "H_DTS") 3
+            (integer_column (codes "H_DTS")) refl refl refl,
         column_is schema at (holding_table tree) found (codes "HOLDING") [] [] true true (codes "H_PRICE") 4 (integer_column (codes "H_PRICE")) refl refl,
-        heading_is schema at (holding_table tree) found (codes "HOLDING") [] [] true true (e.Column None (codes "H_PRICE")) (codes "H_PRICE") (codes "H_PRICE") 4 (integer_column (codes "H_PRICE")) refl refl refl,
+        heading_is schema at (holding_table tree) found (codes "HOLDING") [] [] true true (e.Column None (codes "H_PRICE")) (codes "H_PRICE") (codes "H_PRICE")
+            4 (integer_column (codes "H_PRICE")) refl refl refl,
         column_is schema at (holding_table tree) found (codes "HOLDING") [] [] true true (codes "H_QTY") 5 (integer_column (codes "H_QTY")) refl refl,
-        heading_is schema at (holding_table tree) found (codes "HOLDING") [] [] true true (e.Column None (codes "H_QTY")) (codes "H_QTY") (codes "H_QTY") 5 (integer_column (codes "H_QTY")) refl refl refl,
+        heading_is schema at (holding_table tree) found (codes "HOLDING") [] [] true true (e.Column None (codes "H_QTY")) (codes "H_QTY") (codes "H_QTY") 5
+            (integer_column (codes "H_QTY")) refl refl refl,
       )
 
   matches : matching lower (outermost schema) (level_one (codes "HOLDING") at columns) core (after 6 binary)
       ≡ Ok (record { steps = Inner tree ∷ []; filter = terms }, after 13 nothing)
   unfolding sql_lowering_definitions
-  matches = rw (found, column_is schema at (holding_table tree) found (codes "HOLDING") columns [] false true (codes "H_CA_ID") 1 (integer_column (codes "H_CA_ID")) refl refl, found, column_is schema at (holding_table tree) found (codes "HOLDING") columns [] false true (codes "H_S_SYMB") 2 (text_column (codes "H_S_SYMB")) refl refl, found)
+  matches = rw (
+    found,
+    column_is schema at (holding_table tree) found (codes "HOLDING") columns [] false true (codes "H_CA_ID") 1
+        (integer_column (codes "H_CA_ID")) refl refl,
+    found,
+    column_is schema at (holding_table tree) found (codes "HOLDING") columns [] false true
+        (codes "H_S_SYMB") 2 (text_column (codes "H_S_SYMB")) refl refl,
+    found,
+  )
 
   sorted : sorts lower (inside schema (level_one (codes "HOLDING") at columns) false) columns by (after 13 nothing) ≡ Ok ((draft tree).order, after 15 nothing)
   unfolding sql_lowering_definitions
@@ -136,7 +154,9 @@ module _ (schema : Schema) (at tree : ℕ) (h : IsTableAt schema (holding_table 
       (named_is schema core source (codes "HOLDING") at h.named refl refl refl refl columns (after 6 binary)
       (record { steps = Inner tree ∷ []; filter = terms }) (after 13 nothing) shows matches by _ (after 15 nothing) _ refl refl sorted)
 
-  pub understood_as : (compiled schema statement ≡ Ok (meant (read statement) [] (Select (record { lets = []; body = selection tree terms project order paging }) names))) ⊎ (compiled schema statement ≡ Err Mismatch)
+  pub understood_as : (compiled schema statement
+      ≡ Ok (meant (read statement) [] (Select (record { lets = []; body = selection tree terms project order paging }) names)))
+      ⊎ (compiled schema statement ≡ Err Mismatch)
   unfolding everything
   understood_as = reads_or schema statement (read statement) refl refl select (draft tree) names (None ∷ Some Binary ∷ Some Binary ∷ Some Binary ∷ Some Binary ∷ Some Binary ∷ []) refl meaning_is
 

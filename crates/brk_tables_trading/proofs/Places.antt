@@ -35,13 +35,40 @@ requests_alone Requests other xs t = absurd (other refl)
 requests_alone v other xs t = refl
 
 abbrev pub trades : Place desk_tables Trades
-trades = record { split = is_trade; put = λ xs t. record t { trades = xs }; put_this = λ xs t. refl; put_others = trades_alone; total = key_total trade_key; keyed = inl trade_keyed; uncounted = λ tree. refl }
+trades = record {
+  split = is_trade;
+  put = λ xs t. record t { trades = xs };
+  put_this = λ xs t. refl;
+  put_others = trades_alone;
+  total =
+      key_total trade_key;
+  keyed = inl trade_keyed;
+  uncounted = λ tree. refl;
+}
 
 abbrev pub trade_history : Place desk_tables TradeHistory
-trade_history = record { split = is_history; put = λ xs t. record t { history = xs }; put_this = λ xs t. refl; put_others = history_alone; total = key_total history_key; keyed = inr history_keyed; uncounted = λ tree. refl }
+trade_history = record {
+  split = is_history;
+  put = λ xs t. record t { history = xs };
+  put_this = λ xs t. refl;
+  put_others = history_alone;
+  total =
+      key_total history_key;
+  keyed = inr history_keyed;
+  uncounted = λ tree. refl;
+}
 
 abbrev pub requests : Place desk_tables Requests
-requests = record { split = is_request; put = λ xs t. record t { requests = xs }; put_this = λ xs t. refl; put_others = requests_alone; total = key_total request_key; keyed = inl request_keyed; uncounted = λ tree. refl }
+requests = record {
+  split = is_request;
+  put = λ xs t. record t { requests = xs };
+  put_this = λ xs t. refl;
+  put_others = requests_alone;
+  total =
+      key_total request_key;
+  keyed = inl request_keyed;
+  uncounted = λ tree. refl;
+}
 
 pub holding_keyed : IsRowidKey holding_table holding_cells (ordering_by_primary_key Holdings)
 holding_keyed tree r s x y e f = let a : column r 0 ≡ Int (pos x.trade) = cc in let b : column s 0 ≡ Int (pos y.trade) = cc in rw (a, b) (ap is_eq (then-Equal _))
@@ -50,7 +77,13 @@ pub summary_keyed : IsUniqueKey summary_table summary_cells (ordering_by_primary
 summary_keyed = record { key = 1 ∷ 2 ∷ []; first = λ tree. refl; tied = λ tree r s x y e f. same_key (summary_key x) (summary_key y) (1 ∷ 2 ∷ []) r s (ap (take 2) e) (ap (take 2) f) }
 
 pub holding_history_keyed : IsUniqueKey holding_history_table holding_history_cells (ordering_by_primary_key HoldingHistory)
-holding_history_keyed = record { key = 1 ∷ 2 ∷ []; first = λ tree. refl; tied = λ tree r s x y e f. same_key (holding_history_key x) (holding_history_key y) (1 ∷ 2 ∷ []) r s (ap (take 2) e) (ap (take 2) f) }
+holding_history_keyed =
+    record {
+      key = 1 ∷ 2 ∷ [];
+      first = λ tree. refl;
+      tied =
+          λ tree r s x y e f. same_key (holding_history_key x) (holding_history_key y) (1 ∷ 2 ∷ []) r s (ap (take 2) e) (ap (take 2) f);
+    }
 
 pub settlement_keyed : IsRowidKey settlement_table settlement_cells (ordering_by_primary_key Settlements)
 settlement_keyed tree r s x y e f = let a : column r 0 ≡ Int (pos x.trade) = cc in let b : column s 0 ≡ Int (pos y.trade) = cc in rw (a, b) (ap is_eq (then-Equal _))
@@ -72,13 +105,49 @@ settlements_alone Settlements other xs t = absurd (other refl)
 settlements_alone v other xs t = refl
 
 abbrev pub lots : Place desk_tables Holdings
-lots = record { split = is_holding; put = λ xs t. record t { holdings = xs }; put_this = λ xs t. refl; put_others = holdings_alone; total = key_total holding_key; keyed = inl holding_keyed; uncounted = λ tree. refl }
+lots = record {
+  split = is_holding;
+  put = λ xs t. record t { holdings = xs };
+  put_this = λ xs t. refl;
+  put_others = holdings_alone;
+  total =
+      key_total holding_key;
+  keyed = inl holding_keyed;
+  uncounted = λ tree. refl;
+}
 
 abbrev pub summaries : Place desk_tables Summaries
-summaries = record { split = is_summary; put = λ xs t. record t { summaries = xs }; put_this = λ xs t. refl; put_others = summaries_alone; total = key_total summary_key; keyed = inr summary_keyed; uncounted = λ tree. refl }
+summaries = record {
+  split = is_summary;
+  put = λ xs t. record t { summaries = xs };
+  put_this = λ xs t. refl;
+  put_others = summaries_alone;
+  total =
+      key_total summary_key;
+  keyed = inr summary_keyed;
+  uncounted = λ tree. refl;
+}
 
 abbrev pub lot_changes : Place desk_tables HoldingHistory
-lot_changes = record { split = is_holding_history; put = λ xs t. record t { holding_history = xs }; put_this = λ xs t. refl; put_others = holding_history_alone; total = key_total holding_history_key; keyed = inr holding_history_keyed; uncounted = λ tree. refl }
+lot_changes = record {
+  split = is_holding_history;
+  put = λ xs t. record t { holding_history = xs };
+  put_this = λ xs t. refl;
+  put_others =
+      holding_history_alone;
+  total = key_total holding_history_key;
+  keyed = inr holding_history_keyed;
+  uncounted = λ tree. refl;
+}
 
 abbrev pub settlements : Place desk_tables Settlements
-settlements = record { split = is_settlement; put = λ xs t. record t { settlements = xs }; put_this = λ xs t. refl; put_others = settlements_alone; total = key_total settlement_key; keyed = inl settlement_keyed; uncounted = λ tree. refl }
+settlements = record {
+  split = is_settlement;
+  put = λ xs t. record t { settlements = xs };
+  put_this = λ xs t. refl;
+  put_others = settlements_alone;
+  total =
+      key_total settlement_key;
+  keyed = inl settlement_keyed;
+  uncounted = λ tree. refl;
+}

@@ -52,9 +52,13 @@ source = roll-Source (record { is_left = false; origin = Table (codes "TRADE_REQ
 abbrev pub core : Core
 core = roll-Core (record {
   distinct = false;
-  shown = One (e.Column None (codes "TR_T_ID")) None (codes "TR_T_ID") ∷ One (e.Column None (codes "TR_TT_ID")) None (codes "TR_TT_ID") ∷ One (e.Column None (codes "TR_S_SYMB")) None (codes "TR_S_SYMB") ∷ One (e.Column None (codes "TR_QTY")) None (codes "TR_QTY") ∷ One (e.Column None (codes "TR_BID_PRICE")) None (codes "TR_BID_PRICE") ∷ One (e.Column None (codes "TR_B_ID")) None (codes "TR_B_ID") ∷ [];
+  shown = One (e.Column None (codes "TR_T_ID")) None (codes "TR_T_ID") ∷ One (e.Column None (codes "TR_TT_ID")) None (codes "TR_TT_ID")
+      ∷ One (e.Column None (codes "TR_S_SYMB")) None (codes "TR_S_SYMB") ∷ One (e.Column None (codes "TR_QTY")) None (codes "TR_QTY")
+      ∷ One (e.Column None (codes "TR_BID_PRICE")) None (codes "TR_BID_PRICE") ∷ One (e.Column None (codes "TR_B_ID")) None (codes "TR_B_ID") ∷ [];
   from = source ∷ [];
-  filter = Some (e.Binary operator.And (e.Binary operator.And (e.Binary operator.Eq (e.Column None (codes "TR_S_SYMB")) (e.Parameter 1)) (e.Binary operator.Eq (e.Column None (codes "TR_TT_ID")) (e.Parameter 2))) (e.Binary operator.Le (e.Column None (codes "TR_BID_PRICE")) (e.Parameter 3)));
+  filter = Some (e.Binary operator.And
+      (e.Binary operator.And (e.Binary operator.Eq (e.Column None (codes "TR_S_SYMB")) (e.Parameter 1))
+      (e.Binary operator.Eq (e.Column None (codes "TR_TT_ID")) (e.Parameter 2))) (e.Binary operator.Le (e.Column None (codes "TR_BID_PRICE")) (e.Parameter 3)));
   group = [];
   having = None;
 })
@@ -87,7 +91,8 @@ abbrev pub output : List ℕ → ℕ → Carried → Output
 output name place carried = record { name = name; is_alias = false; is_column = true; term = col 1 place; carried = carried }
 
 abbrev pub columns : List Output
-columns = output (codes "TR_T_ID") 0 nothing ∷ output (codes "TR_TT_ID") 2 binary ∷ output (codes "TR_S_SYMB") 3 binary ∷ output (codes "TR_QTY") 4 binary ∷ output (codes "TR_BID_PRICE") 5 binary ∷ output (codes "TR_B_ID") 6 binary ∷ []
+columns = output (codes "TR_T_ID") 0 nothing ∷ output (codes "TR_TT_ID") 2 binary ∷ output (codes "TR_S_SYMB") 3 binary ∷ output (codes "TR_QTY") 4 binary
+    ∷ output (codes "TR_BID_PRICE") 5 binary ∷ output (codes "TR_B_ID") 6 binary ∷ []
 
 abbrev pub names : List (List ℕ)
 names = codes "TR_T_ID" ∷ codes "TR_TT_ID" ∷ codes "TR_S_SYMB" ∷ codes "TR_QTY" ∷ codes "TR_BID_PRICE" ∷ codes "TR_B_ID" ∷ []
@@ -104,23 +109,40 @@ module _ (schema : Schema) (at tree : ℕ) (h : IsTableAt schema (request_table 
   shows =
       rw (
         column_is schema at (request_table tree) found (codes "TRADE_REQUEST") [] [] true true (codes "TR_T_ID") 0 (integer_column (codes "TR_T_ID")) refl refl,
-        heading_is schema at (request_table tree) found (codes "TRADE_REQUEST") [] [] true true (e.Column None (codes "TR_T_ID")) (codes "TR_T_ID") (codes "TR_T_ID") 0 (integer_column (codes "TR_T_ID")) refl refl refl,
+        heading_is schema at (request_table tree) found (codes "TRADE_REQUEST") [] [] true true (e.Column None (codes "TR_T_ID")) (codes "TR_T_ID")
+            (codes "TR_T_ID") 0 (integer_column (codes "TR_T_ID")) refl refl refl,
         column_is schema at (request_table tree) found (codes "TRADE_REQUEST") [] [] true true (codes "TR_TT_ID") 1 (text_column (codes "TR_TT_ID")) refl refl,
-        heading_is schema at (request_table tree) found (codes "TRADE_REQUEST") [] [] true true (e.Column None (codes "TR_TT_ID")) (codes "TR_TT_ID") (codes "TR_TT_ID") 1 (text_column (codes "TR_TT_ID")) refl refl refl,
+        heading_is schema at (request_table tree) found (codes "TRADE_REQUEST") [] [] true true (e.Column None (codes "TR_TT_ID")) (codes "TR_TT_ID")
+            (codes "TR_TT_ID") 1 (text_column (codes "TR_TT_ID")) refl refl refl,
         column_is schema at (request_table tree) found (codes "TRADE_REQUEST") [] [] true true (codes "TR_S_SYMB") 2 (text_column (codes "TR_S_SYMB")) refl refl,
-        heading_is schema at (request_table tree) found (codes "TRADE_REQUEST") [] [] true true (e.Column None (codes "TR_S_SYMB")) (codes "TR_S_SYMB") (codes "TR_S_SYMB") 2 (text_column (codes "TR_S_SYMB")) refl refl refl,
+        heading_is schema at (request_table tree) found (codes "TRADE_REQUEST") [] [] true true (e.Column None (codes "TR_S_SYMB")) (codes "TR_S_SYMB")
+            (codes "TR_S_SYMB") 2 (text_column (codes "TR_S_SYMB")) refl refl refl,
         column_is schema at (request_table tree) found (codes "TRADE_REQUEST") [] [] true true (codes "TR_QTY") 3 (integer_column (codes "TR_QTY")) refl refl,
-        heading_is schema at (request_table tree) found (codes "TRADE_REQUEST") [] [] true true (e.Column None (codes "TR_QTY")) (codes "TR_QTY") (codes "TR_QTY") 3 (integer_column (codes "TR_QTY")) refl refl refl,
+        heading_is schema at (request_table tree) found (codes "TRADE_REQUEST") [] [] true true (e.Column None (codes "TR_QTY")) (codes "TR_QTY")
+            (codes "TR_QTY") 3 (integer_column (codes "TR_QTY")) refl refl refl,
         column_is schema at (request_table tree) found (codes "TRADE_REQUEST") [] [] true true (codes "TR_BID_PRICE") 4 (integer_column (codes "TR_BID_PRICE")) refl refl,
-        heading_is schema at (request_table tree) found (codes "TRADE_REQUEST") [] [] true true (e.Column None (codes "TR_BID_PRICE")) (codes "TR_BID_PRICE") (codes "TR_BID_PRICE") 4 (integer_column (codes "TR_BID_PRICE")) refl refl refl,
+        heading_is schema at (request_table tree) found (codes "TRADE_REQUEST") [] [] true true (e.Column None (codes "TR_BID_PRICE")) (codes "TR_BID_PRICE")
+            (codes "TR_BID_PRICE") 4 (integer_column (codes "TR_BID_PRICE")) refl refl refl,
         column_is schema at (request_table tree) found (codes "TRADE_REQUEST") [] [] true true (codes "TR_B_ID") 5 (integer_column (codes "TR_B_ID")) refl refl,
-        heading_is schema at (request_table tree) found (codes "TRADE_REQUEST") [] [] true true (e.Column None (codes "TR_B_ID")) (codes "TR_B_ID") (codes "TR_B_ID") 5 (integer_column (codes "TR_B_ID")) refl refl refl,
+        heading_is schema at (request_table tree) found (codes "TRADE_REQUEST") [] [] true true (e.Column None (codes "TR_B_ID")) (codes "TR_B_ID")
+            (codes "TR_B_ID") 5 (integer_column (codes "TR_B_ID")) refl refl refl,
       )
 
   matches : matching lower (outermost schema) (level_one (codes "TRADE_REQUEST") at columns) core (after 6 binary)
       ≡ Ok (record { steps = Inner tree ∷ []; filter = terms }, after 17 nothing)
   unfolding sql_lowering_definitions
-  matches = rw (found, column_is schema at (request_table tree) found (codes "TRADE_REQUEST") columns [] false true (codes "TR_S_SYMB") 2 (text_column (codes "TR_S_SYMB")) refl refl, found, column_is schema at (request_table tree) found (codes "TRADE_REQUEST") columns [] false true (codes "TR_TT_ID") 1 (text_column (codes "TR_TT_ID")) refl refl, found, column_is schema at (request_table tree) found (codes "TRADE_REQUEST") columns [] false true (codes "TR_BID_PRICE") 4 (integer_column (codes "TR_BID_PRICE")) refl refl, found)
+  matches = rw (
+    found,
+    column_is schema at (request_table tree) found (codes "TRADE_REQUEST") columns [] false true (codes "TR_S_SYMB") 2
+        (text_column (codes "TR_S_SYMB")) refl refl,
+    found,
+    column_is schema at (request_table tree) found (codes "TRADE_REQUEST") columns [] false true
+        (codes "TR_TT_ID") 1 (text_column (codes "TR_TT_ID")) refl refl,
+    found,
+    column_is schema at (request_table tree) found (codes "TRADE_REQUEST") columns []
+        false true (codes "TR_BID_PRICE") 4 (integer_column (codes "TR_BID_PRICE")) refl refl,
+    found,
+  )
 
   sorted : sorts lower (inside schema (level_one (codes "TRADE_REQUEST") at columns) false) columns by (after 17 nothing) ≡ Ok ((draft tree).order, after 18 nothing)
   unfolding sql_lowering_definitions
@@ -133,7 +155,9 @@ module _ (schema : Schema) (at tree : ℕ) (h : IsTableAt schema (request_table 
       (named_is schema core source (codes "TRADE_REQUEST") at h.named refl refl refl refl columns (after 6 binary)
       (record { steps = Inner tree ∷ []; filter = terms }) (after 17 nothing) shows matches by _ (after 18 nothing) _ refl refl sorted)
 
-  pub understood_as : (compiled schema statement ≡ Ok (meant (read statement) [] (Select (record { lets = []; body = selection tree terms project order paging }) names))) ⊎ (compiled schema statement ≡ Err Mismatch)
+  pub understood_as : (compiled schema statement
+      ≡ Ok (meant (read statement) [] (Select (record { lets = []; body = selection tree terms project order paging }) names)))
+      ⊎ (compiled schema statement ≡ Err Mismatch)
   unfolding everything
   understood_as = reads_or schema statement (read statement) refl refl select (draft tree) names (None ∷ Some Binary ∷ Some Binary ∷ Some Binary ∷ Some Binary ∷ Some Binary ∷ []) refl meaning_is
 

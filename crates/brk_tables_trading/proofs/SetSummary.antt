@@ -44,9 +44,19 @@ draft tree = simple (Inner tree ∷ []) terms project
 
 draft_is : (schema : Schema) (at tree : ℕ) → slice_get schema.tables at ≡ Some (summary_table tree) → updated schema at (summary_table tree) sets (Some test) ≡ Ok (draft tree)
 unfolding sql_lowering_definitions
-draft_is schema at tree found = rw (column_is schema at (summary_table tree) found (codes "HOLDING_SUMMARY") [] [] false true (codes "HS_CA_ID") 0 (integer_column (codes "HS_CA_ID")) refl refl, found, column_is schema at (summary_table tree) found (codes "HOLDING_SUMMARY") [] [] false true (codes "HS_S_SYMB") 1 (text_column (codes "HS_S_SYMB")) refl refl, found)
+draft_is schema at tree found =
+    rw (
+      column_is schema at (summary_table tree) found (codes "HOLDING_SUMMARY") [] [] false true (codes "HS_CA_ID") 0 (integer_column (codes "HS_CA_ID")) refl
+          refl,
+      found,
+      column_is schema at (summary_table tree) found (codes "HOLDING_SUMMARY") [] [] false true (codes "HS_S_SYMB") 1
+          (text_column (codes "HS_S_SYMB")) refl refl,
+      found,
+    )
 
 pub understood_as : (schema : Schema) (at tree : ℕ) → IsTableAt schema (summary_table tree) at
     → (compiled schema statement ≡ Ok (meant (read statement) [] (Update at (record { lets = []; body = selection tree terms project [] whole_page })))) ⊎ (compiled schema statement ≡ Err Mismatch)
 unfolding everything
-understood_as schema at tree h = updates_or schema statement (read statement) refl refl (codes "HOLDING_SUMMARY") at (summary_table tree) h.named h.found sets (Some test) (draft tree) refl (draft_is schema at tree h.found)
+understood_as schema at tree h =
+    updates_or schema statement (read statement) refl refl (codes "HOLDING_SUMMARY") at (summary_table tree) h.named h.found sets (Some test) (draft tree) refl
+    (draft_is schema at tree h.found)

@@ -52,7 +52,8 @@ source = roll-Source (record { is_left = false; origin = Table (codes "SETTLEMEN
 abbrev pub core : Core
 core = roll-Core (record {
   distinct = false;
-  shown = One (e.Column None (codes "SE_T_ID")) None (codes "SE_T_ID") ∷ One (e.Column None (codes "SE_CASH_TYPE")) None (codes "SE_CASH_TYPE") ∷ One (e.Column None (codes "SE_CASH_DUE_DATE")) None (codes "SE_CASH_DUE_DATE") ∷ One (e.Column None (codes "SE_AMT")) None (codes "SE_AMT") ∷ [];
+  shown = One (e.Column None (codes "SE_T_ID")) None (codes "SE_T_ID") ∷ One (e.Column None (codes "SE_CASH_TYPE")) None (codes "SE_CASH_TYPE")
+      ∷ One (e.Column None (codes "SE_CASH_DUE_DATE")) None (codes "SE_CASH_DUE_DATE") ∷ One (e.Column None (codes "SE_AMT")) None (codes "SE_AMT") ∷ [];
   from = source ∷ [];
   filter = Some (e.Binary operator.Eq (e.Column None (codes "SE_T_ID")) (e.Parameter 1));
   group = [];
@@ -104,13 +105,17 @@ module _ (schema : Schema) (at tree : ℕ) (h : IsTableAt schema (settlement_tab
   shows =
       rw (
         column_is schema at (settlement_table tree) found (codes "SETTLEMENT") [] [] true true (codes "SE_T_ID") 0 (integer_column (codes "SE_T_ID")) refl refl,
-        heading_is schema at (settlement_table tree) found (codes "SETTLEMENT") [] [] true true (e.Column None (codes "SE_T_ID")) (codes "SE_T_ID") (codes "SE_T_ID") 0 (integer_column (codes "SE_T_ID")) refl refl refl,
+        heading_is schema at (settlement_table tree) found (codes "SETTLEMENT") [] [] true true (e.Column None (codes "SE_T_ID")) (codes "SE_T_ID")
+            (codes "SE_T_ID") 0 (integer_column (codes "SE_T_ID")) refl refl refl,
         column_is schema at (settlement_table tree) found (codes "SETTLEMENT") [] [] true true (codes "SE_CASH_TYPE") 1 (text_column (codes "SE_CASH_TYPE")) refl refl,
-        heading_is schema at (settlement_table tree) found (codes "SETTLEMENT") [] [] true true (e.Column None (codes "SE_CASH_TYPE")) (codes "SE_CASH_TYPE") (codes "SE_CASH_TYPE") 1 (text_column (codes "SE_CASH_TYPE")) refl refl refl,
+        heading_is schema at (settlement_table tree) found (codes "SETTLEMENT") [] [] true true (e.Column None (codes "SE_CASH_TYPE")) (codes "SE_CASH_TYPE")
+            (codes "SE_CASH_TYPE") 1 (text_column (codes "SE_CASH_TYPE")) refl refl refl,
         column_is schema at (settlement_table tree) found (codes "SETTLEMENT") [] [] true true (codes "SE_CASH_DUE_DATE") 2 (integer_column (codes "SE_CASH_DUE_DATE")) refl refl,
-        heading_is schema at (settlement_table tree) found (codes "SETTLEMENT") [] [] true true (e.Column None (codes "SE_CASH_DUE_DATE")) (codes "SE_CASH_DUE_DATE") (codes "SE_CASH_DUE_DATE") 2 (integer_column (codes "SE_CASH_DUE_DATE")) refl refl refl,
+        heading_is schema at (settlement_table tree) found (codes "SETTLEMENT") [] [] true true (e.Column None (codes "SE_CASH_DUE_DATE"))
+            (codes "SE_CASH_DUE_DATE") (codes "SE_CASH_DUE_DATE") 2 (integer_column (codes "SE_CASH_DUE_DATE")) refl refl refl,
         column_is schema at (settlement_table tree) found (codes "SETTLEMENT") [] [] true true (codes "SE_AMT") 3 (integer_column (codes "SE_AMT")) refl refl,
-        heading_is schema at (settlement_table tree) found (codes "SETTLEMENT") [] [] true true (e.Column None (codes "SE_AMT")) (codes "SE_AMT") (codes "SE_AMT") 3 (integer_column (codes "SE_AMT")) refl refl refl,
+        heading_is schema at (settlement_table tree) found (codes "SETTLEMENT") [] [] true true (e.Column None (codes "SE_AMT")) (codes "SE_AMT")
+            (codes "SE_AMT") 3 (integer_column (codes "SE_AMT")) refl refl refl,
       )
 
   matches : matching lower (outermost schema) (level_one (codes "SETTLEMENT") at columns) core (after 4 binary)
@@ -129,7 +134,9 @@ module _ (schema : Schema) (at tree : ℕ) (h : IsTableAt schema (settlement_tab
       (named_is schema core source (codes "SETTLEMENT") at h.named refl refl refl refl columns (after 4 binary)
       (record { steps = Inner tree ∷ []; filter = terms }) (after 7 nothing) shows matches by _ (after 8 nothing) _ refl refl sorted)
 
-  pub understood_as : (compiled schema statement ≡ Ok (meant (read statement) [] (Select (record { lets = []; body = selection tree terms project order paging }) names))) ⊎ (compiled schema statement ≡ Err Mismatch)
+  pub understood_as : (compiled schema statement
+      ≡ Ok (meant (read statement) [] (Select (record { lets = []; body = selection tree terms project order paging }) names)))
+      ⊎ (compiled schema statement ≡ Err Mismatch)
   unfolding everything
   understood_as = reads_or schema statement (read statement) refl refl select (draft tree) names (None ∷ Some Binary ∷ Some Binary ∷ Some Binary ∷ []) refl meaning_is
 

@@ -52,7 +52,8 @@ source = roll-Source (record { is_left = false; origin = Table (codes "HOLDING_S
 abbrev pub core : Core
 core = roll-Core (record {
   distinct = false;
-  shown = One (e.Column None (codes "HS_CA_ID")) None (codes "HS_CA_ID") ∷ One (e.Column None (codes "HS_S_SYMB")) None (codes "HS_S_SYMB") ∷ One (e.Column None (codes "HS_QTY")) None (codes "HS_QTY") ∷ [];
+  shown = One (e.Column None (codes "HS_CA_ID")) None (codes "HS_CA_ID") ∷ One (e.Column None (codes "HS_S_SYMB")) None (codes "HS_S_SYMB")
+      ∷ One (e.Column None (codes "HS_QTY")) None (codes "HS_QTY") ∷ [];
   from = source ∷ [];
   filter = Some (e.Binary operator.And (e.Binary operator.Eq (e.Column None (codes "HS_CA_ID")) (e.Parameter 1)) (e.Binary operator.Eq (e.Column None (codes "HS_S_SYMB")) (e.Parameter 2)));
   group = [];
@@ -60,7 +61,8 @@ core = roll-Core (record {
 })
 
 abbrev pub by : List Sort
-by = roll-Sort (record { key = e.Column None (codes "HS_CA_ID"); descending = false; nulls_first = None }) ∷ roll-Sort (record { key = e.Column None (codes "HS_S_SYMB"); descending = false; nulls_first = None }) ∷ []
+by = roll-Sort (record { key = e.Column None (codes "HS_CA_ID"); descending = false; nulls_first = None })
+    ∷ roll-Sort (record { key = e.Column None (codes "HS_S_SYMB"); descending = false; nulls_first = None }) ∷ []
 
 abbrev pub select : ast.Select
 select = ast.roll-Select (record { with = []; first = core; others = []; order = by; limit = None; offset = None })
@@ -104,17 +106,28 @@ module _ (schema : Schema) (at tree : ℕ) (h : IsTableAt schema (summary_table 
   shows =
       rw (
         column_is schema at (summary_table tree) found (codes "HOLDING_SUMMARY") [] [] true true (codes "HS_CA_ID") 0 (integer_column (codes "HS_CA_ID")) refl refl,
-        heading_is schema at (summary_table tree) found (codes "HOLDING_SUMMARY") [] [] true true (e.Column None (codes "HS_CA_ID")) (codes "HS_CA_ID") (codes "HS_CA_ID") 0 (integer_column (codes "HS_CA_ID")) refl refl refl,
+        heading_is schema at (summary_table tree) found (codes "HOLDING_SUMMARY") [] [] true true (e.Column None (codes "HS_CA_ID")) (codes "HS_CA_ID")
+            (codes "HS_CA_ID") 0 (integer_column (codes "HS_CA_ID")) refl refl refl,
         column_is schema at (summary_table tree) found (codes "HOLDING_SUMMARY") [] [] true true (codes "HS_S_SYMB") 1 (text_column (codes "HS_S_SYMB")) refl refl,
-        heading_is schema at (summary_table tree) found (codes "HOLDING_SUMMARY") [] [] true true (e.Column None (codes "HS_S_SYMB")) (codes "HS_S_SYMB") (codes "HS_S_SYMB") 1 (text_column (codes "HS_S_SYMB")) refl refl refl,
+        heading_is schema at (summary_table tree) found (codes "HOLDING_SUMMARY") [] [] true true (e.Column None (codes "HS_S_SYMB")) (codes "HS_S_SYMB")
+            (codes "HS_S_SYMB") 1 (text_column (codes "HS_S_SYMB")) refl refl refl,
         column_is schema at (summary_table tree) found (codes "HOLDING_SUMMARY") [] [] true true (codes "HS_QTY") 2 (integer_column (codes "HS_QTY")) refl refl,
-        heading_is schema at (summary_table tree) found (codes "HOLDING_SUMMARY") [] [] true true (e.Column None (codes "HS_QTY")) (codes "HS_QTY") (codes "HS_QTY") 2 (integer_column (codes "HS_QTY")) refl refl refl,
+        heading_is schema at (summary_table tree) found (codes "HOLDING_SUMMARY") [] [] true true (e.Column None (codes "HS_QTY")) (codes "HS_QTY")
+            (codes "HS_QTY") 2 (integer_column (codes "HS_QTY")) refl refl refl,
       )
 
   matches : matching lower (outermost schema) (level_one (codes "HOLDING_SUMMARY") at columns) core (after 3 binary)
       ≡ Ok (record { steps = Inner tree ∷ []; filter = terms }, after 10 nothing)
   unfolding sql_lowering_definitions
-  matches = rw (found, column_is schema at (summary_table tree) found (codes "HOLDING_SUMMARY") columns [] false true (codes "HS_CA_ID") 0 (integer_column (codes "HS_CA_ID")) refl refl, found, column_is schema at (summary_table tree) found (codes "HOLDING_SUMMARY") columns [] false true (codes "HS_S_SYMB") 1 (text_column (codes "HS_S_SYMB")) refl refl, found)
+  matches = rw (
+    found,
+    column_is schema at (summary_table tree) found (codes "HOLDING_SUMMARY") columns [] false true (codes "HS_CA_ID") 0
+        (integer_column (codes "HS_CA_ID")) refl refl,
+    found,
+    column_is schema at (summary_table tree) found (codes "HOLDING_SUMMARY") columns [] false true
+        (codes "HS_S_SYMB") 1 (text_column (codes "HS_S_SYMB")) refl refl,
+    found,
+  )
 
   sorted : sorts lower (inside schema (level_one (codes "HOLDING_SUMMARY") at columns) false) columns by (after 10 nothing) ≡ Ok ((draft tree).order, after 12 binary)
   unfolding sql_lowering_definitions
@@ -130,7 +143,9 @@ module _ (schema : Schema) (at tree : ℕ) (h : IsTableAt schema (summary_table 
       (named_is schema core source (codes "HOLDING_SUMMARY") at h.named refl refl refl refl columns (after 3 binary)
       (record { steps = Inner tree ∷ []; filter = terms }) (after 10 nothing) shows matches by _ (after 12 binary) _ refl refl sorted)
 
-  pub understood_as : (compiled schema statement ≡ Ok (meant (read statement) [] (Select (record { lets = []; body = selection tree terms project order paging }) names))) ⊎ (compiled schema statement ≡ Err Mismatch)
+  pub understood_as : (compiled schema statement
+      ≡ Ok (meant (read statement) [] (Select (record { lets = []; body = selection tree terms project order paging }) names)))
+      ⊎ (compiled schema statement ≡ Err Mismatch)
   unfolding everything
   understood_as = reads_or schema statement (read statement) refl refl select (draft tree) names (Some Binary ∷ Some Binary ∷ Some Binary ∷ []) refl meaning_is
 

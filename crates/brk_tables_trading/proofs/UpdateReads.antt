@@ -79,7 +79,9 @@ pub tells_completed_of_account : (old new : State) (account first last : ℕ) (r
     → TablesSatisfy desk_tables (λ t. rows ≡ map trade_cells (first_twenty_completed_trade_rows_of_account account first last t)) old.now
 tells_completed_of_account old new account first last rows shown = λ t tree h.
     let test : TradeRow → Bool = λ r. is_same_trade_status r.status Completed && ((r.account == account) && row_stamp_is_between first last r) in
-    tells_sorted desk_tables Trades CompletedOfAccount.statement (Words (trade_status_code Completed) ∷ natural_as_value account ∷ natural_as_value first ∷ natural_as_value last ∷ []) (read CompletedOfAccount.statement)
+    tells_sorted desk_tables Trades CompletedOfAccount.statement
+    (Words (trade_status_code Completed) ∷ natural_as_value account ∷ natural_as_value first ∷ natural_as_value last ∷ [])
+    (read CompletedOfAccount.statement)
     CompletedOfAccount.terms CompletedOfAccount.project CompletedOfAccount.order CompletedOfAccount.paging CompletedOfAccount.names CompletedOfAccount.understood_as
     test
     (λ tree r x e.
@@ -104,7 +106,9 @@ pub tells_completed_cash_of_symbol : (old new : State) (symbol : List ℕ) (firs
     → TablesSatisfy desk_tables (λ t. rows ≡ map trade_cells (first_twenty_completed_cash_trade_rows_of_symbol symbol first last t)) old.now
 tells_completed_cash_of_symbol old new symbol first last rows shown = λ t tree h.
     let test : TradeRow → Bool = λ r. is_same_trade_status r.status Completed && ((r.is_cash && bytes_eq r.symbol symbol) && row_stamp_is_between first last r) in
-    tells_sorted desk_tables Trades CompletedCashOfSymbol.statement (Words (trade_status_code Completed) ∷ flag_as_value true ∷ Words symbol ∷ natural_as_value first ∷ natural_as_value last ∷ []) (read CompletedCashOfSymbol.statement)
+    tells_sorted desk_tables Trades CompletedCashOfSymbol.statement
+    (Words (trade_status_code Completed) ∷ flag_as_value true ∷ Words symbol ∷ natural_as_value first ∷ natural_as_value last ∷ [])
+    (read CompletedCashOfSymbol.statement)
     CompletedCashOfSymbol.terms CompletedCashOfSymbol.project CompletedCashOfSymbol.order CompletedCashOfSymbol.paging CompletedCashOfSymbol.names CompletedCashOfSymbol.understood_as
     test
     (λ tree r x e.
@@ -112,7 +116,20 @@ tells_completed_cash_of_symbol old new symbol first last rows shown = λ t tree 
     let a5 : column r 5 ≡ flag_as_value x.is_cash = ap (λ row. column row 4) e in
     let a6 : column r 6 ≡ Words x.symbol = ap (λ row. column row 5) e in
     let a2 : column r 2 ≡ natural_as_value x.stamp = ap (λ row. column row 1) e in
-    rw (a3, a5, a6, a2, same_text (trade_status_code x.status) (trade_status_code Completed), is_done x.status, same_number (cond x.is_cash 1 0) 1, is_set x.is_cash, same_text x.symbol symbol, at_least x.stamp first, at_most x.stamp last)
+    rw (
+      a3,
+      a5,
+      a6,
+      a2,
+      same_text (trade_status_code x.status) (trade_status_code Completed),
+      is_done x.status,
+      same_number (cond x.is_cash 1 0) 1,
+      is_set
+          x.is_cash,
+      same_text x.symbol symbol,
+      at_least x.stamp first,
+      at_most x.stamp last,
+    )
     (ap (λ c. is_same_trade_status x.status Completed && (x.is_cash && (bytes_eq x.symbol symbol && (nat_le first x.stamp && c)))) (and_true _)
     ∙ ap (λ c. is_same_trade_status x.status Completed && c) (and_assoc x.is_cash (bytes_eq x.symbol symbol) (row_stamp_is_between first last x))))
     trade_cells (λ tree r x e. e) (ordering_by_key trade_age) (key_total trade_age)
@@ -131,6 +148,8 @@ tells_completed_cash_of_symbol old new symbol first last rows shown = λ t tree 
 pub tells_settlement : (old new : State) (trade : ℕ) (rows : List Row) → Shown SettlementByTrade.statement (natural_as_value trade ∷ []) old new rows
     → TablesSatisfy desk_tables (λ t. rows ≡ map settlement_cells (filter (λ r. r.trade == trade) t.settlements)) old.now
 tells_settlement old new trade rows shown =
-    tells_rising desk_tables Settlements SettlementByTrade.statement (natural_as_value trade ∷ []) (read SettlementByTrade.statement) SettlementByTrade.terms SettlementByTrade.project SettlementByTrade.order SettlementByTrade.paging SettlementByTrade.names SettlementByTrade.understood_as
-    (λ (r : SettlementRow). r.trade == trade) (λ tree r x e. let a : column r 0 ≡ natural_as_value x.trade = cc in rw (a, same_number x.trade trade) (and_true _)) settlement_cells (λ tree r x e. e) (ordering_by_primary_key Settlements) (key_total settlement_key)
+    tells_rising desk_tables Settlements SettlementByTrade.statement (natural_as_value trade ∷ []) (read SettlementByTrade.statement) SettlementByTrade.terms
+    SettlementByTrade.project SettlementByTrade.order SettlementByTrade.paging SettlementByTrade.names SettlementByTrade.understood_as
+    (λ (r : SettlementRow). r.trade == trade) (λ tree r x e. let a : column r 0 ≡ natural_as_value x.trade = cc in
+    rw (a, same_number x.trade trade) (and_true _)) settlement_cells (λ tree r x e. e) (ordering_by_primary_key Settlements) (key_total settlement_key)
     (λ tree a b x y e f. let p : column a 0 ≡ natural_as_value x.trade = cc in let q : column b 0 ≡ natural_as_value y.trade = cc in rw (p, q) refl) old new rows shown (λ x y. refl)

@@ -26,12 +26,15 @@ cast_maybe : (o : Option ℕ) → cast Integer (optional_natural_as_value o) ≡
 cast_maybe None = cast_null
 cast_maybe (Some n) = cast_int (pos n)
 
-pub sets_executor : (old new : State) (trade : ℕ) (name : List ℕ) → ExecutesStatement SetExecutor.statement (Words name ∷ natural_as_value trade ∷ []) old new → ChangesTablesBy desk_tables (tables_with_executor_name trade name) old.now new.now
+pub sets_executor : (old new : State) (trade : ℕ) (name : List ℕ) → ExecutesStatement SetExecutor.statement (Words name ∷ natural_as_value trade ∷ []) old new
+    → ChangesTablesBy desk_tables (tables_with_executor_name trade name) old.now new.now
 sets_executor old new trade name ran =
-    updates_as desk_tables Trades trades SetExecutor.statement (Words name ∷ natural_as_value trade ∷ []) (read SetExecutor.statement) SetExecutor.terms SetExecutor.project (λ (r : TradeRow). r.id == trade)
+    updates_as desk_tables Trades trades SetExecutor.statement (Words name ∷ natural_as_value trade ∷ []) (read SetExecutor.statement) SetExecutor.terms
+    SetExecutor.project (λ (r : TradeRow). r.id == trade)
     (λ tree r x e. let a : column r 0 ≡ natural_as_value x.id = cc in rw (a, same_number x.id trade) (and_true _)) (λ r. refl) SetExecutor.understood_as
     (λ r.
-    column r 0 ∷ Null ∷ column r 2 ∷ column r 3 ∷ column r 4 ∷ column r 5 ∷ column r 6 ∷ column r 7 ∷ column r 8 ∷ column r 9 ∷ Words name ∷ column r 11 ∷ column r 12 ∷ column r 13 ∷ column r 14 ∷ column r 15 ∷ [])
+    column r 0 ∷ Null ∷ column r 2 ∷ column r 3 ∷ column r 4 ∷ column r 5 ∷ column r 6 ∷ column r 7 ∷ column r 8 ∷ column r 9 ∷ Words name ∷ column r 11
+    ∷ column r 12 ∷ column r 13 ∷ column r 14 ∷ column r 15 ∷ [])
     (λ (r : TradeRow). record r { executor = name }) (λ x y. refl) (λ x y. refl) (λ r. refl)
     (λ tree r x whole e.
     let a2 : column r 2 ≡ natural_as_value x.stamp = cc in
@@ -90,9 +93,11 @@ sets_executor old new trade name ran =
     let a15 : column r 15 ≡ flag_as_value x.is_lifo = cc in
     rw (a0, a2, a3, a4, a5, a6, a7, a8, a9, a11, a12, a13, a14, a15) refl) old new ran.0 ran.1
 
-pub sets_cash_type : (old new : State) (trade : ℕ) (word : List ℕ) → ExecutesStatement SetCashType.statement (Words word ∷ natural_as_value trade ∷ []) old new → ChangesTablesBy desk_tables (tables_with_cash_type trade word) old.now new.now
+pub sets_cash_type : (old new : State) (trade : ℕ) (word : List ℕ) → ExecutesStatement SetCashType.statement (Words word ∷ natural_as_value trade ∷ []) old new
+    → ChangesTablesBy desk_tables (tables_with_cash_type trade word) old.now new.now
 sets_cash_type old new trade word ran =
-    updates_as desk_tables Settlements settlements SetCashType.statement (Words word ∷ natural_as_value trade ∷ []) (read SetCashType.statement) SetCashType.terms SetCashType.project (λ (r : SettlementRow). r.trade == trade)
+    updates_as desk_tables Settlements settlements SetCashType.statement (Words word ∷ natural_as_value trade ∷ []) (read SetCashType.statement)
+    SetCashType.terms SetCashType.project (λ (r : SettlementRow). r.trade == trade)
     (λ tree r x e. let a : column r 0 ≡ natural_as_value x.trade = cc in rw (a, same_number x.trade trade) (and_true _)) (λ r. refl) SetCashType.understood_as
     (λ r. column r 0 ∷ Null ∷ Words word ∷ column r 3 ∷ column r 4 ∷ [])
     (λ (r : SettlementRow). record r { cash_type = word }) (λ x y. refl) (λ x y. refl) (λ r. refl)

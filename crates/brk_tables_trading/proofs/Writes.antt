@@ -21,7 +21,8 @@ use Rattle.brk_tables_schema.specs.Desk.{Trades, TradeHistory, Requests, LastTra
 use Rattle.brk_tables_schema.proofs.Places.{last_trades}
 use Rattle.brk_tables_schema.proofs.Steps.{added}
 use Rattle.brk_tables_schema.proofs.Tests.{same_number, same_text}
-use Rattle.brk_changes.specs.Changes.{tables_with_trade, tables_with_history_row, tables_with_request, tables_without_request, tables_with_last_trade_replaced, tables_with_trade_status, tables_with_trade_completed}
+use Rattle.brk_changes.specs.Changes.{tables_with_trade, tables_with_history_row, tables_with_request, tables_without_request, tables_with_last_trade_replaced}
+use Rattle.brk_changes.specs.Changes.{tables_with_trade_status, tables_with_trade_completed}
 use Rattle.brk_tables_trading.proofs.Places.{trades, trade_history, requests}
 use Rattle.brk_tables_trading.proofs.AddTrade
 use Rattle.brk_tables_trading.proofs.AddTradeHistory
@@ -72,28 +73,40 @@ adds_request old new x ran =
 
 -- ---- rows that go
 
-pub removes_request : (old new : State) (trade : ℕ) → ExecutesStatement RemoveRequest.statement (natural_as_value trade ∷ []) old new → ChangesTablesBy desk_tables (tables_without_request trade) old.now new.now
+pub removes_request : (old new : State) (trade : ℕ) → ExecutesStatement RemoveRequest.statement (natural_as_value trade ∷ []) old new
+    → ChangesTablesBy desk_tables (tables_without_request trade) old.now new.now
 removes_request old new trade ran =
-    deletes_as desk_tables Requests requests RemoveRequest.statement (natural_as_value trade ∷ []) (read RemoveRequest.statement) RemoveRequest.terms RemoveRequest.project (λ (r : RequestRow). r.trade == trade)
+    deletes_as desk_tables Requests requests RemoveRequest.statement (natural_as_value trade ∷ []) (read RemoveRequest.statement) RemoveRequest.terms
+    RemoveRequest.project (λ (r : RequestRow). r.trade == trade)
     (λ tree r x e. let a : column r 0 ≡ natural_as_value x.trade = cc in rw (a, same_number x.trade trade) (and_true _)) (λ r. refl) RemoveRequest.understood_as old new ran.0 ran.1
 
 -- ---- rows that change
 
-pub sets_last_trade : (old new : State) (l : LastTradeRow) → ExecutesStatement SetLastTrade.statement (natural_as_value l.stamp ∷ natural_as_value l.price ∷ natural_as_value l.volume ∷ Words l.symbol ∷ []) old new → ChangesTablesBy desk_tables (tables_with_last_trade_replaced l) old.now new.now
+pub sets_last_trade : (old new : State) (l : LastTradeRow)
+    → ExecutesStatement SetLastTrade.statement (natural_as_value l.stamp ∷ natural_as_value l.price ∷ natural_as_value l.volume ∷ Words l.symbol ∷ []) old new
+    → ChangesTablesBy desk_tables (tables_with_last_trade_replaced l) old.now new.now
 sets_last_trade old new l ran =
-    updates_as desk_tables LastTrades last_trades SetLastTrade.statement (natural_as_value l.stamp ∷ natural_as_value l.price ∷ natural_as_value l.volume ∷ Words l.symbol ∷ []) (read SetLastTrade.statement) SetLastTrade.terms SetLastTrade.project (λ (r : LastTradeRow). bytes_eq r.symbol l.symbol)
+    updates_as desk_tables LastTrades last_trades SetLastTrade.statement
+    (natural_as_value l.stamp ∷ natural_as_value l.price ∷ natural_as_value l.volume ∷ Words l.symbol ∷ []) (read SetLastTrade.statement) SetLastTrade.terms
+    SetLastTrade.project (λ (r : LastTradeRow). bytes_eq r.symbol l.symbol)
     (λ tree r x e. let a : column r 1 ≡ Words x.symbol = cc in rw (a, same_text x.symbol l.symbol) (and_true _)) (λ r. refl) SetLastTrade.understood_as
-    (λ r. column r 0 ∷ column r 1 ∷ natural_as_value l.stamp ∷ natural_as_value l.price ∷ natural_as_value l.volume ∷ []) (λ (r : LastTradeRow). record r { stamp = l.stamp; price = l.price; volume = l.volume }) (λ x y. refl) (λ x y. refl) (λ r. refl)
+    (λ r. column r 0 ∷ column r 1 ∷ natural_as_value l.stamp ∷ natural_as_value l.price ∷ natural_as_value l.volume ∷ [])
+    (λ (r : LastTradeRow). record r { stamp = l.stamp; price = l.price; volume = l.volume }) (λ x y. refl) (λ x y. refl) (λ r. refl)
     (λ tree r x whole e. let a : column r 1 ≡ Words x.symbol = cc in
-    rw (a, cast_int (pos l.stamp), cast_int (pos l.price), cast_int (pos l.volume)) (ap (λ v. v ∷ Words x.symbol ∷ natural_as_value l.stamp ∷ natural_as_value l.price ∷ natural_as_value l.volume ∷ []) (cast_whole (column r 0) whole)))
+    rw (a, cast_int (pos l.stamp), cast_int (pos l.price), cast_int (pos l.volume))
+    (ap (λ v. v ∷ Words x.symbol ∷ natural_as_value l.stamp ∷ natural_as_value l.price ∷ natural_as_value l.volume ∷ []) (cast_whole (column r 0) whole)))
     (λ tree r x e. let a : column r 1 ≡ Words x.symbol = cc in rw a refl) old new ran.0 ran.1
 
-pub sets_status : (old new : State) (id : ℕ) (status : Status) (stamp : ℕ) → ExecutesStatement SetStatus.statement (Words (trade_status_code status) ∷ natural_as_value stamp ∷ natural_as_value id ∷ []) old new → ChangesTablesBy desk_tables (tables_with_trade_status id status stamp) old.now new.now
+pub sets_status : (old new : State) (id : ℕ) (status : Status) (stamp : ℕ)
+    → ExecutesStatement SetStatus.statement (Words (trade_status_code status) ∷ natural_as_value stamp ∷ natural_as_value id ∷ []) old new
+    → ChangesTablesBy desk_tables (tables_with_trade_status id status stamp) old.now new.now
 sets_status old new id status stamp ran =
-    updates_as desk_tables Trades trades SetStatus.statement (Words (trade_status_code status) ∷ natural_as_value stamp ∷ natural_as_value id ∷ []) (read SetStatus.statement) SetStatus.terms SetStatus.project (λ (r : TradeRow). r.id == id)
+    updates_as desk_tables Trades trades SetStatus.statement (Words (trade_status_code status) ∷ natural_as_value stamp ∷ natural_as_value id ∷ [])
+    (read SetStatus.statement) SetStatus.terms SetStatus.project (λ (r : TradeRow). r.id == id)
     (λ tree r x e. let a : column r 0 ≡ natural_as_value x.id = cc in rw (a, same_number x.id id) (and_true _)) (λ r. refl) SetStatus.understood_as
     (λ r.
-    column r 0 ∷ Null ∷ natural_as_value stamp ∷ Words (trade_status_code status) ∷ column r 4 ∷ column r 5 ∷ column r 6 ∷ column r 7 ∷ column r 8 ∷ column r 9 ∷ column r 10 ∷ column r 11 ∷ column r 12 ∷ column r 13 ∷ column r 14 ∷ column r 15 ∷ [])
+    column r 0 ∷ Null ∷ natural_as_value stamp ∷ Words (trade_status_code status) ∷ column r 4 ∷ column r 5 ∷ column r 6 ∷ column r 7 ∷ column r 8 ∷ column r 9
+    ∷ column r 10 ∷ column r 11 ∷ column r 12 ∷ column r 13 ∷ column r 14 ∷ column r 15 ∷ [])
     (λ (r : TradeRow). record r { status = status; stamp = stamp }) (λ x y. refl) (λ x y. refl) (λ r. refl)
     (λ tree r x whole e.
     let a4 : column r 4 ≡ Words (trade_type_code x.kind) = cc in
@@ -149,12 +162,18 @@ sets_status old new id status stamp ran =
     let a15 : column r 15 ≡ flag_as_value x.is_lifo = cc in
     rw (a0, a4, a5, a6, a7, a8, a9, a10, a11, a12, a13, a14, a15) refl) old new ran.0 ran.1
 
-pub completes_trade : (old new : State) (id stamp price commission tax : ℕ) → ExecutesStatement CompleteTrade.statement (Words (trade_status_code Completed) ∷ natural_as_value stamp ∷ natural_as_value price ∷ natural_as_value commission ∷ natural_as_value tax ∷ natural_as_value id ∷ []) old new → ChangesTablesBy desk_tables (tables_with_trade_completed id stamp price commission tax) old.now new.now
+pub completes_trade : (old new : State) (id stamp price commission tax : ℕ)
+    → ExecutesStatement CompleteTrade.statement
+    (Words (trade_status_code Completed) ∷ natural_as_value stamp ∷ natural_as_value price ∷ natural_as_value commission ∷ natural_as_value tax
+    ∷ natural_as_value id ∷ []) old new → ChangesTablesBy desk_tables (tables_with_trade_completed id stamp price commission tax) old.now new.now
 completes_trade old new id stamp price commission tax ran =
-    updates_as desk_tables Trades trades CompleteTrade.statement (Words (trade_status_code Completed) ∷ natural_as_value stamp ∷ natural_as_value price ∷ natural_as_value commission ∷ natural_as_value tax ∷ natural_as_value id ∷ []) (read CompleteTrade.statement) CompleteTrade.terms CompleteTrade.project (λ (r : TradeRow). r.id == id)
+    updates_as desk_tables Trades trades CompleteTrade.statement
+    (Words (trade_status_code Completed) ∷ natural_as_value stamp ∷ natural_as_value price ∷ natural_as_value commission ∷ natural_as_value tax
+    ∷ natural_as_value id ∷ []) (read CompleteTrade.statement) CompleteTrade.terms CompleteTrade.project (λ (r : TradeRow). r.id == id)
     (λ tree r x e. let a : column r 0 ≡ natural_as_value x.id = cc in rw (a, same_number x.id id) (and_true _)) (λ r. refl) CompleteTrade.understood_as
     (λ r.
-    column r 0 ∷ Null ∷ natural_as_value stamp ∷ Words (trade_status_code Completed) ∷ column r 4 ∷ column r 5 ∷ column r 6 ∷ column r 7 ∷ column r 8 ∷ column r 9 ∷ column r 10 ∷ natural_as_value price ∷ column r 12 ∷ natural_as_value commission ∷ natural_as_value tax ∷ column r 15 ∷ [])
+    column r 0 ∷ Null ∷ natural_as_value stamp ∷ Words (trade_status_code Completed) ∷ column r 4 ∷ column r 5 ∷ column r 6 ∷ column r 7 ∷ column r 8
+    ∷ column r 9 ∷ column r 10 ∷ natural_as_value price ∷ column r 12 ∷ natural_as_value commission ∷ natural_as_value tax ∷ column r 15 ∷ [])
     (λ (r : TradeRow). record r { status = Completed; stamp = stamp; price = Some price; commission = commission; tax = tax }) (λ x y. refl) (λ x y. refl) (λ r. refl)
     (λ tree r x whole e.
     let a4 : column r 4 ≡ Words (trade_type_code x.kind) = cc in

@@ -1,9 +1,16 @@
 -- Written by tools/tables.py: the record that a row of each table encodes.
 use Rattle.std.proofs.Common.{◌≡◌, ℕ, refl}
 use Rattle.sqlite_value.specs.Order.{Row}
-use Rattle.brk_tables_schema.specs.Desk.{RecordOfTable, DeskTable, encoded_row, table_definition_at_tree, TheDesk, KeptRows, Brokers, Customers, Accounts, Permissions, Securities, LastTrades, Charges, Bands, TaxRates, CustomerTaxes, Trades, TradeHistory, Requests, Holdings, Summaries, HoldingHistory, Settlements, CashRows, CashMoves, SettleRules}
-use Rattle.brk_tables_schema.proofs.Back.{desk_back, desk_is_back, kept_back, kept_is_back, broker_back, broker_is_back, customer_back, customer_is_back, account_back, account_is_back, permission_back, permission_is_back, security_back, security_is_back, charge_back, charge_is_back, band_back, band_is_back, tax_rate_back, tax_rate_is_back, customer_tax_back, customer_tax_is_back, move_back, move_is_back, rule_back, rule_is_back}
-use Rattle.brk_tables_schema.proofs.TradingBack.{last_trade_back, last_trade_is_back, trade_back, trade_is_back, history_back, history_is_back, request_back, request_is_back, holding_back, holding_is_back, summary_back, summary_is_back, holding_history_back, holding_history_is_back, settlement_back, settlement_is_back, cash_back, cash_is_back}
+use Rattle.brk_tables_schema.specs.Desk.{RecordOfTable, DeskTable, encoded_row, table_definition_at_tree, TheDesk, KeptRows, Brokers, Customers, Accounts}
+use Rattle.brk_tables_schema.specs.Desk.{Permissions, Securities, LastTrades, Charges, Bands, TaxRates, CustomerTaxes, Trades, TradeHistory, Requests, Holdings}
+use Rattle.brk_tables_schema.specs.Desk.{Summaries, HoldingHistory, Settlements, CashRows, CashMoves, SettleRules}
+use Rattle.brk_tables_schema.proofs.Back.{desk_back, desk_is_back, kept_back, kept_is_back, broker_back, broker_is_back, customer_back, customer_is_back}
+use Rattle.brk_tables_schema.proofs.Back.{account_back, account_is_back, permission_back, permission_is_back, security_back, security_is_back, charge_back}
+use Rattle.brk_tables_schema.proofs.Back.{charge_is_back, band_back, band_is_back, tax_rate_back, tax_rate_is_back, customer_tax_back, customer_tax_is_back}
+use Rattle.brk_tables_schema.proofs.Back.{move_back, move_is_back, rule_back, rule_is_back}
+use Rattle.brk_tables_schema.proofs.TradingBack.{last_trade_back, last_trade_is_back, trade_back, trade_is_back, history_back, history_is_back, request_back}
+use Rattle.brk_tables_schema.proofs.TradingBack.{request_is_back, holding_back, holding_is_back, summary_back, summary_is_back, holding_history_back}
+use Rattle.brk_tables_schema.proofs.TradingBack.{holding_history_is_back, settlement_back, settlement_is_back, cash_back, cash_is_back}
 
 -- The record that a row of a table encodes.
 pub decode : (w : DeskTable) → Row → RecordOfTable w

@@ -19,7 +19,8 @@ use Rattle.brk_changes.specs.Schemas.{abstract_schema}
 use Rattle.brk_sql.specs.Desk.{IsTableAt}
 use Rattle.brk_sql.specs.Rows.{TreeHoldsRecords, IsStrictlyAscending, cells_in_column_order}
 use Rattle.brk_sql.proofs.Order.{has_permuted}
-use Rattle.brk_tables_schema.specs.Desk.{RecordOfTable, DeskTable, encoded_row, primary_key_of_record, ordering_by_primary_key, table_definition_has_tree, table_definition_at_tree, TheDesk, rows_of_table_in_schema, schema_has_table}
+use Rattle.brk_tables_schema.specs.Desk.{RecordOfTable, DeskTable, encoded_row, primary_key_of_record, ordering_by_primary_key, table_definition_has_tree}
+use Rattle.brk_tables_schema.specs.Desk.{table_definition_at_tree, TheDesk, rows_of_table_in_schema, schema_has_table}
 use Rattle.brk_tables_schema.specs.Made.{HasDeskTables, HasDeskTablesInSchema, IsTableOfSchema}
 use Rattle.brk_tables_schema.proofs.Order.{key_total}
 use Rattle.brk_tables_unique.proofs.Decode.{decode, decodes, named_alike}
@@ -88,13 +89,16 @@ module _ {X : Type 0} (cmp : X → X → Ordering) (total : IsTotalOrder cmp) wh
 
 -- ---- one table
 
-held_alike : (w : DeskTable) (table : Table) (xs ys : List (RecordOfTable w)) (rows : List Row) → TreeHoldsRecords table (encoded_row w) (ordering_by_primary_key w) xs rows → TreeHoldsRecords table (encoded_row w) (ordering_by_primary_key w) ys rows → xs ≡ ys
+held_alike : (w : DeskTable) (table : Table) (xs ys : List (RecordOfTable w)) (rows : List Row)
+    → TreeHoldsRecords table (encoded_row w) (ordering_by_primary_key w) xs rows → TreeHoldsRecords table (encoded_row w) (ordering_by_primary_key w) ys rows
+    → xs ≡ ys
 held_alike w table xs ys rows h k =
     let cellsOf : List Row = map (cells_in_column_order table) rows in
     let p : IsPermutation (map (encoded_row w) xs) (map (encoded_row w) ys) =
     IsPermutation-trans (map (encoded_row w) xs) cellsOf (map (encoded_row w) ys) h.shown (IsPermutation-sym (map (encoded_row w) ys) cellsOf k.shown) in
     let q = IsPermutation-map (decode w) (map (encoded_row w) xs) (map (encoded_row w) ys) p in
-    let r : IsPermutation xs (map (decode w) (map (encoded_row w) ys)) = subst (λ l. IsPermutation l (map (decode w) (map (encoded_row w) ys))) (map_back (encoded_row w) (decode w) (decodes w) xs) q in
+    let r : IsPermutation xs (map (decode w) (map (encoded_row w) ys)) =
+    subst (λ l. IsPermutation l (map (decode w) (map (encoded_row w) ys))) (map_back (encoded_row w) (decode w) (decodes w) xs) q in
     permuted (ordering_by_primary_key w) (key_total (primary_key_of_record w)) xs ys (subst (IsPermutation xs) (map_back (encoded_row w) (decode w) (decodes w) ys) r) h.rising k.rising
 
 some_same : {X : Type 0} (x y : X) → Some x ≡ Some y → x ≡ y
@@ -104,15 +108,21 @@ some_same x y e = cc
 tree_alike : (w : DeskTable) (db : Database) (m n at by : ℕ) → IsTableAt db.schema (table_definition_at_tree w m) at → IsTableAt db.schema (table_definition_at_tree w n) by → m ≡ n
 tree_alike w db m n at by h k =
     let e : at ≡ by = some_same at by (sym h.named ∙ ap (λ name. table_named db.schema name) (named_alike w m n) ∙ k.named) in
-    let f : table_definition_at_tree w m ≡ table_definition_at_tree w n = some_same (table_definition_at_tree w m) (table_definition_at_tree w n) (sym h.found ∙ ap (slice_get db.schema.tables) e ∙ k.found) in
+    let f : table_definition_at_tree w m ≡ table_definition_at_tree w n =
+    some_same (table_definition_at_tree w m) (table_definition_at_tree w n) (sym h.found ∙ ap (slice_get db.schema.tables) e ∙ k.found) in
     sym (table_definition_has_tree w m) ∙ ap (λ (t : Table). t.tree) f ∙ table_definition_has_tree w n
 
 -- a table of a desk, in whichever schemas, shows one list
-alike : (w : DeskTable) (s r : Schema) (t u : Tables) (db : Database) (m n at by : ℕ) → IsTableAt db.schema (table_definition_at_tree w m) at → IsTableAt db.schema (table_definition_at_tree w n) by → TreeHoldsRecords (table_definition_at_tree w m) (encoded_row w) (ordering_by_primary_key w) (rows_of_table_in_schema s w t) (db.trees m)
-    → TreeHoldsRecords (table_definition_at_tree w n) (encoded_row w) (ordering_by_primary_key w) (rows_of_table_in_schema r w u) (db.trees n) → rows_of_table_in_schema s w t ≡ rows_of_table_in_schema r w u
+alike : (w : DeskTable) (s r : Schema) (t u : Tables) (db : Database) (m n at by : ℕ) → IsTableAt db.schema (table_definition_at_tree w m) at
+    → IsTableAt db.schema (table_definition_at_tree w n) by
+    → TreeHoldsRecords (table_definition_at_tree w m) (encoded_row w) (ordering_by_primary_key w) (rows_of_table_in_schema s w t) (db.trees m)
+    → TreeHoldsRecords (table_definition_at_tree w n) (encoded_row w) (ordering_by_primary_key w) (rows_of_table_in_schema r w u) (db.trees n)
+    → rows_of_table_in_schema s w t ≡ rows_of_table_in_schema r w u
 alike w s r t u db m n at by h k some more =
     let e : m ≡ n = tree_alike w db m n at by h k in
-    held_alike w (table_definition_at_tree w m) (rows_of_table_in_schema s w t) (rows_of_table_in_schema r w u) (db.trees m) some (subst (λ (q : ℕ). TreeHoldsRecords (table_definition_at_tree w q) (encoded_row w) (ordering_by_primary_key w) (rows_of_table_in_schema r w u) (db.trees q)) (sym e) more)
+    held_alike w (table_definition_at_tree w m) (rows_of_table_in_schema s w t) (rows_of_table_in_schema r w u) (db.trees m) some
+    (subst (λ (q : ℕ). TreeHoldsRecords (table_definition_at_tree w q) (encoded_row w) (ordering_by_primary_key w) (rows_of_table_in_schema r w u)
+    (db.trees q)) (sym e) more)
 
 pub one_tables : (t u : Tables) → (db : Database) → HasDeskTables t db → HasDeskTables u db → t ≡ u
 one_tables t u db h k =
@@ -125,7 +135,8 @@ by_case true f g = f refl
 by_case false f g = g refl
 
 -- where both schemas have a table
-both_alike : (w : DeskTable) (s r : Schema) (t u : Tables) (db : Database) → HasDeskTablesInSchema s t db → HasDeskTablesInSchema r u db → IsTableOfSchema s w → IsTableOfSchema r w → rows_of_table_in_schema s w t ≡ rows_of_table_in_schema r w u
+both_alike : (w : DeskTable) (s r : Schema) (t u : Tables) (db : Database) → HasDeskTablesInSchema s t db → HasDeskTablesInSchema r u db → IsTableOfSchema s w
+    → IsTableOfSchema r w → rows_of_table_in_schema s w t ≡ rows_of_table_in_schema r w u
 both_alike w s r t u db h k a b = alike w s r t u db (h.0 w) (k.0 w) (h.1.place w) (k.1.place w) (h.1.is_table w a) (k.1.is_table w b) (h.1.rows w a) (k.1.rows w b)
 
 one_of_schema : (s : Schema) (t u : Tables) (db : Database) → HasDeskTablesInSchema s t db → HasDeskTablesInSchema s u db → t ≡ u

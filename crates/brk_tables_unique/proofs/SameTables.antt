@@ -2,7 +2,9 @@
 use Rattle.std.proofs.Common.{◌≡◌}
 use Rattle.brk_model.specs.Schemas.{Schema}
 use Rattle.brk_model.specs.Tables.{Tables}
-use Rattle.brk_tables_schema.specs.Desk.{DeskTable, rows_of_table_in_schema, TheDesk, KeptRows, Brokers, Customers, Accounts, Permissions, Securities, LastTrades, Charges, Bands, TaxRates, CustomerTaxes, Trades, TradeHistory, Requests, Holdings, Summaries, HoldingHistory, Settlements, CashRows, CashMoves, SettleRules}
+use Rattle.brk_tables_schema.specs.Desk.{DeskTable, rows_of_table_in_schema, TheDesk, KeptRows, Brokers, Customers, Accounts, Permissions, Securities}
+use Rattle.brk_tables_schema.specs.Desk.{LastTrades, Charges, Bands, TaxRates, CustomerTaxes, Trades, TradeHistory, Requests, Holdings, Summaries}
+use Rattle.brk_tables_schema.specs.Desk.{HoldingHistory, Settlements, CashRows, CashMoves, SettleRules}
 use Rattle.brk_tables_unique.proofs.Values.{last_alike, rule_alike}
 
 pub same_tables : (s : Schema) (t u : Tables) → ((w : DeskTable) → rows_of_table_in_schema s w t ≡ rows_of_table_in_schema s w u) → t ≡ u

@@ -104,7 +104,8 @@ module _ (schema : Schema) (at tree : ℕ) (h : IsTableAt schema (trade_table tr
   shows =
       rw (
         column_is schema at (trade_table tree) found (codes "TRADE") [] [] true true (codes "T_CA_ID") 8 (integer_column (codes "T_CA_ID")) refl refl,
-        heading_is schema at (trade_table tree) found (codes "TRADE") [] [] true true (e.Column None (codes "T_CA_ID")) (codes "T_CA_ID") (codes "T_CA_ID") 8 (integer_column (codes "T_CA_ID")) refl refl refl,
+        heading_is schema at (trade_table tree) found (codes "TRADE") [] [] true true (e.Column None (codes "T_CA_ID")) (codes "T_CA_ID") (codes "T_CA_ID") 8
+            (integer_column (codes "T_CA_ID")) refl refl refl,
       )
 
   matches : matching lower (outermost schema) (level_one (codes "TRADE") at columns) core (after 1 binary)
@@ -123,7 +124,9 @@ module _ (schema : Schema) (at tree : ℕ) (h : IsTableAt schema (trade_table tr
       (named_is schema core source (codes "TRADE") at h.named refl refl refl refl columns (after 1 binary)
       (record { steps = Inner tree ∷ []; filter = terms }) (after 4 nothing) shows matches by _ (after 5 nothing) _ refl refl sorted)
 
-  pub understood_as : (compiled schema statement ≡ Ok (meant (read statement) [] (Select (record { lets = []; body = selection tree terms project order paging }) names))) ⊎ (compiled schema statement ≡ Err Mismatch)
+  pub understood_as : (compiled schema statement
+      ≡ Ok (meant (read statement) [] (Select (record { lets = []; body = selection tree terms project order paging }) names)))
+      ⊎ (compiled schema statement ≡ Err Mismatch)
   unfolding everything
   understood_as = reads_or schema statement (read statement) refl refl select (draft tree) names (Some Binary ∷ []) refl meaning_is
 

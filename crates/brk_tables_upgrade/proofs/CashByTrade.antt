@@ -49,7 +49,8 @@ source = roll-Source (record { is_left = false; origin = Table (codes "CASH_TRAN
 abbrev pub core : Core
 core = roll-Core (record {
   distinct = false;
-  shown = One (e.Column None (codes "CT_T_ID")) None (codes "CT_T_ID") ∷ One (e.Column None (codes "CT_DTS")) None (codes "CT_DTS") ∷ One (e.Column None (codes "CT_AMT")) None (codes "CT_AMT") ∷ One (e.Column None (codes "CT_NAME")) None (codes "CT_NAME") ∷ [];
+  shown = One (e.Column None (codes "CT_T_ID")) None (codes "CT_T_ID") ∷ One (e.Column None (codes "CT_DTS")) None (codes "CT_DTS")
+      ∷ One (e.Column None (codes "CT_AMT")) None (codes "CT_AMT") ∷ One (e.Column None (codes "CT_NAME")) None (codes "CT_NAME") ∷ [];
   from = source ∷ [];
   filter = None;
   group = [];
@@ -101,13 +102,17 @@ module _ (schema : Schema) (at tree : ℕ) (h : IsTableAt schema (cash_table tre
   shows =
       rw (
         column_is schema at (cash_table tree) found (codes "CASH_TRANSACTION") [] [] true true (codes "CT_T_ID") 0 (integer_column (codes "CT_T_ID")) refl refl,
-        heading_is schema at (cash_table tree) found (codes "CASH_TRANSACTION") [] [] true true (e.Column None (codes "CT_T_ID")) (codes "CT_T_ID") (codes "CT_T_ID") 0 (integer_column (codes "CT_T_ID")) refl refl refl,
+        heading_is schema at (cash_table tree) found (codes "CASH_TRANSACTION") [] [] true true (e.Column None (codes "CT_T_ID")) (codes "CT_T_ID")
+            (codes "CT_T_ID") 0 (integer_column (codes "CT_T_ID")) refl refl refl,
         column_is schema at (cash_table tree) found (codes "CASH_TRANSACTION") [] [] true true (codes "CT_DTS") 1 (integer_column (codes "CT_DTS")) refl refl,
-        heading_is schema at (cash_table tree) found (codes "CASH_TRANSACTION") [] [] true true (e.Column None (codes "CT_DTS")) (codes "CT_DTS") (codes "CT_DTS") 1 (integer_column (codes "CT_DTS")) refl refl refl,
+        heading_is schema at (cash_table tree) found (codes "CASH_TRANSACTION") [] [] true true (e.Column None (codes "CT_DTS")) (codes "CT_DTS")
+            (codes "CT_DTS") 1 (integer_column (codes "CT_DTS")) refl refl refl,
         column_is schema at (cash_table tree) found (codes "CASH_TRANSACTION") [] [] true true (codes "CT_AMT") 2 (integer_column (codes "CT_AMT")) refl refl,
-        heading_is schema at (cash_table tree) found (codes "CASH_TRANSACTION") [] [] true true (e.Column None (codes "CT_AMT")) (codes "CT_AMT") (codes "CT_AMT") 2 (integer_column (codes "CT_AMT")) refl refl refl,
+        heading_is schema at (cash_table tree) found (codes "CASH_TRANSACTION") [] [] true true (e.Column None (codes "CT_AMT")) (codes "CT_AMT")
+            (codes "CT_AMT") 2 (integer_column (codes "CT_AMT")) refl refl refl,
         column_is schema at (cash_table tree) found (codes "CASH_TRANSACTION") [] [] true true (codes "CT_NAME") 3 (text_column (codes "CT_NAME")) refl refl,
-        heading_is schema at (cash_table tree) found (codes "CASH_TRANSACTION") [] [] true true (e.Column None (codes "CT_NAME")) (codes "CT_NAME") (codes "CT_NAME") 3 (text_column (codes "CT_NAME")) refl refl refl,
+        heading_is schema at (cash_table tree) found (codes "CASH_TRANSACTION") [] [] true true (e.Column None (codes "CT_NAME")) (codes "CT_NAME")
+            (codes "CT_NAME") 3 (text_column (codes "CT_NAME")) refl refl refl,
       )
 
   matches : matching lower (outermost schema) (level_one (codes "CASH_TRANSACTION") at columns) core (after 4 binary)
@@ -126,7 +131,9 @@ module _ (schema : Schema) (at tree : ℕ) (h : IsTableAt schema (cash_table tre
       (named_is schema core source (codes "CASH_TRANSACTION") at h.named refl refl refl refl columns (after 4 binary)
       (record { steps = Inner tree ∷ []; filter = terms }) (after 4 binary) shows matches by _ (after 5 nothing) _ refl refl sorted)
 
-  pub understood_as : (compiled schema statement ≡ Ok (meant (read statement) [] (Select (record { lets = []; body = selection tree terms project order paging }) names))) ⊎ (compiled schema statement ≡ Err Mismatch)
+  pub understood_as : (compiled schema statement
+      ≡ Ok (meant (read statement) [] (Select (record { lets = []; body = selection tree terms project order paging }) names)))
+      ⊎ (compiled schema statement ≡ Err Mismatch)
   unfolding everything
   understood_as = reads_or schema statement (read statement) refl refl select (draft tree) names (None ∷ Some Binary ∷ Some Binary ∷ Some Binary ∷ []) refl meaning_is
 

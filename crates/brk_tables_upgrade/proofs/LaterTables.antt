@@ -49,7 +49,8 @@ module _ (desk : Schema) where
   pub raised : (a b c : Database) → CreatesEachTable (map table_definition_at_tree (tables_of_later_schemas desk)) a b → SetsSchemaNumberToThree b c → AddsTablesOfLaterSchemas desk a c
   raised a b c made raises = λ t tree h lacks.
       let none : AllByRecursion (λ w. rows_of_table_in_schema desk w t ≡ []) (tables_of_later_schemas desk) =
-      all_from (λ w. rows_of_table_in_schema desk w t ≡ []) (tables_of_later_schemas desk) (λ w listed. (lacks w (not_not (schema_has_table desk w) (has_filtered (λ w. not (schema_has_table desk w)) all_tables w listed).1)).1) in
+      all_from (λ w. rows_of_table_in_schema desk w t ≡ []) (tables_of_later_schemas desk)
+      (λ w listed. (lacks w (not_not (schema_has_table desk w) (has_filtered (λ w. not (schema_has_table desk w)) all_tables w listed).1)).1) in
       let g = grown_each (desk_tables_of_schema desk) t split (tables_of_later_schemas desk) (IsTableOfSchema desk) tree a b h none made in
       let up = raises desk t g.to (all_there (desk_tables_of_schema desk) t (Among (desk_tables_of_schema desk) (tables_of_later_schemas desk) (IsTableOfSchema desk)) g.to b each g.has) in
       let away : (k : Table) → Has a.schema.tables k → ((w : DeskTable) → IsTableOfSchema desk w → k.tree ≢ tree w) → (w : DeskTable) → k.tree ≢ g.to w =
@@ -58,7 +59,9 @@ module _ (desk : Schema) where
         | inr fresh ↦ all_has (λ k. k.tree ≢ g.to w) a.schema.tables k fresh there same
       ] in
       let spared : AllByRecursion (λ k. ((w : DeskTable) → k.tree ≢ g.to w) → HasNoWritingForeignKeysAt b.schema k.tree → c.trees k.tree ≡ b.trees k.tree) a.schema.tables =
-      all_left _ a.schema.tables g.grows.more (subst (AllByRecursion (λ k. ((w : DeskTable) → k.tree ≢ g.to w) → HasNoWritingForeignKeysAt b.schema k.tree → c.trees k.tree ≡ b.trees k.tree)) g.grows.tables up.1.rows) in
+      all_left _ a.schema.tables g.grows.more
+      (subst (AllByRecursion (λ k. ((w : DeskTable) → k.tree ≢ g.to w) → HasNoWritingForeignKeysAt b.schema k.tree → c.trees k.tree ≡ b.trees k.tree))
+      g.grows.tables up.1.rows) in
       record {
         tree = g.to;
         rows = up.0;
@@ -66,7 +69,8 @@ module _ (desk : Schema) where
           more = g.grows.more;
           tables = ap (λ (s : database.Schema). s.tables) up.1.schema ∙ g.grows.tables;
           rows = all_from _ a.schema.tables (λ k there other keys_write_nothing.
-              all_has (λ k. ((w : DeskTable) → k.tree ≢ g.to w) → HasNoWritingForeignKeysAt b.schema k.tree → c.trees k.tree ≡ b.trees k.tree) a.schema.tables k spared there (away k there other) (g.grows.keys_write_nothing k.tree keys_write_nothing)
+              all_has (λ k. ((w : DeskTable) → k.tree ≢ g.to w) → HasNoWritingForeignKeysAt b.schema k.tree → c.trees k.tree ≡ b.trees k.tree) a.schema.tables k
+              spared there (away k there other) (g.grows.keys_write_nothing k.tree keys_write_nothing)
               ∙ all_has (λ k. b.trees k.tree ≡ a.trees k.tree) a.schema.tables k g.grows.rows there);
         };
         apart = all_from _ a.schema.tables away;
@@ -74,12 +78,15 @@ module _ (desk : Schema) where
       }
 
   -- the rows are turned
-  pub stands_then : (before : DeskTable → ℕ) (t : Tables) (f : Tables → Tables) (a c d : Database) → HasUpgradedTables desk before t a c → ChangesTablesBy (desk_tables_of_schema Rattle.brk_model.specs.Schemas.third_schema) f c d → HasUpgradedTables desk before (f t) a d
+  pub stands_then : (before : DeskTable → ℕ) (t : Tables) (f : Tables → Tables) (a c d : Database) → HasUpgradedTables desk before t a c
+      → ChangesTablesBy (desk_tables_of_schema Rattle.brk_model.specs.Schemas.third_schema) f c d → HasUpgradedTables desk before (f t) a d
   stands_then before t f a c d s turns =
       let turned = turns t s.tree s.rows in
       let spares = turned.1 in
       let spared : AllByRecursion (λ k. ((w : DeskTable) → k.tree ≢ s.tree w) → HasNoWritingForeignKeysAt c.schema k.tree → d.trees k.tree ≡ c.trees k.tree) a.schema.tables =
-      all_left _ a.schema.tables s.others.more (subst (AllByRecursion (λ k. ((w : DeskTable) → k.tree ≢ s.tree w) → HasNoWritingForeignKeysAt c.schema k.tree → d.trees k.tree ≡ c.trees k.tree)) s.others.tables spares.rows) in
+      all_left _ a.schema.tables s.others.more
+      (subst (AllByRecursion (λ k. ((w : DeskTable) → k.tree ≢ s.tree w) → HasNoWritingForeignKeysAt c.schema k.tree → d.trees k.tree ≡ c.trees k.tree))
+      s.others.tables spares.rows) in
       record {
         tree = s.tree;
         rows = turned.0;
@@ -88,8 +95,10 @@ module _ (desk : Schema) where
           tables = ap (λ (s : database.Schema). s.tables) spares.schema ∙ s.others.tables;
           rows = all_from _ a.schema.tables (λ k there other keys_write_nothing.
               all_has (λ k. ((w : DeskTable) → k.tree ≢ s.tree w) → HasNoWritingForeignKeysAt c.schema k.tree → d.trees k.tree ≡ c.trees k.tree) a.schema.tables k spared there
-              (all_has (λ k. ((w : DeskTable) → IsTableOfSchema desk w → k.tree ≢ before w) → (w : DeskTable) → k.tree ≢ s.tree w) a.schema.tables k s.apart there other) (s.keys_write_nothing k.tree keys_write_nothing)
-              ∙ all_has (λ k. ((w : DeskTable) → IsTableOfSchema desk w → k.tree ≢ before w) → HasNoWritingForeignKeysAt a.schema k.tree → c.trees k.tree ≡ a.trees k.tree) a.schema.tables k s.others.rows there other keys_write_nothing);
+              (all_has (λ k. ((w : DeskTable) → IsTableOfSchema desk w → k.tree ≢ before w) → (w : DeskTable) → k.tree ≢ s.tree w) a.schema.tables k s.apart
+              there other) (s.keys_write_nothing k.tree keys_write_nothing)
+              ∙ all_has (λ k. ((w : DeskTable) → IsTableOfSchema desk w → k.tree ≢ before w) → HasNoWritingForeignKeysAt a.schema k.tree
+              → c.trees k.tree ≡ a.trees k.tree) a.schema.tables k s.others.rows there other keys_write_nothing);
         };
         apart = s.apart;
         keys_write_nothing = λ n keys_write_nothing. subst (λ s. HasNoWritingForeignKeysAt s n) (sym spares.schema) (s.keys_write_nothing n keys_write_nothing);
@@ -102,7 +111,8 @@ module _ (desk : Schema) where
       subst (λ u. HasUpgradedTables desk tree u a c) same (up t tree h lacks)
 
   -- those that are not are upgraded
-  pub moves_cash : (a c d : Database) → desk.has_cash_move_table ≡ false → AddsTablesOfLaterSchemas desk a c → ChangesTablesBy (desk_tables_of_schema Rattle.brk_model.specs.Schemas.third_schema) tables_with_cash_transactions_moved c d → UpgradesTables desk a d
+  pub moves_cash : (a c d : Database) → desk.has_cash_move_table ≡ false → AddsTablesOfLaterSchemas desk a c
+      → ChangesTablesBy (desk_tables_of_schema Rattle.brk_model.specs.Schemas.third_schema) tables_with_cash_transactions_moved c d → UpgradesTables desk a d
   moves_cash a c d off up turns = λ t tree h lacks.
       let same : tables_with_cash_transactions_moved t ≡ tables_upgraded_from_schema desk t = rw off (upgraded_is t (lacks CashMoves off).1) in
       subst (λ u. HasUpgradedTables desk tree u a d) same (stands_then tree t tables_with_cash_transactions_moved a c d (up t tree h lacks) turns)

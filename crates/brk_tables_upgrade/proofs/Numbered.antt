@@ -14,12 +14,19 @@ use Rattle.brk_tables_upgrade.proofs.Sorting.{posted_in_turn}
 -- ---- one more of a list
 
 module _ (d : CashRow) where
-  next_from : (n : ℕ) (cs : List CashRow) (i : ℕ) → i < length cs → (t : Tables) → tables_with_cash_rows_numbered_from n (take (suc i) cs) t ≡ tables_with_numbered_cash_row (n + i) (get_or cs i d) (tables_with_cash_rows_numbered_from n (take i cs) t)
+  next_from : (n : ℕ) (cs : List CashRow) (i : ℕ) → i < length cs → (t : Tables)
+      → tables_with_cash_rows_numbered_from n (take (suc i) cs) t
+      ≡ tables_with_numbered_cash_row (n + i) (get_or cs i d) (tables_with_cash_rows_numbered_from n (take i cs) t)
   next_from n [] i lt t = absurd (omega (arith, lt))
   next_from n (c ∷ cs) zero lt t = let e : n ≡ n + zero = omega arith in ap (λ k. tables_with_numbered_cash_row k c t) e
-  next_from n (c ∷ cs) (suc i) lt t = let e : n + 1 + i ≡ n + suc i = omega arith in next_from (n + 1) cs i (omega (arith, lt)) (tables_with_numbered_cash_row n c t) ∙ ap (λ k. tables_with_numbered_cash_row k (get_or cs i d) (tables_with_cash_rows_numbered_from (n + 1) (take i cs) (tables_with_numbered_cash_row n c t))) e
+  next_from n (c ∷ cs) (suc i) lt t = let e : n + 1 + i ≡ n + suc i = omega arith in
+      next_from (n + 1) cs i (omega (arith, lt)) (tables_with_numbered_cash_row n c t)
+      ∙ ap (λ k. tables_with_numbered_cash_row k (get_or cs i d)
+      (tables_with_cash_rows_numbered_from (n + 1) (take i cs) (tables_with_numbered_cash_row n c t))) e
 
-  pub one_more : (cs : List CashRow) (i : ℕ) → i < length cs → (t : Tables) → tables_with_cash_rows_numbered_from 1 (take (i + 1) cs) t ≡ tables_with_numbered_cash_row (1 + i) (get_or cs i d) (tables_with_cash_rows_numbered_from 1 (take i cs) t)
+  pub one_more : (cs : List CashRow) (i : ℕ) → i < length cs → (t : Tables)
+      → tables_with_cash_rows_numbered_from 1 (take (i + 1) cs) t
+      ≡ tables_with_numbered_cash_row (1 + i) (get_or cs i d) (tables_with_cash_rows_numbered_from 1 (take i cs) t)
   one_more cs i lt t = rw (add-one i) (next_from 1 cs i lt t)
 
 -- ---- a number that is above the others goes last
@@ -43,7 +50,8 @@ higher n (r ∷ rows) low p = (lt-ltb r.id (n + 1) (omega (arith, Rattle.std.pro
 -- ---- all of them
 
 -- rows that are added one after another
-added : (n : ℕ) (cs : List CashRow) (t : Tables) → above_all n t.moves → tables_with_cash_rows_numbered_from n cs t ≡ record t { moves = t.moves ++ numbered_move_rows n (map (posting_of_cash_transaction_row t) cs) }
+added : (n : ℕ) (cs : List CashRow) (t : Tables) → above_all n t.moves
+    → tables_with_cash_rows_numbered_from n cs t ≡ record t { moves = t.moves ++ numbered_move_rows n (map (posting_of_cash_transaction_row t) cs) }
 added n [] t low = ap (λ (xs : List MoveRow). let u : Tables = record t { moves = xs } in u) (sym (append-nil t.moves))
 added n (c ∷ cs) t low =
     let r = cash_move_row n (posting_of_cash_transaction_row t c) in
@@ -51,7 +59,8 @@ added n (c ∷ cs) t low =
     let one : tables_with_numbered_cash_row n c t ≡ record t { moves = t.moves ++ r ∷ [] } = ap (λ (xs : List MoveRow). let u : Tables = record t { moves = xs } in u) last in
     ap (tables_with_cash_rows_numbered_from (n + 1) cs) one
     ∙ added (n + 1) cs (record t { moves = t.moves ++ r ∷ [] }) (higher n t.moves low (posting_of_cash_transaction_row t c))
-    ∙ ap (λ (xs : List MoveRow). let u : Tables = record t { moves = xs } in u) (Rattle.std.proofs.Common.append_assoc t.moves (r ∷ []) (numbered_move_rows (n + 1) (map (posting_of_cash_transaction_row t) cs)))
+    ∙ ap (λ (xs : List MoveRow). let u : Tables = record t { moves = xs } in u)
+    (Rattle.std.proofs.Common.append_assoc t.moves (r ∷ []) (numbered_move_rows (n + 1) (map (posting_of_cash_transaction_row t) cs)))
 
 -- the tables of the first schema with their cash rows upgraded are the upgraded tables
 pub upgraded_is : (t : Tables) → t.moves ≡ [] → tables_with_cash_transactions_moved t ≡ tables_with_merged_cash_rows t
@@ -61,6 +70,8 @@ upgraded_is t none =
     let all : t.moves ++ numbered_move_rows 1 (map (posting_of_cash_transaction_row t) (cash_transactions_by_stamp t)) ≡ numbered_move_rows 1 (postings_sorted_by_stamp (postings_of_tables t)) =
     ap (λ (l : List MoveRow). l ++ numbered_move_rows 1 (map (posting_of_cash_transaction_row t) (cash_transactions_by_stamp t))) none
     ∙ ap (numbered_move_rows 1) (sym (posted_in_turn t t.cash)
-    ∙ ap postings_sorted_by_stamp (sym (append-nil (map (posting_of_cash_transaction_row t) t.cash)) ∙ ap (λ (ms : List MoveRow). map (posting_of_cash_transaction_row t) t.cash ++ map posting_of_cash_move_row ms) (sym none))) in
+    ∙ ap postings_sorted_by_stamp
+    (sym (append-nil (map (posting_of_cash_transaction_row t) t.cash))
+    ∙ ap (λ (ms : List MoveRow). map (posting_of_cash_transaction_row t) t.cash ++ map posting_of_cash_move_row ms) (sym none))) in
     ap (λ (u : Tables). let v : Tables = record u { cash = [] } in v) (added 1 (cash_transactions_by_stamp t) t low)
     ∙ ap (λ (xs : List MoveRow). let u : Tables = record t { cash = []; moves = xs } in u) all

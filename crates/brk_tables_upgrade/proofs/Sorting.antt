@@ -28,5 +28,7 @@ pub rows_in_order : (rows : List code.CashRow) → map abstract_cash_row (sort_b
 rows_in_order rows = sym (map_sorted (λ (a b : code.CashRow). nat_lt a.stamp b.stamp) (λ (a b : CashRow). nat_lt a.stamp b.stamp) abstract_cash_row rows (λ a b. refl))
 
 -- the postings of rows, in turn, are those of the rows by stamp
-pub posted_in_turn : (t : Tables) (xs : List CashRow) → postings_sorted_by_stamp (map (posting_of_cash_transaction_row t) xs) ≡ map (posting_of_cash_transaction_row t) (sort_by_key (λ (r : CashRow). r.stamp) xs)
+pub posted_in_turn : (t : Tables) (xs : List CashRow)
+    → postings_sorted_by_stamp (map (posting_of_cash_transaction_row t) xs)
+    ≡ map (posting_of_cash_transaction_row t) (sort_by_key (λ (r : CashRow). r.stamp) xs)
 posted_in_turn t xs = map_sorted (λ (a b : CashRow). nat_lt a.stamp b.stamp) (λ (a b : Posting). nat_lt a.stamp b.stamp) (posting_of_cash_transaction_row t) xs (λ a b. refl)

@@ -43,23 +43,32 @@ found account (Some r) e = cc
 abbrev pub numbered_row : (id account : ℕ) → CashRow → MoveRow
 numbered_row id account c = record { id = id; account = account; trade = Some c.trade; stamp = c.stamp; amount = c.amount; name = c.name }
 
-pub adds_numbered : (id account : ℕ) (c : CashRow) (a b d : Database) → b ≡ a → TablesSatisfy desk_tables (λ t. Some account ≡ option_map (λ r. r.account) (trade_row_with_id t c.trade)) a → ChangesTablesBy desk_tables (tables_with_cash_row (numbered_row id account c)) b d → ChangesTablesBy desk_tables (tables_with_numbered_cash_row id c) a d
+pub adds_numbered : (id account : ℕ) (c : CashRow) (a b d : Database) → b ≡ a
+    → TablesSatisfy desk_tables (λ t. Some account ≡ option_map (λ r. r.account) (trade_row_with_id t c.trade)) a
+    → ChangesTablesBy desk_tables (tables_with_cash_row (numbered_row id account c)) b d → ChangesTablesBy desk_tables (tables_with_numbered_cash_row id c) a d
 adds_numbered id account c a b d still told turns = λ t tree h.
     let turned = subst (λ x. ChangesTablesBy desk_tables (tables_with_cash_row (numbered_row id account c)) x d) still turns t tree h in
-    let same : tables_with_cash_row (numbered_row id account c) t ≡ tables_with_numbered_cash_row id c t = ap (λ n. tables_with_cash_row (numbered_row id n c) t) (found account (trade_row_with_id t c.trade) (told t tree h)) in
+    let same : tables_with_cash_row (numbered_row id account c) t ≡ tables_with_numbered_cash_row id c t =
+    ap (λ n. tables_with_cash_row (numbered_row id n c) t) (found account (trade_row_with_id t c.trade) (told t tree h)) in
     (subst (λ u. HasTables desk_tables u tree d) same turned.0, turned.1)
 
 -- ---- all of them
 
-pub one_added : (d : CashRow) (cs : List CashRow) (i : ℕ) → i < length cs → (a b c : Database) → ChangesTablesBy desk_tables (tables_with_cash_rows_numbered_from 1 (take i cs)) a b → ChangesTablesBy desk_tables (tables_with_numbered_cash_row (1 + i) (get_or cs i d)) b c → ChangesTablesBy desk_tables (tables_with_cash_rows_numbered_from 1 (take (i + 1) cs)) a c
+pub one_added : (d : CashRow) (cs : List CashRow) (i : ℕ) → i < length cs → (a b c : Database)
+    → ChangesTablesBy desk_tables (tables_with_cash_rows_numbered_from 1 (take i cs)) a b
+    → ChangesTablesBy desk_tables (tables_with_numbered_cash_row (1 + i) (get_or cs i d)) b c
+    → ChangesTablesBy desk_tables (tables_with_cash_rows_numbered_from 1 (take (i + 1) cs)) a c
 one_added d cs i lt a b c p q = λ t tree h.
     let both = turns_then (tables_with_cash_rows_numbered_from 1 (take i cs)) (tables_with_numbered_cash_row (1 + i) (get_or cs i d)) a b c p q t tree h in
     (subst (λ u. HasTables desk_tables u tree c) (sym (one_more d cs i lt t)) both.0, both.1)
 
-pub all_added : (rows : List CashRow) (a b c : Database) → b ≡ a → TablesSatisfy desk_tables (λ t. rows ≡ cash_transactions_by_stamp t) a → ChangesTablesBy desk_tables (tables_with_cash_rows_numbered_from 1 rows) b c → ChangesTablesBy desk_tables (λ t. tables_with_cash_rows_numbered_from 1 (cash_transactions_by_stamp t) t) a c
+pub all_added : (rows : List CashRow) (a b c : Database) → b ≡ a → TablesSatisfy desk_tables (λ t. rows ≡ cash_transactions_by_stamp t) a
+    → ChangesTablesBy desk_tables (tables_with_cash_rows_numbered_from 1 rows) b c
+    → ChangesTablesBy desk_tables (λ t. tables_with_cash_rows_numbered_from 1 (cash_transactions_by_stamp t) t) a c
 all_added rows a b c still told turns = λ t tree h.
     let turned = subst (λ x. ChangesTablesBy desk_tables (tables_with_cash_rows_numbered_from 1 rows) x c) still turns t tree h in
     (subst (λ rs. HasTables desk_tables (tables_with_cash_rows_numbered_from 1 rs t) tree c) (told t tree h) turned.0, turned.1)
 
-pub all_moved : (a b c : Database) → ChangesTablesBy desk_tables (λ t. tables_with_cash_rows_numbered_from 1 (cash_transactions_by_stamp t) t) a b → ChangesTablesBy desk_tables tables_without_cash_transactions b c → ChangesTablesBy desk_tables tables_with_cash_transactions_moved a c
+pub all_moved : (a b c : Database) → ChangesTablesBy desk_tables (λ t. tables_with_cash_rows_numbered_from 1 (cash_transactions_by_stamp t) t) a b
+    → ChangesTablesBy desk_tables tables_without_cash_transactions b c → ChangesTablesBy desk_tables tables_with_cash_transactions_moved a c
 all_moved a b c p q = turns_then (λ t. tables_with_cash_rows_numbered_from 1 (cash_transactions_by_stamp t) t) tables_without_cash_transactions a b c p q

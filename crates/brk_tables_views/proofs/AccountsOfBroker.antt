@@ -104,7 +104,8 @@ module _ (schema : Schema) (at tree : ℕ) (h : IsTableAt schema (account_table 
   shows =
       rw (
         column_is schema at (account_table tree) found (codes "CUSTOMER_ACCOUNT") [] [] true true (codes "CA_ID") 0 (integer_column (codes "CA_ID")) refl refl,
-        heading_is schema at (account_table tree) found (codes "CUSTOMER_ACCOUNT") [] [] true true (e.Column None (codes "CA_ID")) (codes "CA_ID") (codes "CA_ID") 0 (integer_column (codes "CA_ID")) refl refl refl,
+        heading_is schema at (account_table tree) found (codes "CUSTOMER_ACCOUNT") [] [] true true (e.Column None (codes "CA_ID")) (codes "CA_ID")
+            (codes "CA_ID") 0 (integer_column (codes "CA_ID")) refl refl refl,
       )
 
   matches : matching lower (outermost schema) (level_one (codes "CUSTOMER_ACCOUNT") at columns) core (after 1 nothing)
@@ -123,7 +124,9 @@ module _ (schema : Schema) (at tree : ℕ) (h : IsTableAt schema (account_table 
       (named_is schema core source (codes "CUSTOMER_ACCOUNT") at h.named refl refl refl refl columns (after 1 nothing)
       (record { steps = Inner tree ∷ []; filter = terms }) (after 4 nothing) shows matches by _ (after 5 nothing) _ refl refl sorted)
 
-  pub understood_as : (compiled schema statement ≡ Ok (meant (read statement) [] (Select (record { lets = []; body = selection tree terms project order paging }) names))) ⊎ (compiled schema statement ≡ Err Mismatch)
+  pub understood_as : (compiled schema statement
+      ≡ Ok (meant (read statement) [] (Select (record { lets = []; body = selection tree terms project order paging }) names)))
+      ⊎ (compiled schema statement ≡ Err Mismatch)
   unfolding everything
   understood_as = reads_or schema statement (read statement) refl refl select (draft tree) names (None ∷ []) refl meaning_is
 

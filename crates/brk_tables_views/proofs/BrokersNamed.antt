@@ -52,7 +52,8 @@ source = roll-Source (record { is_left = false; origin = Table (codes "BROKER");
 abbrev pub core : Core
 core = roll-Core (record {
   distinct = false;
-  shown = One (e.Column None (codes "B_ID")) None (codes "B_ID") ∷ One (e.Column None (codes "B_NAME")) None (codes "B_NAME") ∷ One (e.Column None (codes "B_NUM_TRADES")) None (codes "B_NUM_TRADES") ∷ One (e.Column None (codes "B_COMM_TOTAL")) None (codes "B_COMM_TOTAL") ∷ [];
+  shown = One (e.Column None (codes "B_ID")) None (codes "B_ID") ∷ One (e.Column None (codes "B_NAME")) None (codes "B_NAME")
+      ∷ One (e.Column None (codes "B_NUM_TRADES")) None (codes "B_NUM_TRADES") ∷ One (e.Column None (codes "B_COMM_TOTAL")) None (codes "B_COMM_TOTAL") ∷ [];
   from = source ∷ [];
   filter = Some (e.Binary operator.Eq (e.Column None (codes "B_NAME")) (e.Parameter 1));
   group = [];
@@ -106,11 +107,14 @@ module _ (schema : Schema) (at tree : ℕ) (h : IsTableAt schema (broker_table t
         column_is schema at (broker_table tree) found (codes "BROKER") [] [] true true (codes "B_ID") 0 (integer_column (codes "B_ID")) refl refl,
         heading_is schema at (broker_table tree) found (codes "BROKER") [] [] true true (e.Column None (codes "B_ID")) (codes "B_ID") (codes "B_ID") 0 (integer_column (codes "B_ID")) refl refl refl,
         column_is schema at (broker_table tree) found (codes "BROKER") [] [] true true (codes "B_NAME") 1 (text_column (codes "B_NAME")) refl refl,
-        heading_is schema at (broker_table tree) found (codes "BROKER") [] [] true true (e.Column None (codes "B_NAME")) (codes "B_NAME") (codes "B_NAME") 1 (text_column (codes "B_NAME")) refl refl refl,
+        heading_is schema at (broker_table tree) found (codes "BROKER") [] [] true true (e.Column None (codes "B_NAME")) (codes "B_NAME") (codes "B_NAME") 1
+            (text_column (codes "B_NAME")) refl refl refl,
         column_is schema at (broker_table tree) found (codes "BROKER") [] [] true true (codes "B_NUM_TRADES") 2 (integer_column (codes "B_NUM_TRADES")) refl refl,
-        heading_is schema at (broker_table tree) found (codes "BROKER") [] [] true true (e.Column None (codes "B_NUM_TRADES")) (codes "B_NUM_TRADES") (codes "B_NUM_TRADES") 2 (integer_column (codes "B_NUM_TRADES")) refl refl refl,
+        heading_is schema at (broker_table tree) found (codes "BROKER") [] [] true true (e.Column None (codes "B_NUM_TRADES")) (codes "B_NUM_TRADES")
+            (codes "B_NUM_TRADES") 2 (integer_column (codes "B_NUM_TRADES")) refl refl refl,
         column_is schema at (broker_table tree) found (codes "BROKER") [] [] true true (codes "B_COMM_TOTAL") 3 (integer_column (codes "B_COMM_TOTAL")) refl refl,
-        heading_is schema at (broker_table tree) found (codes "BROKER") [] [] true true (e.Column None (codes "B_COMM_TOTAL")) (codes "B_COMM_TOTAL") (codes "B_COMM_TOTAL") 3 (integer_column (codes "B_COMM_TOTAL")) refl refl refl,
+        heading_is schema at (broker_table tree) found (codes "BROKER") [] [] true true (e.Column None (codes "B_COMM_TOTAL")) (codes "B_COMM_TOTAL")
+            (codes "B_COMM_TOTAL") 3 (integer_column (codes "B_COMM_TOTAL")) refl refl refl,
       )
 
   matches : matching lower (outermost schema) (level_one (codes "BROKER") at columns) core (after 4 binary)
@@ -129,7 +133,9 @@ module _ (schema : Schema) (at tree : ℕ) (h : IsTableAt schema (broker_table t
       (named_is schema core source (codes "BROKER") at h.named refl refl refl refl columns (after 4 binary)
       (record { steps = Inner tree ∷ []; filter = terms }) (after 7 nothing) shows matches by _ (after 8 nothing) _ refl refl sorted)
 
-  pub understood_as : (compiled schema statement ≡ Ok (meant (read statement) [] (Select (record { lets = []; body = selection tree terms project order paging }) names))) ⊎ (compiled schema statement ≡ Err Mismatch)
+  pub understood_as : (compiled schema statement
+      ≡ Ok (meant (read statement) [] (Select (record { lets = []; body = selection tree terms project order paging }) names)))
+      ⊎ (compiled schema statement ≡ Err Mismatch)
   unfolding everything
   understood_as = reads_or schema statement (read statement) refl refl select (draft tree) names (None ∷ Some Binary ∷ Some Binary ∷ Some Binary ∷ []) refl meaning_is
 

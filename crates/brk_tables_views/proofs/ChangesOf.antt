@@ -52,7 +52,8 @@ source = roll-Source (record { is_left = false; origin = Table (codes "HOLDING_H
 abbrev pub core : Core
 core = roll-Core (record {
   distinct = false;
-  shown = One (e.Column None (codes "HH_H_T_ID")) None (codes "HH_H_T_ID") ∷ One (e.Column None (codes "HH_T_ID")) None (codes "HH_T_ID") ∷ One (e.Column None (codes "HH_BEFORE_QTY")) None (codes "HH_BEFORE_QTY") ∷ One (e.Column None (codes "HH_AFTER_QTY")) None (codes "HH_AFTER_QTY") ∷ [];
+  shown = One (e.Column None (codes "HH_H_T_ID")) None (codes "HH_H_T_ID") ∷ One (e.Column None (codes "HH_T_ID")) None (codes "HH_T_ID")
+      ∷ One (e.Column None (codes "HH_BEFORE_QTY")) None (codes "HH_BEFORE_QTY") ∷ One (e.Column None (codes "HH_AFTER_QTY")) None (codes "HH_AFTER_QTY") ∷ [];
   from = source ∷ [];
   filter = Some (e.Binary operator.Eq (e.Column None (codes "HH_H_T_ID")) (e.Parameter 1));
   group = [];
@@ -60,7 +61,8 @@ core = roll-Core (record {
 })
 
 abbrev pub by : List Sort
-by = roll-Sort (record { key = e.Column None (codes "HH_H_T_ID"); descending = false; nulls_first = None }) ∷ roll-Sort (record { key = e.Column None (codes "HH_T_ID"); descending = false; nulls_first = None }) ∷ []
+by = roll-Sort (record { key = e.Column None (codes "HH_H_T_ID"); descending = false; nulls_first = None })
+    ∷ roll-Sort (record { key = e.Column None (codes "HH_T_ID"); descending = false; nulls_first = None }) ∷ []
 
 abbrev pub select : ast.Select
 select = ast.roll-Select (record { with = []; first = core; others = []; order = by; limit = None; offset = None })
@@ -104,19 +106,28 @@ module _ (schema : Schema) (at tree : ℕ) (h : IsTableAt schema (holding_histor
   shows =
       rw (
         column_is schema at (holding_history_table tree) found (codes "HOLDING_HISTORY") [] [] true true (codes "HH_H_T_ID") 0 (integer_column (codes "HH_H_T_ID")) refl refl,
-        heading_is schema at (holding_history_table tree) found (codes "HOLDING_HISTORY") [] [] true true (e.Column None (codes "HH_H_T_ID")) (codes "HH_H_T_ID") (codes "HH_H_T_ID") 0 (integer_column (codes "HH_H_T_ID")) refl refl refl,
+        heading_is schema at (holding_history_table tree) found (codes "HOLDING_HISTORY") [] [] true true (e.Column None (codes "HH_H_T_ID"))
+            (codes "HH_H_T_ID") (codes "HH_H_T_ID") 0 (integer_column (codes "HH_H_T_ID")) refl refl refl,
         column_is schema at (holding_history_table tree) found (codes "HOLDING_HISTORY") [] [] true true (codes "HH_T_ID") 1 (integer_column (codes "HH_T_ID")) refl refl,
-        heading_is schema at (holding_history_table tree) found (codes "HOLDING_HISTORY") [] [] true true (e.Column None (codes "HH_T_ID")) (codes "HH_T_ID") (codes "HH_T_ID") 1 (integer_column (codes "HH_T_ID")) refl refl refl,
+        heading_is schema at (holding_history_table tree) found (codes "HOLDING_HISTORY") [] [] true true (e.Column None (codes "HH_T_ID")) (codes "HH_T_ID")
+            (codes "HH_T_ID") 1 (integer_column (codes "HH_T_ID")) refl refl refl,
         column_is schema at (holding_history_table tree) found (codes "HOLDING_HISTORY") [] [] true true (codes "HH_BEFORE_QTY") 2 (integer_column (codes "HH_BEFORE_QTY")) refl refl,
-        heading_is schema at (holding_history_table tree) found (codes "HOLDING_HISTORY") [] [] true true (e.Column None (codes "HH_BEFORE_QTY")) (codes "HH_BEFORE_QTY") (codes "HH_BEFORE_QTY") 2 (integer_column (codes "HH_BEFORE_QTY")) refl refl refl,
+        heading_is schema at (holding_history_table tree) found (codes "HOLDING_HISTORY") [] [] true true (e.Column None (codes "HH_BEFORE_QTY"))
+            (codes "HH_BEFORE_QTY") (codes "HH_BEFORE_QTY") 2 (integer_column (codes "HH_BEFORE_QTY")) refl refl refl,
         column_is schema at (holding_history_table tree) found (codes "HOLDING_HISTORY") [] [] true true (codes "HH_AFTER_QTY") 3 (integer_column (codes "HH_AFTER_QTY")) refl refl,
-        heading_is schema at (holding_history_table tree) found (codes "HOLDING_HISTORY") [] [] true true (e.Column None (codes "HH_AFTER_QTY")) (codes "HH_AFTER_QTY") (codes "HH_AFTER_QTY") 3 (integer_column (codes "HH_AFTER_QTY")) refl refl refl,
+        heading_is schema at (holding_history_table tree) found (codes "HOLDING_HISTORY") [] [] true true (e.Column None (codes "HH_AFTER_QTY"))
+            (codes "HH_AFTER_QTY") (codes "HH_AFTER_QTY") 3 (integer_column (codes "HH_AFTER_QTY")) refl refl refl,
       )
 
   matches : matching lower (outermost schema) (level_one (codes "HOLDING_HISTORY") at columns) core (after 4 binary)
       ≡ Ok (record { steps = Inner tree ∷ []; filter = terms }, after 7 nothing)
   unfolding sql_lowering_definitions
-  matches = rw (found, column_is schema at (holding_history_table tree) found (codes "HOLDING_HISTORY") columns [] false true (codes "HH_H_T_ID") 0 (integer_column (codes "HH_H_T_ID")) refl refl, found)
+  matches = rw (
+    found,
+    column_is schema at (holding_history_table tree) found (codes "HOLDING_HISTORY") columns [] false true (codes "HH_H_T_ID") 0
+        (integer_column (codes "HH_H_T_ID")) refl refl,
+    found,
+  )
 
   sorted : sorts lower (inside schema (level_one (codes "HOLDING_HISTORY") at columns) false) columns by (after 7 nothing) ≡ Ok ((draft tree).order, after 9 binary)
   unfolding sql_lowering_definitions
@@ -132,7 +143,9 @@ module _ (schema : Schema) (at tree : ℕ) (h : IsTableAt schema (holding_histor
       (named_is schema core source (codes "HOLDING_HISTORY") at h.named refl refl refl refl columns (after 4 binary)
       (record { steps = Inner tree ∷ []; filter = terms }) (after 7 nothing) shows matches by _ (after 9 binary) _ refl refl sorted)
 
-  pub understood_as : (compiled schema statement ≡ Ok (meant (read statement) [] (Select (record { lets = []; body = selection tree terms project order paging }) names))) ⊎ (compiled schema statement ≡ Err Mismatch)
+  pub understood_as : (compiled schema statement
+      ≡ Ok (meant (read statement) [] (Select (record { lets = []; body = selection tree terms project order paging }) names)))
+      ⊎ (compiled schema statement ≡ Err Mismatch)
   unfolding everything
   understood_as = reads_or schema statement (read statement) refl refl select (draft tree) names (Some Binary ∷ Some Binary ∷ Some Binary ∷ Some Binary ∷ []) refl meaning_is
 

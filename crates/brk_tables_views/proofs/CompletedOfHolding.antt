@@ -54,13 +54,16 @@ core = roll-Core (record {
   distinct = false;
   shown = One (e.Column None (codes "T_ID")) None (codes "T_ID") ∷ [];
   from = source ∷ [];
-  filter = Some (e.Binary operator.And (e.Binary operator.And (e.Binary operator.Eq (e.Column None (codes "T_CA_ID")) (e.Parameter 1)) (e.Binary operator.Eq (e.Column None (codes "T_S_SYMB")) (e.Parameter 2))) (e.Binary operator.Eq (e.Column None (codes "T_ST_ID")) (e.Parameter 3)));
+  filter = Some (e.Binary operator.And
+      (e.Binary operator.And (e.Binary operator.Eq (e.Column None (codes "T_CA_ID")) (e.Parameter 1))
+      (e.Binary operator.Eq (e.Column None (codes "T_S_SYMB")) (e.Parameter 2))) (e.Binary operator.Eq (e.Column None (codes "T_ST_ID")) (e.Parameter 3)));
   group = [];
   having = None;
 })
 
 abbrev pub by : List Sort
-by = roll-Sort (record { key = e.Column None (codes "T_DTS"); descending = false; nulls_first = None }) ∷ roll-Sort (record { key = e.Column None (codes "T_ID"); descending = false; nulls_first = None }) ∷ []
+by = roll-Sort (record { key = e.Column None (codes "T_DTS"); descending = false; nulls_first = None })
+    ∷ roll-Sort (record { key = e.Column None (codes "T_ID"); descending = false; nulls_first = None }) ∷ []
 
 abbrev pub select : ast.Select
 select = ast.roll-Select (record { with = []; first = core; others = []; order = by; limit = None; offset = None })
@@ -110,7 +113,18 @@ module _ (schema : Schema) (at tree : ℕ) (h : IsTableAt schema (trade_table tr
   matches : matching lower (outermost schema) (level_one (codes "TRADE") at columns) core (after 1 nothing)
       ≡ Ok (record { steps = Inner tree ∷ []; filter = terms }, after 12 nothing)
   unfolding sql_lowering_definitions
-  matches = rw (found, column_is schema at (trade_table tree) found (codes "TRADE") columns [] false true (codes "T_CA_ID") 8 (integer_column (codes "T_CA_ID")) refl refl, found, column_is schema at (trade_table tree) found (codes "TRADE") columns [] false true (codes "T_S_SYMB") 5 (text_column (codes "T_S_SYMB")) refl refl, found, column_is schema at (trade_table tree) found (codes "TRADE") columns [] false true (codes "T_ST_ID") 2 (text_column (codes "T_ST_ID")) refl refl, found)
+  matches = rw (
+    found,
+    column_is schema at (trade_table tree) found (codes "TRADE") columns [] false true (codes "T_CA_ID") 8 (integer_column (codes "T_CA_ID"))
+        refl refl,
+    found,
+    column_is schema at (trade_table tree) found (codes "TRADE") columns [] false true (codes "T_S_SYMB") 5 (text_column (codes "T_S_SYMB"))
+        refl refl,
+    found,
+    column_is schema at (trade_table tree) found (codes "TRADE") columns [] false true (codes "T_ST_ID") 2 (text_column (codes "T_ST_ID"))
+        refl refl,
+    found,
+  )
 
   sorted : sorts lower (inside schema (level_one (codes "TRADE") at columns) false) columns by (after 12 nothing) ≡ Ok ((draft tree).order, after 14 nothing)
   unfolding sql_lowering_definitions
@@ -126,7 +140,9 @@ module _ (schema : Schema) (at tree : ℕ) (h : IsTableAt schema (trade_table tr
       (named_is schema core source (codes "TRADE") at h.named refl refl refl refl columns (after 1 nothing)
       (record { steps = Inner tree ∷ []; filter = terms }) (after 12 nothing) shows matches by _ (after 14 nothing) _ refl refl sorted)
 
-  pub understood_as : (compiled schema statement ≡ Ok (meant (read statement) [] (Select (record { lets = []; body = selection tree terms project order paging }) names))) ⊎ (compiled schema statement ≡ Err Mismatch)
+  pub understood_as : (compiled schema statement
+      ≡ Ok (meant (read statement) [] (Select (record { lets = []; body = selection tree terms project order paging }) names)))
+      ⊎ (compiled schema statement ≡ Err Mismatch)
   unfolding everything
   understood_as = reads_or schema statement (read statement) refl refl select (draft tree) names (None ∷ []) refl meaning_is
 

@@ -37,11 +37,13 @@ as_they_are (n ∷ ns) = ap (λ l. n ∷ l) (as_they_are ns)
 pub tells_accounts_of_broker : (old new : State) (broker : ℕ) (rows : List Row) → Shown AccountsOfBroker.statement (natural_as_value broker ∷ []) old new rows
     → TablesSatisfy desk_tables (λ t. rows ≡ map id_cells (map (λ r. r.id) (filter (λ r. r.broker == broker) t.accounts))) old.now
 tells_accounts_of_broker old new broker rows shown = λ t tree h.
-    tells_rising desk_tables Accounts AccountsOfBroker.statement (natural_as_value broker ∷ []) (read AccountsOfBroker.statement) AccountsOfBroker.terms AccountsOfBroker.project AccountsOfBroker.order AccountsOfBroker.paging AccountsOfBroker.names AccountsOfBroker.understood_as
+    tells_rising desk_tables Accounts AccountsOfBroker.statement (natural_as_value broker ∷ []) (read AccountsOfBroker.statement) AccountsOfBroker.terms
+    AccountsOfBroker.project AccountsOfBroker.order AccountsOfBroker.paging AccountsOfBroker.names AccountsOfBroker.understood_as
     (λ (r : AccountRow). r.broker == broker) (λ tree r x e. let a : column r 3 ≡ natural_as_value x.broker = ap (λ row. column row 2) e in rw (a, same_number x.broker broker) (and_true _))
     (λ (r : AccountRow). id_cells r.id) (λ tree r x e. let a : column r 0 ≡ natural_as_value x.id = ap (λ row. column row 0) e in rw a refl)
     (ordering_by_primary_key Accounts) (key_total account_key)
-    (λ tree a b x y e f. let p : column a 0 ≡ natural_as_value x.id = ap (λ row. column row 0) e in let q : column b 0 ≡ natural_as_value y.id = ap (λ row. column row 0) f in rw (p, q) refl) old new rows shown (λ x y. refl) t tree h
+    (λ tree a b x y e f. let p : column a 0 ≡ natural_as_value x.id = ap (λ row. column row 0) e in
+    let q : column b 0 ≡ natural_as_value y.id = ap (λ row. column row 0) f in rw (p, q) refl) old new rows shown (λ x y. refl) t tree h
     ∙ twice (λ (r : AccountRow). r.id) (filter (λ (r : AccountRow). r.broker == broker) t.accounts)
 
 -- a code is that of what is completed where the status is
@@ -54,7 +56,10 @@ is_done Canceled = refl
 
 pub tells_completed_of_holding : (old new : State) (account : ℕ) (symbol : List ℕ) (rows : List Row)
     → Shown CompletedOfHolding.statement (natural_as_value account ∷ Words symbol ∷ Words (trade_status_code Completed) ∷ []) old new rows
-    → TablesSatisfy desk_tables (λ t. rows ≡ map id_cells (map (λ r. r.id) (trade_rows_oldest_first (filter (λ r. (r.account == account) && (bytes_eq r.symbol symbol && is_same_trade_status r.status Completed)) t.trades)))) old.now
+    → TablesSatisfy desk_tables
+    (λ t. rows ≡ map id_cells
+    (map (λ r. r.id) (trade_rows_oldest_first
+    (filter (λ r. (r.account == account) && (bytes_eq r.symbol symbol && is_same_trade_status r.status Completed)) t.trades)))) old.now
 tells_completed_of_holding old new account symbol rows shown = λ t tree h.
     let test : TradeRow → Bool = λ r. (r.account == account) && (bytes_eq r.symbol symbol && is_same_trade_status r.status Completed) in
     tells_sorted desk_tables Trades CompletedOfHolding.statement (natural_as_value account ∷ Words symbol ∷ Words (trade_status_code Completed) ∷ []) (read CompletedOfHolding.statement)

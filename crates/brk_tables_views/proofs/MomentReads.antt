@@ -58,7 +58,8 @@ second Equal b h = h
 second Greater b h = absurd (let f = h in cc)
 
 -- the three statements have one order, which is that of these moments
-by_age : (params : Row) (tree : ℕ) (a b : Row) (x y : TradeRow) → cells_in_column_order (trade_table tree) a ≡ trade_cells x → cells_in_column_order (trade_table tree) b ≡ trade_cells y → sorted_by params TwentyOfAccount.order a b ≡ rising x y
+by_age : (params : Row) (tree : ℕ) (a b : Row) (x y : TradeRow) → cells_in_column_order (trade_table tree) a ≡ trade_cells x
+    → cells_in_column_order (trade_table tree) b ≡ trade_cells y → sorted_by params TwentyOfAccount.order a b ≡ rising x y
 by_age params tree a b x y e f =
     let p0 : column a 2 ≡ natural_as_value x.stamp = ap (λ row. column row 1) e in
     let q0 : column b 2 ≡ natural_as_value y.stamp = ap (λ row. column row 1) f in

@@ -52,15 +52,20 @@ source = roll-Source (record { is_left = false; origin = Table (codes "CASH_MOVE
 abbrev pub core : Core
 core = roll-Core (record {
   distinct = false;
-  shown = One (e.Column None (codes "CM_ID")) None (codes "CM_ID") ∷ One (e.Column None (codes "CM_CA_ID")) None (codes "CM_CA_ID") ∷ One (e.Column None (codes "CM_T_ID")) None (codes "CM_T_ID") ∷ One (e.Column None (codes "CM_DTS")) None (codes "CM_DTS") ∷ One (e.Column None (codes "CM_AMT")) None (codes "CM_AMT") ∷ One (e.Column None (codes "CM_NAME")) None (codes "CM_NAME") ∷ [];
+  shown = One (e.Column None (codes "CM_ID")) None (codes "CM_ID") ∷ One (e.Column None (codes "CM_CA_ID")) None (codes "CM_CA_ID")
+      ∷ One (e.Column None (codes "CM_T_ID")) None (codes "CM_T_ID") ∷ One (e.Column None (codes "CM_DTS")) None (codes "CM_DTS")
+      ∷ One (e.Column None (codes "CM_AMT")) None (codes "CM_AMT") ∷ One (e.Column None (codes "CM_NAME")) None (codes "CM_NAME") ∷ [];
   from = source ∷ [];
-  filter = Some (e.Binary operator.And (e.Binary operator.And (e.Binary operator.Eq (e.Column None (codes "CM_CA_ID")) (e.Parameter 1)) (e.Binary operator.Ge (e.Column None (codes "CM_DTS")) (e.Parameter 2))) (e.Binary operator.Le (e.Column None (codes "CM_DTS")) (e.Parameter 3)));
+  filter = Some (e.Binary operator.And
+      (e.Binary operator.And (e.Binary operator.Eq (e.Column None (codes "CM_CA_ID")) (e.Parameter 1))
+      (e.Binary operator.Ge (e.Column None (codes "CM_DTS")) (e.Parameter 2))) (e.Binary operator.Le (e.Column None (codes "CM_DTS")) (e.Parameter 3)));
   group = [];
   having = None;
 })
 
 abbrev pub by : List Sort
-by = roll-Sort (record { key = e.Column None (codes "CM_DTS"); descending = false; nulls_first = None }) ∷ roll-Sort (record { key = e.Column None (codes "CM_ID"); descending = false; nulls_first = None }) ∷ []
+by = roll-Sort (record { key = e.Column None (codes "CM_DTS"); descending = false; nulls_first = None })
+    ∷ roll-Sort (record { key = e.Column None (codes "CM_ID"); descending = false; nulls_first = None }) ∷ []
 
 abbrev pub select : ast.Select
 select = ast.roll-Select (record { with = []; first = core; others = []; order = by; limit = None; offset = None })
@@ -87,7 +92,8 @@ abbrev pub output : List ℕ → ℕ → Carried → Output
 output name place carried = record { name = name; is_alias = false; is_column = true; term = col 1 place; carried = carried }
 
 abbrev pub columns : List Output
-columns = output (codes "CM_ID") 0 nothing ∷ output (codes "CM_CA_ID") 2 binary ∷ output (codes "CM_T_ID") 3 binary ∷ output (codes "CM_DTS") 4 binary ∷ output (codes "CM_AMT") 5 binary ∷ output (codes "CM_NAME") 6 binary ∷ []
+columns = output (codes "CM_ID") 0 nothing ∷ output (codes "CM_CA_ID") 2 binary ∷ output (codes "CM_T_ID") 3 binary ∷ output (codes "CM_DTS") 4 binary
+    ∷ output (codes "CM_AMT") 5 binary ∷ output (codes "CM_NAME") 6 binary ∷ []
 
 abbrev pub names : List (List ℕ)
 names = codes "CM_ID" ∷ codes "CM_CA_ID" ∷ codes "CM_T_ID" ∷ codes "CM_DTS" ∷ codes "CM_AMT" ∷ codes "CM_NAME" ∷ []
@@ -104,23 +110,40 @@ module _ (schema : Schema) (at tree : ℕ) (h : IsTableAt schema (move_table tre
   shows =
       rw (
         column_is schema at (move_table tree) found (codes "CASH_MOVE") [] [] true true (codes "CM_ID") 0 (integer_column (codes "CM_ID")) refl refl,
-        heading_is schema at (move_table tree) found (codes "CASH_MOVE") [] [] true true (e.Column None (codes "CM_ID")) (codes "CM_ID") (codes "CM_ID") 0 (integer_column (codes "CM_ID")) refl refl refl,
+        heading_is schema at (move_table tree) found (codes "CASH_MOVE") [] [] true true (e.Column None (codes "CM_ID")) (codes "CM_ID") (codes "CM_ID") 0
+            (integer_column (codes "CM_ID")) refl refl refl,
         column_is schema at (move_table tree) found (codes "CASH_MOVE") [] [] true true (codes "CM_CA_ID") 1 (integer_column (codes "CM_CA_ID")) refl refl,
-        heading_is schema at (move_table tree) found (codes "CASH_MOVE") [] [] true true (e.Column None (codes "CM_CA_ID")) (codes "CM_CA_ID") (codes "CM_CA_ID") 1 (integer_column (codes "CM_CA_ID")) refl refl refl,
+        heading_is schema at (move_table tree) found (codes "CASH_MOVE") [] [] true true (e.Column None (codes "CM_CA_ID")) (codes "CM_CA_ID")
+            (codes "CM_CA_ID") 1 (integer_column (codes "CM_CA_ID")) refl refl refl,
         column_is schema at (move_table tree) found (codes "CASH_MOVE") [] [] true true (codes "CM_T_ID") 2 (nullable_integer_column (codes "CM_T_ID")) refl refl,
-        heading_is schema at (move_table tree) found (codes "CASH_MOVE") [] [] true true (e.Column None (codes "CM_T_ID")) (codes "CM_T_ID") (codes "CM_T_ID") 2 (nullable_integer_column (codes "CM_T_ID")) refl refl refl,
+        heading_is schema at (move_table tree) found (codes "CASH_MOVE") [] [] true true (e.Column None (codes "CM_T_ID")) (codes "CM_T_ID") (codes "CM_T_ID") 2
+            (nullable_integer_column (codes "CM_T_ID")) refl refl refl,
         column_is schema at (move_table tree) found (codes "CASH_MOVE") [] [] true true (codes "CM_DTS") 3 (integer_column (codes "CM_DTS")) refl refl,
-        heading_is schema at (move_table tree) found (codes "CASH_MOVE") [] [] true true (e.Column None (codes "CM_DTS")) (codes "CM_DTS") (codes "CM_DTS") 3 (integer_column (codes "CM_DTS")) refl refl refl,
+        heading_is schema at (move_table tree) found (codes "CASH_MOVE") [] [] true true (e.Column None (codes "CM_DTS")) (codes "CM_DTS") (codes "CM_DTS") 3
+            (integer_column (codes "CM_DTS")) refl refl refl,
         column_is schema at (move_table tree) found (codes "CASH_MOVE") [] [] true true (codes "CM_AMT") 4 (integer_column (codes "CM_AMT")) refl refl,
-        heading_is schema at (move_table tree) found (codes "CASH_MOVE") [] [] true true (e.Column None (codes "CM_AMT")) (codes "CM_AMT") (codes "CM_AMT") 4 (integer_column (codes "CM_AMT")) refl refl refl,
+        heading_is schema at (move_table tree) found (codes "CASH_MOVE") [] [] true true (e.Column None (codes "CM_AMT")) (codes "CM_AMT") (codes "CM_AMT") 4
+            (integer_column (codes "CM_AMT")) refl refl refl,
         column_is schema at (move_table tree) found (codes "CASH_MOVE") [] [] true true (codes "CM_NAME") 5 (text_column (codes "CM_NAME")) refl refl,
-        heading_is schema at (move_table tree) found (codes "CASH_MOVE") [] [] true true (e.Column None (codes "CM_NAME")) (codes "CM_NAME") (codes "CM_NAME") 5 (text_column (codes "CM_NAME")) refl refl refl,
+        heading_is schema at (move_table tree) found (codes "CASH_MOVE") [] [] true true (e.Column None (codes "CM_NAME")) (codes "CM_NAME") (codes "CM_NAME") 5
+            (text_column (codes "CM_NAME")) refl refl refl,
       )
 
   matches : matching lower (outermost schema) (level_one (codes "CASH_MOVE") at columns) core (after 6 binary)
       ≡ Ok (record { steps = Inner tree ∷ []; filter = terms }, after 17 nothing)
   unfolding sql_lowering_definitions
-  matches = rw (found, column_is schema at (move_table tree) found (codes "CASH_MOVE") columns [] false true (codes "CM_CA_ID") 1 (integer_column (codes "CM_CA_ID")) refl refl, found, column_is schema at (move_table tree) found (codes "CASH_MOVE") columns [] false true (codes "CM_DTS") 3 (integer_column (codes "CM_DTS")) refl refl, found, column_is schema at (move_table tree) found (codes "CASH_MOVE") columns [] false true (codes "CM_DTS") 3 (integer_column (codes "CM_DTS")) refl refl, found)
+  matches = rw (
+    found,
+    column_is schema at (move_table tree) found (codes "CASH_MOVE") columns [] false true (codes "CM_CA_ID") 1
+        (integer_column (codes "CM_CA_ID")) refl refl,
+    found,
+    column_is schema at (move_table tree) found (codes "CASH_MOVE") columns [] false true
+        (codes "CM_DTS") 3 (integer_column (codes "CM_DTS")) refl refl,
+    found,
+    column_is schema at (move_table tree) found (codes "CASH_MOVE") columns [] false
+        true (codes "CM_DTS") 3 (integer_column (codes "CM_DTS")) refl refl,
+    found,
+  )
 
   sorted : sorts lower (inside schema (level_one (codes "CASH_MOVE") at columns) false) columns by (after 17 nothing) ≡ Ok ((draft tree).order, after 19 nothing)
   unfolding sql_lowering_definitions
@@ -136,7 +159,9 @@ module _ (schema : Schema) (at tree : ℕ) (h : IsTableAt schema (move_table tre
       (named_is schema core source (codes "CASH_MOVE") at h.named refl refl refl refl columns (after 6 binary)
       (record { steps = Inner tree ∷ []; filter = terms }) (after 17 nothing) shows matches by _ (after 19 nothing) _ refl refl sorted)
 
-  pub understood_as : (compiled schema statement ≡ Ok (meant (read statement) [] (Select (record { lets = []; body = selection tree terms project order paging }) names))) ⊎ (compiled schema statement ≡ Err Mismatch)
+  pub understood_as : (compiled schema statement
+      ≡ Ok (meant (read statement) [] (Select (record { lets = []; body = selection tree terms project order paging }) names)))
+      ⊎ (compiled schema statement ≡ Err Mismatch)
   unfolding everything
   understood_as = reads_or schema statement (read statement) refl refl select (draft tree) names (None ∷ Some Binary ∷ Some Binary ∷ Some Binary ∷ Some Binary ∷ Some Binary ∷ []) refl meaning_is
 

@@ -34,7 +34,8 @@ module _ {W T : Type 0} (desk : ProgramTables W T) (w : W) (text : List ℕ) (pa
       (λ d db it from. subst (λ k. EndsIn k.command db (timed params k.formats it.now)) (same_value (sym sure.0 ∙ it.is)) tt)
 
   -- what is told of each answer is told of one that begins so
-  pub tells_start : (P : T → List Row → Type 0) → ((all : List Row) → Shown text params s s all → TablesSatisfy desk (λ t. P t all) s.now) → TablesSatisfy desk (λ t. (tail : List Row) × P t (rows ++ tail)) s.now
+  pub tells_start : (P : T → List Row → Type 0) → ((all : List Row) → Shown text params s s all → TablesSatisfy desk (λ t. P t all) s.now)
+      → TablesSatisfy desk (λ t. (tail : List Row) × P t (rows ++ tail)) s.now
   tells_start P tells t tree h =
       let whole = begins_whole (h.place w) (tree w) (h.is_table w) in
       (whole.0, tells (rows ++ whole.0) whole.1 t tree h)

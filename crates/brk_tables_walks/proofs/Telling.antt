@@ -34,7 +34,8 @@ second Greater b h = absurd (let f = h in cc)
 pub tells_lots_by_symbol : (old new : State) (account : ℕ) (rows : List Row) → Shown LotsBySymbol.statement (natural_as_value account ∷ []) old new rows
     → TablesSatisfy desk_tables (λ t. rows ≡ map holding_cells (account_lots_by_symbol account t)) old.now
 tells_lots_by_symbol old new account rows shown = λ t tree h.
-    tells_sorted desk_tables Holdings LotsBySymbol.statement (natural_as_value account ∷ []) (read LotsBySymbol.statement) LotsBySymbol.terms LotsBySymbol.project LotsBySymbol.order LotsBySymbol.paging LotsBySymbol.names LotsBySymbol.understood_as
+    tells_sorted desk_tables Holdings LotsBySymbol.statement (natural_as_value account ∷ []) (read LotsBySymbol.statement) LotsBySymbol.terms
+    LotsBySymbol.project LotsBySymbol.order LotsBySymbol.paging LotsBySymbol.names LotsBySymbol.understood_as
     (λ (r : HoldingRow). r.account == account)
     (λ tree r x e. let a0 : column r 2 ≡ natural_as_value x.account = ap (λ row. column row 1) e in rw (a0, same_number x.account account) (and_true _))
     holding_cells (λ tree r x e. e) (ordering_by_key lot_sort_key) (key_total lot_sort_key)
@@ -52,5 +53,6 @@ tells_lots_by_symbol old new account rows shown = λ t tree h.
 pub lots_start : (s : State) (account : ℕ) (rows : List Row) → IsTrue s.is_open → Begins LotsBySymbol.statement (natural_as_value account ∷ []) s rows
     → TablesSatisfy desk_tables (λ t. (tail : List Row) × (rows ++ tail ≡ map holding_cells (account_lots_by_symbol account t))) s.now
 lots_start s account rows up begins =
-    tells_start desk_tables Holdings LotsBySymbol.statement (natural_as_value account ∷ []) (read LotsBySymbol.statement) LotsBySymbol.terms LotsBySymbol.project LotsBySymbol.order LotsBySymbol.paging LotsBySymbol.names LotsBySymbol.understood_as s rows begins up
+    tells_start desk_tables Holdings LotsBySymbol.statement (natural_as_value account ∷ []) (read LotsBySymbol.statement) LotsBySymbol.terms
+    LotsBySymbol.project LotsBySymbol.order LotsBySymbol.paging LotsBySymbol.names LotsBySymbol.understood_as s rows begins up
     (λ t all. all ≡ map holding_cells (account_lots_by_symbol account t)) (λ all. tells_lots_by_symbol s s account all)

@@ -18,10 +18,12 @@ use Rattle.brk_tables_schema.proofs.Compared.{at_least, at_most}
 use Rattle.brk_tables_walks.proofs.CashBetween
 use Rattle.brk_tables_walks.proofs.Telling.{second, sorted}
 
-pub tells_cash_between : (old new : State) (account from to : ℕ) (rows : List Row) → Shown CashBetween.statement (natural_as_value account ∷ natural_as_value from ∷ natural_as_value to ∷ []) old new rows
+pub tells_cash_between : (old new : State) (account from to : ℕ) (rows : List Row)
+    → Shown CashBetween.statement (natural_as_value account ∷ natural_as_value from ∷ natural_as_value to ∷ []) old new rows
     → TablesSatisfy desk_tables (λ t. rows ≡ map move_cells (account_cash_rows_between account from to t)) old.now
 tells_cash_between old new account from to rows shown = λ t tree h.
-    tells_sorted desk_tables CashMoves CashBetween.statement (natural_as_value account ∷ natural_as_value from ∷ natural_as_value to ∷ []) (read CashBetween.statement) CashBetween.terms CashBetween.project CashBetween.order CashBetween.paging CashBetween.names CashBetween.understood_as
+    tells_sorted desk_tables CashMoves CashBetween.statement (natural_as_value account ∷ natural_as_value from ∷ natural_as_value to ∷ [])
+    (read CashBetween.statement) CashBetween.terms CashBetween.project CashBetween.order CashBetween.paging CashBetween.names CashBetween.understood_as
     (is_account_cash_row_between account from to)
     (λ tree r x e.
     let a0 : column r 2 ≡ natural_as_value x.account = ap (λ row. column row 1) e in
@@ -37,8 +39,11 @@ tells_cash_between old new account from to rows shown = λ t tree h.
     old new rows shown (λ x y e. second (value_cmp (natural_as_value x.stamp) (natural_as_value y.stamp)) _ e) t tree h
     ∙ ap (map move_cells) (sym (sorted cash_sort_key (filter (is_account_cash_row_between account from to) t.moves)))
 
-pub cash_start : (s : State) (account from to : ℕ) (rows : List Row) → IsTrue s.is_open → Begins CashBetween.statement (natural_as_value account ∷ natural_as_value from ∷ natural_as_value to ∷ []) s rows
+pub cash_start : (s : State) (account from to : ℕ) (rows : List Row) → IsTrue s.is_open
+    → Begins CashBetween.statement (natural_as_value account ∷ natural_as_value from ∷ natural_as_value to ∷ []) s rows
     → TablesSatisfy desk_tables (λ t. (tail : List Row) × (rows ++ tail ≡ map move_cells (account_cash_rows_between account from to t))) s.now
 cash_start s account from to rows up begins =
-    tells_start desk_tables CashMoves CashBetween.statement (natural_as_value account ∷ natural_as_value from ∷ natural_as_value to ∷ []) (read CashBetween.statement) CashBetween.terms CashBetween.project CashBetween.order CashBetween.paging CashBetween.names CashBetween.understood_as s rows begins up
+    tells_start desk_tables CashMoves CashBetween.statement (natural_as_value account ∷ natural_as_value from ∷ natural_as_value to ∷ [])
+    (read CashBetween.statement) CashBetween.terms CashBetween.project CashBetween.order CashBetween.paging CashBetween.names CashBetween.understood_as s
+    rows begins up
     (λ t all. all ≡ map move_cells (account_cash_rows_between account from to t)) (λ all. tells_cash_between s s account from to all)

@@ -33,9 +33,11 @@ is_done Canceled = refl
 pub tells_completed_by_age : (old new : State) (rows : List Row) → Shown CompletedByAge.statement (Words (trade_status_code Completed) ∷ []) old new rows
     → TablesSatisfy desk_tables (λ t. rows ≡ map trade_cells (completed_trades_by_stamp_and_id t)) old.now
 tells_completed_by_age old new rows shown = λ t tree h.
-    tells_sorted desk_tables Trades CompletedByAge.statement (Words (trade_status_code Completed) ∷ []) (read CompletedByAge.statement) CompletedByAge.terms CompletedByAge.project CompletedByAge.order CompletedByAge.paging CompletedByAge.names CompletedByAge.understood_as
+    tells_sorted desk_tables Trades CompletedByAge.statement (Words (trade_status_code Completed) ∷ []) (read CompletedByAge.statement) CompletedByAge.terms
+    CompletedByAge.project CompletedByAge.order CompletedByAge.paging CompletedByAge.names CompletedByAge.understood_as
     (λ (r : TradeRow). is_same_trade_status r.status Completed)
-    (λ tree r x e. let a3 : column r 3 ≡ Words (trade_status_code x.status) = ap (λ row. column row 2) e in rw (a3, same_text (trade_status_code x.status) (trade_status_code Completed), is_done x.status) (and_true _))
+    (λ tree r x e. let a3 : column r 3 ≡ Words (trade_status_code x.status) = ap (λ row. column row 2) e in
+    rw (a3, same_text (trade_status_code x.status) (trade_status_code Completed), is_done x.status) (and_true _))
     trade_cells (λ tree r x e. e) (ordering_by_key stamp_and_id_key) (key_total stamp_and_id_key)
     (λ tree a b x y e f.
     let p0 : column a 2 ≡ natural_as_value x.stamp = ap (λ row. column row 1) e in
@@ -49,5 +51,6 @@ tells_completed_by_age old new rows shown = λ t tree h.
 pub completed_start : (s : State) (rows : List Row) → IsTrue s.is_open → Begins CompletedByAge.statement (Words (trade_status_code Completed) ∷ []) s rows
     → TablesSatisfy desk_tables (λ t. (tail : List Row) × (rows ++ tail ≡ map trade_cells (completed_trades_by_stamp_and_id t))) s.now
 completed_start s rows up begins =
-    tells_start desk_tables Trades CompletedByAge.statement (Words (trade_status_code Completed) ∷ []) (read CompletedByAge.statement) CompletedByAge.terms CompletedByAge.project CompletedByAge.order CompletedByAge.paging CompletedByAge.names CompletedByAge.understood_as s rows begins up
+    tells_start desk_tables Trades CompletedByAge.statement (Words (trade_status_code Completed) ∷ []) (read CompletedByAge.statement) CompletedByAge.terms
+    CompletedByAge.project CompletedByAge.order CompletedByAge.paging CompletedByAge.names CompletedByAge.understood_as s rows begins up
     (λ t all. all ≡ map trade_cells (completed_trades_by_stamp_and_id t)) (λ all. tells_completed_by_age s s all)

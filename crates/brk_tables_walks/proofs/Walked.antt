@@ -28,7 +28,8 @@ never sql params old db q h = none_some h.0.returning (q old.now.schema h.0 h.1.
 pub commits_none : (sql : List ℕ) (params : Row) (old new : State) → HasNoReturningClause sql → Survives old new (CommitsShowing sql params old) → Survives old new (λ _. ⊥)
 commits_none sql params old new q = survives_weaker old new _ _ (λ _ db. never sql params old db q)
 
-pub begun : {S : Type 0} (g : Ghosts S) (sql : List ℕ) (params : Row) (old new : Held S) → HasNoReturningClause sql → HasBegun g sql params old new → HasGiven g sql params new [] × IsUnchanged (state g old) (state g new)
+pub begun : {S : Type 0} (g : Ghosts S) (sql : List ℕ) (params : Row) (old new : Held S) → HasNoReturningClause sql → HasBegun g sql params old new
+    → HasGiven g sql params new [] × IsUnchanged (state g old) (state g new)
 begun g sql params old new q (inl h) = h
 begun g sql params old new q (inr h) = absurd (go (understood old.schema sql) refl h.0)
   where

@@ -33,7 +33,8 @@ less_paid : (sold bought : ℕ) → sold ≤ greatest_trade_value → (pos sold 
 less_paid sold bought s = omega (arith, ints)
 
 -- a tax is not above the greatest value of a trade
-pub tax_at_high : (status : TaxStatus) (rates : ℕ) (values : Values) → rates ≤ greatest_tax_rate → values.sell_value ≤ greatest_trade_value → tax_on_gain_at_status status rates values ≤ greatest_trade_value
+pub tax_at_high : (status : TaxStatus) (rates : ℕ) (values : Values) → rates ≤ greatest_tax_rate → values.sell_value ≤ greatest_trade_value
+    → tax_on_gain_at_status status rates values ≤ greatest_trade_value
 tax_at_high Untaxed rates values r s = omega arith
 tax_at_high Withheld rates values r s = tax_high (pos values.sell_value -ℤ pos values.buy_value) rates (less_paid values.sell_value values.buy_value s) r
 tax_at_high Reported rates values r s = tax_high (pos values.sell_value -ℤ pos values.buy_value) rates (less_paid values.sell_value values.buy_value s) r

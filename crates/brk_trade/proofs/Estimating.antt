@@ -50,7 +50,9 @@ made_upon base o us terms values h v =
     let sold : values.sell_value ≡ sell_value (deal_of_order base o) us = ap (λ (x : Values). x.sell_value) vs in
     let taxed : tax_on_gain_at_status terms.tax_status terms.rates values ≡ tax_on_deal base o.account (deal_of_order base o) us = rw (h.tax_status, h.rates, vs) refl in
     let rated : commission_from_terms terms ≡ unwrap_or (commission_by_band base o.account (trade_type_of_order_type o.order_type) o.symbol o.qty (bid_price_of_order base o)) 0 =
-    rw (h.qty, h.price) (rate_found (λ b. b.rate) (λ r. commission r o.qty (bid_price_of_order base o)) terms.rate (commission_band_for_quantity base (tier_of_account base o.account) (trade_type_of_order_type o.order_type) (exchange_of_security base o.symbol) o.qty) h.rate) in
+    rw (h.qty, h.price) (rate_found (λ b. b.rate) (λ r. commission r o.qty (bid_price_of_order base o)) terms.rate
+    (commission_band_for_quantity base (tier_of_account base o.account) (trade_type_of_order_type o.order_type) (exchange_of_security base o.symbol) o.qty)
+    h.rate) in
     let charged : terms.charge ≡ option_map_or (λ c. c.amount) (charge_for_type_and_tier base (trade_type_of_order_type o.order_type) (tier_of_account base o.account)) 0 =
     amount_found (λ c. c.amount) terms.charge (charge_for_type_and_tier base (trade_type_of_order_type o.order_type) (tier_of_account base o.account)) h.charge in
     rw (taxed, rated, bought, sold, charged, h.price, h.assets) refl

@@ -26,7 +26,8 @@ first_after ts us e = first_joined ts us ∙ ap (λ refusal. first_of refusal (f
 pub first_refuses : (found : ResultPlanFacts) (price : ℕ) (values : Values) (clock : Option ℕ) (refusal : Refusal)
     → first_refusal (checks_before_reading_lots found) ≡ Some refusal → first_refusal (result_checks found price values clock) ≡ Some refusal
 first_refuses found price values clock refusal e =
-    first_joined (checks_before_reading_lots found) (checks_after_reading_lots found price values clock) ∙ ap (λ cause. first_of cause (first_refusal (checks_after_reading_lots found price values clock))) e
+    first_joined (checks_before_reading_lots found) (checks_after_reading_lots found price values clock)
+    ∙ ap (λ cause. first_of cause (first_refusal (checks_after_reading_lots found price values clock))) e
 
 -- the values of the shares that a trade closes are the same at any moment
 same_bought : (side : Side) (t : TradeRow) (price stamp other : ℕ) (us : List Share)

@@ -17,7 +17,8 @@ use Rattle.brk_orders.specs.Records.{abstract_ticks}
 use Rattle.brk_orders.specs.declared.tick.Tick.{Tick}
 use Rattle.brk_changes.specs.Changes.{tables_after_changes}
 use Rattle.brk_plans.specs.Feed as planner
-use Rattle.brk_plans.specs.Feed.{SymbolState, IsFeedPlan, row_changes_of_ticks, has_volume_above_limit, trades_triggered_by_ticks, is_state_of_symbol, has_no_state_of_symbol, states_after_ticks, IsTickedReply}
+use Rattle.brk_plans.specs.Feed.{SymbolState, IsFeedPlan, row_changes_of_ticks, has_volume_above_limit, trades_triggered_by_ticks, is_state_of_symbol}
+use Rattle.brk_plans.specs.Feed.{has_no_state_of_symbol, states_after_ticks, IsTickedReply}
 use Rattle.brk_plans.specs.Reference.{later_stamp_check}
 use Rattle.brk_plans.specs.Replies.{abstract_reply}
 use Rattle.brk_changes.specs.declared.change.Change.TheVariants.{SetLastStamp}
@@ -43,7 +44,8 @@ use Rattle.brk_trade_theorems.proofs.QuotedVolumes.{quotes_exceed}
 -- ---- what is tested
 
 -- a symbol that has a last trade has a quote, and no other has
-same_known : (t : Tables) (ticks : List Tick) (quotes : List SymbolState) (tick : Tick) → AllByRecursion (IsHeld t ticks) quotes → HasDistinctQuoteSymbols quotes → HasQuoteIfSymbolHasLastTrade t quotes tick
+same_known : (t : Tables) (ticks : List Tick) (quotes : List SymbolState) (tick : Tick) → AllByRecursion (IsHeld t ticks) quotes
+    → HasDistinctQuoteSymbols quotes → HasQuoteIfSymbolHasLastTrade t quotes tick
     → list_any (is_state_of_symbol tick.symbol) quotes ≡ is_some (last_trade_row_of_symbol t tick.symbol)
 same_known t ticks quotes tick k d h = both_ways (list_any (is_state_of_symbol tick.symbol) quotes) (is_some (last_trade_row_of_symbol t tick.symbol)) there h
   where
@@ -52,7 +54,8 @@ same_known t ticks quotes tick k d h = both_ways (list_any (is_state_of_symbol t
         let q = quote_of t ticks tick.symbol quotes k d e in
         ap is_some (sym (ap (last_trade_row_of_symbol t) q.same) ∙ q.read.last_trade)
 
-same_unknown : (t : Tables) (ticks : List Tick) (quotes : List SymbolState) → AllByRecursion (IsHeld t ticks) quotes → HasDistinctQuoteSymbols quotes → AllByRecursion (HasQuoteIfSymbolHasLastTrade t quotes) ticks
+same_unknown : (t : Tables) (ticks : List Tick) (quotes : List SymbolState) → AllByRecursion (IsHeld t ticks) quotes → HasDistinctQuoteSymbols quotes
+    → AllByRecursion (HasQuoteIfSymbolHasLastTrade t quotes) ticks
     → list_any (has_no_state_of_symbol quotes) ticks ≡ list_any (is_tick_of_unknown_symbol t) (abstract_ticks ticks)
 same_unknown t ticks quotes k d quoted = each ticks quoted
   where
@@ -61,7 +64,8 @@ same_unknown t ticks quotes k d quoted = each ticks quoted
     each (u ∷ us) h = λ i. not (same_known t ticks quotes u k d h.0 i) || each us h.1 i
 
 -- quotes that were read of a base in order are held
-held_quotes : (base : Base) (ticks : List Tick) (quotes : List SymbolState) (last : Option ℕ) (now : ℕ) → PlanFeedPrecondition base ticks quotes last now → AllByRecursion (IsHeld (sheets base) ticks) quotes
+held_quotes : (base : Base) (ticks : List Tick) (quotes : List SymbolState) (last : Option ℕ) (now : ℕ) → PlanFeedPrecondition base ticks quotes last now
+    → AllByRecursion (IsHeld (sheets base) ticks) quotes
 held_quotes base ticks quotes last now k = All-map quotes (λ quote q. is_held base ticks quote k.books q) k.quotes_read.read
 
 known_quotes : (ticks : List Tick) (quotes : List SymbolState) → list_any (has_no_state_of_symbol quotes) ticks ≡ false → HaveQuotes quotes ticks

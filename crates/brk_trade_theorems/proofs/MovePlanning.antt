@@ -111,7 +111,8 @@ tests_read base m found last now stamp k =
     alike.first
 
 refused_as : (base : Base) (now : ℕ) (m : Movement) (d : Direction) → m.direction ≡ d
-    → first_refusal (checks_of_movement base (moved d (stamp_of_next_command base now) m.account m.amount) ++ (nat_lt greatest_stamp (stamp_of_next_command base now), ClockEnd) ∷ (false, TooEarly) ∷ [])
+    → first_refusal (checks_of_movement base (moved d (stamp_of_next_command base now) m.account m.amount)
+    ++ (nat_lt greatest_stamp (stamp_of_next_command base now), ClockEnd) ∷ (false, TooEarly) ∷ [])
     ≡ refusal_of_command base now (cash_movement_command d m.account m.amount)
 unfolding refusal_of_command checks_of_command
 refused_as base now m Deposit e = refl
@@ -126,7 +127,8 @@ pub move_refused : (base : Base) (m : Movement) (found : MovementPlanFacts) (las
 move_refused base m found last now refusal k e = refused_step base now (movement_command m) refusal (sym (move_read base m found last now k) ∙ e)
 
 -- the rows, the books and the reply, in either direction
-rows_as : (base : Base) (now account amount : ℕ) (d : Direction) → HasTableEffect base now (cash_movement_command d account amount) (tables_after_movement base (moved d (stamp_of_next_command base now) account amount))
+rows_as : (base : Base) (now account amount : ℕ) (d : Direction)
+    → HasTableEffect base now (cash_movement_command d account amount) (tables_after_movement base (moved d (stamp_of_next_command base now) account amount))
 rows_as base now account amount Deposit = step_deposit base now account amount
 rows_as base now account amount Withdrawal = step_withdrawal base now account amount
 
@@ -154,7 +156,8 @@ move_plan_does base m found last now plan k p =
     ((nat_lt greatest_amount (nat_abs (planner.balance_after_movement m found)), Range limit.Balance) ∷ (found.has_all_movements, Range limit.Moves) ∷ later_stamp_check last now ∷ []) p.accepted in
     let number : found.next ≡ length (postings_of_base base) + 1 = k.looked_up.next ∙ ap (λ n. n + 1) (reads_last_move base) in
     let balance : planner.balance_after_movement m found ≡ account_balance_after_movement base (moved m.direction p.stamp m.account m.amount) = balance_read base m found p.stamp k.looked_up there in
-    let row : abstract_move_row p.moves.row ≡ numbered_cash_row_of_movement base (moved m.direction p.stamp m.account m.amount) = p.moves.posted ∙ (λ i. record (planner.cash_row_of_movement m found.next p.stamp) { id = number i }) in
+    let row : abstract_move_row p.moves.row ≡ numbered_cash_row_of_movement base (moved m.direction p.stamp m.account m.amount) = p.moves.posted
+    ∙ (λ i. record (planner.cash_row_of_movement m found.next p.stamp) { id = number i }) in
     let told : reply_to_movement base (moved m.direction p.stamp m.account m.amount) ≡ abstract_reply plan.reply =
     (λ i. MovedCash p.stamp (sym number i) (sym balance i)) ∙ sym (ap abstract_reply p.moves.replied) in
     let change : ℕ → Tables → Tables = λ stamp. tables_after_movement base (moved m.direction stamp m.account m.amount) in
@@ -206,7 +209,8 @@ one_day_plan_does base day rule last now plan k p =
     let next : p.stamp ≡ stamp_of_next_command base now = stamp_read base last now p.stamp k.last_read p.stamped in
     let accepted : refusal_of_command base now (SetOneDay day) ≡ None = sym (one_day_read base day rule last now k) ∙ p.accepted in
     let done : IsAcceptedWithEffect base now (SetOneDay day) p.stamp (Booked p.stamp) (tables_with_settlement_day day) =
-    is_done base now (SetOneDay day) p.stamp (Booked p.stamp) (λ stamp. tables_with_settlement_day day) k.books accepted next (ap Booked (sym next)) (step_one_day base now day) (books_one_day base now day) in
+    is_done base now (SetOneDay day) p.stamp (Booked p.stamp) (λ stamp. tables_with_settlement_day day) k.books accepted next (ap Booked (sym next))
+    (step_one_day base now day) (books_one_day base now day) in
     record {
       steps = done.steps ∙ ap (λ reply. Ok (reply, base_after_command base now (SetOneDay day))) (sym (ap abstract_reply p.replied));
       rows = done.rows ∙ ap (λ changes. tables_after_changes changes (sheets base)) (sym p.changes);

@@ -122,13 +122,16 @@ row_made base order found stamp f number =
     let o : model.Order = abstract_order order in
     let price : bid_price_of_order base o ≡ (terms_of_order order found).price = sym f.terms.price in
     let charge = amount_or _ (terms_of_order order found).charge f.terms.charge in
-    let rate : unwrap_or (commission_by_band base o.account (trade_type_of_order_type o.order_type) o.symbol o.qty (bid_price_of_order base o)) 0 ≡ commission (terms_of_order order found).rate order.qty (terms_of_order order found).price =
+    let rate : unwrap_or (commission_by_band base o.account (trade_type_of_order_type o.order_type) o.symbol o.qty (bid_price_of_order base o)) 0
+    ≡ commission (terms_of_order order found).rate order.qty (terms_of_order order found).price =
     commission_or _ (terms_of_order order found).rate order.qty (bid_price_of_order base o) f.terms.rate ∙ ap (commission (terms_of_order order found).rate order.qty) price in
     λ i. record (tables.trade_row (trade_of_order base stamp o)) { id = sym number i + 1; bid = price i; charge = charge i; commission = rate i }
 
 -- the changes of an order are the rows that it makes
 changes_made : (order : Order) (terms : Terms) (broker trade stamp : ℕ) (row : TradeRow) (t : Tables) → abstract_trade_row row ≡ trade_row_of_order order terms trade stamp
-    → tables_after_changes (row_changes_of_order row (request_row_of_order order terms broker trade)) t ≡ tables_with_last_stamp stamp (tables_after_order (trade_row_of_order order terms trade stamp) (not (is_market_type (trade_type_of_order_type order.order_type))) broker t)
+    → tables_after_changes (row_changes_of_order row (request_row_of_order order terms broker trade)) t
+    ≡ tables_with_last_stamp stamp
+    (tables_after_order (trade_row_of_order order terms trade stamp) (not (is_market_type (trade_type_of_order_type order.order_type))) broker t)
 changes_made order terms broker trade stamp row t e = by_market (is_market_type (trade_type_of_order_type order.order_type))
   where
     r : tables.TradeRow
@@ -138,9 +141,12 @@ changes_made order terms broker trade stamp row t e = by_market (is_market_type 
     request = record { trade = trade; kind = (trade_type_of_order_type order.order_type); symbol = order.symbol; qty = order.qty; bid = terms.price; broker = broker }
 
     by_market : (b : Bool) → tables_after_changes (row_changes_of_order row (cond b None (Some request))) t
-        ≡ tables_with_last_stamp stamp (tables_with_request_if_pending (not b) (request_row_of_pending_trade r broker) (tables_with_history_row (history_row_of_status r.id r.status r.stamp) (tables_with_trade r t)))
+        ≡ tables_with_last_stamp stamp
+        (tables_with_request_if_pending (not b) (request_row_of_pending_trade r broker)
+        (tables_with_history_row (history_row_of_status r.id r.status r.stamp) (tables_with_trade r t)))
     by_market true = ap (λ r. tables_with_last_stamp r.stamp (tables_with_history_row (history_row_of_status r.id r.status r.stamp) (tables_with_trade r t))) e
-    by_market false = ap (λ r. tables_with_last_stamp r.stamp (tables_with_request (abstract_request_row request) (tables_with_history_row (history_row_of_status r.id r.status r.stamp) (tables_with_trade r t)))) e
+    by_market false = ap (λ r. tables_with_last_stamp r.stamp
+        (tables_with_request (abstract_request_row request) (tables_with_history_row (history_row_of_status r.id r.status r.stamp) (tables_with_trade r t)))) e
 
 -- ---- the plan
 
@@ -152,7 +158,9 @@ planned_rows order found stamp =
 
 order_made : (base : Base) (order : Order) (found : OrderPlanFacts) (last : Option ℕ) (now stamp : ℕ) → PlanOrderPrecondition base order found last now
     → first_refusal (order_checks found ++ free_trade_id_check found.last_trade ∷ later_stamp_check last now ∷ []) ≡ None → stamp_after last now ≡ Some stamp
-    → IsAcceptedWithEffect base now (PlaceOrder (abstract_order order)) stamp (model.Ordered stamp (next_trade_id found.last_trade) (first_status (trade_type_of_order_type order.order_type)) (estimate base (abstract_order order))) (planned_rows order found stamp)
+    → IsAcceptedWithEffect base now (PlaceOrder (abstract_order order)) stamp
+    (model.Ordered stamp (next_trade_id found.last_trade) (first_status (trade_type_of_order_type order.order_type)) (estimate base (abstract_order order)))
+    (planned_rows order found stamp)
 unfolding reply_to_command
 order_made base order found last now stamp k t s =
     let o : model.Order = abstract_order order in
@@ -162,9 +170,13 @@ order_made base order found last now stamp k t s =
     let number = number_read base order found k.books k.looked_up tested in
     let f : AllFound base order found = all_found base order found k.books k.looked_up.estimate tested in
     let row = row_made base order found (stamp_of_next_command base now) f number in
-    is_done base now (PlaceOrder o) stamp (model.Ordered stamp (next_trade_id found.last_trade) (first_status (trade_type_of_order_type order.order_type)) (estimate base o)) (planned_rows order found) k.books e next
+    is_done base now (PlaceOrder o) stamp
+    (model.Ordered stamp (next_trade_id found.last_trade) (first_status (trade_type_of_order_type order.order_type)) (estimate base o))
+    (planned_rows order found) k.books e next
     (λ i. model.Ordered (sym next i) (sym number i + 1) (first_status (trade_type_of_order_type order.order_type)) (estimate base o))
-    (λ books e. step_order base now o books e ∙ (λ i. tables_with_last_stamp (stamp_of_next_command base now) (tables_after_order (row i) (not (is_market_type (trade_type_of_order_type order.order_type))) (sym f.broker i) (sheets base))))
+    (λ books e. step_order base now o books e
+    ∙ (λ i. tables_with_last_stamp (stamp_of_next_command base now)
+    (tables_after_order (row i) (not (is_market_type (trade_type_of_order_type order.order_type))) (sym f.broker i) (sheets base))))
     (books_order base now o)
 
 pub plan_order_does : (base : Base) (order : Order) (found : OrderPlanFacts) (given : List Lot → Type 0) (last : Option ℕ) (now : ℕ) (plan : Plan) → PlanOrderPrecondition base order found last now

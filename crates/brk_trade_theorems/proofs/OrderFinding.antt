@@ -5,7 +5,8 @@ use Rattle.std.specs.Prelude.{is_some, is_none, option_map, unwrap_or, find, IfS
 use Rattle.std.specs.Option.{option_map_or}
 use Rattle.brk_trade.specs.Estimates.{AreOrderTermsInBase}
 use Rattle.brk_model.specs.Base as base_spec
-use Rattle.brk_model.specs.Base.{Base, account_with_id, commission_band_for_quantity, broker_id_of_account, charge_for_type_and_tier, completed_trades, customer_id_of_account, customer_with_id, exchange_of_security, last_price, security_with_symbol, tier_of_account}
+use Rattle.brk_model.specs.Base.{Base, account_with_id, commission_band_for_quantity, broker_id_of_account, charge_for_type_and_tier, completed_trades}
+use Rattle.brk_model.specs.Base.{customer_id_of_account, customer_with_id, exchange_of_security, last_price, security_with_symbol, tier_of_account}
 use Rattle.brk_model.specs.Joins.{account_row_with_id, security_row_with_symbol}
 use Rattle.brk_model.specs.Orders.{assets_of_account, may_order_for_account, is_customer_or_has_permission}
 use Rattle.brk_model.specs.PositionView.{market_value_of_account_row}
@@ -87,7 +88,8 @@ passes_security found a s = rw (a, s) refl
 passes_executor : (found : OrderPlanFacts) → is_none found.account ≡ false → is_none found.last_price ≡ false → not found.is_permitted ≡ false → PassesFirstOrderChecks 3 found
 passes_executor found a s p = rw (a, s, p) refl
 
-passes_charge : (found : OrderPlanFacts) → is_none found.account ≡ false → is_none found.last_price ≡ false → not found.is_permitted ≡ false → is_none found.charge ≡ false → PassesFirstOrderChecks 4 found
+passes_charge : (found : OrderPlanFacts) → is_none found.account ≡ false → is_none found.last_price ≡ false → not found.is_permitted ≡ false
+    → is_none found.charge ≡ false → PassesFirstOrderChecks 4 found
 passes_charge found a s p c = rw (a, s, p, c) refl
 
 account_read : (base : Base) (order : Order) (found : OrderPlanFacts) → EstimateFactsMatchTables (sheets base) order found → is_none found.account ≡ is_none (account_with_id base order.account)
@@ -95,7 +97,8 @@ account_read base order found k =
     ap is_none k.account ∙ is_none-map order_account_of_row (account_row_with_id (sheets base) order.account) ∙ ap is_none (reads_account base order.account)
     ∙ is_none-map (account_row base.accounts (postings_of_base base)) (account_with_id base order.account)
 
-security_read : (base : Base) (order : Order) (found : OrderPlanFacts) → EstimateFactsMatchTables (sheets base) order found → PassesFirstOrderChecks 1 found → is_none found.last_price ≡ is_none (security_with_symbol base order.symbol)
+security_read : (base : Base) (order : Order) (found : OrderPlanFacts) → EstimateFactsMatchTables (sheets base) order found → PassesFirstOrderChecks 1 found
+    → is_none found.last_price ≡ is_none (security_with_symbol base order.symbol)
 security_read base order found k p =
     ap is_none (k.last_price p ∙ ap (option_map (λ r. r.price)) (reads_last_trade base order.symbol))
     ∙ is_none-map (λ r. r.price) (option_map last_trade_row (security_with_symbol base order.symbol)) ∙ is_none-map last_trade_row (security_with_symbol base order.symbol)
@@ -103,7 +106,9 @@ security_read base order found k p =
 permission_read : (base : Base) (order : Order) (found : OrderPlanFacts) → BooksInvariant base → EstimateFactsMatchTables (sheets base) order found → OwnerFound base order.account
     → PassesFirstOrderChecks 2 found → found.is_permitted ≡ may_order_for_account base order.account (abstract_executor order.executor)
 permission_read base order found books k f p =
-    of_customer base order.account (λ c. found.is_permitted ≡ is_customer_or_has_permission c (permission_list_for_tax_id (sheets base) order.account order.executor.tax_id) (abstract_executor order.executor)) f (k.is_permitted p)
+    of_customer base order.account
+    (λ c. found.is_permitted ≡ is_customer_or_has_permission c (permission_list_for_tax_id (sheets base) order.account order.executor.tax_id)
+    (abstract_executor order.executor)) f (k.is_permitted p)
     ∙ reads_named base order.account f.c (abstract_executor order.executor) books
     ∙ sym (ap (λ x. option_map_or (λ c. is_customer_or_has_permission c (filter (λ p. p.account == order.account) base.permissions) (abstract_executor order.executor)) x true) f.customer_is)
 
@@ -111,18 +116,26 @@ charge_read : (base : Base) (order : Order) (found : OrderPlanFacts) → Estimat
     → PassesFirstOrderChecks 3 found → found.charge ≡ option_map (λ c. c.amount) (charge_for_type_and_tier base (trade_type_of_order_type order.order_type) (tier_of_account base order.account))
 charge_read base order found k f p =
     of_customer base order.account (λ c. found.charge ≡ charge_of_type_and_tier (sheets base) (trade_type_of_order_type order.order_type) c.tier) f (k.charge p)
-    ∙ ap (option_map (λ c. c.amount)) (reads_charge base (trade_type_of_order_type order.order_type) f.c.tier ∙ ap (charge_for_type_and_tier base (trade_type_of_order_type order.order_type)) (sym (tier_found base order.account f)))
+    ∙ ap (option_map (λ c. c.amount))
+    (reads_charge base (trade_type_of_order_type order.order_type) f.c.tier
+    ∙ ap (charge_for_type_and_tier base (trade_type_of_order_type order.order_type)) (sym (tier_found base order.account f)))
 
 rate_read : (base : Base) (order : Order) (found : OrderPlanFacts) → BooksInvariant base → EstimateFactsMatchTables (sheets base) order found → OwnerFound base order.account
     → is_some (security_with_symbol base order.symbol) ≡ true → PassesFirstOrderChecks 4 found
-    → found.rate ≡ option_map (λ b. b.rate) (commission_band_for_quantity base (tier_of_account base order.account) (trade_type_of_order_type order.order_type) (exchange_of_security base order.symbol) order.qty)
+    → found.rate ≡ option_map (λ b. b.rate)
+    (commission_band_for_quantity base (tier_of_account base order.account) (trade_type_of_order_type order.order_type)
+    (exchange_of_security base order.symbol) order.qty)
 rate_read base order found books k f s p =
     let listed = some_of (security_with_symbol base order.symbol) s in
     let exchange : exchange_of_security base order.symbol ≡ listed.0.exchange = ap (λ x. option_map_or (λ s. s.exchange) x []) listed.1 in
     let row : security_row_with_symbol (sheets base) order.symbol ≡ Some (security_row listed.0) = reads_security base order.symbol ∙ ap (option_map security_row) listed.1 in
-    let band = subst (λ x. IfSome x (λ s. found.rate ≡ option_map (λ b. b.rate) (commission_band_of_quantity (sheets base) f.c.tier (trade_type_of_order_type order.order_type) s.exchange order.qty))) row
+    let band = subst (λ x. IfSome x
+    (λ s. found.rate ≡ option_map (λ b. b.rate)
+    (commission_band_of_quantity (sheets base) f.c.tier (trade_type_of_order_type order.order_type) s.exchange order.qty))) row
     (of_customer base order.account
-    (λ c. IfSome (security_row_with_symbol (sheets base) order.symbol) (λ s. found.rate ≡ option_map (λ b. b.rate) (commission_band_of_quantity (sheets base) c.tier (trade_type_of_order_type order.order_type) s.exchange order.qty))) f (k.rate p)) in
+    (λ c. IfSome (security_row_with_symbol (sheets base) order.symbol)
+    (λ s. found.rate ≡ option_map (λ b. b.rate)
+    (commission_band_of_quantity (sheets base) c.tier (trade_type_of_order_type order.order_type) s.exchange order.qty))) f (k.rate p)) in
     band ∙ ap (option_map (λ b. b.rate)) (reads_band base f.c.tier (trade_type_of_order_type order.order_type) listed.0.exchange order.qty books
     ∙ (λ i. commission_band_for_quantity base (sym (tier_found base order.account f) i) (trade_type_of_order_type order.order_type) (sym exchange i) order.qty))
 
@@ -137,7 +150,8 @@ pub same_first : (b c : Bool) (refusal : Refusal) (xs ys : List RefusalCheck) �
 same_first true c refusal xs ys e h = record { first = ap (λ c. first_refusal ((c, refusal) ∷ ys)) e }
 same_first false c refusal xs ys e h = record { first = (h refl).first ∙ ap (λ c. first_refusal ((c, refusal) ∷ ys)) e }
 
-pub all_passed : (found : OrderPlanFacts) → is_none found.account ≡ false → is_none found.last_price ≡ false → not found.is_permitted ≡ false → is_none found.charge ≡ false → is_none found.rate ≡ false
+pub all_passed : (found : OrderPlanFacts) → is_none found.account ≡ false → is_none found.last_price ≡ false → not found.is_permitted ≡ false
+    → is_none found.charge ≡ false → is_none found.rate ≡ false
     → first_refusal (order_checks found) ≡ None
 all_passed found a s p c r = rw (a, s, p, c, r) refl
 
@@ -151,7 +165,9 @@ owned_read : (base : Base) (order : Order) (found : OrderPlanFacts) (xs ys : Lis
     ∷ (is_none (commission_band_for_quantity base (tier_of_account base order.account) (trade_type_of_order_type order.order_type) (exchange_of_security base order.symbol) order.qty), NoRate) ∷ ys)
 owned_read base order found xs ys books k later a s f l =
     same_first _ _ NotPermitted _ _ (ap not (permission_read base order found books k f (passes_security found a s))) (λ p.
-    same_first _ _ NoCharge _ _ (ap is_none (charge_read base order found k f (passes_executor found a s p)) ∙ is_none-map (λ c. c.amount) (charge_for_type_and_tier base (trade_type_of_order_type order.order_type) (tier_of_account base order.account))) (λ c.
+    same_first _ _ NoCharge _ _
+    (ap is_none (charge_read base order found k f (passes_executor found a s p))
+    ∙ is_none-map (λ c. c.amount) (charge_for_type_and_tier base (trade_type_of_order_type order.order_type) (tier_of_account base order.account))) (λ c.
     same_first _ _ NoRate _ _
     (ap is_none (rate_read base order found books k f l (passes_charge found a s p c))
     ∙ is_none-map (λ b. b.rate) (commission_band_for_quantity base (tier_of_account base order.account) (trade_type_of_order_type order.order_type) (exchange_of_security base order.symbol) order.qty))
@@ -159,7 +175,8 @@ owned_read base order found xs ys books k later a s f l =
 
 -- an order and what else it is tested for are refused by what was found as by the base
 pub tests_read : (base : Base) (order : Order) (found : OrderPlanFacts) (xs ys : List RefusalCheck) → BooksInvariant base → EstimateFactsMatchTables (sheets base) order found
-    → (first_refusal (order_checks found) ≡ None → first_refusal xs ≡ first_refusal ys) → first_refusal (order_checks found ++ xs) ≡ first_refusal (model.checks_of_order base (abstract_order order) ++ ys)
+    → (first_refusal (order_checks found) ≡ None → first_refusal xs ≡ first_refusal ys)
+    → first_refusal (order_checks found ++ xs) ≡ first_refusal (model.checks_of_order base (abstract_order order) ++ ys)
 tests_read base order found xs ys books k later =
     let alike : Alike (order_checks found ++ xs) (model.checks_of_order base (abstract_order order) ++ ys) =
     same_first _ _ NoAccount _ _ (account_read base order found k) (λ a.
@@ -184,7 +201,8 @@ some_or : (o : Option ℕ) → is_some o ≡ true → o ≡ Some (unwrap_or o 0)
 some_or None h = absurd (cc)
 some_or (Some n) h = refl
 
-last_price_read : (base : Base) (order : Order) (found : OrderPlanFacts) → EstimateFactsMatchTables (sheets base) order found → PassesFirstOrderChecks 1 found → unwrap_or found.last_price 0 ≡ last_price base order.symbol
+last_price_read : (base : Base) (order : Order) (found : OrderPlanFacts) → EstimateFactsMatchTables (sheets base) order found → PassesFirstOrderChecks 1 found
+    → unwrap_or found.last_price 0 ≡ last_price base order.symbol
 last_price_read base order found k p =
     ap (λ o. unwrap_or o 0) (k.last_price p ∙ ap (option_map (λ r. r.price)) (reads_last_trade base order.symbol)) ∙ price_or (security_with_symbol base order.symbol)
 
@@ -194,7 +212,8 @@ rates_read base order found k f e =
     of_account base order.account (λ a. found.rates ≡ customer_tax_rate_sum (sheets base) a.customer) f (k.rates e)
     ∙ reads_rates base f.a.customer ∙ ap (base_spec.tax_rate_sum_of_customer base) (sym (ap (λ x. option_map_or (λ a. a.customer) x 0) f.there))
 
-all_assets : (base : Base) (order : Order) (found : OrderPlanFacts) → BooksInvariant base → EstimateFactsMatchTables (sheets base) order found → OwnerFound base order.account → first_refusal (order_checks found) ≡ None
+all_assets : (base : Base) (order : Order) (found : OrderPlanFacts) → BooksInvariant base → EstimateFactsMatchTables (sheets base) order found
+    → OwnerFound base order.account → first_refusal (order_checks found) ≡ None
     → found.assets ≡ assets_of_account base order.account
 all_assets base order found books k f e =
     of_account base order.account (λ a. found.assets ≡ a.balance +ℤ market_value_of_account_row (sheets base) a) f (k.assets e)

@@ -39,7 +39,8 @@ pub clock_read : (base : Base) (last : Option ℕ) (now : ℕ) → BooksInvarian
 clock_read base last now books l h = ap (λ o. is_none (stamp_after o now)) (l ∙ reads_last base) ∙ stamp_left base.last now books.clock h
 
 -- a customer's rates with another one, by their sum where it is no more than the whole
-exceeds_read : (rates : Option ℕ) (sum : ℕ) (rate : Option ℕ) → SomeIff rates (sum ≤ greatest_tax_rate) sum → is_sum_above_greatest_tax_rate rates rate ≡ nat_lt greatest_tax_rate (sum + unwrap_or rate 0)
+exceeds_read : (rates : Option ℕ) (sum : ℕ) (rate : Option ℕ) → SomeIff rates (sum ≤ greatest_tax_rate) sum
+    → is_sum_above_greatest_tax_rate rates rate ≡ nat_lt greatest_tax_rate (sum + unwrap_or rate 0)
 exceeds_read None sum rate h = above sum (unwrap_or rate 0) h
   where
     above : (m n : ℕ) → (m ≤ greatest_tax_rate → ⊥) → true ≡ nat_lt greatest_tax_rate (m + n)
@@ -64,7 +65,8 @@ refusal_read base (reference.Account a) found last now k =
     let same = k.looked_up.same_id ∙ reads_has_account base a.id in
     let count = k.looked_up.count ∙ reads_count base a.customer in
     let clock = clock_read base last now k.books k.last_read k.moment in
-    λ i. first_refusal ((not (customer i), NoCustomer) ∷ (not (broker i), NoBroker) ∷ duplicate_check (same i) ∷ (nat_le most_accounts_per_customer (count i), Range limit.Accounts) ∷ (clock i, ClockEnd) ∷ [])
+    λ i. first_refusal ((not (customer i), NoCustomer) ∷ (not (broker i), NoBroker) ∷ duplicate_check (same i)
+    ∷ (nat_le most_accounts_per_customer (count i), Range limit.Accounts) ∷ (clock i, ClockEnd) ∷ [])
 refusal_read base (reference.Permission p) found last now k =
     let account = k.looked_up.0 ∙ reads_has_account base p.account in
     let same = k.looked_up.1 ∙ reads_has_permission base p.account p.tax_id in
@@ -99,7 +101,9 @@ refusal_read base (reference.CustomerTax x) found last now k =
 
 -- the rows and the books after the command of a record
 reference_rows : (base : Base) (now : ℕ) (r : Reference) → BooksInvariant base → refusal_of_command base now (command_adding_record r) ≡ None
-    → sheets (base_after_command base now (command_adding_record r)) ≡ tables_after_changes (row_changes_adding_record (stamp_of_next_command base now) r ++ change.SetLastStamp (stamp_of_next_command base now) ∷ []) (sheets base)
+    → sheets (base_after_command base now (command_adding_record r))
+    ≡ tables_after_changes (row_changes_adding_record (stamp_of_next_command base now) r ++ change.SetLastStamp (stamp_of_next_command base now) ∷ [])
+    (sheets base)
 reference_rows base now (reference.Broker b) books e = step_broker base now (abstract_broker b) books e
 reference_rows base now (reference.Customer c) books e = step_customer base now (abstract_customer c) books e
 reference_rows base now (reference.Account a) books e = step_account base now (abstract_account a) books e
@@ -133,7 +137,8 @@ reference_reply base stamp (reference.Band b) = refl
 reference_reply base stamp (reference.TaxRate r) = refl
 reference_reply base stamp (reference.CustomerTax x) = refl
 
-pub plan_does : (base : Base) (r : Reference) (found : ReferenceFacts) (last : Option ℕ) (now : ℕ) (plan : Plan) → PlanReferencePrecondition base r found last now → IsReferencePlan r found last now plan
+pub plan_does : (base : Base) (r : Reference) (found : ReferenceFacts) (last : Option ℕ) (now : ℕ) (plan : Plan)
+    → PlanReferencePrecondition base r found last now → IsReferencePlan r found last now plan
     → PlanImplementsCommand base now (command_adding_record r) plan
 unfolding step
 plan_does base r found last now plan k p =
@@ -153,4 +158,6 @@ pub refusal_does : (base : Base) (r : Reference) (found : ReferenceFacts) (last 
     → first_refusal (reference_checks r found ++ later_stamp_check last now ∷ []) ≡ Some refusal → step base now (command_adding_record r) ≡ Err refusal
 unfolding step
 refusal_does base r found last now refusal k e =
-    ap (λ o. value_unless_refused o (reply_to_command base (stamp_of_next_command base now) (command_adding_record r), base_after_command base now (command_adding_record r))) (sym (refusal_read base r found last now k) ∙ e)
+    ap (λ o. value_unless_refused o
+    (reply_to_command base (stamp_of_next_command base now) (command_adding_record r), base_after_command base now (command_adding_record r)))
+    (sym (refusal_read base r found last now k) ∙ e)

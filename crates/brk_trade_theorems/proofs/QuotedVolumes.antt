@@ -68,7 +68,9 @@ market_books quotes d v = record {
 market_tick : (stamp : ℕ) (tick : Tick) (quotes : List SymbolState) → base_after_tick stamp (market quotes) (abstract_tick tick) ≡ market (states_after_tick stamp quotes tick)
 market_tick stamp tick quotes = λ i. record (market quotes) { securities = moved quotes i }
   where
-    by_test : (quote : SymbolState) (b : Bool) → cond b (security_after_tick stamp (abstract_tick tick) (security_of quote)) (security_of quote) ≡ security_of (cond b (state_after_tick stamp tick quote) quote)
+    by_test : (quote : SymbolState) (b : Bool)
+        → cond b (security_after_tick stamp (abstract_tick tick) (security_of quote)) (security_of quote)
+        ≡ security_of (cond b (state_after_tick stamp tick quote) quote)
     by_test quote true = refl
     by_test quote false = refl
 
@@ -96,7 +98,8 @@ market_knows quotes ticks known = All-mapped (λ u. is_some (security_with_symbo
         ap is_some (find-map (λ s. bytes_eq s.symbol symbol) security_of quotes) ∙ is_some-map security_of (find (is_state_of_symbol symbol) quotes) ∙ some-is-any (is_state_of_symbol symbol) quotes
 
 -- their volumes are those that the tables have
-market_volume : (t : Tables) (ticks : List Tick) (symbol : Text) (quotes : List SymbolState) → AllByRecursion (IsHeld t ticks) quotes → HasDistinctQuoteSymbols quotes → list_any (is_state_of_symbol symbol) quotes ≡ true
+market_volume : (t : Tables) (ticks : List Tick) (symbol : Text) (quotes : List SymbolState) → AllByRecursion (IsHeld t ticks) quotes
+    → HasDistinctQuoteSymbols quotes → list_any (is_state_of_symbol symbol) quotes ≡ true
     → volume_of_symbol (sheets (market quotes)) symbol ≡ volume_of_symbol t symbol
 market_volume t ticks symbol quotes k d e =
     let q = quote_of t ticks symbol quotes k d e in
@@ -112,8 +115,11 @@ any-each p q (x ∷ xs) h = λ i. h.0 i || any-each p q xs h.1 i
 -- ---- quotes of a base that is in order
 
 -- their volumes are within the limit
-pub quotes_within : (base : Base) (ticks : List Tick) (quotes : List SymbolState) → BooksInvariant base → AllByRecursion (IsHeld (sheets base) ticks) quotes → AllByRecursion (λ quote. quote.last.volume ≤ greatest_amount) quotes
-quotes_within base ticks quotes books k = All-map quotes (λ quote q. by_security quote (security_with_symbol base quote.last.symbol) refl (sym (reads_last_trade base quote.last.symbol) ∙ q.last_trade)) k
+pub quotes_within : (base : Base) (ticks : List Tick) (quotes : List SymbolState) → BooksInvariant base → AllByRecursion (IsHeld (sheets base) ticks) quotes
+    → AllByRecursion (λ quote. quote.last.volume ≤ greatest_amount) quotes
+quotes_within base ticks quotes books k =
+    All-map quotes (λ quote q. by_security quote (security_with_symbol base quote.last.symbol) refl
+    (sym (reads_last_trade base quote.last.symbol) ∙ q.last_trade)) k
   where
     by_security : (quote : SymbolState) (o : Option Security) → security_with_symbol base quote.last.symbol ≡ o
         → option_map last_trade_row (security_with_symbol base quote.last.symbol) ≡ Some (abstract_last_trade_row quote.last) → quote.last.volume ≤ greatest_amount
@@ -123,12 +129,16 @@ quotes_within base ticks quotes books k = All-map quotes (λ quote q. by_securit
         subst (λ n. n ≤ greatest_amount) (ap (λ o. option_map_or (λ r. r.volume) o 0) g)
         (find-All HasVolumeWithinLimit (λ u. bytes_eq u.symbol quote.last.symbol) base.securities s books.volumes e)
 
-pub quotes_exceed : (base : Base) (stamp : ℕ) (ticks : List Tick) (quotes : List SymbolState) → BooksInvariant base → AllByRecursion (IsHeld (sheets base) ticks) quotes → HasDistinctQuoteSymbols quotes
-    → HaveQuotes quotes ticks → list_any has_volume_above_limit (states_after_ticks stamp ticks quotes) ≡ list_any (is_symbol_volume_above_limit (sheets base) (abstract_ticks ticks)) (abstract_ticks ticks)
+pub quotes_exceed : (base : Base) (stamp : ℕ) (ticks : List Tick) (quotes : List SymbolState) → BooksInvariant base
+    → AllByRecursion (IsHeld (sheets base) ticks) quotes → HasDistinctQuoteSymbols quotes
+    → HaveQuotes quotes ticks
+    → list_any has_volume_above_limit (states_after_ticks stamp ticks quotes) ≡ list_any (is_symbol_volume_above_limit (sheets base) (abstract_ticks ticks))
+    (abstract_ticks ticks)
 quotes_exceed base stamp ticks quotes books k d known =
     market_exceeds (states_after_ticks stamp ticks quotes)
     ∙ sym (ap (λ b. list_any (λ s. nat_lt greatest_amount s.volume) b.securities) (market_ticks stamp ticks quotes))
     ∙ sym (reads_exceeds (market quotes) stamp (abstract_ticks ticks) (market_books quotes d (quotes_within base ticks quotes books k)) (market_knows quotes ticks known))
     ∙ any-each (is_symbol_volume_above_limit (sheets (market quotes)) (abstract_ticks ticks)) (is_symbol_volume_above_limit (sheets base) (abstract_ticks ticks)) (abstract_ticks ticks)
     (All-mapped (λ u. is_symbol_volume_above_limit (sheets (market quotes)) (abstract_ticks ticks) u ≡ is_symbol_volume_above_limit (sheets base) (abstract_ticks ticks) u) abstract_tick ticks
-    (All-map ticks (λ tick h. ap (λ volume. nat_lt greatest_amount (volume + tick_quantity_sum_of_symbol tick.symbol (abstract_ticks ticks))) (market_volume (sheets base) ticks tick.symbol quotes k d h)) known))
+    (All-map ticks (λ tick h. ap (λ volume. nat_lt greatest_amount (volume + tick_quantity_sum_of_symbol tick.symbol (abstract_ticks ticks)))
+    (market_volume (sheets base) ticks tick.symbol quotes k d h)) known))

@@ -81,7 +81,8 @@ none_after : (before : List SymbolState) (quote : SymbolState) (after : List Sym
 none_after [] quote after d = d.0
 none_after (q ∷ before) quote after d = none_after before quote after d.1
 
-pub quote_of : (t : Tables) (ticks : List Tick) (symbol : Text) (quotes : List SymbolState) → AllByRecursion (IsHeld t ticks) quotes → HasDistinctQuoteSymbols quotes → list_any (is_state_of_symbol symbol) quotes ≡ true
+pub quote_of : (t : Tables) (ticks : List Tick) (symbol : Text) (quotes : List SymbolState) → AllByRecursion (IsHeld t ticks) quotes
+    → HasDistinctQuoteSymbols quotes → list_any (is_state_of_symbol symbol) quotes ≡ true
     → QuoteOf t ticks symbol quotes
 quote_of t ticks symbol quotes r d e =
     let found = some_of (find (is_state_of_symbol symbol) quotes) (some-is-any (is_state_of_symbol symbol) quotes ∙ e) in
@@ -107,7 +108,8 @@ quote_volume t ticks quote k = ap (λ o. option_map_or (λ r. r.volume) o 0) k.l
 pub no_quotes : (t : Tables) (all : List Tick) → AreQuotesOfTicks t all [] []
 no_quotes t all = record { read = tt; apart = tt; quoted = tt }
 
-pub quoted_before : (t : Tables) (all ticks : List Tick) (tick : Tick) (quotes : List Quote) → AreQuotesOfTicks t all ticks (states_of_quotes quotes) → list_any (is_state_of_symbol tick.symbol) (states_of_quotes quotes) ≡ true
+pub quoted_before : (t : Tables) (all ticks : List Tick) (tick : Tick) (quotes : List Quote) → AreQuotesOfTicks t all ticks (states_of_quotes quotes)
+    → list_any (is_state_of_symbol tick.symbol) (states_of_quotes quotes) ≡ true
     → AreQuotesOfTicks t all (ticks ++ tick ∷ []) (states_of_quotes quotes)
 quoted_before t all ticks tick quotes k e =
     record { read = k.read; apart = k.apart; quoted = All-append (HasQuoteIfSymbolHasLastTrade t (states_of_quotes quotes)) ticks (tick ∷ []) k.quoted ((λ h. e), tt) }
@@ -115,12 +117,18 @@ quoted_before t all ticks tick quotes k e =
 pub not_listed : (t : Tables) (all ticks : List Tick) (tick : Tick) (quotes : List Quote) → AreQuotesOfTicks t all ticks (states_of_quotes quotes) → last_trade_row_of_symbol t tick.symbol ≡ None
     → AreQuotesOfTicks t all (ticks ++ tick ∷ []) (states_of_quotes quotes)
 not_listed t all ticks tick quotes k e =
-    record { read = k.read; apart = k.apart; quoted = All-append (HasQuoteIfSymbolHasLastTrade t (states_of_quotes quotes)) ticks (tick ∷ []) k.quoted ((λ h. absurd (none (sym (ap is_some e) ∙ h))), tt) }
+    record {
+      read = k.read;
+      apart = k.apart;
+      quoted =
+          All-append (HasQuoteIfSymbolHasLastTrade t (states_of_quotes quotes)) ticks (tick ∷ []) k.quoted ((λ h. absurd (none (sym (ap is_some e) ∙ h))), tt);
+    }
   where
     none : false ≡ true → ⊥
     none h = absurd (cc)
 
-apart_last : (quotes : List SymbolState) (quote : SymbolState) → HasDistinctQuoteSymbols quotes → NonePass (is_state_of_symbol quote.last.symbol) quotes → HasDistinctQuoteSymbols (quotes ++ quote ∷ [])
+apart_last : (quotes : List SymbolState) (quote : SymbolState) → HasDistinctQuoteSymbols quotes → NonePass (is_state_of_symbol quote.last.symbol) quotes
+    → HasDistinctQuoteSymbols (quotes ++ quote ∷ [])
 apart_last [] quote d h = (tt, tt)
 apart_last (q ∷ quotes) quote d h = (
   All-append (λ other. is_state_of_symbol q.last.symbol other ≡ false) quotes (quote ∷ []) d.0 (texts_back quote.last.symbol q.last.symbol ∙ h.0, tt),
@@ -136,12 +144,14 @@ listed t symbol quote l =
 
 -- what was read for a tick is its quote
 pub read_quote : (t : Tables) (all : List Tick) (tick : Tick) (quote : SymbolState) → last_trade_row_of_symbol t tick.symbol ≡ Some (abstract_last_trade_row quote.last)
-    → IsPermutation (filter (may (price_span_of_first_symbol tick all)) (requests_of_symbol t tick.symbol)) (map abstract_request_row quote.requests) → IsNonDecreasingBy (λ (r : request.RequestRow). r.trade) quote.requests
+    → IsPermutation (filter (may (price_span_of_first_symbol tick all)) (requests_of_symbol t tick.symbol)) (map abstract_request_row quote.requests)
+    → IsNonDecreasingBy (λ (r : request.RequestRow). r.trade) quote.requests
     → IsQuoteOfTick t tick all quote
 read_quote t all tick quote l p o = record { symbol = same_text quote.last.symbol tick.symbol (listed t tick.symbol quote l); last_trade = l; requests = p; order = o }
 
 -- a quote more, of a symbol that had none
-one_more : (t : Tables) (all ticks : List Tick) (tick : Tick) (quotes : List SymbolState) (quote : SymbolState) → AreQuotesOfTicks t all ticks quotes → list_any (is_state_of_symbol tick.symbol) quotes ≡ false
+one_more : (t : Tables) (all ticks : List Tick) (tick : Tick) (quotes : List SymbolState) (quote : SymbolState) → AreQuotesOfTicks t all ticks quotes
+    → list_any (is_state_of_symbol tick.symbol) quotes ≡ false
     → Contains all tick → IsQuoteOfTick t tick all quote → AreQuotesOfTicks t all (ticks ++ tick ∷ []) (quotes ++ quote ∷ [])
 one_more t all ticks tick quotes quote k e m r =
     let none : NonePass (is_state_of_symbol quote.last.symbol) quotes = subst (λ s. NonePass (is_state_of_symbol s) quotes) (sym r.symbol) (any-none (is_state_of_symbol tick.symbol) quotes e) in
@@ -154,6 +164,7 @@ one_more t all ticks tick quotes quote k e m r =
     }
 
 pub quote_read : (t : Tables) (all ticks : List Tick) (tick : Tick) (quotes : List Quote) (quote : Quote) → AreQuotesOfTicks t all ticks (states_of_quotes quotes)
-    → list_any (is_state_of_symbol tick.symbol) (states_of_quotes quotes) ≡ false → Contains all tick → IsQuoteOfTick t tick all (state_of_quote quote) → AreQuotesOfTicks t all (ticks ++ tick ∷ []) (states_of_quotes (quotes ++ quote ∷ []))
+    → list_any (is_state_of_symbol tick.symbol) (states_of_quotes quotes) ≡ false → Contains all tick → IsQuoteOfTick t tick all (state_of_quote quote)
+    → AreQuotesOfTicks t all (ticks ++ tick ∷ []) (states_of_quotes (quotes ++ quote ∷ []))
 quote_read t all ticks tick quotes quote k e m r =
     subst (AreQuotesOfTicks t all (ticks ++ tick ∷ [])) (sym (map-last state_of_quote quotes quote)) (one_more t all ticks tick (states_of_quotes quotes) (state_of_quote quote) k e m r)

@@ -13,7 +13,8 @@ use Rattle.brk_model.specs.Base.{Base, broker_id_of_account, completed_trades, l
 use Rattle.brk_model.specs.Commands as model
 use Rattle.brk_model.specs.Commands.{CompleteTrade, CompletedTrade}
 use Rattle.brk_model.specs.Derived as derived
-use Rattle.brk_model.specs.Derived.{balance_of_account, commission_total_of_broker, due_day_of_completion_stamp, due_day, postings_of_base, shares_of_position, holding_summary_quantity, trade_count_of_broker}
+use Rattle.brk_model.specs.Derived.{balance_of_account, commission_total_of_broker, due_day_of_completion_stamp, due_day, postings_of_base, shares_of_position}
+use Rattle.brk_model.specs.Derived.{holding_summary_quantity, trade_count_of_broker}
 use Rattle.brk_model.specs.Lists.{is_zero}
 use Rattle.brk_model.specs.Records.{Trade}
 use Rattle.brk_model.specs.Results as results
@@ -29,11 +30,13 @@ use Rattle.brk_money.specs.Spelling.{Text}
 use Rattle.brk_money.specs.declared.side.Side.{Side}
 use Rattle.brk_money.specs.declared.side.Side.TheVariants.{Buy, Sell}
 use Rattle.brk_money.specs.declared.status.Status.TheVariants.{Completed}
-use Rattle.brk_changes.specs.Changes.{tables_after_change, tables_after_changes, tables_with_balance, tables_with_broker_totals, tables_with_trade_completed, tables_with_history_row, tables_with_last_stamp, tables_with_lot_change, tables_with_cash_row, tables_with_settlement}
+use Rattle.brk_changes.specs.Changes.{tables_after_change, tables_after_changes, tables_with_balance, tables_with_broker_totals, tables_with_trade_completed}
+use Rattle.brk_changes.specs.Changes.{tables_with_history_row, tables_with_last_stamp, tables_with_lot_change, tables_with_cash_row, tables_with_settlement}
 use Rattle.brk_trade.specs.Outcomes.{deal_of_trade_row, figures_of_result, result_checks, shares_held_after_trade}
 use Rattle.brk_plans.specs.Replies.{abstract_reply}
 use Rattle.brk_trade.specs.Results as planner
-use Rattle.brk_trade.specs.Results.{CompletesExistingTrade, row_changes_of_cash_row, row_changes_of_result, first_cash_type_of_trade, row_changes_of_opened_lot, summary_broker_settlement_changes, row_change_of_summary, row_changes_of_touched_lot, row_changes_of_completed_trade}
+use Rattle.brk_trade.specs.Results.{CompletesExistingTrade, row_changes_of_cash_row, row_changes_of_result, first_cash_type_of_trade, row_changes_of_opened_lot}
+use Rattle.brk_trade.specs.Results.{summary_broker_settlement_changes, row_change_of_summary, row_changes_of_touched_lot, row_changes_of_completed_trade}
 use Rattle.brk_changes.specs.Rows.{cash_type_text, abstract_move_row, abstract_trade_row}
 use Rattle.brk_changes.specs.declared.move_row.MoveRow.{MoveRow}
 use Rattle.brk_changes.specs.declared.change.Change.{Change}
@@ -48,11 +51,14 @@ use Rattle.brk_book_theorems.specs.Books.{BooksInvariant}
 use Rattle.brk_trade_theorems.specs.Plans.{PlanImplementsCommand}
 use Rattle.brk_book_theorems.specs.Steps.{IsAcceptedWithEffect, base_after_command}
 use Rattle.brk_trade_theorems.specs.ResultPlans.{PlanResultPrecondition, PassesFirstResultChecks}
-use Rattle.brk_book_theorems.specs.Results.{tables_with_cash_row_if_cash_trade, tables_with_trade_completed_and_history, tables_with_lots_opened, tables_after_result, result_rows_of_trade, tables_with_summary_changed, tables_with_lots_touched}
+use Rattle.brk_book_theorems.specs.Results.{tables_with_cash_row_if_cash_trade, tables_with_trade_completed_and_history, tables_with_lots_opened}
+use Rattle.brk_book_theorems.specs.Results.{tables_after_result, result_rows_of_trade, tables_with_summary_changed, tables_with_lots_touched}
 use Rattle.brk_book_theorems.specs.TradeReads.{lots_of_position, summary_row_if_nonzero, summary_row_of_position}
 use Rattle.brk_book_theorems.specs.Trading.{history_row_of_status}
 use Rattle.brk_trade_theorems.proofs.QuotedTicks.{after_more}
-use Rattle.brk_trade_theorems.proofs.ResultFinding.{TradeFound, amount_read, balance_read, broker_found, commission_read, commissions_read, held_found, account_found, next_found, passes_rate, passes_status, passes_summary, result_refusal, result_values, rule_found, security_found, summary_found, summary_read, tax_read, trade_found}
+use Rattle.brk_trade_theorems.proofs.ResultFinding.{TradeFound, amount_read, balance_read, broker_found, commission_read, commissions_read, held_found}
+use Rattle.brk_trade_theorems.proofs.ResultFinding.{account_found, next_found, passes_rate, passes_status, passes_summary, result_refusal, result_values}
+use Rattle.brk_trade_theorems.proofs.ResultFinding.{rule_found, security_found, summary_found, summary_read, tax_read, trade_found}
 use Rattle.brk_book_theorems.proofs.ResultKeeping.{Found, books_result, found_at, step_result, submitted}
 use Rattle.brk_book_theorems.proofs.ResultRows.{IsResult, moment_then}
 use Rattle.brk_book_theorems.proofs.ResultSums.{count_grows}
@@ -63,11 +69,13 @@ use Rattle.brk_trade_theorems.proofs.ResultRefusing.{at_market, deal_read, held_
 
 -- ---- the rows
 
-touched_made : (trade : ℕ) (touched : List Touch) (t : Tables) → tables_after_changes (flat_map (row_changes_of_touched_lot trade) touched) t ≡ tables_with_lots_touched trade (map abstract_touch touched) t
+touched_made : (trade : ℕ) (touched : List Touch) (t : Tables)
+    → tables_after_changes (flat_map (row_changes_of_touched_lot trade) touched) t ≡ tables_with_lots_touched trade (map abstract_touch touched) t
 touched_made trade [] t = refl
 touched_made trade (touch ∷ touched) t =
     after_more (row_changes_of_touched_lot trade touch) (flat_map (row_changes_of_touched_lot trade) touched) t
-    ∙ ap (λ u. tables_after_changes (flat_map (row_changes_of_touched_lot trade) touched) (tables_with_lot_change (record { lot = touch.lot; trade = trade; before = touch.before; after = touch.after }) u)) (left touch (is_zero touch.after))
+    ∙ ap (λ u. tables_after_changes (flat_map (row_changes_of_touched_lot trade) touched)
+    (tables_with_lot_change (record { lot = touch.lot; trade = trade; before = touch.before; after = touch.after }) u)) (left touch (is_zero touch.after))
     ∙ touched_made trade touched _
   where
     left : (touch : Touch) (b : Bool) → tables_after_change (cond b (change.RemoveLot touch.lot) (change.SetLot touch.lot touch.after)) t
@@ -75,7 +83,8 @@ touched_made trade (touch ∷ touched) t =
     left touch true = refl
     left touch false = refl
 
-opened_made : (trade : planned.TradeRow) (ls : List Lot) (t : Tables) → tables_after_changes (flat_map (row_changes_of_opened_lot trade) ls) t ≡ tables_with_lots_opened (abstract_trade_row trade) (map abstract_lot ls) t
+opened_made : (trade : planned.TradeRow) (ls : List Lot) (t : Tables)
+    → tables_after_changes (flat_map (row_changes_of_opened_lot trade) ls) t ≡ tables_with_lots_opened (abstract_trade_row trade) (map abstract_lot ls) t
 opened_made trade [] t = refl
 opened_made trade (lot ∷ ls) t = after_more (row_changes_of_opened_lot trade lot) (flat_map (row_changes_of_opened_lot trade) ls) t ∙ opened_made trade ls _
 
@@ -125,7 +134,9 @@ record Planned (base : Base) (price : ℕ) (last : Option ℕ) (now : ℕ) (t : 
   pub result : IsResult base stamp price t front back
   pub some_shares : 0 < found.trade.qty
   pub values : closed.values ≡ result_values base stamp price t
-  pub touched : map abstract_touch closed.touched.items ≡ list_reversed_if_lifo t.is_lifo (touches_of_existing_lots (deal_of_result stamp price t) (shares_of_position (completed_trades base) t.account t.symbol))
+  pub touched : map abstract_touch closed.touched.items
+      ≡ list_reversed_if_lifo t.is_lifo
+      (touches_of_existing_lots (deal_of_result stamp price t) (shares_of_position (completed_trades base) t.account t.symbol))
   pub opened : map abstract_lot (option_to_list closed.opened) ≡ lots_of_shares (opened_shares (deal_of_result stamp price t) (shares_of_position (completed_trades base) t.account t.symbol))
   pub one : PassesFirstResultChecks 1 found
   pub rated : is_none found.rate ≡ false
@@ -143,7 +154,8 @@ record Agrees (base : Base) (price : ℕ) (t : Trade) (found : ResultPlanFacts) 
   pub due : (outcome_planned found price closed stamp).completed.due_day ≡ due_day base.rule (completed_trade base stamp price t)
   pub summary : (outcome_planned found price closed stamp).summary ≡ holding_summary_quantity (completed_trades (base_after_result base stamp price t)) t.account t.symbol
   pub balance : (outcome_planned found price closed stamp).completed.balance ≡ balance_of_account base.accounts (postings_of_base (base_after_result base stamp price t)) t.account
-  pub commissions : (outcome_planned found price closed stamp).commissions ≡ commission_total_of_broker base.accounts (completed_trades (base_after_result base stamp price t)) (broker_id_of_account base t.account)
+  pub commissions : (outcome_planned found price closed stamp).commissions
+      ≡ commission_total_of_broker base.accounts (completed_trades (base_after_result base stamp price t)) (broker_id_of_account base t.account)
   pub trades : pos (found.broker.trades + 1) ≡ pos (trade_count_of_broker base.accounts (completed_trades (base_after_result base stamp price t)) (broker_id_of_account base t.account))
   pub broker : found.account.broker ≡ broker_id_of_account base t.account
 
@@ -187,7 +199,8 @@ told_read base price last now t found closed stamp k =
 -- ---- the changes, one after another
 
 trade_made : (base : Base) (price : ℕ) (last : Option ℕ) (now : ℕ) (t : Trade) (found : ResultPlanFacts) (closed : ClosedLots) (stamp : ℕ) → Planned base price last now t found closed stamp
-    → (x : Tables) → tables_after_changes (row_changes_of_completed_trade found.trade.id price (outcome_planned found price closed stamp).completed) x ≡ tables_with_trade_completed_and_history (trade_row (completed_trade base stamp price t)) x
+    → (x : Tables) → tables_after_changes (row_changes_of_completed_trade found.trade.id price (outcome_planned found price closed stamp).completed) x
+    ≡ tables_with_trade_completed_and_history (trade_row (completed_trade base stamp price t)) x
 unfolding completed_trade
 trade_made base price last now t found closed stamp k x =
     let a = agrees base price last now t found closed stamp k in
@@ -195,8 +208,10 @@ trade_made base price last now t found closed stamp k x =
     λ i. tables_with_history_row (history_row_of_status (k.found_it.row i).id Completed (m i)) (tables_with_trade_completed (k.found_it.row i).id (m i) price (a.commission i) (a.tax i) x)
 
 lots_made : (base : Base) (price : ℕ) (last : Option ℕ) (now : ℕ) (t : Trade) (found : ResultPlanFacts) (closed : ClosedLots) (stamp : ℕ) → Planned base price last now t found closed stamp
-    → (x : Tables) → tables_after_changes (flat_map (row_changes_of_opened_lot found.trade) (option_to_list closed.opened)) (tables_after_changes (flat_map (row_changes_of_touched_lot found.trade.id) closed.touched.items) x)
-    ≡ tables_with_lots_opened (trade_row (completed_trade base stamp price t)) (result_rows_of_trade base stamp price t).opened (tables_with_lots_touched t.id (result_rows_of_trade base stamp price t).touched x)
+    → (x : Tables) → tables_after_changes (flat_map (row_changes_of_opened_lot found.trade) (option_to_list closed.opened))
+    (tables_after_changes (flat_map (row_changes_of_touched_lot found.trade.id) closed.touched.items) x)
+    ≡ tables_with_lots_opened (trade_row (completed_trade base stamp price t)) (result_rows_of_trade base stamp price t).opened
+    (tables_with_lots_touched t.id (result_rows_of_trade base stamp price t).touched x)
 unfolding completed_trade
 lots_made base price last now t found closed stamp k x =
     ap (tables_after_changes (flat_map (row_changes_of_opened_lot found.trade) (option_to_list closed.opened))) (touched_made found.trade.id closed.touched.items x)
@@ -210,7 +225,8 @@ cash_type_read false = refl
 -- the summary is a row where it is not 0
 summary_row_is : (base : Base) (price : ℕ) (last : Option ℕ) (now : ℕ) (t : Trade) (found : ResultPlanFacts) (closed : ClosedLots) (stamp : ℕ) → Planned base price last now t found closed stamp
     → (x : Tables) → tables_after_change (row_change_of_summary found.summary found.trade (outcome_planned found price closed stamp).summary) x
-    ≡ tables_with_summary_changed (holding_summary_quantity (completed_trades base) t.account t.symbol) (holding_summary_quantity (completed_trades (base_after_result base stamp price t)) t.account t.symbol)
+    ≡ tables_with_summary_changed (holding_summary_quantity (completed_trades base) t.account t.symbol)
+    (holding_summary_quantity (completed_trades (base_after_result base stamp price t)) t.account t.symbol)
     (record { account = t.account; symbol = t.symbol; qty = holding_summary_quantity (completed_trades (base_after_result base stamp price t)) t.account t.symbol }) x
 summary_row_is base price last now t found closed stamp k x =
     let a = agrees base price last now t found closed stamp k in
@@ -218,12 +234,16 @@ summary_row_is base price last now t found closed stamp k x =
     let held : unwrap_or found.summary (pos 0) ≡ holding_summary_quantity (completed_trades base) t.account t.symbol = held_found base t found f k.two in
     let row : summary_row_of_position (sheets base) t.account t.symbol ≡ summary_row_if_nonzero t.account t.symbol (holding_summary_quantity (completed_trades base) t.account t.symbol) =
     reads_summary_row base t.account t.symbol f.books (ap is_some f.owner.there) (ap is_some f.listed_is) in
-    summary_made found (summary_row_of_position (sheets base) t.account t.symbol) (holding_summary_quantity (completed_trades base) t.account t.symbol) (shares_held_after_trade found) x (summary_found base t found f k.two)
-    (λ e. none_zero t.account t.symbol (holding_summary_quantity (completed_trades base) t.account t.symbol) (is_zero (holding_summary_quantity (completed_trades base) t.account t.symbol)) refl (sym row ∙ e))
-    (λ r e. some_left t.account t.symbol (holding_summary_quantity (completed_trades base) t.account t.symbol) (is_zero (holding_summary_quantity (completed_trades base) t.account t.symbol)) refl r (sym row ∙ e))
+    summary_made found (summary_row_of_position (sheets base) t.account t.symbol) (holding_summary_quantity (completed_trades base) t.account t.symbol)
+    (shares_held_after_trade found) x (summary_found base t found f k.two)
+    (λ e. none_zero t.account t.symbol (holding_summary_quantity (completed_trades base) t.account t.symbol)
+    (is_zero (holding_summary_quantity (completed_trades base) t.account t.symbol)) refl (sym row ∙ e))
+    (λ r e. some_left t.account t.symbol (holding_summary_quantity (completed_trades base) t.account t.symbol)
+    (is_zero (holding_summary_quantity (completed_trades base) t.account t.symbol)) refl r (sym row ∙ e))
     (λ e. ap (λ o. is_zero (unwrap_or o (pos 0) +ℤ signed_by_side (side_of_trade_type found.trade.kind) found.trade.qty)) (summary_found base t found f k.two ∙ ap (option_map (λ r. r.qty)) e)
     ∙ moved_some (side_of_trade_type found.trade.kind) found.trade.qty k.some_shares)
-    ∙ (λ i. tables_with_summary_changed (holding_summary_quantity (completed_trades base) t.account t.symbol) (a.summary i) (record { account = (f.row i).account; symbol = (f.row i).symbol; qty = a.summary i }) x)
+    ∙ (λ i. tables_with_summary_changed (holding_summary_quantity (completed_trades base) t.account t.symbol) (a.summary i)
+    (record { account = (f.row i).account; symbol = (f.row i).symbol; qty = a.summary i }) x)
   where
     none_zero : (account : ℕ) (symbol : Text) (q : ℤ) (b : Bool) → is_zero q ≡ b → summary_row_if_nonzero account symbol q ≡ None → is_zero q ≡ true
     none_zero account symbol q true e h = e
@@ -241,7 +261,8 @@ sums_made : (base : Base) (price : ℕ) (last : Option ℕ) (now : ℕ) (t : Tra
     → (x : Tables) → tables_after_changes (summary_broker_settlement_changes found (outcome_planned found price closed stamp)) x
     ≡ tables_with_settlement (result_rows_of_trade base stamp price t).settlement
     (tables_with_broker_totals (result_rows_of_trade base stamp price t).broker (result_rows_of_trade base stamp price t).trades (result_rows_of_trade base stamp price t).commissions
-    (tables_with_summary_changed (holding_summary_quantity (completed_trades base) t.account t.symbol) (holding_summary_quantity (completed_trades (base_after_result base stamp price t)) t.account t.symbol)
+    (tables_with_summary_changed (holding_summary_quantity (completed_trades base) t.account t.symbol)
+    (holding_summary_quantity (completed_trades (base_after_result base stamp price t)) t.account t.symbol)
     (record { account = t.account; symbol = t.symbol; qty = holding_summary_quantity (completed_trades (base_after_result base stamp price t)) t.account t.symbol }) x))
 unfolding completed_trade
 sums_made base price last now t found closed stamp k x =
@@ -313,7 +334,8 @@ cash_made base price last now t found closed stamp k cash moved x = by_cash t.is
         let j : Some (abstract_move_row c) ≡ Some moves =
         h ∙ ap (λ b. cond b (Some moves) None) e in
         let same : abstract_move_row c ≡ row = unsome (abstract_move_row c) moves j ∙ (λ i. record row { name = sym (name e) i }) in
-        (λ i. tables_with_balance (f.row i).account (a.balance i) (tables_with_cash_row (same i) x)) ∙ sym (ap (λ b. tables_with_cash_row_if_cash_trade b row t.account (result_rows_of_trade base stamp price t).balance x) e)
+        (λ i. tables_with_balance (f.row i).account (a.balance i) (tables_with_cash_row (same i) x))
+        ∙ sym (ap (λ b. tables_with_cash_row_if_cash_trade b row t.account (result_rows_of_trade base stamp price t).balance x) e)
     by_cash false e None h = sym (ap (λ b. tables_with_cash_row_if_cash_trade b row t.account (result_rows_of_trade base stamp price t).balance x) e)
     by_cash false e (Some c) h =
         let j : Some (abstract_move_row c) ≡ None =
@@ -323,7 +345,8 @@ cash_made base price last now t found closed stamp k cash moved x = by_cash t.is
 -- all of them
 changes_made : (base : Base) (price : ℕ) (last : Option ℕ) (now : ℕ) (t : Trade) (found : ResultPlanFacts) (closed : ClosedLots) (stamp : ℕ) → Planned base price last now t found closed stamp
     → (cash : Option MoveRow) → option_map abstract_move_row cash ≡ planner.cash_row_of_result found (outcome_planned found price closed stamp).completed → (x : Tables)
-    → tables_after_changes (row_changes_of_result found price closed (outcome_planned found price closed stamp) cash) x ≡ tables_with_last_stamp stamp (tables_after_result (result_rows_of_trade base stamp price t) x)
+    → tables_after_changes (row_changes_of_result found price closed (outcome_planned found price closed stamp) cash) x
+    ≡ tables_with_last_stamp stamp (tables_after_result (result_rows_of_trade base stamp price t) x)
 unfolding completed_trade
 changes_made base price last now t found closed stamp k cash moved x =
     let o : ResultFigures = outcome_planned found price closed stamp in
@@ -345,15 +368,20 @@ changes_made base price last now t found closed stamp k cash moved x =
 
 -- an accepted result is done by its rows
 pub result_done : (base : Base) (id price now stamp : ℕ) (t : Trade) → BooksInvariant base → trade_with_id base id ≡ Some t → refusal_of_command base now (CompleteTrade id price) ≡ None
-    → stamp ≡ stamp_of_next_command base now → IsAcceptedWithEffect base now (CompleteTrade id price) stamp (CompletedTrade stamp (completion_of_trade base stamp price t)) (tables_after_result (result_rows_of_trade base stamp price t))
+    → stamp ≡ stamp_of_next_command base now
+    → IsAcceptedWithEffect base now (CompleteTrade id price) stamp (CompletedTrade stamp (completion_of_trade base stamp price t))
+    (tables_after_result (result_rows_of_trade base stamp price t))
 unfolding reply_to_command
 result_done base id price now stamp t books e accepted next =
-    is_done base now (CompleteTrade id price) stamp (CompletedTrade stamp (completion_of_trade base stamp price t)) (λ stamp. tables_after_result (result_rows_of_trade base stamp price t)) books accepted next
-    (ap (λ o. option_map_or (λ t. CompletedTrade (stamp_of_next_command base now) (completion_of_trade base (stamp_of_next_command base now) price t)) o (model.Booked (stamp_of_next_command base now))) e
+    is_done base now (CompleteTrade id price) stamp (CompletedTrade stamp (completion_of_trade base stamp price t))
+    (λ stamp. tables_after_result (result_rows_of_trade base stamp price t)) books accepted next
+    (ap (λ o. option_map_or (λ t. CompletedTrade (stamp_of_next_command base now) (completion_of_trade base (stamp_of_next_command base now) price t)) o
+    (model.Booked (stamp_of_next_command base now))) e
     ∙ (λ i. CompletedTrade (sym next i) (completion_of_trade base (sym next i) price t)))
     (step_result base now id price t e) (books_result base now id price)
 
-pub result_plan_does : (base : Base) (id price : ℕ) (found : Option ResultPlanFacts) (given : List Lot → Type 0) (last : Option ℕ) (now : ℕ) (plan : Plan) → PlanResultPrecondition base id found given last now
+pub result_plan_does : (base : Base) (id price : ℕ) (found : Option ResultPlanFacts) (given : List Lot → Type 0) (last : Option ℕ) (now : ℕ) (plan : Plan)
+    → PlanResultPrecondition base id found given last now
     → CompletesExistingTrade found price given last now plan → PlanImplementsCommand base now (CompleteTrade id price) plan
 result_plan_does base id price None given last now plan k p = absurd p
 result_plan_does base id price (Some found) given last now plan k p =
@@ -362,7 +390,8 @@ result_plan_does base id price (Some found) given last now plan k p =
     let next : p.stamp ≡ stamp_of_next_command base now = stamp_read base last now p.stamp k.last_read p.stamped in
     let tests = none_refuse (result_checks found price p.closed.values (Some p.stamp)) p.accepted in
     let held = lots_of_position (sheets base) found.trade.account found.trade.symbol in
-    let met = lots_met base id found given k.books k.trade_read (at_market found tests.0) (k.lots_read (passes_status found tests.0)) (held_by_row base t.0 found f (passes_rate found tests.0 tests.1.0)) in
+    let met = lots_met base id found given k.books k.trade_read (at_market found tests.0) (k.lots_read (passes_status found tests.0))
+    (held_by_row base t.0 found f (passes_rate found tests.0 tests.1.0)) in
     let closes : IsEffectOfDealOnLots (deal_of_trade_row found.trade price p.stamp) held p.closed = p.closes held met in
     let deal : deal_of_trade_row found.trade price p.stamp ≡ deal_of_result p.stamp price t.0 = deal_read t.0 found price p.stamp t.2 in
     let same : shares_of_lots held ≡ shares_of_position (completed_trades base) t.0.account t.0.symbol = lots_shares base t.0 found f in
@@ -388,7 +417,8 @@ result_plan_does base id price (Some found) given last now plan k p =
     } in
     let done = result_done base id price now p.stamp t.0 k.books t.1 accepted next in
     record {
-      steps = done.steps ∙ ap (λ reply. Ok (reply, base_after_command base now (CompleteTrade id price))) (told_read base price last now t.0 found p.closed p.stamp made ∙ sym (ap abstract_reply p.replied));
+      steps = done.steps ∙ ap (λ reply. Ok (reply, base_after_command base now (CompleteTrade id price)))
+          (told_read base price last now t.0 found p.closed p.stamp made ∙ sym (ap abstract_reply p.replied));
       rows = done.rows ∙ sym (changes_made base price last now t.0 found p.closed p.stamp made p.changes.cash p.changes.moved (sheets base))
           ∙ sym (ap (λ changes. tables_after_changes changes (sheets base)) p.changes.changed);
       books_after = done.books_after;

@@ -6,10 +6,13 @@ use Rattle.std.proofs.lemmas.Bool.{eqb-true}
 use Rattle.brk_lots.specs.Values.{closing_values_of_deal}
 use Rattle.brk_lots.specs.declared.values.Values.{Values}
 use Rattle.brk_model.specs.Base as base_spec
-use Rattle.brk_model.specs.Base.{Base, commission_band_for_quantity, is_taxable_status, broker_id_of_account, broker_with_id, completed_trades, customer_id_of_account, exchange_of_security, has_last_status, last_status_change, security_name, security_with_symbol, is_withholding_status, tax_status_in_accounts, tier_of_account, trade_with_id}
+use Rattle.brk_model.specs.Base.{Base, commission_band_for_quantity, is_taxable_status, broker_id_of_account, broker_with_id, completed_trades}
+use Rattle.brk_model.specs.Base.{customer_id_of_account, exchange_of_security, has_last_status, last_status_change, security_name, security_with_symbol}
+use Rattle.brk_model.specs.Base.{is_withholding_status, tax_status_in_accounts, tier_of_account, trade_with_id}
 use Rattle.brk_model.specs.Commands.{CompleteTrade}
 use Rattle.brk_model.specs.Derived as derived
-use Rattle.brk_model.specs.Derived.{balance_of_account, commission_total_of_broker, due_day_of_completion_stamp, postings_of_base, signed_proceeds, shares_of_position, holding_summary_quantity, trade_count_of_broker}
+use Rattle.brk_model.specs.Derived.{balance_of_account, commission_total_of_broker, due_day_of_completion_stamp, postings_of_base, signed_proceeds}
+use Rattle.brk_model.specs.Derived.{shares_of_position, holding_summary_quantity, trade_count_of_broker}
 use Rattle.brk_model.specs.Joins.{account_row_with_id, security_row_with_symbol}
 use Rattle.brk_model.specs.Limits.{greatest_amount, greatest_summary}
 use Rattle.brk_model.specs.Records.{Account, Band, Broker, StatusChange, Security, Trade}
@@ -26,7 +29,8 @@ use Rattle.brk_money.specs.declared.refusal.Limit.TheVariants as limit
 use Rattle.brk_money.specs.declared.refusal.Refusal.TheVariants.{ClockEnd, NoRate, NoTrade, Range, TooEarly, WrongStatus}
 use Rattle.brk_money.specs.declared.status.Status.TheVariants.{Canceled, Submitted}
 use Rattle.brk_money.specs.declared.tax_status.TaxStatus.TheVariants.{Untaxed}
-use Rattle.brk_trade.specs.Outcomes.{settlement_amount_of_result, balance_after_result, commission_of_result, broker_commissions_after_result, due_day_check, result_checks, shares_held_after_trade, tax_of_result}
+use Rattle.brk_trade.specs.Outcomes.{settlement_amount_of_result, balance_after_result, commission_of_result, broker_commissions_after_result, due_day_check}
+use Rattle.brk_trade.specs.Outcomes.{result_checks, shares_held_after_trade, tax_of_result}
 use Rattle.brk_changes.specs.Rows.{abstract_trade_row}
 use Rattle.brk_trade.specs.declared.result_found.ResultAccount.{ResultAccount}
 use Rattle.brk_trade.specs.declared.result_found.ResultPlanFacts.{ResultPlanFacts}
@@ -96,7 +100,8 @@ rate_read base t found k p =
     found.rate ≡ option_map (λ b. b.rate) (commission_band_of_quantity (sheets base) c.tier r.kind s.exchange r.qty)))) k.row (k.read.rate p) in
     subst (λ x. IfSome x (λ s. found.rate ≡ option_map (λ b. b.rate) (commission_band_of_quantity (sheets base) k.owner.c.tier t.kind s.exchange t.qty))) row
     (of_customer base t.account
-    (λ c. IfSome (security_row_with_symbol (sheets base) t.symbol) (λ s. found.rate ≡ option_map (λ b. b.rate) (commission_band_of_quantity (sheets base) c.tier t.kind s.exchange t.qty))) k.owner told)
+    (λ c. IfSome (security_row_with_symbol (sheets base) t.symbol)
+    (λ s. found.rate ≡ option_map (λ b. b.rate) (commission_band_of_quantity (sheets base) c.tier t.kind s.exchange t.qty))) k.owner told)
     ∙ ap (option_map (λ b. b.rate)) (reads_band base k.owner.c.tier t.kind k.listed.exchange t.qty k.books
     ∙ (λ i. commission_band_for_quantity base (sym (tier_found base t.account k.owner) i) t.kind (sym exchange i) t.qty))
 
@@ -112,7 +117,12 @@ held_found base t found k p =
 
 -- an account, as the definitions have it
 abbrev pub account_is : Base → Trade → ResultAccount
-account_is base t = record { broker = broker_id_of_account base t.account; tax_status = tax_status_in_accounts base.accounts t.account; balance = balance_of_account base.accounts (postings_of_base base) t.account }
+account_is base t = record {
+  broker = broker_id_of_account base t.account;
+  tax_status = tax_status_in_accounts base.accounts t.account;
+  balance =
+      balance_of_account base.accounts (postings_of_base base) t.account;
+}
 
 account_id : (base : Base) (account : ℕ) (f : OwnerFound base account) → f.a.id ≡ account
 account_id base account f = let g : FoundAt Account (λ a. a.id == account) f.a base.accounts = find-at (λ a. a.id == account) base.accounts f.a f.there in eqb-true f.a.id account g.passes
@@ -128,7 +138,8 @@ account_found base t found k p =
       balance = balance_of_account base.accounts (postings_of_base base) (account_id base t.account k.owner i);
     })
 
-rates_found : (base : Base) (t : Trade) (found : ResultPlanFacts) → TradeFound base t found → PassesFirstResultChecks 3 found → found.rates ≡ base_spec.tax_rate_sum_of_customer base (customer_id_of_account base t.account)
+rates_found : (base : Base) (t : Trade) (found : ResultPlanFacts) → TradeFound base t found → PassesFirstResultChecks 3 found
+    → found.rates ≡ base_spec.tax_rate_sum_of_customer base (customer_id_of_account base t.account)
 rates_found base t found k p =
     of_account base t.account (λ a. found.rates ≡ customer_tax_rate_sum (sheets base) a.customer) k.owner
     (subst (λ (r : TradeRow). IfSome (account_row_with_id (sheets base) r.account) (λ a. found.rates ≡ customer_tax_rate_sum (sheets base) a.customer)) k.row (k.read.rates p))
@@ -189,7 +200,8 @@ tax_read base stamp price t found k p =
     let g : ℤ = realised_gain (deal_of_result stamp price t) (shares_of_position (completed_trades base) t.account t.symbol) in
     λ i. cond (is_taxable_status (account_found base t found k p i).tax_status) (tax g (rates_found base t found k p i)) 0
 
-pub amount_read : (base : Base) (stamp price : ℕ) (t : Trade) (found : ResultPlanFacts) → TradeFound base t found → PassesFirstResultChecks 3 found → is_none found.rate ≡ false → PassesFirstResultChecks 1 found
+pub amount_read : (base : Base) (stamp price : ℕ) (t : Trade) (found : ResultPlanFacts) → TradeFound base t found → PassesFirstResultChecks 3 found
+    → is_none found.rate ≡ false → PassesFirstResultChecks 1 found
     → settlement_amount_of_result found price (result_values base stamp price t) ≡ derived.settlement_amount base.accounts (completed_trade base stamp price t)
 unfolding completed_trade
 amount_read base stamp price t found k p h q =
@@ -212,16 +224,20 @@ balance_read base stamp price t xs ys found k r p h q =
     m = amount_read base stamp price t found k p h q
 
     by_cash : (b : Bool) → t.is_cash ≡ b
-        → cond t.is_cash (balance_of_account base.accounts (postings_of_base base) t.account +ℤ derived.settlement_amount base.accounts (completed_trade base stamp price t)) (balance_of_account base.accounts (postings_of_base base) t.account)
+        → cond t.is_cash (balance_of_account base.accounts (postings_of_base base) t.account +ℤ derived.settlement_amount base.accounts
+        (completed_trade base stamp price t)) (balance_of_account base.accounts (postings_of_base base) t.account)
         ≡ balance_of_account base.accounts (postings_of_base (base_after_result base stamp price t)) t.account
     by_cash true e =
-        ap (λ b. cond b (balance_of_account base.accounts (postings_of_base base) t.account +ℤ derived.settlement_amount base.accounts (completed_trade base stamp price t)) (balance_of_account base.accounts (postings_of_base base) t.account)) e
+        ap (λ b. cond b (balance_of_account base.accounts (postings_of_base base) t.account +ℤ derived.settlement_amount base.accounts
+        (completed_trade base stamp price t)) (balance_of_account base.accounts (postings_of_base base) t.account)) e
         ∙ sym (balance_grows base stamp price t xs ys r e)
     by_cash false e =
-        ap (λ b. cond b (balance_of_account base.accounts (postings_of_base base) t.account +ℤ derived.settlement_amount base.accounts (completed_trade base stamp price t)) (balance_of_account base.accounts (postings_of_base base) t.account)) e
+        ap (λ b. cond b (balance_of_account base.accounts (postings_of_base base) t.account +ℤ derived.settlement_amount base.accounts
+        (completed_trade base stamp price t)) (balance_of_account base.accounts (postings_of_base base) t.account)) e
         ∙ sym (balance_stays base stamp price t xs ys r e)
 
-pub summary_read : (base : Base) (stamp price : ℕ) (t : Trade) (xs ys : List Trade) (found : ResultPlanFacts) → TradeFound base t found → IsResult base stamp price t xs ys → PassesFirstResultChecks 2 found
+pub summary_read : (base : Base) (stamp price : ℕ) (t : Trade) (xs ys : List Trade) (found : ResultPlanFacts) → TradeFound base t found
+    → IsResult base stamp price t xs ys → PassesFirstResultChecks 2 found
     → shares_held_after_trade found ≡ holding_summary_quantity (completed_trades (base_after_result base stamp price t)) t.account t.symbol
 summary_read base stamp price t xs ys found k r p =
     (λ i. held_found base t found k p i +ℤ signed_by_side (side_of_trade_type (k.row i).kind) (k.row i).qty) ∙ sym (summary_grows base stamp price t xs ys r)
@@ -243,7 +259,9 @@ status_read t found row = ap (λ (r : TradeRow). not (is_same_trade_status r.sta
 
 -- a stamp that is left, and the day of settlement
 due_read : (base : Base) (last : Option ℕ) (now : ℕ) (o : Option ℕ) → BooksInvariant base → last ≡ (sheets base).last → now ≤ greatest_stamp → stamp_after last now ≡ o
-    → first_refusal (due_day_check base.rule o ∷ []) ≡ first_refusal ((nat_lt greatest_day (due_day_of_completion_stamp base.rule (stamp_of_next_command base now)), ClockEnd) ∷ (nat_lt greatest_stamp (stamp_of_next_command base now), ClockEnd) ∷ (false, TooEarly) ∷ [])
+    → first_refusal (due_day_check base.rule o ∷ [])
+    ≡ first_refusal ((nat_lt greatest_day (due_day_of_completion_stamp base.rule (stamp_of_next_command base now)), ClockEnd)
+    ∷ (nat_lt greatest_stamp (stamp_of_next_command base now), ClockEnd) ∷ (false, TooEarly) ∷ [])
 due_read base last now None books l h e =
     let late : true ≡ nat_lt greatest_stamp (stamp_of_next_command base now) = sym (ap is_none e) ∙ clock_read base last now books l h in
     by_day (nat_lt greatest_day (due_day_of_completion_stamp base.rule (stamp_of_next_command base now)))
@@ -265,12 +283,15 @@ due_read base last now (Some stamp) books l h e =
 all_alike : (base : Base) (now id price : ℕ) (t : Trade) (found : ResultPlanFacts) (last : Option ℕ) → TradeFound base t found → trade_with_id base id ≡ Some t
     → last ≡ (sheets base).last → now ≤ greatest_stamp
     → Alike (result_checks found price (result_values base (stamp_of_next_command base now) price t) (stamp_after last now))
-    (model.checks_of_result base (base_after_result base (stamp_of_next_command base now) price t) (stamp_of_next_command base now) t ++ (nat_lt greatest_stamp (stamp_of_next_command base now), ClockEnd) ∷ (false, TooEarly) ∷ [])
+    (model.checks_of_result base (base_after_result base (stamp_of_next_command base now) price t) (stamp_of_next_command base now) t
+    ++ (nat_lt greatest_stamp (stamp_of_next_command base now), ClockEnd) ∷ (false, TooEarly) ∷ [])
 all_alike base now id price t found last k e l h =
     subst (λ s. Alike ((not (is_same_trade_status found.trade.status Submitted), WrongStatus s) ∷ F) G) (ap (λ (r : TradeRow). r.status) (sym k.row))
     (same_first _ _ (WrongStatus (last_status_of_trade t)) _ _ (status_read t found k.row) (λ a.
     same_first _ _ NoRate _ _
-    (ap is_none (rate_read base t found k (passes_status found a)) ∙ is_none-map (λ b. b.rate) (commission_band_for_quantity base (tier_of_account base t.account) t.kind (exchange_of_security base t.symbol) t.qty)) (λ b.
+    (ap is_none (rate_read base t found k (passes_status found a))
+    ∙ is_none-map (λ b. b.rate) (commission_band_for_quantity base (tier_of_account base t.account) t.kind (exchange_of_security base t.symbol) t.qty))
+    (λ b.
     let f : Found base now price t = found_at base now id price t k.books e (not_not (has_last_status Submitted t) (sym (status_read t found k.row) ∙ a)) in
     let one = passes_status found a in
     same_first _ _ (Range limit.Summary) _ _
@@ -280,7 +301,10 @@ all_alike base now id price t found last k e l h =
     (λ i. (k.row i).is_cash && nat_lt greatest_amount (nat_abs (balance_read base stamp price t f.front f.back found k f.result three b one i))) (λ d.
     same_first _ _ (Range limit.Broker) _ _
     (ap (λ n. nat_lt greatest_amount n) (commissions_read base stamp price t f.front f.back found k f.result three b one)) (λ g.
-    record { first = ap (λ rule. first_refusal (due_day_check rule (stamp_after last now) ∷ [])) (rule_found base t found k three) ∙ due_read base last now (stamp_after last now) k.books l h refl }))))))
+    record {
+      first = ap (λ rule. first_refusal (due_day_check rule (stamp_after last now) ∷ [])) (rule_found base t found k three)
+          ∙ due_read base last now (stamp_after last now) k.books l h refl;
+    }))))))
   where
     stamp : ℕ
     stamp = stamp_of_next_command base now
@@ -302,12 +326,16 @@ pub result_refusal : (base : Base) (now id price : ℕ) (t : Trade) (found : Res
 unfolding refusal_of_command checks_of_command
 result_refusal base now id price t found last k e l h =
     (all_alike base now id price t found last k e l h).first
-    ∙ sym (ap (λ o. first_refusal (option_map_or (λ t. model.checks_of_result base (base_after_result base (stamp_of_next_command base now) price t) (stamp_of_next_command base now) t) o ((true, NoTrade) ∷ [])
+    ∙ sym (ap (λ o. first_refusal
+    (option_map_or (λ t. model.checks_of_result base (base_after_result base (stamp_of_next_command base now) price t) (stamp_of_next_command base now) t) o
+    ((true, NoTrade) ∷ [])
     ++ (nat_lt greatest_stamp (stamp_of_next_command base now), ClockEnd) ∷ (false, TooEarly) ∷ [])) e)
 
 -- a result of no trade
 pub nothing_refused : (base : Base) (now id price : ℕ) → trade_with_id base id ≡ None → refusal_of_command base now (CompleteTrade id price) ≡ Some NoTrade
 unfolding refusal_of_command checks_of_command
 nothing_refused base now id price e =
-    ap (λ o. first_refusal (option_map_or (λ t. model.checks_of_result base (base_after_result base (stamp_of_next_command base now) price t) (stamp_of_next_command base now) t) o ((true, NoTrade) ∷ [])
+    ap (λ o. first_refusal
+    (option_map_or (λ t. model.checks_of_result base (base_after_result base (stamp_of_next_command base now) price t) (stamp_of_next_command base now) t) o
+    ((true, NoTrade) ∷ [])
     ++ (nat_lt greatest_stamp (stamp_of_next_command base now), ClockEnd) ∷ (false, TooEarly) ∷ [])) e

@@ -56,7 +56,8 @@ lots_shares base t found f =
 
 -- a trade at the market meets those of a position, from one of its ends, none of which it opened
 pub lots_met : (base : Base) (id : ℕ) (found : ResultPlanFacts) (given : List Lot → Type 0) → BooksInvariant base → trade_row_with_id (sheets base) id ≡ Some (abstract_trade_row found.trade)
-    → is_same_trade_status found.trade.status Submitted ≡ true → TradeLotsSatisfy (sheets base) found.trade given → shares_held_before_trade found ≡ holding_summary_quantity (completed_trades base) found.trade.account found.trade.symbol
+    → is_same_trade_status found.trade.status Submitted ≡ true → TradeLotsSatisfy (sheets base) found.trade given
+    → shares_held_before_trade found ≡ holding_summary_quantity (completed_trades base) found.trade.account found.trade.symbol
     → AreLotsBeforeTrade given found (lots_of_position (sheets base) found.trade.account found.trade.symbol)
 lots_met base id found given books e s k h =
     let trade = found.trade in
@@ -64,14 +65,16 @@ lots_met base id found given books e s k h =
     let at_market : has_last_status Submitted t.0 ≡ true = sym (ap (λ (r : TradeRow). is_same_trade_status r.status Submitted) t.2 ∙ mark_status (last_status_change t.0)) ∙ s in
     let g : FoundAt Trade (λ u. u.id == id) t.0 base.trades = find-at (λ u. u.id == id) base.trades t.0 t.1 in
     let same : trade.id ≡ id = ap (λ (r : TradeRow). r.id) t.2 ∙ eqb-true t.0.id id g.passes in
-    let fresh : AreOpenedByOtherTrades id (lots_of_position (sheets base) trade.account trade.symbol) = new_of_waiting base id trade.account trade.symbol t.0 books t.1 (submitted_not_completed t.0 at_market) in (
+    let fresh : AreOpenedByOtherTrades id (lots_of_position (sheets base) trade.account trade.symbol) =
+    new_of_waiting base id trade.account trade.symbol t.0 books t.1 (submitted_not_completed t.0 at_market) in (
       lots_given base trade.account trade.symbol trade.is_lifo given books k,
       subst (λ (m : ℕ). AreOpenedByOtherTrades m (lots_of_position (sheets base) trade.account trade.symbol)) (sym same) fresh,
       h ∙ sym (total_is base trade.account trade.symbol books),
     )
 
 -- what it holds in all, by its row
-pub held_by_row : (base : Base) (t : Trade) (found : ResultPlanFacts) → TradeFound base t found → PassesFirstResultChecks 2 found → shares_held_before_trade found ≡ holding_summary_quantity (completed_trades base) found.trade.account found.trade.symbol
+pub held_by_row : (base : Base) (t : Trade) (found : ResultPlanFacts) → TradeFound base t found → PassesFirstResultChecks 2 found
+    → shares_held_before_trade found ≡ holding_summary_quantity (completed_trades base) found.trade.account found.trade.symbol
 held_by_row base t found f p = held_found base t found f p ∙ sym (ap (λ (r : TradeRow). holding_summary_quantity (completed_trades base) r.account r.symbol) f.row)
 
 -- it meets them as the definitions say
@@ -88,7 +91,8 @@ at_market found e = by_status (is_same_trade_status found.trade.status Submitted
     by_status true e = refl
     by_status false e = absurd (cc)
 
-pub result_refused : (base : Base) (id price : ℕ) (found : Option ResultPlanFacts) (given : List Lot → Type 0) (last : Option ℕ) (now : ℕ) (refusal : Refusal) → PlanResultPrecondition base id found given last now
+pub result_refused : (base : Base) (id price : ℕ) (found : Option ResultPlanFacts) (given : List Lot → Type 0) (last : Option ℕ) (now : ℕ) (refusal : Refusal)
+    → PlanResultPrecondition base id found given last now
     → IsResultRefusal found price given last now refusal → step base now (CompleteTrade id price) ≡ Err refusal
 result_refused base id price None given last now refusal k r =
     refused_step base now (CompleteTrade id price) refusal (nothing_refused base now id price (no_trade (trade_with_id base id) refl) ∙ ap Some (sym r))
@@ -120,7 +124,8 @@ result_refused base id price (Some found) given last now refusal k r = by_first 
         let p = none_refuse (checks_before_reading_lots found) e in
         let held = held_by_row base t.0 found f (passes_rate found p.0 p.1.0) in
         let met = lots_met base id found given k.books k.trade_read (at_market found p.0) (k.lots_read (passes_status found p.0)) held in
-        let values : closing_values_of_deal (deal_of_trade_row found.trade price stamp) (shares_of_lots (lots_of_position (sheets base) found.trade.account found.trade.symbol)) ≡ result_values base stamp price t.0 =
+        let values : closing_values_of_deal (deal_of_trade_row found.trade price stamp)
+        (shares_of_lots (lots_of_position (sheets base) found.trade.account found.trade.symbol)) ≡ result_values base stamp price t.0 =
         λ i. closing_values_of_deal (deal_read t.0 found price stamp t.2 i) (lots_shares base t.0 found f i) in
         refused_step base now (CompleteTrade id price) refusal
         (sym of_base ∙ sym (ap (λ v. first_refusal (result_checks found price v (stamp_after last now))) values)

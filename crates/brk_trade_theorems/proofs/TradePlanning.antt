@@ -52,11 +52,13 @@ stamp_read base last now stamp l e = stamp_is last now stamp e ∙ ap (λ o. unl
 
 -- an accepted command is done by a change that leads to its rows
 pub is_done : (base : Base) (now : ℕ) (command : Command) (stamp : ℕ) (reply : Reply) (change : ℕ → Tables → Tables) → BooksInvariant base → refusal_of_command base now command ≡ None
-    → stamp ≡ stamp_of_next_command base now → reply_to_command base (stamp_of_next_command base now) command ≡ reply → HasTableEffect base now command (change (stamp_of_next_command base now)) → PreservesBooksInvariant base now command
+    → stamp ≡ stamp_of_next_command base now → reply_to_command base (stamp_of_next_command base now) command ≡ reply
+    → HasTableEffect base now command (change (stamp_of_next_command base now)) → PreservesBooksInvariant base now command
     → IsAcceptedWithEffect base now command stamp reply (change stamp)
 unfolding step
 is_done base now command stamp reply change books e s told rows kept = record {
-  steps = ap (λ o. value_unless_refused o (reply_to_command base (stamp_of_next_command base now) command, base_after_command base now command)) e ∙ ap (λ reply. Ok (reply, base_after_command base now command)) told;
+  steps = ap (λ o. value_unless_refused o (reply_to_command base (stamp_of_next_command base now) command, base_after_command base now command)) e
+      ∙ ap (λ reply. Ok (reply, base_after_command base now command)) told;
   rows = rows books e ∙ ap (λ stamp. tables_with_last_stamp stamp (change stamp (sheets base))) (sym s);
   books_after = kept books e;
 }
@@ -115,7 +117,8 @@ feed_refusal base now ticks books h = by_unknown (list_any unknown ticks) refl
     unknown tick = is_none (security_with_symbol base tick.symbol)
 
     same : list_any (is_tick_of_unknown_symbol (sheets base)) ticks ≡ list_any unknown ticks
-    same = any-same (is_tick_of_unknown_symbol (sheets base)) unknown ticks (λ tick. ap is_none (reads_last_trade base tick.symbol) ∙ is_none-map last_trade_row (security_with_symbol base tick.symbol))
+    same = any-same (is_tick_of_unknown_symbol (sheets base)) unknown ticks
+        (λ tick. ap is_none (reads_last_trade base tick.symbol) ∙ is_none-map last_trade_row (security_with_symbol base tick.symbol))
 
     clock : is_none (stamp_after (sheets base).last now) ≡ nat_lt greatest_stamp (stamp_of_next_command base now)
     clock = clock_read base (sheets base).last now books refl h

@@ -140,7 +140,8 @@ selected t symbol span =
     let others = filter (λ r. not (is_loss r)) all in
     let split = IsPermutation-filter_both is_loss (λ r. not (is_loss r)) (λ r. refl) all in
     let again = IsPermutation-filter_both is_sell (λ r. not (is_sell r)) (λ r. refl) others in
-    let joined = IsPermutation-append (filter is_loss all) (filter is_loss all) others (filter is_sell others ++ filter (λ r. not (is_sell r)) others) (IsPermutation-refl (filter is_loss all)) again in
+    let joined = IsPermutation-append (filter is_loss all) (filter is_loss all) others (filter is_sell others ++ filter (λ r. not (is_sell r)) others)
+    (IsPermutation-refl (filter is_loss all)) again in
     let whole = IsPermutation-trans all (filter is_loss all ++ others) (filter is_loss all ++ (filter is_sell others ++ filter (λ r. not (is_sell r)) others)) split joined in
     subst (IsPermutation all)
     ((λ i. losses i ++ (sells i ++ buys i)) ∙ append_assoc (stop_losses t symbol span) (limit_sells t symbol span) (limit_buys t symbol span)) whole
@@ -158,7 +159,9 @@ selected t symbol span =
     append_assoc [] ys zs = refl
     append_assoc (x ∷ xs) ys zs = ap (λ us. x ∷ us) (append_assoc xs ys zs)
 
-    loss_test : (s : Bool) (kind : TradeType) (bid : ℕ) → (s && is_request_triggered_in_span span kind bid) && is_same_trade_type kind StopLoss ≡ s && (is_same_trade_type kind StopLoss && nat_le span.lowest bid)
+    loss_test : (s : Bool) (kind : TradeType) (bid : ℕ)
+        → (s && is_request_triggered_in_span span kind bid) && is_same_trade_type kind StopLoss ≡ s
+        && (is_same_trade_type kind StopLoss && nat_le span.lowest bid)
     loss_test false kind bid = refl
     loss_test true StopLoss bid = and_one (nat_le span.lowest bid)
     loss_test true LimitSell bid = and_none (nat_le bid span.highest)
@@ -167,7 +170,8 @@ selected t symbol span =
     loss_test true MarketSell bid = refl
 
     sell_test : (s : Bool) (kind : TradeType) (bid : ℕ)
-        → ((s && is_request_triggered_in_span span kind bid) && not (is_same_trade_type kind StopLoss)) && is_same_trade_type kind LimitSell ≡ s && (is_same_trade_type kind LimitSell && nat_le bid span.highest)
+        → ((s && is_request_triggered_in_span span kind bid) && not (is_same_trade_type kind StopLoss)) && is_same_trade_type kind LimitSell ≡ s
+        && (is_same_trade_type kind LimitSell && nat_le bid span.highest)
     sell_test false kind bid = refl
     sell_test true StopLoss bid = and_none (nat_le span.lowest bid && false)
     sell_test true LimitSell bid = and_one (nat_le bid span.highest && true) ∙ and_one (nat_le bid span.highest)
@@ -176,7 +180,8 @@ selected t symbol span =
     sell_test true MarketSell bid = refl
 
     buy_test : (s : Bool) (kind : TradeType) (bid : ℕ)
-        → ((s && is_request_triggered_in_span span kind bid) && not (is_same_trade_type kind StopLoss)) && not (is_same_trade_type kind LimitSell) ≡ s && (is_same_trade_type kind LimitBuy && nat_le span.lowest bid)
+        → ((s && is_request_triggered_in_span span kind bid) && not (is_same_trade_type kind StopLoss)) && not (is_same_trade_type kind LimitSell) ≡ s
+        && (is_same_trade_type kind LimitBuy && nat_le span.lowest bid)
     buy_test false kind bid = refl
     buy_test true StopLoss bid = and_one (nat_le span.lowest bid && false) ∙ and_none (nat_le span.lowest bid)
     buy_test true LimitSell bid = and_none (nat_le bid span.highest && true)
@@ -248,7 +253,15 @@ requests_decide a b = (
       let r = and_parts (bytes_eq a.symbol b.symbol) _ q.1 in
       let m = and_parts (a.qty == b.qty) _ r.1 in
       let n = and_parts (a.bid == b.bid) (a.broker == b.broker) m.1 in
-      λ i. record { trade = eqb-true a.trade b.trade p.0 i; kind = (kinds a.kind b.kind).0 q.0 i; symbol = (bytes_eq-Decides a.symbol b.symbol).0 r.0 i; qty = eqb-true a.qty b.qty m.0 i; bid = eqb-true a.bid b.bid n.0 i; broker = eqb-true a.broker b.broker n.1 i }),
+      λ i. record {
+        trade = eqb-true a.trade b.trade p.0 i;
+        kind = (kinds a.kind b.kind).0 q.0 i;
+        symbol = (bytes_eq-Decides a.symbol b.symbol).0 r.0 i;
+        qty =
+            eqb-true a.qty b.qty m.0 i;
+        bid = eqb-true a.bid b.bid n.0 i;
+        broker = eqb-true a.broker b.broker n.1 i;
+      }),
   (λ e.
       and_from (a.trade == b.trade) _ (eq-eqb a.trade b.trade (ap (λ (r : RequestRow). r.trade) e))
       (and_from (is_same_trade_type a.kind b.kind) _ ((kinds a.kind b.kind).1 (ap (λ (r : RequestRow). r.kind) e))

@@ -40,7 +40,8 @@ does u None last now plan base read p = absurd p
 does u (Some found) last now plan base read p = update_does base u found last now plan read p
 
 pub update_decided : (u : Update) (found : Option TextUpdate) (last : Option ℕ) (now : ℕ) → now ≤ greatest_stamp → (result : Result (Result Plan Refusal) Fault)
-    → IfOk result (λ planned. MatchResult planned (λ plan. MatchOption found ⊥ (λ found. IsUpdatePlan found last now plan)) (λ refusal. first_refusal (update_checks u found ++ later_stamp_check last now ∷ []) ≡ Some refusal))
+    → IfOk result (λ planned. MatchResult planned (λ plan. MatchOption found ⊥ (λ found. IsUpdatePlan found last now plan))
+    (λ refusal. first_refusal (update_checks u found ++ later_stamp_check last now ∷ []) ≡ Some refusal))
     → IfOk result (λ planned. (t : Tables) → UpdateFactsAndLastStampMatch u found last t → DecidesCommand now (text_update_command u) planned t)
 update_decided u found last now moment (Ok (Ok plan)) p = λ t known base books e. does u found last now plan base (looked_up u found last now moment t known base books e) p
 update_decided u found last now moment (Ok (Err refusal)) p = λ t known base books e. update_refused base u found last now refusal (looked_up u found last now moment t known base books e) p

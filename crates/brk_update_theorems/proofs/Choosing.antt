@@ -40,7 +40,8 @@ chosen_rows base row_test test first last n same =
     (λ t i. mark_completed (last_status_change t) i && (same t i && trade_stamp_is_between first last t))
     ∙ ap (map trade_row) (filter-both is_completed wanted base.trades))
     ∙ ap (take 20)
-    (sort-map (λ t u. is_pair_less (last_status_stamp_of_trade t) (last_status_stamp_of_trade u) t.id u.id) (λ a b. is_pair_less a.stamp b.stamp a.id b.id) trade_row (filter wanted (completed_trades base)) (λ a b. refl))
+    (sort-map (λ t u. is_pair_less (last_status_stamp_of_trade t) (last_status_stamp_of_trade u) t.id u.id) (λ a b. is_pair_less a.stamp b.stamp a.id b.id)
+    trade_row (filter wanted (completed_trades base)) (λ a b. refl))
     ∙ take-map trade_row 20 (trades_oldest_first (filter wanted (completed_trades base)))
 
 pub account_rows : (base : Base) (account first last : ℕ) → TradesAreNumberedFrom 1 base.trades

@@ -22,7 +22,9 @@ use Rattle.brk_model.specs.Sheets.{sheets, tables_sorted_by_key}
 use Rattle.brk_model.specs.Step.{base_after_command_unstamped, reply_to_command, step, value_unless_refused}
 use Rattle.brk_model.specs.Tables.{MoveRow, SecurityRow, SettlementRow, Tables, TradeRow, numbered_move_rows, security_row, settlement_row, tables_of_base_in_schema, trade_row}
 use Rattle.brk_model.specs.Tests.{first_refusal, stamp_of_next_command, refusal_of_command, checks_of_command}
-use Rattle.brk_model.specs.Updates.{updated_cash_row_name, updated_cash_type, updated_executor_name, selected_trade_ids_of_account, selected_trade_ids_of_symbol, trade_stamp_is_between, base_with_updated_cash_names, base_with_updated_cash_types, base_with_updated_executors}
+use Rattle.brk_model.specs.Updates.{updated_cash_row_name, updated_cash_type, updated_executor_name, selected_trade_ids_of_account}
+use Rattle.brk_model.specs.Updates.{selected_trade_ids_of_symbol, trade_stamp_is_between, base_with_updated_cash_names, base_with_updated_cash_types}
+use Rattle.brk_model.specs.Updates.{base_with_updated_executors}
 use Rattle.brk_orders.specs.Records.{text_update_command}
 use Rattle.brk_orders.specs.declared.update.Update as told
 use Rattle.brk_orders.specs.declared.update.Update.TheVariants as update
@@ -53,7 +55,10 @@ use Rattle.brk_trade_theorems.proofs.TradePlanning.{refused_step, stamp_read}
 use Rattle.brk_book_theorems.proofs.TradeReading.{reads_trade}
 use Rattle.brk_book_theorems.proofs.Trades.{whole}
 use Rattle.brk_book_theorems.proofs.Volumes.{any-same}
-use Rattle.brk_update_theorems.specs.Corrections.{CashTextsMatchTables, SettlementTextsMatchTables, AreTradesWithIds, SelectedTradesMatchTables, UpdateFactsMatchTables, SecurityHasName, PlanUpdatePrecondition, CashTextRow, SettlementTextRow, cash_row_of_trade, cash_text_row_in_tables, cash_text_row_of_typed_row, settlement_text_row_in_tables, settlement_text_row_of_typed_row, settlement_row_of_trade}
+use Rattle.brk_update_theorems.specs.Corrections.{CashTextsMatchTables, SettlementTextsMatchTables, AreTradesWithIds, SelectedTradesMatchTables}
+use Rattle.brk_update_theorems.specs.Corrections.{UpdateFactsMatchTables, SecurityHasName, PlanUpdatePrecondition, CashTextRow, SettlementTextRow}
+use Rattle.brk_update_theorems.specs.Corrections.{cash_row_of_trade, cash_text_row_in_tables, cash_text_row_of_typed_row, settlement_text_row_in_tables}
+use Rattle.brk_update_theorems.specs.Corrections.{settlement_text_row_of_typed_row, settlement_row_of_trade}
 use Rattle.brk_update_theorems.proofs.Choosing.{account_rows, chosen_trades, of_chosen, symbol_rows}
 use Rattle.brk_update_theorems.proofs.Owning.{own_cash, own_rows, own_settlements}
 use Rattle.brk_update_theorems.proofs.Rewording.{reworded, tables_reworded}
@@ -92,7 +97,8 @@ executors_along t [] = refl
 executors_along t (c ∷ cs) = executors_along (executor_name_update c t) cs
 
 -- the rows that were found, one for each id
-found_each : (t : Tables) (rows : List row.TradeRow) (ids : List ℕ) → AreTradesWithIds t ids rows → AllByRecursion (λ c. trade_row_with_id t c.id ≡ Some (abstract_trade_row c)) rows × (map (λ c. c.id) rows ≡ ids)
+found_each : (t : Tables) (rows : List row.TradeRow) (ids : List ℕ) → AreTradesWithIds t ids rows
+    → AllByRecursion (λ c. trade_row_with_id t c.id ≡ Some (abstract_trade_row c)) rows × (map (λ c. c.id) rows ≡ ids)
 found_each t [] [] e = (tt, refl)
 found_each t [] (id ∷ ids) e = absurd (cc)
 found_each t (c ∷ rows) [] e = absurd (cc)
@@ -119,7 +125,8 @@ executors_set base ids rows books read =
     executors_rows base ids
     ∙ sym (executors_along (sheets base) rows
     ∙ ap (λ trades. record (sheets base) { trades = trades })
-    (all_set (λ (r : TradeRow). r.id) (λ w (r : TradeRow). record r { executor = w }) (λ (c : row.TradeRow). c.id) (λ (c : row.TradeRow). updated_executor_name (string_bytes c.executor)) trade_row (λ t. updated_executor_name t.executor)
+    (all_set (λ (r : TradeRow). r.id) (λ w (r : TradeRow). record r { executor = w }) (λ (c : row.TradeRow). c.id)
+    (λ (c : row.TradeRow). updated_executor_name (string_bytes c.executor)) trade_row (λ t. updated_executor_name t.executor)
     (λ w r. refl) (λ v w r. refl) (λ t. refl) trade_key (λ w r. refl) rows base.trades
     (All-map base.trades (λ t own. All-map rows (λ c f same.
     let at : t.id ≡ c.id = eqb-true t.id c.id same in
@@ -148,7 +155,10 @@ resettled p t = by_test (p t)
     by_test false = refl
 
 pub cash_types_rows : (base : Base) (ids : List ℕ) → sheets (base_with_updated_cash_types ids base)
-    ≡ record (sheets base) { settlements = rows_sorted_by_key settlement_key (map (λ t. record (settlement_row base.accounts base.rule t) { cash_type = word_then (λ t. contains_number t.id ids) t }) (completed_trades base)) }
+    ≡ record (sheets base) {
+      settlements = rows_sorted_by_key settlement_key
+          (map (λ t. record (settlement_row base.accounts base.rule t) { cash_type = word_then (λ t. contains_number t.id ids) t }) (completed_trades base));
+    }
 unfolding tables_of_base_in_schema tables_sorted_by_key
 cash_types_rows base ids =
     let p : Trade → Bool = λ t. contains_number t.id ids in
@@ -156,12 +166,17 @@ cash_types_rows base ids =
     ∙ tables_reworded (λ t. t.executor) (word_then p) (λ t. t.cash_name) base
 
 cash_types_along : (t : Tables) (cs : List SettlementText) → fold (λ t c. cash_type_update c t) t cs
-    ≡ record t { settlements = fold (λ rows c. update_where (λ r. r.trade == c.trade) (λ r. record r { cash_type = planner.toggled_cash_type_text c.is_cash (cash_type_text c.cash_type) }) rows) t.settlements cs }
+    ≡ record t {
+      settlements =
+          fold (λ rows c. update_where (λ r. r.trade == c.trade)
+          (λ r. record r { cash_type = planner.toggled_cash_type_text c.is_cash (cash_type_text c.cash_type) }) rows) t.settlements cs;
+    }
 cash_types_along t [] = refl
 cash_types_along t (c ∷ cs) = cash_types_along (cash_type_update c t) cs
 
 -- what was found of each trade that is chosen
-found_of : {C R : Type 0} (view : C → R) (told : TradeRow → R) (id : R → ℕ) (cs : List C) (us : List Trade) (P : Trade → Type 0) → ((u : Trade) → id (told (trade_row u)) ≡ u.id) → map view cs ≡ map told (map trade_row us) → AllByRecursion P us
+found_of : {C R : Type 0} (view : C → R) (told : TradeRow → R) (id : R → ℕ) (cs : List C) (us : List Trade) (P : Trade → Type 0)
+    → ((u : Trade) → id (told (trade_row u)) ≡ u.id) → map view cs ≡ map told (map trade_row us) → AllByRecursion P us
     → AllByRecursion (λ c. (u : Trade) × (view c ≡ told (trade_row u)) × P u) cs × (map (λ c. id (view c)) cs ≡ map (λ u. u.id) us)
 found_of view told id [] [] P own e h = (tt, refl)
 found_of view told id [] (u ∷ us) P own e h = absurd (cc)
@@ -176,32 +191,41 @@ found_of view told id (c ∷ cs) (u ∷ us) P own e h =
 same_row : (base : Base) (t u : Trade) → t.id ≡ u.id → trade_row_with_id (sheets base) t.id ≡ Some (trade_row t) → trade_row_with_id (sheets base) u.id ≡ Some (trade_row u) → trade_row u ≡ trade_row t
 same_row base t u same own other = some_is _ _ (sym other ∙ ap (trade_row_with_id (sheets base)) (sym same) ∙ own)
 
-pub cash_types_set : (base : Base) (account first last : ℕ) (cs : List SettlementText) → BooksInvariant base → SettlementTextsMatchTables (sheets base) (first_twenty_completed_trade_rows_of_account account first last (sheets base)) cs
+pub cash_types_set : (base : Base) (account first last : ℕ) (cs : List SettlementText) → BooksInvariant base
+    → SettlementTextsMatchTables (sheets base) (first_twenty_completed_trade_rows_of_account account first last (sheets base)) cs
     → sheets (base_with_updated_cash_types (selected_trade_ids_of_account base account first last) base) ≡ fold (λ t c. cash_type_update c t) (sheets base) cs
 unfolding tables_of_base_in_schema tables_sorted_by_key
 cash_types_set base account first last cs books read =
     let us : List Trade = chosen_trades base (λ t. t.account == account) first last in
     let ids : List ℕ = selected_trade_ids_of_account base account first last in
     let rows = own_rows base books.numbered in
-    let found = found_of settlement_text_row_of_typed_row (settlement_text_row_in_tables (sheets base)) (λ r. r.0) cs us _ (λ u. refl) (read ∙ ap (map (settlement_text_row_in_tables (sheets base))) (account_rows base account first last books.numbered))
+    let found = found_of settlement_text_row_of_typed_row (settlement_text_row_in_tables (sheets base)) (λ r. r.0) cs us _ (λ u. refl)
+    (read ∙ ap (map (settlement_text_row_in_tables (sheets base))) (account_rows base account first last books.numbered))
     (of_chosen _ base (λ t. t.account == account) first last rows) in
     cash_types_rows base ids
     ∙ sym (cash_types_along (sheets base) cs
     ∙ ap (λ settlements. record (sheets base) { settlements = settlements })
-    (all_set (λ (r : SettlementRow). r.trade) (λ w (r : SettlementRow). record r { cash_type = w }) (λ (c : SettlementText). c.trade) (λ (c : SettlementText). planner.toggled_cash_type_text c.is_cash (cash_type_text c.cash_type))
+    (all_set (λ (r : SettlementRow). r.trade) (λ w (r : SettlementRow). record r { cash_type = w }) (λ (c : SettlementText). c.trade)
+    (λ (c : SettlementText). planner.toggled_cash_type_text c.is_cash (cash_type_text c.cash_type))
     (settlement_row base.accounts base.rule) updated_cash_type (λ w r. refl) (λ v w r. refl) (λ t. refl) settlement_key (λ w r. refl) cs (completed_trades base)
     (All-map (completed_trades base) (λ t own. All-map cs (λ c f same.
     let at : t.id ≡ f.0.id = eqb-true t.id c.trade same ∙ ap (λ (r : SettlementTextRow). r.0) f.1 in
     let one : trade_row f.0 ≡ trade_row t = same_row base t f.0 at own.0 f.2.0 in
     let word : cash_type_text c.cash_type ≡ t.cash_type =
-    some_is _ _ (ap (λ (r : SettlementTextRow). r.2) f.1 ∙ ap (λ (n : ℕ). option_map (λ (s : SettlementRow). s.cash_type) (settlement_row_of_trade (sheets base) n)) (sym at) ∙ ap (option_map (λ (s : SettlementRow). s.cash_type)) own.1) in
+    some_is _ _ (ap (λ (r : SettlementTextRow). r.2) f.1
+    ∙ ap (λ (n : ℕ). option_map (λ (s : SettlementRow). s.cash_type) (settlement_row_of_trade (sheets base) n)) (sym at)
+    ∙ ap (option_map (λ (s : SettlementRow). s.cash_type)) own.1) in
     λ i. planner.toggled_cash_type_text ((ap (λ (r : SettlementTextRow). r.1) f.1 ∙ ap (λ (r : TradeRow). r.is_cash) one) i) (word i)) found.0)
     (All-both _ _ (completed_trades base) (All-filter _ is_completed base.trades rows) (own_settlements base books.numbered)))
     ∙ ap (rows_sorted_by_key settlement_key)
-    (ap (λ is. map (λ t. cond (contains_number t.id is) (record (settlement_row base.accounts base.rule t) { cash_type = updated_cash_type t }) (settlement_row base.accounts base.rule t)) (completed_trades base)) found.1
-    ∙ map-same _ (λ t. record (settlement_row base.accounts base.rule t) { cash_type = word_then (λ t. contains_number t.id ids) t }) (completed_trades base) (All-of (completed_trades base) (λ t. by_test t (contains_number t.id ids))))))
+    (ap (λ is. map (λ t. cond (contains_number t.id is) (record (settlement_row base.accounts base.rule t) { cash_type = updated_cash_type t })
+    (settlement_row base.accounts base.rule t)) (completed_trades base)) found.1
+    ∙ map-same _ (λ t. record (settlement_row base.accounts base.rule t) { cash_type = word_then (λ t. contains_number t.id ids) t }) (completed_trades base)
+    (All-of (completed_trades base) (λ t. by_test t (contains_number t.id ids))))))
   where
-    by_test : (t : Trade) (b : Bool) → (let r : SettlementRow = cond b (record (settlement_row base.accounts base.rule t) { cash_type = updated_cash_type t }) (settlement_row base.accounts base.rule t) in r)
+    by_test : (t : Trade) (b : Bool)
+        → (let r : SettlementRow =
+        cond b (record (settlement_row base.accounts base.rule t) { cash_type = updated_cash_type t }) (settlement_row base.accounts base.rule t) in r)
         ≡ record (settlement_row base.accounts base.rule t) { cash_type = cond b (updated_cash_type t) t.cash_type }
     by_test t true = refl
     by_test t false = refl
@@ -257,7 +281,8 @@ cash_names_set base symbol first last name cs books is_named read =
     let us : List Trade = chosen_trades base test first last in
     let ids : List ℕ = selected_trade_ids_of_symbol base symbol first last in
     let rows = own_rows base books.numbered in
-    let found = found_of cash_text_row_of_typed_row (cash_text_row_in_tables (sheets base)) (λ r. r.0) cs us _ (λ u. refl) (read ∙ ap (map (cash_text_row_in_tables (sheets base))) (symbol_rows base symbol first last books.numbered))
+    let found = found_of cash_text_row_of_typed_row (cash_text_row_in_tables (sheets base)) (λ r. r.0) cs us _ (λ u. refl)
+    (read ∙ ap (map (cash_text_row_in_tables (sheets base))) (symbol_rows base symbol first last books.numbered))
     (of_chosen _ base test first last rows) in
     cash_names_rows base ids
     ∙ sym (cash_names_along name (sheets base) cs
@@ -271,11 +296,14 @@ cash_names_set base symbol first last name cs books is_named read =
     let one : trade_row f.0 ≡ trade_row t = same_row base t f.0 at own.0 f.2.0 in
     let text : string_bytes c.name ≡ t.cash_name =
     some_is _ _ (ap (λ (r : CashTextRow). r.3) f.1 ∙ ap (λ (n : ℕ). option_map (λ (r : MoveRow). r.name) (cash_row_of_trade (sheets base) n)) (sym at) ∙ own.1) in
-    let its_symbol : t.symbol ≡ symbol = ap (λ (r : TradeRow). r.symbol) (sym one) ∙ same_text f.0.symbol symbol (and_last f.0.is_cash (bytes_eq f.0.symbol symbol) (trade_stamp_is_between first last f.0) f.2.1) in
+    let its_symbol : t.symbol ≡ symbol = ap (λ (r : TradeRow). r.symbol) (sym one)
+    ∙ same_text f.0.symbol symbol (and_last f.0.is_cash (bytes_eq f.0.symbol symbol) (trade_stamp_is_between first last f.0) f.2.1) in
     let its_name : name ≡ security_name base t.symbol = sym (ap (security_name base) its_symbol ∙ name_is base symbol name is_named) in
-    λ i. planner.toggled_cash_text ((ap (λ (r : CashTextRow). r.1) f.1 ∙ ap (λ (r : TradeRow). r.kind) one) i) ((ap (λ (r : CashTextRow). r.2) f.1 ∙ ap (λ (r : TradeRow). r.qty) one) i) (its_name i) (text i)) found.0)
+    λ i. planner.toggled_cash_text ((ap (λ (r : CashTextRow). r.1) f.1 ∙ ap (λ (r : TradeRow). r.kind) one) i)
+    ((ap (λ (r : CashTextRow). r.2) f.1 ∙ ap (λ (r : TradeRow). r.qty) one) i) (its_name i) (text i)) found.0)
     (All-both _ _ (cash_trades (completed_trades base)) (All-filter _ (λ t. t.is_cash) (completed_trades base) (All-filter _ is_completed base.trades rows)) (own_cash base books.numbered)))
-    ∙ ap (λ is. map (λ t. record (posting_of_trade base.accounts t) { name = cond (contains_number t.id is) (updated_cash_row_name base t) t.cash_name }) (cash_trades (completed_trades base)) ++ map posting_of_movement base.movements) found.1)))
+    ∙ ap (λ is. map (λ t. record (posting_of_trade base.accounts t) { name = cond (contains_number t.id is) (updated_cash_row_name base t) t.cash_name })
+    (cash_trades (completed_trades base)) ++ map posting_of_movement base.movements) found.1)))
 
 -- ---- whether it is refused
 
@@ -314,15 +342,18 @@ lacking_is t (update.CashNames symbol span) (Some (corrected.CashTypes settled))
 lacking_is t (update.CashNames symbol span) (Some (corrected.CashNames name paid)) k = sym (has_name (security_row_with_symbol t symbol) name k.0)
 
 tested : (base : Base) (u : told.Update) (now : ℕ)
-    → first_refusal ((is_lacking u (sheets base), missing_target_refusal u) ∷ (nat_lt greatest_stamp (stamp_of_next_command base now), ClockEnd) ∷ []) ≡ refusal_of_command base now (text_update_command u)
+    → first_refusal ((is_lacking u (sheets base), missing_target_refusal u) ∷ (nat_lt greatest_stamp (stamp_of_next_command base now), ClockEnd) ∷ [])
+    ≡ refusal_of_command base now (text_update_command u)
 unfolding is_lacking refusal_of_command checks_of_command
 tested base (update.Executors ids) now =
     ap (λ b. first_refusal ((b, NoTrade) ∷ (nat_lt greatest_stamp (stamp_of_next_command base now), ClockEnd) ∷ []))
     (any-same (λ id. is_none (trade_row_with_id (sheets base) id)) (λ id. is_none (trade_with_id base id)) ids (λ id. ap is_none (reads_trade base id) ∙ is_none-map trade_row (trade_with_id base id)))
 tested base (update.CashTypes account span) now =
-    ap (λ b. first_refusal ((b, NoAccount) ∷ (nat_lt greatest_stamp (stamp_of_next_command base now), ClockEnd) ∷ [])) (ap is_none (reads_account base account) ∙ is_none-map _ (account_with_id base account))
+    ap (λ b. first_refusal ((b, NoAccount) ∷ (nat_lt greatest_stamp (stamp_of_next_command base now), ClockEnd) ∷ []))
+    (ap is_none (reads_account base account) ∙ is_none-map _ (account_with_id base account))
 tested base (update.CashNames symbol span) now =
-    ap (λ b. first_refusal ((b, NoSecurity) ∷ (nat_lt greatest_stamp (stamp_of_next_command base now), ClockEnd) ∷ [])) (ap is_none (reads_security base symbol) ∙ is_none-map security_row (security_with_symbol base symbol))
+    ap (λ b. first_refusal ((b, NoSecurity) ∷ (nat_lt greatest_stamp (stamp_of_next_command base now), ClockEnd) ∷ []))
+    (ap is_none (reads_security base symbol) ∙ is_none-map security_row (security_with_symbol base symbol))
 
 pub update_read : (base : Base) (u : told.Update) (found : Option TextUpdate) (last : Option ℕ) (now : ℕ) → PlanUpdatePrecondition base u found last now
     → first_refusal (update_checks u found ++ later_stamp_check last now ∷ []) ≡ refusal_of_command base now (text_update_command u)
@@ -355,7 +386,8 @@ counted : {X R : Type 0} (row : X → R) (told : TradeRow → R) (xs : List X) (
 counted row told xs us e =
     sym (length-map xs row) ∙ ap length e ∙ length-map (map trade_row us) told ∙ length-map us trade_row ∙ sym (length-map us (λ (t : Trade). t.id))
 
-count_is : (base : Base) (stamp : ℕ) (u : told.Update) (found : TextUpdate) → BooksInvariant base → SelectedTradesMatchTables (sheets base) u found → reply_to_command base stamp (text_update_command u) ≡ Changed stamp (count_of_updated_trades found)
+count_is : (base : Base) (stamp : ℕ) (u : told.Update) (found : TextUpdate) → BooksInvariant base → SelectedTradesMatchTables (sheets base) u found
+    → reply_to_command base stamp (text_update_command u) ≡ Changed stamp (count_of_updated_trades found)
 unfolding reply_to_command
 count_is base stamp (update.Executors ids) (corrected.Executors trades) books k =
     ap (Changed stamp) (ap length (sym (found_each (sheets base) trades.items ids k).1) ∙ length-map trades.items (λ (c : row.TradeRow). c.id))
@@ -369,7 +401,9 @@ count_is base stamp (update.CashTypes account span) (corrected.CashNames name pa
 count_is base stamp (update.CashNames symbol span) (corrected.Executors trades) books k = absurd k
 count_is base stamp (update.CashNames symbol span) (corrected.CashTypes settled) books k = absurd k
 count_is base stamp (update.CashNames symbol span) (corrected.CashNames name paid) books k =
-    ap (Changed stamp) (sym (counted cash_text_row_of_typed_row (cash_text_row_in_tables (sheets base)) paid.items (chosen_trades base (λ t. t.is_cash && bytes_eq t.symbol symbol) span.first span.last)
+    ap (Changed stamp) (sym
+    (counted cash_text_row_of_typed_row (cash_text_row_in_tables (sheets base)) paid.items
+    (chosen_trades base (λ t. t.is_cash && bytes_eq t.symbol symbol) span.first span.last)
     (k.1 ∙ ap (map (cash_text_row_in_tables (sheets base))) (symbol_rows base symbol span.first span.last books.numbered))))
 
 changes_are : (changes : List Change) (t : Tables) → tables_after_changes changes t ≡ fold (λ t f. f t) t (map tables_after_change changes)
@@ -394,6 +428,7 @@ update_does base u found last now plan k p =
       steps = ap (λ o. value_unless_refused o (reply_to_command base stamp command, base_after_command base now command)) accepted ∙ ap (λ reply. Ok (reply, base_after_command base now command)) told;
       rows = whole (base_after_command_unstamped base stamp command) stamp _ (words_changed base stamp u found k.books k.found_read)
           ∙ ap (λ (s : ℕ). tables_with_last_stamp s (fold (λ t f. f t) (sheets base) (table_updates_of_text_update found))) (sym at)
-          ∙ sym (changes_are plan.changes.items (sheets base) ∙ ap (fold (λ t f. f t) (sheets base)) p.changes ∙ fold-last (table_updates_of_text_update found) (tables_with_last_stamp p.stamp) (sheets base));
+          ∙ sym (changes_are plan.changes.items (sheets base) ∙ ap (fold (λ t f. f t) (sheets base)) p.changes
+          ∙ fold-last (table_updates_of_text_update found) (tables_with_last_stamp p.stamp) (sheets base));
       books_after = books_command base now command k.books accepted;
     }

@@ -10,8 +10,12 @@ use Rattle.brk_model.specs.Lists.{is_zero, sort_by_key, total_by}
 use Rattle.brk_model.specs.Records.{Account, Broker, Movement, SettleRule, Trade}
 use Rattle.brk_model.specs.Base.{Base, broker_id_in_accounts, completed_trades, has_last_status, is_completed, last_status_stamp_of_trade, opening_balance_in_accounts}
 use Rattle.brk_model.specs.Shares.{lot_quantity, replay, signed_by_side}
-use Rattle.brk_model.specs.Derived.{Posting, balance_of_account, cash_trades, commission_total_of_broker, deal_of_trade, deals_of_position, trades_of_account, trades_of_broker, trades_of_position, pending_trades, postings_to_account, posting_of_movement, posting_of_trade, postings, postings_sorted_by_stamp, shares_of_position, holding_summary_quantity, trade_count_of_broker}
-use Rattle.brk_model.specs.Tables.{HoldingRow, MoveRow, SettlementRow, SummaryRow, TradeRow, account_row, broker_row, rows_by_position, history_rows, holding_row, holding_history_over_deals, holding_history_rows_of_lot, numbered_move_rows, request_row, settlement_row, summary_rows, tables_of_base_in_schema, tables_from_completed_trades, trade_row}
+use Rattle.brk_model.specs.Derived.{Posting, balance_of_account, cash_trades, commission_total_of_broker, deal_of_trade, deals_of_position, trades_of_account}
+use Rattle.brk_model.specs.Derived.{trades_of_broker, trades_of_position, pending_trades, postings_to_account, posting_of_movement, posting_of_trade, postings}
+use Rattle.brk_model.specs.Derived.{postings_sorted_by_stamp, shares_of_position, holding_summary_quantity, trade_count_of_broker}
+use Rattle.brk_model.specs.Tables.{HoldingRow, MoveRow, SettlementRow, SummaryRow, TradeRow, account_row, broker_row, rows_by_position, history_rows}
+use Rattle.brk_model.specs.Tables.{holding_row, holding_history_over_deals, holding_history_rows_of_lot, numbered_move_rows, request_row, settlement_row}
+use Rattle.brk_model.specs.Tables.{summary_rows, tables_of_base_in_schema, tables_from_completed_trades, trade_row}
 use Rattle.brk_model.specs.Schemas.{third_schema}
 use Rattle.brk_model.specs.Keys.{account_key, broker_key, rows_sorted_by_key, history_key, holding_history_key, holding_key, cash_move_key, request_key, settlement_key, summary_key, trade_key}
 use Rattle.brk_model.specs.Sheets.{sheets, tables_sorted_by_key}
@@ -27,7 +31,8 @@ nameless_balance : (accounts : List Account) (ps : List Posting) (account : ℕ)
 unfolding balance_of_account
 nameless_balance accounts ps account =
     ap (λ n. opening_balance_in_accounts accounts account +ℤ n)
-    (sym (ap (total_by (λ p. p.amount)) (filter-map (λ p. p.account == account) (λ p. p.account == account) no_name ps (λ p. refl)) ∙ total-map (λ p. p.amount) no_name (postings_to_account ps account)))
+    (sym (ap (total_by (λ p. p.amount)) (filter-map (λ p. p.account == account) (λ p. p.account == account) no_name ps (λ p. refl))
+    ∙ total-map (λ p. p.amount) no_name (postings_to_account ps account)))
 
 -- a trade with other words
 abbrev pub reworded : (Trade → Text) → (Trade → Text) → (Trade → Text) → Trade → Trade
@@ -48,7 +53,9 @@ module _ (x y z : Trade → Text) where
   deals_reworded : (done : List Trade) (account : ℕ) (symbol : Text) → deals_of_position (map f done) account symbol ≡ deals_of_position done account symbol
   deals_reworded done account symbol =
       ap (λ ts. map deal_of_trade (sort_by_key last_status_stamp_of_trade ts)) (of_position_reworded done account symbol)
-      ∙ ap (map deal_of_trade) (sort-map (λ t u. nat_lt (last_status_stamp_of_trade t) (last_status_stamp_of_trade u)) (λ t u. nat_lt (last_status_stamp_of_trade t) (last_status_stamp_of_trade u)) f (trades_of_position done account symbol) (λ a b. refl))
+      ∙ ap (map deal_of_trade)
+      (sort-map (λ t u. nat_lt (last_status_stamp_of_trade t) (last_status_stamp_of_trade u))
+      (λ t u. nat_lt (last_status_stamp_of_trade t) (last_status_stamp_of_trade u)) f (trades_of_position done account symbol) (λ a b. refl))
       ∙ map-map deal_of_trade f (sort_by_key last_status_stamp_of_trade (trades_of_position done account symbol))
 
   shares_reworded : (done : List Trade) (account : ℕ) (symbol : Text) → shares_of_position (map f done) account symbol ≡ shares_of_position done account symbol
@@ -118,7 +125,9 @@ module _ (x y z : Trade → Text) where
 
   summaries_reworded : (base : Base) (done : List Trade) → rows_by_position base (summary_rows (map f done)) ≡ rows_by_position base (summary_rows done)
   summaries_reworded base done =
-      λ i. rows_by_position base (λ account symbol. filter (λ (row : SummaryRow). not (is_zero row.qty)) (record { account = account; symbol = symbol; qty = summary_reworded done account symbol i } ∷ []))
+      λ i. rows_by_position base
+      (λ account symbol. filter (λ (row : SummaryRow). not (is_zero row.qty))
+      (record { account = account; symbol = symbol; qty = summary_reworded done account symbol i } ∷ []))
 
   lots_reworded : (done : List Trade) (t : Trade) → holding_history_rows_of_lot (map f done) (f t) ≡ holding_history_rows_of_lot done t
   lots_reworded done t =
@@ -151,8 +160,12 @@ module _ (x y z : Trade → Text) where
   upon base =
       let done : List Trade = completed_trades base in
       λ i. record (sheets base) {
-        brokers = rows_sorted_by_key broker_key (map (λ (b : Broker). record (broker_row base.accounts done b) { trades = pos (count_reworded base.accounts done b.id i); commissions = commissions_reworded base.accounts done b.id i }) base.brokers);
-        accounts = rows_sorted_by_key account_key (map (λ (a : Account). record (account_row base.accounts (postings base.accounts done base.movements) a) { balance = balance_reworded base.accounts done base.movements a.id i }) base.accounts);
+        brokers = rows_sorted_by_key broker_key
+            (map (λ (b : Broker). record (broker_row base.accounts done b)
+            { trades = pos (count_reworded base.accounts done b.id i); commissions = commissions_reworded base.accounts done b.id i }) base.brokers);
+        accounts = rows_sorted_by_key account_key
+            (map (λ (a : Account). record (account_row base.accounts (postings base.accounts done base.movements) a)
+            { balance = balance_reworded base.accounts done base.movements a.id i }) base.accounts);
         trades = rows_sorted_by_key trade_key (trades_reworded base.trades i);
         history = rows_sorted_by_key history_key (history_reworded base.trades i);
         requests = rows_sorted_by_key request_key (requests_reworded base.accounts base.trades i);

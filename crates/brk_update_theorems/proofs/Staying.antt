@@ -15,7 +15,8 @@ use Rattle.brk_model.specs.Updates.{selected_trade_ids_of_account, selected_trad
 use Rattle.brk_changes.specs.Changes.{tables_with_last_stamp}
 use Rattle.brk_book_theorems.proofs.Order.{by_key-map}
 use Rattle.brk_book_theorems.proofs.Trades.{whole}
-use Rattle.brk_update_theorems.specs.Corrections.{ChangesOnlyExecutorNames, ChangesOnlyCashTexts, ChangesOnlySettlementTexts, trade_row_without_executor_name, cash_row_without_text, settlement_row_without_text, tables_after_command}
+use Rattle.brk_update_theorems.specs.Corrections.{ChangesOnlyExecutorNames, ChangesOnlyCashTexts, ChangesOnlySettlementTexts, trade_row_without_executor_name}
+use Rattle.brk_update_theorems.specs.Corrections.{cash_row_without_text, settlement_row_without_text, tables_after_command}
 use Rattle.brk_update_theorems.proofs.Correcting.{cash_names_rows, cash_types_rows, executors_rows, name_then, text_then, texts_with, word_then}
 use Rattle.brk_update_theorems.proofs.Rewording.{posted_nameless}
 use Rattle.brk_update_theorems.proofs.Texting.{rows_through}
@@ -34,7 +35,8 @@ unfolding base_after_command_unstamped tables_of_base_in_schema tables_sorted_by
 names_alone base now ids =
     let stamp : ℕ = stamp_of_next_command base now in
     let rows : List TradeRow = rows_sorted_by_key trade_key (map (λ t. record (trade_row t) { executor = name_then (λ t. contains_number t.id ids) t }) base.trades) in
-    let e : tables_after_command base now (ChangeExecutors ids) ≡ tables_with_last_stamp stamp (record (sheets base) { trades = rows }) = whole (base_with_updated_executors ids base) stamp _ (executors_rows base ids) in
+    let e : tables_after_command base now (ChangeExecutors ids) ≡ tables_with_last_stamp stamp (record (sheets base) { trades = rows }) =
+    whole (base_with_updated_executors ids base) stamp _ (executors_rows base ids) in
     record {
       others = e ∙ ap (λ (trades : List TradeRow). tables_with_last_stamp stamp (record (sheets base) { trades = trades })) (sym (ap (λ t. t.trades) e));
       rows = ap (λ t. map trade_row_without_executor_name t.trades) e
@@ -46,12 +48,17 @@ unfolding base_after_command_unstamped tables_of_base_in_schema tables_sorted_by
 words_alone base now account first last =
     let stamp : ℕ = stamp_of_next_command base now in
     let ids : List ℕ = selected_trade_ids_of_account base account first last in
-    let rows : List SettlementRow = rows_sorted_by_key settlement_key (map (λ t. record (settlement_row base.accounts base.rule t) { cash_type = word_then (λ t. contains_number t.id ids) t }) (completed_trades base)) in
-    let e : tables_after_command base now (ChangeCashTypes account first last) ≡ tables_with_last_stamp stamp (record (sheets base) { settlements = rows }) = whole (base_with_updated_cash_types ids base) stamp _ (cash_types_rows base ids) in
+    let rows : List SettlementRow =
+    rows_sorted_by_key settlement_key
+    (map (λ t. record (settlement_row base.accounts base.rule t) { cash_type = word_then (λ t. contains_number t.id ids) t }) (completed_trades base)) in
+    let e : tables_after_command base now (ChangeCashTypes account first last) ≡ tables_with_last_stamp stamp (record (sheets base) { settlements = rows }) =
+    whole (base_with_updated_cash_types ids base) stamp _ (cash_types_rows base ids) in
     record {
       others = e ∙ ap (λ (settlements : List SettlementRow). tables_with_last_stamp stamp (record (sheets base) { settlements = settlements })) (sym (ap (λ t. t.settlements) e));
       rows = ap (λ t. map settlement_row_without_text t.settlements) e
-          ∙ but_for settlement_key settlement_row_without_text (λ t. record (settlement_row base.accounts base.rule t) { cash_type = word_then (λ t. contains_number t.id ids) t }) (settlement_row base.accounts base.rule) (completed_trades base) (λ r. refl) (λ t. refl);
+          ∙ but_for settlement_key settlement_row_without_text
+          (λ t. record (settlement_row base.accounts base.rule t) { cash_type = word_then (λ t. contains_number t.id ids) t })
+          (settlement_row base.accounts base.rule) (completed_trades base) (λ r. refl) (λ t. refl);
     }
 
 pub texts_alone : (base : Base) (now : ℕ) (symbol : Text) (first last : ℕ) → ChangesOnlyCashTexts base now (ChangeCashNames symbol first last)
@@ -61,7 +68,8 @@ texts_alone base now symbol first last =
     let ids : List ℕ = selected_trade_ids_of_symbol base symbol first last in
     let texts : List Posting = texts_with base (λ t. contains_number t.id ids) in
     let rows : List MoveRow = rows_sorted_by_key cash_move_key (numbered_move_rows 1 (postings_sorted_by_stamp texts)) in
-    let e : tables_after_command base now (ChangeCashNames symbol first last) ≡ tables_with_last_stamp stamp (record (sheets base) { moves = rows }) = whole (base_with_updated_cash_names ids base) stamp _ (cash_names_rows base ids) in
+    let e : tables_after_command base now (ChangeCashNames symbol first last) ≡ tables_with_last_stamp stamp (record (sheets base) { moves = rows }) =
+    whole (base_with_updated_cash_names ids base) stamp _ (cash_names_rows base ids) in
     record {
       others = e ∙ ap (λ (moves : List MoveRow). tables_with_last_stamp stamp (record (sheets base) { moves = moves })) (sym (ap (λ t. t.moves) e));
       rows = ap (λ t. map cash_row_without_text t.moves) e

@@ -33,7 +33,8 @@ numbered_through g n [] = refl
 numbered_through g n (p ∷ ps) = ap (λ rows. cash_move_row n (renamed g p) ∷ rows) (numbered_through g (n + 1) ps)
 
 pub rows_through : (g : Rename) (ps : List Posting)
-    → map (renamed_row g) (rows_sorted_by_key cash_move_key (numbered_move_rows 1 (postings_sorted_by_stamp ps))) ≡ rows_sorted_by_key cash_move_key (numbered_move_rows 1 (postings_sorted_by_stamp (map (renamed g) ps)))
+    → map (renamed_row g) (rows_sorted_by_key cash_move_key (numbered_move_rows 1 (postings_sorted_by_stamp ps)))
+    ≡ rows_sorted_by_key cash_move_key (numbered_move_rows 1 (postings_sorted_by_stamp (map (renamed g) ps)))
 rows_through g ps =
     sym (by_key-map cash_move_key cash_move_key (renamed_row g) (numbered_move_rows 1 (postings_sorted_by_stamp ps)) (λ r. refl))
     ∙ ap (rows_sorted_by_key cash_move_key) (numbered_through g 1 (postings_sorted_by_stamp ps)

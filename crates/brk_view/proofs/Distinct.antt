@@ -87,7 +87,8 @@ told_first names name more e =
     rest : List Text
     rest = filter (is_new names) (filter (λ other. not (bytes_eq other name)) (distinct_texts more))
 
-told_next : (names : List Text) (name : Text) (more : List Text) → names ++ distinct_new_names names (name ∷ more) ≡ names_with_new_name names name ++ distinct_new_names (names_with_new_name names name) more
+told_next : (names : List Text) (name : Text) (more : List Text)
+    → names ++ distinct_new_names names (name ∷ more) ≡ names_with_new_name names name ++ distinct_new_names (names_with_new_name names name) more
 told_next names name more = by_test (contains_name names name) refl
   where
     taken : List Text → List Text
@@ -137,7 +138,8 @@ pub none_yet : (read : ReadResult (List Text)) → distinct_parsed_names read �
 none_yet (Ok names) = ap Ok (sym (filter_all (is_new []) (distinct_texts names) (λ x. refl)))
 none_yet (Err refusal) = refl
 
-pub name_taken : (names : List Text) (name : Text) (read : ReadResult (List Text)) → names_then_new_names names (Ok (λ x xs. x ∷ xs) ⊛ Ok name ⊛ read) ≡ names_then_new_names (names_with_new_name names name) read
+pub name_taken : (names : List Text) (name : Text) (read : ReadResult (List Text))
+    → names_then_new_names names (Ok (λ x xs. x ∷ xs) ⊛ Ok name ⊛ read) ≡ names_then_new_names (names_with_new_name names name) read
 name_taken names name (Ok more) = ap Ok (told_next names name more)
 name_taken names name (Err refusal) = refl
 

@@ -24,6 +24,7 @@ distinct_told ids told e = by_test (all_distinct ids) refl e
     by_test true f g = let h = few ids told g in (ap all_distinct (sym h.0) ∙ f, subst (λ xs. length xs ≤ 20) h.0 h.1)
     by_test false f g = absurd (cc)
 
-pub read_told : (read : ReadResult (List ℕ)) (told : List ℕ) → ◌≡◌ {A = ReadResult (List ℕ)} (check_read_value one_to_twenty_distinct_ids read) (Ok told) → (all_distinct told ≡ true) × (length told ≤ 20)
+pub read_told : (read : ReadResult (List ℕ)) (told : List ℕ) → ◌≡◌ {A = ReadResult (List ℕ)} (check_read_value one_to_twenty_distinct_ids read) (Ok told)
+    → (all_distinct told ≡ true) × (length told ≤ 20)
 read_told (Ok ids) told e = distinct_told ids told e
 read_told (Err refusal) told e = absurd (cc)

@@ -25,7 +25,8 @@ use Rattle.brk_money.specs.Spelling.{Text}
 use Rattle.brk_ref.specs.Records.{abstract_security_row}
 use Rattle.brk_ref.specs.declared.security.Security.{Security}
 use Rattle.std.specs.Global.{Vec}
-use Rattle.brk_view.specs.Lookup.{AreRowsOfTrade, LookedUpRows, records_of_looked_up_trade, rows_of_looked_up_trade, table_rows_of_trade, stamped_status_of_typed_history_row, history_status_record, is_older_trade, is_older_status, stamped_status_of_history_row}
+use Rattle.brk_view.specs.Lookup.{AreRowsOfTrade, LookedUpRows, records_of_looked_up_trade, rows_of_looked_up_trade, table_rows_of_trade}
+use Rattle.brk_view.specs.Lookup.{stamped_status_of_typed_history_row, history_status_record, is_older_trade, is_older_status, stamped_status_of_history_row}
 use Rattle.brk_view.specs.Lots.{AreTouchedLots, first_trade_since_stamp, is_earlier_lot_change, stamped_lot_change, lot_change_record, touched_lot_records, changes_of_touched_lots}
 use Rattle.brk_view.specs.Recent.{is_newer_status, recent_status_record, recent_trade_record}
 use Rattle.brk_view.specs.Status.{trade_status_record, party_names_record, rows_of_trade_status, trade_row_with_security}
@@ -54,7 +55,8 @@ pub position_shown : (t : Tables) (test : Customer → Bool) (accounts : List Ac
 unfolding customer_position_view
 position_shown t test accounts e =
     let rows : List AccountRow = filter (λ a. list_any (λ c. test c && (c.id == a.customer)) t.customers) t.accounts in
-    ap (λ worths. map account_worth_record (sort_by is_worth_before_by_market_value worths)) e ∙ ap (map account_worth_record) (map_sorted (is_before_by_market_value t) is_worth_before_by_market_value (worth_of_account t) rows (λ a b. refl))
+    ap (λ worths. map account_worth_record (sort_by is_worth_before_by_market_value worths)) e
+    ∙ ap (map account_worth_record) (map_sorted (is_before_by_market_value t) is_worth_before_by_market_value (worth_of_account t) rows (λ a b. refl))
     ∙ map_map account_worth_record (worth_of_account t) (sort_by (is_before_by_market_value t) rows)
 
 -- ---- what an account did last
@@ -70,7 +72,9 @@ pub recent_shown : (t : Tables) (account : ℕ) (trades : List TradeRow) (histor
 unfolding recent_trades_view
 recent_shown t account trades history e f =
     let shown : tables.HistoryRow → List (List ℕ) = λ h. codes "history" ∷ decimal h.trade ∷ trade_status_name h.status ∷ decimal h.stamp ∷ [] in
-    (λ i. map recent_trade_record (e i) ++ (sym (map_map shown abstract_history_row (sort_by is_newer_status history)) ∙ ap (map shown) (sym (map_sorted is_newer_status newest abstract_history_row history (λ a b. refl)) ∙ ap (sort_by newest) f)) i)
+    (λ i. map recent_trade_record (e i)
+    ++ (sym (map_map shown abstract_history_row (sort_by is_newer_status history))
+    ∙ ap (map shown) (sym (map_sorted is_newer_status newest abstract_history_row history (λ a b. refl)) ∙ ap (sort_by newest) f)) i)
 
 -- ---- trades looked up
 
@@ -87,7 +91,8 @@ records_shown t trades rows e = joined records_of_looked_up_trade trades ∙ ap 
     joined f (x ∷ xs) = ap (λ ys. f x ++ ys) (joined f xs)
 
 pub lookup_shown : (t : Tables) (test : tables.TradeRow → Bool) (trades : List LookedUp)
-    → map records_of_looked_up_trade trades ≡ map (model.trade_lookup_records t) (take 20 (trade_rows_oldest_first (filter test t.trades))) → flat_map records_of_looked_up_trade trades ≡ model.trade_lookup_view t test
+    → map records_of_looked_up_trade trades ≡ map (model.trade_lookup_records t) (take 20 (trade_rows_oldest_first (filter test t.trades)))
+    → flat_map records_of_looked_up_trade trades ≡ model.trade_lookup_view t test
 unfolding Rattle.brk_model.specs.LookupView.trade_lookup_view
 lookup_shown t test trades e = records_shown t trades (take 20 (trade_rows_oldest_first (filter test t.trades))) e
 
@@ -102,11 +107,14 @@ older_shown trades = sym (map_sorted is_older_trade older_row abstract_trade_row
 abbrev older_status : tables.HistoryRow → tables.HistoryRow → Bool
 older_status a b = nat_lt a.stamp b.stamp
 
-moments_carried : (history : List HistoryRow) → sort_by is_older_status (map stamped_status_of_typed_history_row history) ≡ map stamped_status_of_history_row (sort_by (λ a b. nat_lt a.stamp b.stamp) (map abstract_history_row history))
+moments_carried : (history : List HistoryRow)
+    → sort_by is_older_status (map stamped_status_of_typed_history_row history)
+    ≡ map stamped_status_of_history_row (sort_by (λ a b. nat_lt a.stamp b.stamp) (map abstract_history_row history))
 moments_carried history =
     let before : HistoryRow → HistoryRow → Bool = λ a b. nat_lt a.stamp b.stamp in
     map_sorted before is_older_status stamped_status_of_typed_history_row history (λ a b. refl)
-    ∙ sym (map_map stamped_status_of_history_row abstract_history_row (sort_by before history)) ∙ ap (map stamped_status_of_history_row) (sym (map_sorted before older_status abstract_history_row history (λ a b. refl)))
+    ∙ sym (map_map stamped_status_of_history_row abstract_history_row (sort_by before history))
+    ∙ ap (map stamped_status_of_history_row) (sym (map_sorted before older_status abstract_history_row history (λ a b. refl)))
 
 pub one_carried : (t : Tables) (trade : TradeRow) (settlement : Option SettlementRow) (cash : Option MoveRow) (history : List HistoryRow) (moments : Vec StampedStatus)
     → moments.items ≡ sort_by is_older_status (map stamped_status_of_typed_history_row history) → AreRowsOfTrade t trade settlement cash history
@@ -125,15 +133,18 @@ shown_rows r = model.trade_record r.trade ∷ map model.settlement_record r.sett
 
 rows_in_shown : (t : Tables) (row : tables.TradeRow) → shown_rows (table_rows_of_trade t row) ≡ model.trade_lookup_records t row
 rows_in_shown t row =
-    ap (λ moments. model.trade_record row ∷ map model.settlement_record (filter (λ s. s.trade == row.id) t.settlements) ++ map model.cash_record (filter (model.is_cash_row_of_trade row.id) t.moves) ++ moments)
+    ap (λ moments. model.trade_record row ∷ map model.settlement_record (filter (λ s. s.trade == row.id) t.settlements)
+    ++ map model.cash_record (filter (model.is_cash_row_of_trade row.id) t.moves) ++ moments)
     (map_map history_status_record stamped_status_of_history_row (sort_by (λ a b. nat_lt a.stamp b.stamp) (history_rows_with_trade_id t row.id)))
 
 -- trades with these rows have their records
-pub rows_shown : (t : Tables) (found : List LookedUp) (rows : List tables.TradeRow) → map rows_of_looked_up_trade found ≡ map (table_rows_of_trade t) rows → map records_of_looked_up_trade found ≡ map (model.trade_lookup_records t) rows
+pub rows_shown : (t : Tables) (found : List LookedUp) (rows : List tables.TradeRow) → map rows_of_looked_up_trade found ≡ map (table_rows_of_trade t) rows
+    → map records_of_looked_up_trade found ≡ map (model.trade_lookup_records t) rows
 rows_shown t found rows e =
     sym (map_map shown_rows rows_of_looked_up_trade found) ∙ ap (map shown_rows) e ∙ map_map shown_rows (table_rows_of_trade t) rows ∙ (λ i. map (λ row. rows_in_shown t row i) rows)
 
-pub one_shown : (t : Tables) (trade : TradeRow) (settlement : Option SettlementRow) (cash : Option MoveRow) (history : List HistoryRow) (moments : Vec StampedStatus) → moments.items ≡ sort_by is_older_status (map stamped_status_of_typed_history_row history)
+pub one_shown : (t : Tables) (trade : TradeRow) (settlement : Option SettlementRow) (cash : Option MoveRow) (history : List HistoryRow)
+    (moments : Vec StampedStatus) → moments.items ≡ sort_by is_older_status (map stamped_status_of_typed_history_row history)
     → AreRowsOfTrade t trade settlement cash history
     → records_of_looked_up_trade (record { trade = trade; settlement = settlement; cash = cash; history = moments }) ≡ model.trade_lookup_records t (abstract_trade_row trade)
 one_shown t trade settlement cash history moments e is =
@@ -160,7 +171,9 @@ changes_shown : (t : Tables) (trade : ℕ) (touches : List LotTouch) → touches
     → map lot_change_record touches ≡ map change_record (take 20 (sort_by (earlier_touch t) (filter (λ row. model.trade_touches_lot t trade row.lot) t.holding_history)))
 changes_shown t trade touches e =
     let rows : List tables.HoldingHistoryRow = filter (λ row. model.trade_touches_lot t trade row.lot) t.holding_history in
-    ap (map lot_change_record) (e ∙ ap (take 20) (map_sorted (earlier_touch t) is_earlier_lot_change (stamped_lot_change t) rows (λ a b. refl)) ∙ map_take (stamped_lot_change t) 20 (sort_by (earlier_touch t) rows))
+    ap (map lot_change_record)
+    (e ∙ ap (take 20) (map_sorted (earlier_touch t) is_earlier_lot_change (stamped_lot_change t) rows (λ a b. refl))
+    ∙ map_take (stamped_lot_change t) 20 (sort_by (earlier_touch t) rows))
     ∙ map_map lot_change_record (stamped_lot_change t) (take 20 (sort_by (earlier_touch t) rows))
 
 append_nil : {X : Type 0} (xs : List X) → xs ++ [] ≡ xs
@@ -185,7 +198,8 @@ lots_shown t account first lots is = lots_of t (first_trade_since_stamp t accoun
 
 -- ---- what brokers have to trade
 
-volume_order : (t : Tables) (sector : Text) (a b : tables.BrokerRow) → is_before_by_broker_volume (volume_of_broker_in_sector t sector a) (volume_of_broker_in_sector t sector b) ≡ is_before_by_volume t sector a b
+volume_order : (t : Tables) (sector : Text) (a b : tables.BrokerRow)
+    → is_before_by_broker_volume (volume_of_broker_in_sector t sector a) (volume_of_broker_in_sector t sector b) ≡ is_before_by_volume t sector a b
 volume_order t sector a b =
     sym (volumes_before (sector_volume_of_broker t sector a.id) (sector_volume_of_broker t sector b.id) (is_text_less a.name b.name || (bytes_eq a.name b.name && nat_lt a.id b.id)))
 
@@ -195,7 +209,9 @@ pub volumes_shown : (t : Tables) (sector : Text) (names : List Text) (rows : Lis
 unfolding broker_volume_view
 volumes_shown t sector names rows brokers e f =
     ap (λ bs. map broker_volume_record (sort_by is_before_by_broker_volume bs)) e
-    ∙ ap (map broker_volume_record) (map_sorted (is_before_by_volume t sector) is_before_by_broker_volume (volume_of_broker_in_sector t sector) rows (volume_order t sector) ∙ ap (map (volume_of_broker_in_sector t sector)) f)
+    ∙ ap (map broker_volume_record)
+    (map_sorted (is_before_by_volume t sector) is_before_by_broker_volume (volume_of_broker_in_sector t sector) rows (volume_order t sector)
+    ∙ ap (map (volume_of_broker_in_sector t sector)) f)
     ∙ map_map broker_volume_record (volume_of_broker_in_sector t sector) (sort_by (is_before_by_volume t sector) (filter (has_name_and_pending_request t sector names) t.brokers))
 
 -- ---- how the trades of an account stand
@@ -203,7 +219,8 @@ volumes_shown t sector names rows brokers e f =
 pub trade_shown : (t : Tables) (trade : TradeRow) (security : Security) → security_row_with_symbol t trade.symbol ≡ Some (abstract_security_row security)
     → trade_status_record (record { trade = trade; security = security }) ≡ record_of_trade_status t (abstract_trade_row trade)
 trade_shown t trade security e i =
-    decimal trade.id ∷ decimal trade.stamp ∷ trade_status_name trade.status ∷ trade_type_name trade.kind ∷ trade.symbol ∷ decimal trade.qty ∷ string_bytes trade.executor ∷ nonnegative_cents_text trade.charge
+    decimal trade.id ∷ decimal trade.stamp ∷ trade_status_name trade.status ∷ trade_type_name trade.kind ∷ trade.symbol ∷ decimal trade.qty
+    ∷ string_bytes trade.executor ∷ nonnegative_cents_text trade.charge
     ∷ option_map_or (λ s. s.name) (sym e i) [] ∷ option_map_or (λ s. s.exchange) (sym e i) [] ∷ []
 
 pub trade_carried : (t : Tables) (trade : TradeRow) (security : Security) → security_row_with_symbol t trade.symbol ≡ Some (abstract_security_row security)
@@ -217,7 +234,8 @@ shown_status r =
     ∷ option_map_or (λ s. s.name) r.1 [] ∷ option_map_or (λ s. s.exchange) r.1 [] ∷ []
 
 -- trades with these rows have their records
-pub statuses_shown : (t : Tables) (trades : List TradeStatus) (rows : List tables.TradeRow) → map rows_of_trade_status trades ≡ map (trade_row_with_security t) rows → map trade_status_record trades ≡ map (record_of_trade_status t) rows
+pub statuses_shown : (t : Tables) (trades : List TradeStatus) (rows : List tables.TradeRow)
+    → map rows_of_trade_status trades ≡ map (trade_row_with_security t) rows → map trade_status_record trades ≡ map (record_of_trade_status t) rows
 statuses_shown t trades rows e = sym (map_map shown_status rows_of_trade_status trades) ∙ ap (map shown_status) e ∙ map_map shown_status (trade_row_with_security t) rows
 
 pub status_shown : (t : Tables) (id : ℕ) (account : AccountStatus) → flat_map (customer_and_broker_names t) (filter (λ a. a.id == id) t.accounts) ≡ party_names_record account ∷ []

@@ -25,7 +25,8 @@ use Rattle.brk_view_theorems.proofs.Worths.{same_position}
 pub same_submitted : (base : Base) → BooksInvariant base → submitted_trades_view (sheets base) ≡ submitted_trades_view (tables_of_base base)
 unfolding submitted_trades_view
 same_submitted base books =
-    ap (λ (rows : List TradeRow). map (λ t. decimal t.id ∷ trade_type_code t.kind ∷ t.symbol ∷ decimal t.qty ∷ nonnegative_cents_text t.bid ∷ []) (sort_by (λ a b. nat_lt a.id b.id) (filter (λ t. is_same_trade_status t.status Submitted) rows)))
+    ap (λ (rows : List TradeRow). map (λ t. decimal t.id ∷ trade_type_code t.kind ∷ t.symbol ∷ decimal t.qty ∷ nonnegative_cents_text t.bid ∷ [])
+    (sort_by (λ a b. nat_lt a.id b.id) (filter (λ t. is_same_trade_status t.status Submitted) rows)))
     (same_trades base books)
 
 pub same_view_of : (base : Base) (query : Query) → BooksInvariant base → AuditInvariant base → view_of_tables (sheets base) query ≡ view_of_tables (tables_of_base base) query

@@ -49,17 +49,21 @@ found_of_short {X = X} p xs h = ap option_to_list (found_first p xs) ∙ first_o
     first_of_short (y ∷ []) h = refl
     first_of_short (y ∷ z ∷ ys) h = absurd h
 
-pub cash_alone : (base : Base) (id : ℕ) → BooksInvariant base → AuditInvariant base → option_to_list (find (is_cash_row_of_trade id) (sheets base).moves) ≡ filter (is_cash_row_of_trade id) (sheets base).moves
+pub cash_alone : (base : Base) (id : ℕ) → BooksInvariant base → AuditInvariant base
+    → option_to_list (find (is_cash_row_of_trade id) (sheets base).moves) ≡ filter (is_cash_row_of_trade id) (sheets base).moves
 unfolding tables_sorted_by_key tables_of_base_in_schema
 cash_alone base id books sound =
     found_of_short (is_cash_row_of_trade id) (sheets base).moves
-    (subst (λ rows. IsShort (filter (is_cash_row_of_trade id) rows)) (sym (numbered_stay 1 (postings_sorted_by_stamp (postings_of_base base)))) (short_rows id 1 (postings_sorted_by_stamp (postings_of_base base)) (posted_once base id books)))
+    (subst (λ rows. IsShort (filter (is_cash_row_of_trade id) rows)) (sym (numbered_stay 1 (postings_sorted_by_stamp (postings_of_base base))))
+    (short_rows id 1 (postings_sorted_by_stamp (postings_of_base base)) (posted_once base id books)))
 
-pub account_alone : (base : Base) (id : ℕ) → BooksInvariant base → AuditInvariant base → option_to_list (find (λ a. a.id == id) (sheets base).accounts) ≡ filter (λ a. a.id == id) (sheets base).accounts
+pub account_alone : (base : Base) (id : ℕ) → BooksInvariant base → AuditInvariant base
+    → option_to_list (find (λ a. a.id == id) (sheets base).accounts) ≡ filter (λ a. a.id == id) (sheets base).accounts
 account_alone base id books sound =
     found_is_all account_key (λ a. a.id == id) (number id ∷ []) (sheets base).accounts (λ a e. ap (λ n. number n ∷ []) (eqb-true a.id id e)) (parts base books sound).accounts
 
-pub customer_alone : (base : Base) (id : ℕ) → BooksInvariant base → AuditInvariant base → option_to_list (find (λ c. c.id == id) (sheets base).customers) ≡ filter (λ c. c.id == id) (sheets base).customers
+pub customer_alone : (base : Base) (id : ℕ) → BooksInvariant base → AuditInvariant base
+    → option_to_list (find (λ c. c.id == id) (sheets base).customers) ≡ filter (λ c. c.id == id) (sheets base).customers
 customer_alone base id books sound =
     found_is_all customer_key (λ c. c.id == id) (number id ∷ []) (sheets base).customers (λ c e. ap (λ n. number n ∷ []) (eqb-true c.id id e)) (parts base books sound).customers
 
@@ -102,15 +106,22 @@ any_back n (id ∷ ids) = λ i. numbers_back n id i || any_back n ids i
 
 ids_exclude : (ids : List ℕ) → all_distinct ids ≡ true → Excludes has_id ids
 ids_exclude [] e = tt
-ids_exclude (id ∷ ids) e = ((λ t h. ap (λ n. list_any (λ j. n == j) ids) (eqb-true t.id id h) ∙ any_back id ids ∙ (both (contains_number id ids) (all_distinct ids) e).0), ids_exclude ids (both (contains_number id ids) (all_distinct ids) e).1)
+ids_exclude (id ∷ ids) e = (
+  (λ t h. ap (λ n. list_any (λ j. n == j) ids) (eqb-true t.id id h) ∙ any_back id ids ∙ (both (contains_number id ids) (all_distinct ids) e).0),
+  ids_exclude
+      ids (both (contains_number id ids) (all_distinct ids) e).1,
+)
   where
     both : (a b : Bool) → not a && b ≡ true → (a ≡ false) × (b ≡ true)
     both true b h = cc
     both false b h = (refl, h)
 
 pub trades_by_id : (base : Base) (ids : List ℕ) → BooksInvariant base → AuditInvariant base → all_distinct ids ≡ true
-    → trade_rows_oldest_first (flat_map (λ id. option_to_list (find (λ t. t.id == id) (sheets base).trades)) ids) ≡ trade_rows_oldest_first (filter (λ t. contains_number t.id ids) (sheets base).trades)
+    → trade_rows_oldest_first (flat_map (λ id. option_to_list (find (λ t. t.id == id) (sheets base).trades)) ids)
+    ≡ trade_rows_oldest_first (filter (λ t. contains_number t.id ids) (sheets base).trades)
 trades_by_id base ids books sound e =
-    ap trade_rows_oldest_first (same_pieces (λ id. option_to_list (find (λ t. t.id == id) (sheets base).trades)) (λ id. filter (has_id id) (sheets base).trades) ids (λ id. trade_alone base id books sound))
+    ap trade_rows_oldest_first
+    (same_pieces (λ id. option_to_list (find (λ t. t.id == id) (sheets base).trades)) (λ id. filter (has_id id) (sheets base).trades) ids
+    (λ id. trade_alone base id books sound))
     ∙ sort_gathered older has_id ids (sheets base).trades splits (apart (sheets base).trades (parts base books sound).trades) (ids_exclude ids e)
     ∙ ap trade_rows_oldest_first (same_rows (λ t. list_any (λ id. t.id == id) ids) (λ t. contains_number t.id ids) (sheets base).trades (λ t. any_back t.id ids))

@@ -55,9 +55,12 @@ apart : (rows : List HistoryRow) → AllRise rows → AllApart older rows
 apart [] h = tt
 apart (h ∷ rows) e = (one_apart h rows e.0, apart rows e.1)
 
-same_history : (base : Base) (id : ℕ) → AllRise (history_rows_with_trade_id (tables_of_base base) id) → sort_by older (history_rows_with_trade_id (sheets base) id) ≡ sort_by older (history_rows_with_trade_id (tables_of_base base) id)
+same_history : (base : Base) (id : ℕ) → AllRise (history_rows_with_trade_id (tables_of_base base) id)
+    → sort_by older (history_rows_with_trade_id (sheets base) id) ≡ sort_by older (history_rows_with_trade_id (tables_of_base base) id)
 same_history base id rise =
-    ap (sort_by older) (history_by_code base id) ∙ sort_twice older (is_row_key_less history_key) (history_rows_with_trade_id (tables_of_base base) id) splits (apart (history_rows_with_trade_id (tables_of_base base) id) rise)
+    ap (sort_by older) (history_by_code base id)
+    ∙ sort_twice older (is_row_key_less history_key) (history_rows_with_trade_id (tables_of_base base) id) splits
+    (apart (history_rows_with_trade_id (tables_of_base base) id) rise)
 
 -- ---- the view
 
@@ -72,7 +75,8 @@ same_lookup base test books sound =
     let rows : List TradeRow = take 20 (trade_rows_oldest_first (filter test (tables_of_base base).trades)) in
     let rise : AllByRecursion (λ (r : TradeRow). trade_lookup_records (sheets base) r ≡ trade_lookup_records (tables_of_base base) r) rows =
     All-take _ 20 (trade_rows_oldest_first (filter test (tables_of_base base).trades)) (All-sort _ _ (filter test (tables_of_base base).trades) (All-filter _ test (tables_of_base base).trades
-    (All-each (λ (r : TradeRow). AllRise (history_rows_with_trade_id (tables_of_base base) r.id)) (λ (r : TradeRow). trade_lookup_records (sheets base) r ≡ trade_lookup_records (tables_of_base base) r) (tables_of_base base).trades
+    (All-each (λ (r : TradeRow). AllRise (history_rows_with_trade_id (tables_of_base base) r.id))
+    (λ (r : TradeRow). trade_lookup_records (sheets base) r ≡ trade_lookup_records (tables_of_base base) r) (tables_of_base base).trades
     (λ r h. same_records base r h) (statuses_rise base books sound)))) in
     ap (λ (ts : List TradeRow). flat_map (trade_lookup_records (sheets base)) (take 20 (trade_rows_oldest_first (filter test ts)))) (same_trades base books)
     ∙ flat_map-same (trade_lookup_records (sheets base)) (trade_lookup_records (tables_of_base base)) rows rise

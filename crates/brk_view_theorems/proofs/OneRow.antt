@@ -28,7 +28,9 @@ each_of P Q (x ∷ xs) f h = (f x h.0, each_of P Q xs f h.1)
 pub rows_of_key : {Row : Type 0} (key : Row → List KeyPart) (p : Row → Bool) (k : List KeyPart) (rows : List Row) → ((r : Row) → p r ≡ true → key r ≡ k)
     → filter p (rows_sorted_by_key key rows) ≡ filter p rows
 rows_of_key key p k rows h =
-    sym (by_key-filter key p rows) ∙ sort_sorted (is_row_key_less key) (filter p rows) (one_key_sorted key k (filter p rows) (each_of (λ r. p r ≡ true) (λ r. key r ≡ k) (filter p rows) h (all_pass p rows)))
+    sym (by_key-filter key p rows)
+    ∙ sort_sorted (is_row_key_less key) (filter p rows)
+    (one_key_sorted key k (filter p rows) (each_of (λ r. p r ≡ true) (λ r. key r ≡ k) (filter p rows) h (all_pass p rows)))
 
 -- ---- at most one row
 

@@ -19,7 +19,8 @@ never [] id n e = refl
 never (c ∷ customers) id n e = by_test (never customers id n e) (c.id == id) refl
   where
     by_test : list_any (λ c. (c.id == id) && (c.id == n)) customers ≡ false → (b : Bool) → (c.id == id) ≡ b → (b && (c.id == n)) || list_any (λ c. (c.id == id) && (c.id == n)) customers ≡ false
-    by_test ih true f = ap (λ m. (m == n) || list_any (λ c. (c.id == id) && (c.id == n)) customers) (eqb-true c.id id f) ∙ ap (λ b. b || list_any (λ c. (c.id == id) && (c.id == n)) customers) (numbers_back id n ∙ e) ∙ ih
+    by_test ih true f = ap (λ m. (m == n) || list_any (λ c. (c.id == id) && (c.id == n)) customers) (eqb-true c.id id f)
+        ∙ ap (λ b. b || list_any (λ c. (c.id == id) && (c.id == n)) customers) (numbers_back id n ∙ e) ∙ ih
     by_test ih false f = ih
 
 once : (customers : List Customer) (id n : ℕ) (x : Customer) → Some x ≡ find (λ c. c.id == id) customers → (n == id) ≡ true
@@ -27,9 +28,11 @@ once : (customers : List Customer) (id n : ℕ) (x : Customer) → Some x ≡ fi
 once [] id n x s e = absurd (cc)
 once (c ∷ customers) id n x s e = by_test (λ k. once customers id n x k e) (c.id == id) refl s
   where
-    by_test : (Some x ≡ find (λ c. c.id == id) customers → list_any (λ c. (c.id == id) && (c.id == n)) customers ≡ true) → (b : Bool) → (c.id == id) ≡ b → Some x ≡ cond b (Some c) (find (λ c. c.id == id) customers)
+    by_test : (Some x ≡ find (λ c. c.id == id) customers → list_any (λ c. (c.id == id) && (c.id == n)) customers ≡ true) → (b : Bool) → (c.id == id) ≡ b
+        → Some x ≡ cond b (Some c) (find (λ c. c.id == id) customers)
         → (b && (c.id == n)) || list_any (λ c. (c.id == id) && (c.id == n)) customers ≡ true
-    by_test ih true f s = ap (λ m. (m == n) || list_any (λ c. (c.id == id) && (c.id == n)) customers) (eqb-true c.id id f) ∙ ap (λ b. b || list_any (λ c. (c.id == id) && (c.id == n)) customers) (numbers_back id n ∙ e)
+    by_test ih true f s = ap (λ m. (m == n) || list_any (λ c. (c.id == id) && (c.id == n)) customers) (eqb-true c.id id f)
+        ∙ ap (λ b. b || list_any (λ c. (c.id == id) && (c.id == n)) customers) (numbers_back id n ∙ e)
     by_test ih false f s = ih s
 
 pub owned_by_id : (customers : List Customer) (id n : ℕ) (x : Customer) → Some x ≡ find (λ c. c.id == id) customers
@@ -68,7 +71,8 @@ owned_by_tax_id (c ∷ customers) tax_id n x h s = by_test (owned_by_tax_id cust
     same : (x y : Customer) → Some x ≡ Some y → x.id ≡ y.id
     same x y e = cc
 
-    by_test : (Some x ≡ find (λ c. bytes_eq c.tax_id tax_id) customers → (n == x.id) ≡ list_any (λ c. bytes_eq c.tax_id tax_id && (c.id == n)) customers) → (b : Bool) → bytes_eq c.tax_id tax_id ≡ b → Some x ≡ cond b (Some c) (find (λ c. bytes_eq c.tax_id tax_id) customers)
+    by_test : (Some x ≡ find (λ c. bytes_eq c.tax_id tax_id) customers → (n == x.id) ≡ list_any (λ c. bytes_eq c.tax_id tax_id && (c.id == n)) customers)
+        → (b : Bool) → bytes_eq c.tax_id tax_id ≡ b → Some x ≡ cond b (Some c) (find (λ c. bytes_eq c.tax_id tax_id) customers)
         → (n == x.id) ≡ (b && (c.id == n)) || list_any (λ c. bytes_eq c.tax_id tax_id && (c.id == n)) customers
     by_test ih true e s =
         ap (λ m. n == m) (same x c s) ∙ numbers_back n c.id ∙ sym (or_false (c.id == n))

@@ -53,9 +53,12 @@ same_recent base account books sound =
     let rows : List TradeRow = last_ten_trade_rows (tables_of_base base) account in
     let shown : List TradeRow → List (List (List ℕ)) = map (λ t. codes "trade" ∷ decimal t.id ∷ t.symbol ∷ decimal t.qty ∷ []) in
     let rise : AllByRecursion (λ (r : TradeRow). AllApart newest (history_rows_with_trade_id (tables_of_base base) r.id)) rows =
-    All-take _ 10 (trade_rows_recent_first (trade_rows_of_account (tables_of_base base) account)) (All-sort _ _ (trade_rows_of_account (tables_of_base base) account) (All-filter _ (λ r. r.account == account) (tables_of_base base).trades
-    (All-each (λ (r : TradeRow). AllRise (history_rows_with_trade_id (tables_of_base base) r.id)) (λ (r : TradeRow). AllApart newest (history_rows_with_trade_id (tables_of_base base) r.id)) (tables_of_base base).trades
+    All-take _ 10 (trade_rows_recent_first (trade_rows_of_account (tables_of_base base) account))
+    (All-sort _ _ (trade_rows_of_account (tables_of_base base) account) (All-filter _ (λ r. r.account == account) (tables_of_base base).trades
+    (All-each (λ (r : TradeRow). AllRise (history_rows_with_trade_id (tables_of_base base) r.id))
+    (λ (r : TradeRow). AllApart newest (history_rows_with_trade_id (tables_of_base base) r.id)) (tables_of_base base).trades
     (λ r h. apart (history_rows_with_trade_id (tables_of_base base) r.id) h) (statuses_rise base books sound)))) in
     ap (λ ts. shown ts ++ history_records (sort_by newest (flat_map (λ t. history_rows_with_trade_id (sheets base) t.id) ts))) (same_last base account books)
     ∙ ap (λ hs. shown rows ++ history_records hs)
-    (sort_pieces newest (is_row_key_less history_key) (λ t. history_rows_with_trade_id (sheets base) t.id) (λ t. history_rows_with_trade_id (tables_of_base base) t.id) rows splits (λ t. history_by_code base t.id) rise)
+    (sort_pieces newest (is_row_key_less history_key) (λ t. history_rows_with_trade_id (sheets base) t.id)
+    (λ t. history_rows_with_trade_id (tables_of_base base) t.id) rows splits (λ t. history_by_code base t.id) rise)

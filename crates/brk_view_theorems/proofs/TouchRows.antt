@@ -50,12 +50,16 @@ same_changes base trade books sound =
 same_view : (base : Base) (t : TradeRow) → BooksInvariant base → AuditInvariant base → touched_lots_view (sheets base) t ≡ touched_lots_view (tables_of_base base) t
 same_view base t books sound =
     ap (λ (rows : List HoldingHistoryRow). (decimal t.id ∷ []) ∷ map (λ row. decimal row.lot ∷ decimal row.trade ∷ signed_decimal row.before ∷ signed_decimal row.after ∷ []) (take 20 rows))
-    (same_order (λ a b. is_pair_less (stamp_of_touching_trade (sheets base) a) (stamp_of_touching_trade (sheets base) b) a.lot b.lot) (earlier_touch base) (filter (λ row. trade_touches_lot (sheets base) t.id row.lot) (sheets base).holding_history)
+    (same_order (λ a b. is_pair_less (stamp_of_touching_trade (sheets base) a) (stamp_of_touching_trade (sheets base) b) a.lot b.lot) (earlier_touch base)
+    (filter (λ row. trade_touches_lot (sheets base) t.id row.lot) (sheets base).holding_history)
     (λ a b i. is_pair_less (same_stamp base a books i) (same_stamp base b books i) a.lot b.lot)
-    ∙ ap (sort_by (earlier_touch base)) (same_rows (λ row. trade_touches_lot (sheets base) t.id row.lot) (λ row. trade_touches_lot (tables_of_base base) t.id row.lot) (sheets base).holding_history (λ row. same_touched base t.id row.lot))
+    ∙ ap (sort_by (earlier_touch base))
+    (same_rows (λ row. trade_touches_lot (sheets base) t.id row.lot) (λ row. trade_touches_lot (tables_of_base base) t.id row.lot)
+    (sheets base).holding_history (λ row. same_touched base t.id row.lot))
     ∙ same_changes base t.id books sound)
 
-pub same_lots : (base : Base) (account first : ℕ) → BooksInvariant base → AuditInvariant base → touched_lots_of_oldest_trade (sheets base) account first ≡ touched_lots_of_oldest_trade (tables_of_base base) account first
+pub same_lots : (base : Base) (account first : ℕ) → BooksInvariant base → AuditInvariant base
+    → touched_lots_of_oldest_trade (sheets base) account first ≡ touched_lots_of_oldest_trade (tables_of_base base) account first
 unfolding touched_lots_of_oldest_trade
 same_lots base account first books sound i =
     flat_map (λ t. same_view base t books sound i)
@@ -102,7 +106,8 @@ rise_so trade (r ∷ rows) c = by_test (rise_so trade rows c.1) (r.trade == trad
         one true f k = (above r.lot r.trade q.lot q.trade h.0 e f, k)
         one false f k = k
 
-    by_test : LotsRise (touched_lots trade rows) → (b : Bool) → (r.trade == trade) ≡ b → LotsRise (map (λ r. r.lot) (cond b (r ∷ filter (λ r. r.trade == trade) rows) (filter (λ r. r.trade == trade) rows)))
+    by_test : LotsRise (touched_lots trade rows) → (b : Bool) → (r.trade == trade) ≡ b
+        → LotsRise (map (λ r. r.lot) (cond b (r ∷ filter (λ r. r.trade == trade) rows) (filter (λ r. r.trade == trade) rows)))
     by_test ih true e = (all_above rows e c.0, ih)
     by_test ih false e = ih
 

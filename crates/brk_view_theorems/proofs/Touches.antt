@@ -128,9 +128,11 @@ each_history done (t ∷ ts) = (All-history (λ lot trade. IsAmong done trade) d
 pub each_made : (base : Base) → AllByRecursion (λ r. IsAmong (completed_trades base) r.trade) (sheets base).holding_history
 unfolding tables_sorted_by_key tables_of_base_in_schema
 each_made base =
-    subst (λ (rows : List HoldingHistoryRow). AllByRecursion (λ (r : HoldingHistoryRow). IsAmong (completed_trades base) r.trade) (rows_sorted_by_key holding_history_key rows)) (sym (rows_of_lots_are (completed_trades base) (completed_trades base)))
+    subst (λ (rows : List HoldingHistoryRow). AllByRecursion (λ (r : HoldingHistoryRow). IsAmong (completed_trades base) r.trade)
+    (rows_sorted_by_key holding_history_key rows)) (sym (rows_of_lots_are (completed_trades base) (completed_trades base)))
     (All-sort (λ (r : HoldingHistoryRow). IsAmong (completed_trades base) r.trade) _ (flat_map (changing_rows_of_lot (completed_trades base)) (completed_trades base))
-    (All-flat_map (λ (r : HoldingHistoryRow). IsAmong (completed_trades base) r.trade) (changing_rows_of_lot (completed_trades base)) (completed_trades base) (each_history (completed_trades base) (completed_trades base))))
+    (All-flat_map (λ (r : HoldingHistoryRow). IsAmong (completed_trades base) r.trade) (changing_rows_of_lot (completed_trades base)) (completed_trades base)
+    (each_history (completed_trades base) (completed_trades base))))
 
 -- ---- by the stamp of the change, then by lot
 
@@ -163,7 +165,8 @@ pair_apart base x y books e f g = by_test (x.lot == y.lot) refl
     by_test true h =
         stamps_apart (stamp_at base x.trade) (stamp_at base y.trade) x.lot y.lot (stamps_differ base x.trade y.trade books e f (other_trade x.lot x.trade y.lot y.trade g h))
 
-apart_of : (base : Base) (rows : List HoldingHistoryRow) → BooksInvariant base → AllByRecursion (λ r. IsAmong (completed_trades base) r.trade) rows → Climbs holding_history_key rows → AllApart (earlier_touch base) rows
+apart_of : (base : Base) (rows : List HoldingHistoryRow) → BooksInvariant base → AllByRecursion (λ r. IsAmong (completed_trades base) r.trade) rows
+    → Climbs holding_history_key rows → AllApart (earlier_touch base) rows
 apart_of base [] books h c = tt
 apart_of base (x ∷ rows) books h c = (others rows h.1 c.0, apart_of base rows books h.1 c.1)
   where

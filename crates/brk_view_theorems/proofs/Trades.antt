@@ -51,13 +51,15 @@ rows_rise id (m ∷ n ∷ marks) e =
     let after : AllRise (map (λ m. record { trade = id; status = m.status; stamp = m.stamp }) (n ∷ marks)) = rows_rise id (n ∷ marks) both.1 in
     ((both.0, earlier_through m.stamp n.stamp (map (λ m. record { trade = id; status = m.status; stamp = m.stamp }) marks) both.0 after.0), after)
 
-own_rows : (base : Base) (ts : List Trade) → AllByRecursion (IsRead base) ts → AllByRecursion (BaseTradeAuditInvariant base) ts → AllByRecursion (λ (r : TradeRow). AllRise (history_rows_with_trade_id (tables_of_base base) r.id)) (map trade_row ts)
+own_rows : (base : Base) (ts : List Trade) → AllByRecursion (IsRead base) ts → AllByRecursion (BaseTradeAuditInvariant base) ts
+    → AllByRecursion (λ (r : TradeRow). AllRise (history_rows_with_trade_id (tables_of_base base) r.id)) (map trade_row ts)
 unfolding tables_of_base_in_schema
 own_rows base [] h k = tt
 own_rows base (t ∷ ts) h k = (subst AllRise (sym h.0.history) (rows_rise t.id t.marks k.0.stamps), own_rows base ts h.1 k.1)
 
 -- the statuses of each trade rise
-pub statuses_rise : (base : Base) → BooksInvariant base → AuditInvariant base → AllByRecursion (λ (r : TradeRow). AllRise (history_rows_with_trade_id (tables_of_base base) r.id)) (tables_of_base base).trades
+pub statuses_rise : (base : Base) → BooksInvariant base → AuditInvariant base
+    → AllByRecursion (λ (r : TradeRow). AllRise (history_rows_with_trade_id (tables_of_base base) r.id)) (tables_of_base base).trades
 unfolding tables_of_base_in_schema
 statuses_rise base books sound = own_rows base base.trades (reads base books.numbered) sound.trades
 

@@ -85,7 +85,8 @@ volume_first volume a b = nat_lt (volume b.id) (volume a.id) || ((volume b.id ==
 
 keyed_order : (t : Tables) (sector : Text) (a b : BrokerRow) → is_before_by_volume t sector a b ≡ volume_first (sector_volume_of_broker t sector) a b
 keyed_order t sector a b =
-    ap (λ c. nat_lt (sector_volume_of_broker t sector b.id) (sector_volume_of_broker t sector a.id) || ((sector_volume_of_broker t sector b.id == sector_volume_of_broker t sector a.id) && c)) (by_name a b)
+    ap (λ c. nat_lt (sector_volume_of_broker t sector b.id) (sector_volume_of_broker t sector a.id)
+    || ((sector_volume_of_broker t sector b.id == sector_volume_of_broker t sector a.id) && c)) (by_name a b)
 
 number_splits : (x y z : ℕ) (p q r : Bool) → (p ≡ true → q ≡ false → r ≡ true) → nat_lt x z || ((x == z) && p) ≡ true → nat_lt y z || ((y == z) && q) ≡ false
     → nat_lt x y || ((x == y) && r) ≡ true
@@ -94,7 +95,8 @@ number_splits x y z p q r f g h = grind (arith, nat_tests)
 splits : (t : Tables) (sector : Text) → Splits (is_before_by_volume t sector)
 splits t sector x y z g h =
     keyed_order t sector y x
-    ∙ number_splits (sector_volume_of_broker t sector x.id) (sector_volume_of_broker t sector y.id) (sector_volume_of_broker t sector z.id) (is_key_less (name_key z) (name_key x)) (is_key_less (name_key z) (name_key y)) (is_key_less (name_key y) (name_key x))
+    ∙ number_splits (sector_volume_of_broker t sector x.id) (sector_volume_of_broker t sector y.id) (sector_volume_of_broker t sector z.id)
+    (is_key_less (name_key z) (name_key x)) (is_key_less (name_key z) (name_key y)) (is_key_less (name_key y) (name_key x))
     (key_splits (name_key x) (name_key y) (name_key z)) (sym (keyed_order t sector z x) ∙ g) (sym (keyed_order t sector z y) ∙ h)
 
 number_apart : (m n : ℕ) (p q : Bool) → p ≡ not q → nat_lt n m || ((n == m) && p) ≡ not (nat_lt m n || ((m == n) && q))
@@ -123,7 +125,8 @@ apart t sector (b ∷ rows) c = (others rows c.0, apart t sector rows c.1)
         (keys_part (name_key b) (name_key d) (λ e. not_itself (broker_key b) (broker_key d) (second_number b.name d.name b.id d.id e) h))
         ∙ ap not (sym (keyed_order t sector d b))
 
-    others : (ds : List BrokerRow) → AllByRecursion (λ d. is_key_less (broker_key b) (broker_key d) ≡ true) ds → AllByRecursion (λ d. is_before_by_volume t sector b d ≡ not (is_before_by_volume t sector d b)) ds
+    others : (ds : List BrokerRow) → AllByRecursion (λ d. is_key_less (broker_key b) (broker_key d) ≡ true) ds
+        → AllByRecursion (λ d. is_before_by_volume t sector b d ≡ not (is_before_by_volume t sector d b)) ds
     others [] h = tt
     others (d ∷ ds) h = (one d h.0, others ds h.1)
 
@@ -152,7 +155,8 @@ same_brokers base sector names books sound =
     sort_back (is_before_by_volume (tables_of_base base) sector) broker_key (is_shown (tables_of_base base) sector names) (tables_of_base base).brokers (splits (tables_of_base base) sector)
     (apart_filter (is_before_by_volume (tables_of_base base) sector) (is_shown (tables_of_base base) sector names) (sheets base).brokers (brokers_apart base (tables_of_base base) sector books sound))
 
-pub same_volumes : (base : Base) (sector : Text) (names : List Text) → BooksInvariant base → AuditInvariant base → broker_volume_view (sheets base) sector names ≡ broker_volume_view (tables_of_base base) sector names
+pub same_volumes : (base : Base) (sector : Text) (names : List Text) → BooksInvariant base → AuditInvariant base
+    → broker_volume_view (sheets base) sector names ≡ broker_volume_view (tables_of_base base) sector names
 unfolding broker_volume_view
 same_volumes base sector names books sound =
     let s : Tables = sheets base in
@@ -238,7 +242,8 @@ names_exclude (name ∷ names) e = ((λ b h. no_name name names b (other_names n
 pub brokers_by_name : (base : Base) (sector : Text) (names : List Text) → BooksInvariant base → AuditInvariant base → distinct_texts names ≡ names
     → sort_by (is_before_by_volume (sheets base) sector)
     (flat_map (λ name. filter (λ b. nat_lt 0 (length (sector_requests_of_broker (sheets base) sector b.id))) (filter (λ b. bytes_eq b.name name) (sheets base).brokers)) names)
-    ≡ sort_by (is_before_by_volume (sheets base) sector) (filter (λ b. list_any (bytes_eq b.name) names && nat_lt 0 (length (sector_requests_of_broker (sheets base) sector b.id))) (sheets base).brokers)
+    ≡ sort_by (is_before_by_volume (sheets base) sector)
+    (filter (λ b. list_any (bytes_eq b.name) names && nat_lt 0 (length (sector_requests_of_broker (sheets base) sector b.id))) (sheets base).brokers)
 brokers_by_name base sector names books sound e =
     sort_gathered_of (is_before_by_volume (sheets base) sector) has_name (λ b. nat_lt 0 (length (sector_requests_of_broker (sheets base) sector b.id))) names (sheets base).brokers
     (splits (sheets base) sector) (brokers_apart base (sheets base) sector books sound) (names_exclude names e)

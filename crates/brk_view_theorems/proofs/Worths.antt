@@ -54,14 +54,16 @@ worth_apart x y x' y' h = grind (arith, ints, nat_tests)
 splits : (t : Tables) → Splits (is_before_by_market_value t)
 splits t x y z g h = worth_splits (market_value_of_account_row t x) (market_value_of_account_row t y) (market_value_of_account_row t z) x.id y.id z.id g h
 
-apart : (base : Base) (t : Tables) (accounts : List Account) → HasDistinctAccountIds accounts → AllApart (is_before_by_market_value t) (map (account_row base.accounts (postings_of_base base)) accounts)
+apart : (base : Base) (t : Tables) (accounts : List Account) → HasDistinctAccountIds accounts
+    → AllApart (is_before_by_market_value t) (map (account_row base.accounts (postings_of_base base)) accounts)
 apart base t [] d = tt
 apart base t (a ∷ accounts) d = (from_one accounts d.0, apart base t accounts d.1)
   where
     row : Account → AccountRow
     row = account_row base.accounts (postings_of_base base)
 
-    from_one : (others : List Account) → AllByRecursion (λ b. (b.id == a.id) ≡ false) others → AllByRecursion (λ y. is_before_by_market_value t (row a) y ≡ not (is_before_by_market_value t y (row a))) (map row others)
+    from_one : (others : List Account) → AllByRecursion (λ b. (b.id == a.id) ≡ false) others
+        → AllByRecursion (λ y. is_before_by_market_value t (row a) y ≡ not (is_before_by_market_value t y (row a))) (map row others)
     from_one [] h = tt
     from_one (b ∷ others) h = (worth_apart (market_value_of_account_row t (row a)) (market_value_of_account_row t (row b)) a.id b.id h.0, from_one others h.1)
 
@@ -77,9 +79,12 @@ same_position base test books =
     let s : Tables = sheets base in
     let owned : AccountRow → Bool = owned_by test base.customers in
     let record_in : Tables → AccountRow → List Text = λ t a. decimal a.id ∷ cents_text a.balance ∷ cents_text (market_value_of_account_row t a) ∷ [] in
-    ap (λ rows. map (record_in s) (sort_by (is_before_by_market_value s) rows)) (same_rows (owned_by test s.customers) owned s.accounts (λ a. any-sorted customer_key (λ c. test c && (c.id == a.customer)) base.customers))
+    ap (λ rows. map (record_in s) (sort_by (is_before_by_market_value s) rows))
+    (same_rows (owned_by test s.customers) owned s.accounts (λ a. any-sorted customer_key (λ c. test c && (c.id == a.customer)) base.customers))
     ∙ ap (map (record_in s)) (same_order (is_before_by_market_value s) (is_before_by_market_value t) (filter owned s.accounts)
     (λ a b. λ i. int_lt (same_assets base a i) (same_assets base b i) || (not (int_lt (same_assets base b i) (same_assets base a i)) && nat_lt a.id b.id)))
-    ∙ ap (map (record_in s)) (sort_chosen (is_before_by_market_value t) account_key owned t.accounts (splits t) (apart_filter (is_before_by_market_value t) owned t.accounts (apart base t base.accounts books.owners)))
+    ∙ ap (map (record_in s))
+    (sort_chosen (is_before_by_market_value t) account_key owned t.accounts (splits t)
+    (apart_filter (is_before_by_market_value t) owned t.accounts (apart base t base.accounts books.owners)))
     ∙ same_map (record_in s) (record_in t) (sort_by (is_before_by_market_value t) (filter owned t.accounts))
     (λ a. ap (λ n. decimal a.id ∷ cents_text a.balance ∷ cents_text n ∷ []) (same_assets base a))

@@ -14,5 +14,7 @@ returns-clause-step g c =
       | in-Err-SqlInputError-NoSuchTable w ↦
           let it = w.in-Err-SqlInputError-NoSuchTable in
           rw w.result-is (says_absent c.args.text.now old new c.prepare.ensures.survives it.field-0 (it.field-0-is ∙ ap SqlInputError it.field-0-0-is) (λ clean. it.ensures.err clean []))
-      | in-Err+in-Err w ↦ rw w.result-is (says_nothing c.args.text.now old new (Says c.args.text.now old new c.prepare.ensures.survives) _ _ refl c.prepare.ensures.survives (λ clean. w.in-Err.ensures.err clean []))
+      | in-Err+in-Err w ↦ rw w.result-is
+          (says_nothing c.args.text.now old new (Says c.args.text.now old new c.prepare.ensures.survives) _ _ refl c.prepare.ensures.survives
+          (λ clean. w.in-Err.ensures.err clean []))
     ]

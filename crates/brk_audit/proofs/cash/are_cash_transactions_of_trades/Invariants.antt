@@ -7,4 +7,5 @@ use Rattle.brk_audit.proofs.cash.are_cash_transactions_of_trades.Given as goal
 
 abbrev pub invariant-loop-trade : goal.invariant-loop-trade
 invariant-loop-trade l =
-    Walked cash_figures_of_row (cash_figures_of_trade (account_tax_status_in_terms l.terms)) is_completed_cash_trade (map abstract_cash_row l.cash) l.trades (map abstract_cash_row l.rest) (drop l.trade-index l.trades)
+    Walked cash_figures_of_row (cash_figures_of_trade (account_tax_status_in_terms l.terms)) is_completed_cash_trade (map abstract_cash_row l.cash) l.trades
+    (map abstract_cash_row l.rest) (drop l.trade-index l.trades)

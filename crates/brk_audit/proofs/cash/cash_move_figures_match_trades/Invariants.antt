@@ -7,4 +7,5 @@ use Rattle.brk_audit.proofs.cash.cash_move_figures_match_trades.Given as goal
 
 abbrev pub invariant-loop-trade : goal.invariant-loop-trade
 invariant-loop-trade l =
-    Walked (λ p. p) (posted_figures_of_trade (account_tax_status_in_terms l.terms)) is_completed_cash_trade (map abstract_posted_figures l.rows) l.trades (map abstract_posted_figures l.rest) (drop l.trade-index l.trades)
+    Walked (λ p. p) (posted_figures_of_trade (account_tax_status_in_terms l.terms)) is_completed_cash_trade (map abstract_posted_figures l.rows) l.trades
+    (map abstract_posted_figures l.rest) (drop l.trade-index l.trades)

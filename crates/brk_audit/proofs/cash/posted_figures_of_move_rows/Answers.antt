@@ -9,10 +9,12 @@ use Rattle.brk_audit.proofs.cash.posted_figures_of_move_rows.Goals.{in-Some+in_o
 pub loop-row-preserved : goal.loop-row-preserved
 loop-row-preserved c = elim c.match-posted_figures_of_move_row.branch [
   | in-Some+in_ok-push w ↦
-      some_more abstract_posted_figures (λ r. posted_figures_of_row (abstract_move_row r)) c.args.moves.now c.loop-row.row-index c.row-item.result c.loop-row.all.items c.match-posted_figures_of_move_row.all.items w.in-Some.posted
+      some_more abstract_posted_figures (λ r. posted_figures_of_row (abstract_move_row r)) c.args.moves.now c.loop-row.row-index c.row-item.result
+      c.loop-row.all.items c.match-posted_figures_of_move_row.all.items w.in-Some.posted
       c.loop-row-test.true c.row-item.is c.loop-row.invariant w.in-Some.ensures (ap (λ v. v.items) w.all-is ∙ w.in_ok-push.ensures.items)
   | in_default w ↦
       ap (λ v. map abstract_posted_figures v.items) w.all-is
-      ∙ none_more abstract_posted_figures (λ r. posted_figures_of_row (abstract_move_row r)) c.args.moves.now c.loop-row.row-index c.row-item.result c.loop-row.all.items c.loop-row-test.true c.row-item.is
+      ∙ none_more abstract_posted_figures (λ r. posted_figures_of_row (abstract_move_row r)) c.args.moves.now c.loop-row.row-index c.row-item.result
+      c.loop-row.all.items c.loop-row-test.true c.row-item.is
       c.loop-row.invariant w.in_default.ensures
 ]

@@ -15,6 +15,9 @@ pub returns-then-not-lot_change_equals_row : goal.returns-then-not-lot_change_eq
 returns-then-not-lot_change_equals_row c = (
   (λ t. absurd (cc)),
   (λ e.
-      let t : IsTrue c.lot_change_equals_row.result = c.lot_change_equals_row.ensures.1 (same_at abstract_deal_touch abstract_lot_change_row c.args.touches.now c.args.rows.now c.loop-i.i c.index-touches-i.result c.index-rows-i.result e (omega arith) c.index-touches-i.is c.index-rows-i.is) in
+      let t : IsTrue c.lot_change_equals_row.result =
+      c.lot_change_equals_row.ensures.1
+      (same_at abstract_deal_touch abstract_lot_change_row c.args.touches.now c.args.rows.now c.loop-i.i c.index-touches-i.result c.index-rows-i.result e
+      (omega arith) c.index-touches-i.is c.index-rows-i.is) in
       rw c.if-not-lot_change_equals_row.true at t),
 )

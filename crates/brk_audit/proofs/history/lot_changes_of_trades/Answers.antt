@@ -14,7 +14,9 @@ append_lot_changes_of_trades-requires-clause-deals c =
     let b = c.loop-begin.begin in
     let n = c.leading_trade_count_of_position.result in
     let x = c.index-done-begin.result in
-    let k : Stretch done b n x = stretch done b n x c.loop-begin-test.true c.index-done-begin.is c.requires.order c.requires.apart c.leading_trade_count_of_position.ensures.same c.leading_trade_count_of_position.ensures.next in
+    let k : Stretch done b n x =
+    stretch done b n x c.loop-begin-test.true c.index-done-begin.is c.requires.order c.requires.apart c.leading_trade_count_of_position.ensures.same
+    c.leading_trade_count_of_position.ensures.next in
     subst AreDistinctAscendingDeals (sym (deals_are (take (b + 1 + n - b) (drop b done)) _ k.run)) k.deals
 
 pub loop-begin-preserved : goal.loop-begin-preserved
@@ -23,7 +25,9 @@ loop-begin-preserved c =
     let b = c.loop-begin.begin in
     let n = c.leading_trade_count_of_position.result in
     let x = c.index-done-begin.result in
-    let k : Stretch done b n x = stretch done b n x c.loop-begin-test.true c.index-done-begin.is c.requires.order c.requires.apart c.leading_trade_count_of_position.ensures.same c.leading_trade_count_of_position.ensures.next in
+    let k : Stretch done b n x =
+    stretch done b n x c.loop-begin-test.true c.index-done-begin.is c.requires.order c.requires.apart c.leading_trade_count_of_position.ensures.same
+    c.leading_trade_count_of_position.ensures.next in
     let run : List TradeRow = seen x ∷ map seen (take n (drop (b + 1) done)) in
     let held : List HoldingHistoryRow = map abstract_deal_touch c.loop-begin.rows.items in
     let made : List HoldingHistoryRow = lot_changes_of_deals (map deal_of_completed_row run) [] in
@@ -32,8 +36,11 @@ loop-begin-preserved c =
     record {
       within = omega (arith, c.leading_trade_count_of_position.ensures.within, length-take (length done - (b + 1)) (drop (b + 1) done), length-drop (b + 1) done, c.loop-begin-test.true);
       left = λ more l.
-          let next : AreLotChangesOfTrades (map seen (drop b done)) (made ++ more) = subst (λ (rs : List TradeRow). AreLotChangesOfTrades rs (made ++ more)) (sym k.is) (moves (seen x) (map seen (take n (drop (b + 1) done))) (map seen (drop (b + 1 + n) done)) more k.same k.behind l) in
-          subst (AreLotChangesOfTrades (map seen done)) (sym (append_assoc held made more) ∙ ap (λ (ms : List HoldingHistoryRow). ms ++ more) (sym added)) (c.loop-begin.invariant.left (made ++ more) next);
+          let next : AreLotChangesOfTrades (map seen (drop b done)) (made ++ more) =
+          subst (λ (rs : List TradeRow). AreLotChangesOfTrades rs (made ++ more)) (sym k.is)
+          (moves (seen x) (map seen (take n (drop (b + 1) done))) (map seen (drop (b + 1 + n) done)) more k.same k.behind l) in
+          subst (AreLotChangesOfTrades (map seen done)) (sym (append_assoc held made more) ∙ ap (λ (ms : List HoldingHistoryRow). ms ++ more) (sym added))
+          (c.loop-begin.invariant.left (made ++ more) next);
     }
 
 pub returns-clause-changes : goal.returns-clause-changes

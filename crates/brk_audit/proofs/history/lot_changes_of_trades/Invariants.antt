@@ -9,7 +9,8 @@ use Rattle.brk_audit.proofs.history.lot_changes_of_trades.Given as goal
 abbrev pub invariant-loop-begin : goal.invariant-loop-begin
 invariant-loop-begin l = record {
   within : l.begin ≤ length l.done;
-  left : (rows : List HoldingHistoryRow) → AreLotChangesOfTrades (map (λ row. abstract_trade_row row.now) (drop l.begin l.done)) rows → AreLotChangesOfTrades (map (λ row. abstract_trade_row row.now) l.done) (map abstract_deal_touch l.rows.items ++ rows);
+  left : (rows : List HoldingHistoryRow) → AreLotChangesOfTrades (map (λ row. abstract_trade_row row.now) (drop l.begin l.done)) rows
+      → AreLotChangesOfTrades (map (λ row. abstract_trade_row row.now) l.done) (map abstract_deal_touch l.rows.items ++ rows);
 }
 
 abbrev pub decreases-loop-begin : goal.decreases-loop-begin

@@ -7,5 +7,6 @@ use Rattle.brk_audit.proofs.history.sort_lot_changes.Goals as goal
 
 pub returns-clause-order : goal.returns-clause-order
 returns-clause-order c =
-    c.sort_unstable_by.ensures.sorted (λ one other. is_row_key_less holding_history_key (abstract_deal_touch one) (abstract_deal_touch other)) (key_order (λ row. holding_history_key (abstract_deal_touch row)))
+    c.sort_unstable_by.ensures.sorted (λ one other. is_row_key_less holding_history_key (abstract_deal_touch one) (abstract_deal_touch other))
+    (key_order (λ row. holding_history_key (abstract_deal_touch row)))
     (always_returns_same _ _ _ (λ a r q k. search rules))

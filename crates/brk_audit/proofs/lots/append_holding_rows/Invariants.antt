@@ -5,4 +5,5 @@ use Rattle.brk_lots.specs.Lots.{abstract_lot}
 use Rattle.brk_audit.proofs.lots.append_holding_rows.Given as goal
 
 abbrev pub invariant-loop-lot : goal.invariant-loop-lot
-invariant-loop-lot l = map abstract_holding_row l.held.items ≡ map abstract_holding_row l.fn.held.items ++ map (holding_row_in_position_of_trade (abstract_trade_row l.trade)) (map abstract_lot (take l.lot-index l.lots))
+invariant-loop-lot l = map abstract_holding_row l.held.items ≡ map abstract_holding_row l.fn.held.items
+    ++ map (holding_row_in_position_of_trade (abstract_trade_row l.trade)) (map abstract_lot (take l.lot-index l.lots))

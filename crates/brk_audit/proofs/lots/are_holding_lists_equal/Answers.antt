@@ -14,6 +14,9 @@ pub returns-then-not-are_holding_rows_equal : goal.returns-then-not-are_holding_
 returns-then-not-are_holding_rows_equal c = (
   (λ t. absurd (cc)),
   (λ e.
-      let t : IsTrue c.are_holding_rows_equal.result = c.are_holding_rows_equal.ensures.1 (same_at abstract_holding_row c.args.rows.now c.args.others.now c.loop-i.i c.index-rows-i.result c.index-others-i.result e (omega arith) c.index-rows-i.is c.index-others-i.is) in
+      let t : IsTrue c.are_holding_rows_equal.result =
+      c.are_holding_rows_equal.ensures.1
+      (same_at abstract_holding_row c.args.rows.now c.args.others.now c.loop-i.i c.index-rows-i.result c.index-others-i.result e (omega arith)
+      c.index-rows-i.is c.index-others-i.is) in
       rw c.if-not-are_holding_rows_equal.true at t),
 )

@@ -8,7 +8,8 @@ use Rattle.brk_audit.proofs.lots.lots_left_by_trades.Given as goal
 abbrev pub invariant-loop-begin : goal.invariant-loop-begin
 invariant-loop-begin l = record {
   within : l.begin ≤ length l.done;
-  left : (rows : List HoldingRow) → AreLotsLeftByTrades (map (λ row. abstract_trade_row row.now) (drop l.begin l.done)) rows → AreLotsLeftByTrades (map (λ row. abstract_trade_row row.now) l.done) (map abstract_holding_row l.held.items ++ rows);
+  left : (rows : List HoldingRow) → AreLotsLeftByTrades (map (λ row. abstract_trade_row row.now) (drop l.begin l.done)) rows
+      → AreLotsLeftByTrades (map (λ row. abstract_trade_row row.now) l.done) (map abstract_holding_row l.held.items ++ rows);
 }
 
 abbrev pub decreases-loop-begin : goal.decreases-loop-begin

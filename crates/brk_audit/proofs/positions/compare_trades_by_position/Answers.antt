@@ -11,5 +11,6 @@ returns c =
     let a : c.cmp-accounts.result ≡ nat_cmp x.account y.account = search rules in
     let s : c.cmp-symbols.result ≡ slice_cmp nat_cmp x.symbol y.symbol = search rules in
     let m : c.cmp-moments.result ≡ nat_cmp x.stamp y.stamp = search rules in
-    let e : c.then-2.result ≡ ordering_then c.cmp-accounts.result (ordering_then c.cmp-symbols.result c.cmp-moments.result) = c.then-2.ensures ∙ ap (ordering_then c.cmp-accounts.result) c.then.ensures in
+    let e : c.then-2.result ≡ ordering_then c.cmp-accounts.result (ordering_then c.cmp-symbols.result c.cmp-moments.result) = c.then-2.ensures
+    ∙ ap (ordering_then c.cmp-accounts.result) c.then.ensures in
     ap is_lt (e ∙ (λ i. ordering_then (a i) (ordering_then (s i) (m i)))) ∙ places_compare x.account y.account x.symbol y.symbol x.stamp y.stamp

@@ -8,4 +8,5 @@ use Rattle.brk_audit.proofs.requests.requests_match_trades.Given as goal
 
 abbrev pub invariant-loop-trade : goal.invariant-loop-trade
 invariant-loop-trade l =
-    Walked (λ q. q) (request_row_of_trade (account_broker_in_terms l.terms)) is_pending_row (map abstract_request_row l.requests) l.trades (map abstract_request_row l.rest) (drop l.trade-index l.trades)
+    Walked (λ q. q) (request_row_of_trade (account_broker_in_terms l.terms)) is_pending_row (map abstract_request_row l.requests) l.trades
+    (map abstract_request_row l.rest) (drop l.trade-index l.trades)

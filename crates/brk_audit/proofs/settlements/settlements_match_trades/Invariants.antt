@@ -8,4 +8,5 @@ use Rattle.brk_audit.proofs.settlements.settlements_match_trades.Given as goal
 
 abbrev pub invariant-loop-trade : goal.invariant-loop-trade
 invariant-loop-trade l =
-    Walked settlement_figures_of_row (settlement_figures_of_trade l.rule (account_tax_status_in_terms l.terms)) is_completed_row (map abstract_settlement_row l.settlements) l.trades (map abstract_settlement_row l.rest) (drop l.trade-index l.trades)
+    Walked settlement_figures_of_row (settlement_figures_of_trade l.rule (account_tax_status_in_terms l.terms)) is_completed_row
+    (map abstract_settlement_row l.settlements) l.trades (map abstract_settlement_row l.rest) (drop l.trade-index l.trades)

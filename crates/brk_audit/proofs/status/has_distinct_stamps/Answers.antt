@@ -36,7 +36,8 @@ loop-movement-preserved c =
     let yes = sym c.in_ok-insert_movement_stamp.ensures.new ∙ c.if-not-branch-2.false in
     record {
       seen = λ q.
-          seen_moved (told_stamps c.args.history.now) c.args.moves.now c.loop-movement.movement-index r q (contains nat_cmp c.loop-movement.seen q) (contains nat_cmp c.insert_movement_stamp.new.seen q)
+          seen_moved (told_stamps c.args.history.now) c.args.moves.now c.loop-movement.movement-index r q (contains nat_cmp c.loop-movement.seen q)
+          (contains nat_cmp c.insert_movement_stamp.new.seen q)
           c.loop-movement-test.true c.movement-item.is (c.loop-movement.invariant.seen q) (c.in_ok-insert_movement_stamp.ensures.seen q);
       apart = apart_moved (told_stamps c.args.history.now) c.args.moves.now c.loop-movement.movement-index r (contains nat_cmp c.loop-movement.seen r.stamp)
           c.loop-movement-test.true c.movement-item.is (c.loop-movement.invariant.seen r.stamp) yes c.loop-movement.invariant.apart;

@@ -14,6 +14,8 @@ invariant-loop-row l = record {
 
 abbrev pub invariant-loop-movement : goal.invariant-loop-movement
 invariant-loop-movement l = record {
-  seen : (q : ℕ) → contains nat_cmp l.seen q ≡ contains_number q (completion_stamps_of_history (map abstract_history_row l.history) ++ movement_stamps_of_cash_rows (map abstract_move_row (take l.movement-index l.moves)));
+  seen : (q : ℕ) → contains nat_cmp l.seen q
+      ≡ contains_number q (completion_stamps_of_history (map abstract_history_row l.history)
+      ++ movement_stamps_of_cash_rows (map abstract_move_row (take l.movement-index l.moves)));
   apart : all_distinct (completion_stamps_of_history (map abstract_history_row l.history) ++ movement_stamps_of_cash_rows (map abstract_move_row (take l.movement-index l.moves))) ≡ true;
 }

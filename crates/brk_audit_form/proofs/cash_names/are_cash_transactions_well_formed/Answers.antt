@@ -12,7 +12,8 @@ pub returns-then-not-is_formed-clause-value : goal.returns-then-not-is_formed-cl
 returns-then-not-is_formed-clause-value c =
     let s = c.args.sheets.now in
     let t = abstract_sheets s in
-    sym (list_all-map (is_well_formed_cash_transaction_row t) abstract_cash_row s.cash.items ∙ ap (list_all (λ r. is_well_formed_cash_transaction_row t (abstract_cash_row r))) (sym c.deref-row-items.ensures.value)
+    sym (list_all-map (is_well_formed_cash_transaction_row t) abstract_cash_row s.cash.items
+    ∙ ap (list_all (λ r. is_well_formed_cash_transaction_row t (abstract_cash_row r))) (sym c.deref-row-items.ensures.value)
     ∙ all_not (λ r. is_well_formed_cash_transaction_row t (abstract_cash_row r)) c.deref-row-items.result.now c.loop-row.row-index c.row-item.result c.loop-row-test.true c.row-item.is
     (sym c.in_ok-is_formed.ensures.value ∙ c.if-not-is_formed.true))
 
@@ -21,5 +22,6 @@ returns-clause-value c =
     let s = c.args.sheets.now in
     let t = abstract_sheets s in
     sym (list_all-map (is_well_formed_cash_transaction_row t) abstract_cash_row s.cash.items
-    ∙ ap (list_all (λ r. is_well_formed_cash_transaction_row t (abstract_cash_row r))) (sym c.deref-row-items.ensures.value ∙ sym (take_all c.loop-row.row-index c.deref-row-items.result.now c.loop-row-test.false))
+    ∙ ap (list_all (λ r. is_well_formed_cash_transaction_row t (abstract_cash_row r)))
+    (sym c.deref-row-items.ensures.value ∙ sym (take_all c.loop-row.row-index c.deref-row-items.result.now c.loop-row-test.false))
     ∙ c.loop-row.invariant)

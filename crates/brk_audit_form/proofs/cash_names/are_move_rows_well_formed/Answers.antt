@@ -21,5 +21,6 @@ returns-clause-value c =
     let s = c.args.sheets.now in
     let t = abstract_sheets s in
     sym (list_all-map (is_well_formed_cash_move_row t) abstract_move_row s.moves.items
-    ∙ ap (list_all (λ r. is_well_formed_cash_move_row t (abstract_move_row r))) (sym c.deref-row-items.ensures.value ∙ sym (take_all c.loop-row.row-index c.deref-row-items.result.now c.loop-row-test.false))
+    ∙ ap (list_all (λ r. is_well_formed_cash_move_row t (abstract_move_row r)))
+    (sym c.deref-row-items.ensures.value ∙ sym (take_all c.loop-row.row-index c.deref-row-items.result.now c.loop-row-test.false))
     ∙ c.loop-row.invariant)

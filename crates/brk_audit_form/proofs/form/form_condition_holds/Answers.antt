@@ -88,5 +88,6 @@ returns-clause-value c =
     let third = sym c.in_ok-has_cash.ensures.value ∙ c.if-not-has_cash.false in
     let fourth = sym c.in_ok-has_moves.ensures.value ∙ c.if-not-has_moves.false in
     let same = ap (λ l. all_distinct (trade_ids_of_cash_rows (map abstract_move_row l))) c.deref-2.ensures.value in
-    each_told c.cash_rows_have_distinct_trades.result (satisfies_form_condition schema (abstract_sheets s)) (all_distinct (trade_ids_of_cash_rows (map abstract_move_row c.deref-2.result.now))) c.cash_rows_have_distinct_trades.ensures.value
+    each_told c.cash_rows_have_distinct_trades.result (satisfies_form_condition schema (abstract_sheets s))
+    (all_distinct (trade_ids_of_cash_rows (map abstract_move_row c.deref-2.result.now))) c.cash_rows_have_distinct_trades.ensures.value
     (same ∙ sym (λ i. plain i && first i && second i && third i && fourth i && owns s) ∙ form_told schema s)

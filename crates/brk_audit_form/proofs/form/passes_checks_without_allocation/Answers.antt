@@ -10,7 +10,8 @@ use Rattle.brk_audit_form.proofs.form.passes_checks_without_allocation.Goals as 
 
 pub are_bands_disjoint-requires-clause-keys : goal.are_bands_disjoint-requires-clause-keys
 are_bands_disjoint-requires-clause-keys c =
-    ap (λ l. is_sorted_by_unique_key band_key (map abstract_band l)) c.deref.ensures.value ∙ bands_rise (abstract_sheets c.args.sheets.now) (sym c.all_tables_have_sorted_keys.ensures ∙ c.if-not-all_tables_have_sorted_keys.false)
+    ap (λ l. is_sorted_by_unique_key band_key (map abstract_band l)) c.deref.ensures.value
+    ∙ bands_rise (abstract_sheets c.args.sheets.now) (sym c.all_tables_have_sorted_keys.ensures ∙ c.if-not-all_tables_have_sorted_keys.false)
 
 pub are_bands_disjoint-requires-clause-bounds : goal.are_bands_disjoint-requires-clause-bounds
 are_bands_disjoint-requires-clause-bounds c =

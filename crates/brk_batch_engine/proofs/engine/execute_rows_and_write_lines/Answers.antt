@@ -16,7 +16,8 @@ returns-in_err-read_first_row g c = λ text h.
 
 pub loop-settled-init : goal.loop-settled-init
 loop-settled-init g c =
-    let start = reached_start g.D.Rows.meets_disk_assumption (RepresentsDurably g.D.Rows.represents g.D.Rows.crash_exposes_only) g.D.Rows.acts g.D.Rows.form g.D.Rows.step g.C.Clock.gives g.R.Read.remaining c.args.desk.now
+    let start = reached_start g.D.Rows.meets_disk_assumption (RepresentsDurably g.D.Rows.represents g.D.Rows.crash_exposes_only) g.D.Rows.acts g.D.Rows.form
+    g.D.Rows.step g.C.Clock.gives g.R.Read.remaining c.args.desk.now
     (record { name = c.args.name.now; clock = c.args.clock.now; old = g.W.Write.contents c.args.writer.now; reader = c.args.records.now }) _ _ c.requires.named
     c.in_ok-read_first_row.ensures.read in
     record { setup = c.in_ok-read_first_row.ensures.setup; reached = start.0; written = rw start.1 (Appends-nil _) }
@@ -31,7 +32,8 @@ returns-in_err-check_end_record_and_write_end_line g c = λ text h.
 pub returns-then-begins_with_end_field : goal.returns-then-begins_with_end_field
 returns-then-begins_with_end_field g c = λ text h.
     end_line_written g.D.Rows.meets_disk_assumption g.D.Rows.represents g.D.Rows.crash_exposes_only g.D.Rows.acts g.D.Rows.form g.D.Rows.step g.C.Clock.gives g.R.Read.remaining
-    _ _ _ _ c.loop-settled.invariant.reached _ c.loop-settled.invariant.written _ text c.in_ok-check_end_record_and_write_end_line.ensures.right c.in_ok-check_end_record_and_write_end_line.ensures.ok h
+    _ _ _ _ c.loop-settled.invariant.reached _ c.loop-settled.invariant.written _ text c.in_ok-check_end_record_and_write_end_line.ensures.right
+    c.in_ok-check_end_record_and_write_end_line.ensures.ok h
 
 pub returns-in_err-read_record_after_row : goal.returns-in_err-read_record_after_row
 returns-in_err-read_record_after_row g c = λ text h.

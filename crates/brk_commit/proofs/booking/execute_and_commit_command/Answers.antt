@@ -14,7 +14,8 @@ pub returns-in-Some : goal.returns-in-Some
 returns-in-Some g c =
     let old = c.args.store.now in
     let key = optional_model_key (option_copied c.args.key) in
-    let formed : MeetsAuditFormats (abstract_command c.args.command.now) × IfSome key IsWellFormedKey = (c.prove_command_and_key_meet_formats.ensures.command, c.prove_command_and_key_meet_formats.ensures.key) in
+    let formed : MeetsAuditFormats (abstract_command c.args.command.now)
+    × IfSome key IsWellFormedKey = (c.prove_command_and_key_meet_formats.ensures.command, c.prove_command_and_key_meet_formats.ensures.key) in
     let sought = rw c.in-Some.is at c.in_ok-kept.ensures.read in
     record {
       called = repeats_or_fails g.S.Store old c.read_stored_reply.new.store c.args.now (abstract_command c.args.command.now) key formed (abstract_kept_row c.in-Some.kept) c.answer_retry.result
@@ -26,48 +27,63 @@ returns-in_err-plan-in-Ok g c =
     let old = c.args.store.now in
     let mid = c.decide_command.new.store in
     let key = optional_model_key (option_copied c.args.key) in
-    let formed : MeetsAuditFormats (abstract_command c.args.command.now) × IfSome key IsWellFormedKey = (c.prove_command_and_key_meet_formats.ensures.command, c.prove_command_and_key_meet_formats.ensures.key) in
+    let formed : MeetsAuditFormats (abstract_command c.args.command.now)
+    × IfSome key IsWellFormedKey = (c.prove_command_and_key_meet_formats.ensures.command, c.prove_command_and_key_meet_formats.ensures.key) in
     let command = abstract_command c.args.command.now in
     let planned = Ok c.in-Ok.plan in
     let sought = rw c.in_default.is at c.in_ok-kept.ensures.read in
     let decided = rw c.in-Ok.is at c.in_ok-plan.ensures.read in
     let seen = known g.S.Store old c.read_stored_reply.new.store mid c.args.now command key planned sought decided in
     let p = err_from_is_err_and c.from_residual-in_err-plan-in-Ok.result c.from_residual-in_err-plan-in-Ok.ensures.1 in
-    record { called = rw (p.1, p.2) (fails g.S.Store old mid c.args.now command key formed (DecidesCommandOfNewKey c.args.now command key planned) seen _ (inl (same_fault _ _ _ refl c.in_err-plan-in-Ok.ensures.fault))) }
+    record {
+      called = rw (p.1, p.2)
+          (fails g.S.Store old mid c.args.now command key formed (DecidesCommandOfNewKey c.args.now command key planned) seen _
+          (inl (same_fault _ _ _ refl c.in_err-plan-in-Ok.ensures.fault)));
+    }
 
 pub returns-in_err-apply-in-Ok : goal.returns-in_err-apply-in-Ok
 returns-in_err-apply-in-Ok g c =
     let old = c.args.store.now in
     let mid = c.decide_command.new.store in
     let key = optional_model_key (option_copied c.args.key) in
-    let formed : MeetsAuditFormats (abstract_command c.args.command.now) × IfSome key IsWellFormedKey = (c.prove_command_and_key_meet_formats.ensures.command, c.prove_command_and_key_meet_formats.ensures.key) in
+    let formed : MeetsAuditFormats (abstract_command c.args.command.now)
+    × IfSome key IsWellFormedKey = (c.prove_command_and_key_meet_formats.ensures.command, c.prove_command_and_key_meet_formats.ensures.key) in
     let command = abstract_command c.args.command.now in
     let sought = rw c.in_default.is at c.in_ok-kept.ensures.read in
     let decided = rw c.in-Ok.is at c.in_ok-plan.ensures.read in
     let seen = known g.S.Store old c.read_stored_reply.new.store mid c.args.now command key (Ok c.in-Ok.plan) sought decided in
     let p = err_from_is_err_and c.from_residual-in_err-apply-in-Ok.result c.from_residual-in_err-apply-in-Ok.ensures.1 in
     let applied = rw c.deref.ensures.value at c.in_err-apply-in-Ok.ensures.applied in
-    record { called = rw (p.1, p.2) (books_none g.S.Store old mid c.args.now command key formed c.in-Ok.plan seen c.apply.new.self c.in_ok-plan-in-Ok.plan c.in_ok-plan-in-Ok.ensures.reply c.in_ok-plan-in-Ok.ensures.rows _ (inr (same_fault _ _ _ refl c.in_err-apply-in-Ok.ensures.fault)) applied) }
+    record {
+      called = rw (p.1, p.2)
+          (books_none g.S.Store old mid c.args.now command key formed c.in-Ok.plan seen c.apply.new.self c.in_ok-plan-in-Ok.plan c.in_ok-plan-in-Ok.ensures.reply
+          c.in_ok-plan-in-Ok.ensures.rows _ (inr (same_fault _ _ _ refl c.in_err-apply-in-Ok.ensures.fault)) applied);
+    }
 
 pub returns-in_ok-apply-in-Ok : goal.returns-in_ok-apply-in-Ok
 returns-in_ok-apply-in-Ok g c =
     let old = c.args.store.now in
     let mid = c.decide_command.new.store in
     let key = optional_model_key (option_copied c.args.key) in
-    let formed : MeetsAuditFormats (abstract_command c.args.command.now) × IfSome key IsWellFormedKey = (c.prove_command_and_key_meet_formats.ensures.command, c.prove_command_and_key_meet_formats.ensures.key) in
+    let formed : MeetsAuditFormats (abstract_command c.args.command.now)
+    × IfSome key IsWellFormedKey = (c.prove_command_and_key_meet_formats.ensures.command, c.prove_command_and_key_meet_formats.ensures.key) in
     let command = abstract_command c.args.command.now in
     let sought = rw c.in_default.is at c.in_ok-kept.ensures.read in
     let decided = rw c.in-Ok.is at c.in_ok-plan.ensures.read in
     let seen = known g.S.Store old c.read_stored_reply.new.store mid c.args.now command key (Ok c.in-Ok.plan) sought decided in
     let applied = rw c.deref.ensures.value at c.in_ok-apply-in-Ok.ensures.applied in
-    record { called = books_it g.S.Store old mid c.args.now command key formed c.in-Ok.plan seen c.apply.new.self c.in_ok-plan-in-Ok.plan c.in_ok-plan-in-Ok.ensures.reply c.in_ok-plan-in-Ok.ensures.rows c.in_ok-apply-in-Ok.field-0 applied }
+    record {
+      called = books_it g.S.Store old mid c.args.now command key formed c.in-Ok.plan seen c.apply.new.self c.in_ok-plan-in-Ok.plan
+          c.in_ok-plan-in-Ok.ensures.reply c.in_ok-plan-in-Ok.ensures.rows c.in_ok-apply-in-Ok.field-0 applied;
+    }
 
 pub returns-in-Err : goal.returns-in-Err
 returns-in-Err g c =
     let old = c.args.store.now in
     let mid = c.decide_command.new.store in
     let key = optional_model_key (option_copied c.args.key) in
-    let formed : MeetsAuditFormats (abstract_command c.args.command.now) × IfSome key IsWellFormedKey = (c.prove_command_and_key_meet_formats.ensures.command, c.prove_command_and_key_meet_formats.ensures.key) in
+    let formed : MeetsAuditFormats (abstract_command c.args.command.now)
+    × IfSome key IsWellFormedKey = (c.prove_command_and_key_meet_formats.ensures.command, c.prove_command_and_key_meet_formats.ensures.key) in
     let command = abstract_command c.args.command.now in
     let sought = rw c.in_default.is at c.in_ok-kept.ensures.read in
     let decided = rw c.in-Err.is at c.in_ok-plan.ensures.read in

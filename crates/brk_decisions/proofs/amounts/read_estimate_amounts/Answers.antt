@@ -28,4 +28,5 @@ pub returns-in_err-assets-clause-read : goal.returns-in_err-assets-clause-read
 returns-in_err-assets-clause-read g c =
     let old = c.args.store.now in
     let p = err_from_is_err_and c.from_residual-in_err-assets.result c.from_residual-in_err-assets.ensures.1 in
-    rw p.1 (failed_after g.S.Store old c.read_tax_rate_sum.new.store c.read_assets_and_shares.new.store _ p.0 _ _ (single_read_changes_nothing old c.read_tax_rate_sum.new.store _ _ c.in_ok-rates.ensures.read) c.in_err-assets.ensures.read)
+    rw p.1 (failed_after g.S.Store old c.read_tax_rate_sum.new.store c.read_assets_and_shares.new.store _ p.0 _ _
+    (single_read_changes_nothing old c.read_tax_rate_sum.new.store _ _ c.in_ok-rates.ensures.read) c.in_err-assets.ensures.read)

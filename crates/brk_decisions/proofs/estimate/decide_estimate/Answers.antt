@@ -18,4 +18,5 @@ returns-clause-read g c =
     (decided_on g.S.Store old mid end found (λ f t. EstimateFactsMatchTables t order f) (IsEstimateOfModel (abstract_order order)) c.plan_estimate_over_lots.result
     c.in_ok-found.ensures.read
     (rw c.lot_pages-lots.ensures.same at c.plan_estimate_over_lots.ensures.store_unchanged)
-    (λ clean. estimate_decided order found _ (HoldsRows g.S.Store mid) (λ t h. (clean, c.lot_pages-lots.ensures.remaining t h)) c.plan_estimate_over_lots.result c.plan_estimate_over_lots.ensures.planned))
+    (λ clean. estimate_decided order found _ (HoldsRows g.S.Store mid) (λ t h. (clean, c.lot_pages-lots.ensures.remaining t h)) c.plan_estimate_over_lots.result
+    c.plan_estimate_over_lots.ensures.planned))

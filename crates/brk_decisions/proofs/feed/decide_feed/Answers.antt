@@ -11,6 +11,8 @@ returns-clause-read g c =
     let ticks = c.args.feed.now in
     let last = c.in_ok-last.last in
     let quotes = c.in_ok-last.quotes in
-    decided g.S.Store c.args.store.now c.read_last_stamp_and_quotes.new.store (last, quotes) (λ market. QuotesAndLastStampMatch ticks ticks (states_of_quotes market.1.items) market.0) (DecidesCommand c.args.now (FeedTicks (abstract_ticks ticks))) c.plan_feed.result
+    decided g.S.Store c.args.store.now c.read_last_stamp_and_quotes.new.store (last, quotes)
+    (λ market. QuotesAndLastStampMatch ticks ticks (states_of_quotes market.1.items) market.0)
+    (DecidesCommand c.args.now (FeedTicks (abstract_ticks ticks))) c.plan_feed.result
     (rw c.ticks.ensures at c.in_ok-last.ensures.read)
     (feed_decided ticks (states_of_quotes quotes.items) last c.args.now c.get-moment.ensures.high c.plan_feed.result c.plan_feed.ensures.planned)

@@ -6,4 +6,6 @@ use Rattle.brk_decisions.proofs.Feeds.{QuotesAndLastStampMatch}
 use Rattle.brk_decisions.proofs.feed.read_last_stamp_and_quotes.Given as goal
 
 abbrev pub invariant-loop-tick : goal.invariant-loop-tick
-invariant-loop-tick g l = ReadPost {V = Unit {0}} {E = Fault} g.S.Store l.fn.store l.store (Ok tt) (λ _. QuotesAndLastStampMatch l.ticks (take l.tick-index l.ticks) (states_of_quotes l.quotes.items) l.last)
+invariant-loop-tick g l =
+    ReadPost {V = Unit {0}} {E = Fault} g.S.Store l.fn.store l.store (Ok tt)
+    (λ _. QuotesAndLastStampMatch l.ticks (take l.tick-index l.ticks) (states_of_quotes l.quotes.items) l.last)

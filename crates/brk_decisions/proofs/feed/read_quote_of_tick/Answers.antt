@@ -37,36 +37,51 @@ returns-clause-read g c =
     let sold : Tables → Type 0 = λ t. map abstract_request_row sells.items ≡ limit_sells t symbol span in
     let one =
     read_with g.S.Store c.args.store.now c.last_trade.new.self c.requests_at_or_above.new.self {X = Unit {0}} {H = Fault} (Some last) losses tt
-    (λ o (t : Tables). option_map abstract_last_trade_row o ≡ last_trade_row_of_symbol t symbol) (λ all (t : Tables). map abstract_request_row all.items ≡ stop_losses t symbol span) (λ _ t. found t × lost t) (λ t e f. (e, f))
+    (λ o (t : Tables). option_map abstract_last_trade_row o ≡ last_trade_row_of_symbol t symbol)
+    (λ all (t : Tables). map abstract_request_row all.items ≡ stop_losses t symbol span) (λ _ t. found t × lost t) (λ t e f. (e, f))
     (rw c.in-Some.is at c.in_ok-last.ensures.read) c.in_ok-losses.ensures.read in
     let two =
     read_with g.S.Store c.args.store.now c.requests_at_or_above.new.self c.requests_at_or_below.new.self {X = Unit {0}} {H = Fault} tt sells tt
-    (λ _ t. found t × lost t) (λ all (t : Tables). map abstract_request_row all.items ≡ limit_sells t symbol span) (λ _ t. (found t × lost t) × sold t) (λ t e f. (e, f)) one c.in_ok-sells.ensures.read in
+    (λ _ t. found t × lost t) (λ all (t : Tables). map abstract_request_row all.items ≡ limit_sells t symbol span) (λ _ t. (found t × lost t) × sold t)
+    (λ t e f. (e, f)) one c.in_ok-sells.ensures.read in
     read_with g.S.Store c.args.store.now c.requests_at_or_below.new.self c.requests_at_or_above-2.new.self {X = Option Quote} {H = Fault} tt buys (Some quote)
     (λ _ t. (found t × lost t) × sold t) (λ all (t : Tables). map abstract_request_row all.items ≡ limit_buys t symbol span) (IsQuoteOfTickOrNone ticks tick)
-    (λ t e f. selected_quote t tick ticks span last losses.items sells.items buys.items quote c.first_symbol_price_span-span.ensures e.0.0 e.0.1 e.1 f c.in_ok-quote.ensures.last c.in_ok-quote.ensures.requests c.in_ok-quote.ensures.order)
+    (λ t e f. selected_quote t tick ticks span last losses.items sells.items buys.items quote c.first_symbol_price_span-span.ensures e.0.0 e.0.1 e.1 f
+    c.in_ok-quote.ensures.last c.in_ok-quote.ensures.requests c.in_ok-quote.ensures.order)
     two c.in_ok-buys.ensures.read
 
 pub returns-in_err-losses-clause-read : goal.returns-in_err-losses-clause-read
 returns-in_err-losses-clause-read g c =
     let old = c.args.store.now in
     let p = err_from_is_err_and c.from_residual-in_err-losses.result c.from_residual-in_err-losses.ensures.1 in
-    rw p.1 (failed_after g.S.Store old c.last_trade.new.self c.requests_at_or_above.new.self _ p.0 _ _ (single_read_changes_nothing old c.last_trade.new.self _ _ c.in_ok-last.ensures.read) c.in_err-losses.ensures.read)
+    rw p.1 (failed_after g.S.Store old c.last_trade.new.self c.requests_at_or_above.new.self _ p.0 _ _
+    (single_read_changes_nothing old c.last_trade.new.self _ _ c.in_ok-last.ensures.read) c.in_err-losses.ensures.read)
 
 pub returns-in_err-sells-clause-read : goal.returns-in_err-sells-clause-read
 returns-in_err-sells-clause-read g c =
     let old = c.args.store.now in
     let p = err_from_is_err_and c.from_residual-in_err-sells.result c.from_residual-in_err-sells.ensures.1 in
-    rw p.1 (failed_after g.S.Store old c.requests_at_or_above.new.self c.requests_at_or_below.new.self _ p.0 _ _ (unchanged_after g.S.Store old c.last_trade.new.self c.requests_at_or_above.new.self _ _ (single_read_changes_nothing old c.last_trade.new.self _ _ c.in_ok-last.ensures.read) c.in_ok-losses.ensures.read) c.in_err-sells.ensures.read)
+    rw p.1 (failed_after g.S.Store old c.requests_at_or_above.new.self c.requests_at_or_below.new.self _ p.0 _ _
+    (unchanged_after g.S.Store old c.last_trade.new.self c.requests_at_or_above.new.self _ _
+    (single_read_changes_nothing old c.last_trade.new.self _ _ c.in_ok-last.ensures.read) c.in_ok-losses.ensures.read) c.in_err-sells.ensures.read)
 
 pub returns-in_err-buys-clause-read : goal.returns-in_err-buys-clause-read
 returns-in_err-buys-clause-read g c =
     let old = c.args.store.now in
     let p = err_from_is_err_and c.from_residual-in_err-buys.result c.from_residual-in_err-buys.ensures.1 in
-    rw p.1 (failed_after g.S.Store old c.requests_at_or_below.new.self c.requests_at_or_above-2.new.self _ p.0 _ _ (unchanged_after g.S.Store old c.requests_at_or_above.new.self c.requests_at_or_below.new.self _ _ (unchanged_after g.S.Store old c.last_trade.new.self c.requests_at_or_above.new.self _ _ (single_read_changes_nothing old c.last_trade.new.self _ _ c.in_ok-last.ensures.read) c.in_ok-losses.ensures.read) c.in_ok-sells.ensures.read) c.in_err-buys.ensures.read)
+    rw p.1 (failed_after g.S.Store old c.requests_at_or_below.new.self c.requests_at_or_above-2.new.self _ p.0 _ _
+    (unchanged_after g.S.Store old c.requests_at_or_above.new.self c.requests_at_or_below.new.self _ _
+    (unchanged_after g.S.Store old c.last_trade.new.self c.requests_at_or_above.new.self _ _
+    (single_read_changes_nothing old c.last_trade.new.self _ _ c.in_ok-last.ensures.read) c.in_ok-losses.ensures.read) c.in_ok-sells.ensures.read)
+    c.in_err-buys.ensures.read)
 
 pub returns-in_err-quote-clause-read : goal.returns-in_err-quote-clause-read
 returns-in_err-quote-clause-read g c =
     let old = c.args.store.now in
     let p = err_from_is_err_and c.from_residual-in_err-quote.result c.from_residual-in_err-quote.ensures.1 in
-    rw p.1 (none_read g.S.Store old c.requests_at_or_above-2.new.self p.0 _ (unchanged_after g.S.Store old c.requests_at_or_below.new.self c.requests_at_or_above-2.new.self _ _ (unchanged_after g.S.Store old c.requests_at_or_above.new.self c.requests_at_or_below.new.self _ _ (unchanged_after g.S.Store old c.last_trade.new.self c.requests_at_or_above.new.self _ _ (single_read_changes_nothing old c.last_trade.new.self _ _ c.in_ok-last.ensures.read) c.in_ok-losses.ensures.read) c.in_ok-sells.ensures.read) c.in_ok-buys.ensures.read))
+    rw p.1 (none_read g.S.Store old c.requests_at_or_above-2.new.self p.0 _
+    (unchanged_after g.S.Store old c.requests_at_or_below.new.self c.requests_at_or_above-2.new.self _ _
+    (unchanged_after g.S.Store old c.requests_at_or_above.new.self c.requests_at_or_below.new.self _ _
+    (unchanged_after g.S.Store old c.last_trade.new.self c.requests_at_or_above.new.self _ _
+    (single_read_changes_nothing old c.last_trade.new.self _ _ c.in_ok-last.ensures.read) c.in_ok-losses.ensures.read) c.in_ok-sells.ensures.read)
+    c.in_ok-buys.ensures.read))

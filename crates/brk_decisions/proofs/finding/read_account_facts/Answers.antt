@@ -39,16 +39,24 @@ pub returns-in_err-customer-clause-read : goal.returns-in_err-customer-clause-re
 returns-in_err-customer-clause-read g c =
     let old = c.args.store.now in
     let p = err_from_is_err_and c.from_residual-in_err-customer.result c.from_residual-in_err-customer.ensures.1 in
-    rw p.1 (failed_after g.S.Store old c.account_exists.new.store c.customer_exists.new.store _ p.0 _ _ (single_read_changes_nothing old c.account_exists.new.store _ _ c.in_ok-same_id.ensures.read) c.in_err-customer.ensures.read)
+    rw p.1 (failed_after g.S.Store old c.account_exists.new.store c.customer_exists.new.store _ p.0 _ _
+    (single_read_changes_nothing old c.account_exists.new.store _ _ c.in_ok-same_id.ensures.read) c.in_err-customer.ensures.read)
 
 pub returns-in_err-broker-clause-read : goal.returns-in_err-broker-clause-read
 returns-in_err-broker-clause-read g c =
     let old = c.args.store.now in
     let p = err_from_is_err_and c.from_residual-in_err-broker.result c.from_residual-in_err-broker.ensures.1 in
-    rw p.1 (failed_after g.S.Store old c.customer_exists.new.store c.broker_exists.new.store _ p.0 _ _ (unchanged_after g.S.Store old c.account_exists.new.store c.customer_exists.new.store _ _ (single_read_changes_nothing old c.account_exists.new.store _ _ c.in_ok-same_id.ensures.read) c.in_ok-customer.ensures.read) c.in_err-broker.ensures.read)
+    rw p.1 (failed_after g.S.Store old c.customer_exists.new.store c.broker_exists.new.store _ p.0 _ _
+    (unchanged_after g.S.Store old c.account_exists.new.store c.customer_exists.new.store _ _
+    (single_read_changes_nothing old c.account_exists.new.store _ _ c.in_ok-same_id.ensures.read) c.in_ok-customer.ensures.read)
+    c.in_err-broker.ensures.read)
 
 pub returns-in_err-accounts-clause-read : goal.returns-in_err-accounts-clause-read
 returns-in_err-accounts-clause-read g c =
     let old = c.args.store.now in
     let p = err_from_is_err_and c.from_residual-in_err-accounts.result c.from_residual-in_err-accounts.ensures.1 in
-    rw p.1 (failed_after g.S.Store old c.broker_exists.new.store c.count_accounts.new.store _ p.0 _ _ (unchanged_after g.S.Store old c.customer_exists.new.store c.broker_exists.new.store _ _ (unchanged_after g.S.Store old c.account_exists.new.store c.customer_exists.new.store _ _ (single_read_changes_nothing old c.account_exists.new.store _ _ c.in_ok-same_id.ensures.read) c.in_ok-customer.ensures.read) c.in_ok-broker.ensures.read) c.in_err-accounts.ensures.read)
+    rw p.1 (failed_after g.S.Store old c.broker_exists.new.store c.count_accounts.new.store _ p.0 _ _
+    (unchanged_after g.S.Store old c.customer_exists.new.store c.broker_exists.new.store _ _
+    (unchanged_after g.S.Store old c.account_exists.new.store c.customer_exists.new.store _ _
+    (single_read_changes_nothing old c.account_exists.new.store _ _ c.in_ok-same_id.ensures.read) c.in_ok-customer.ensures.read)
+    c.in_ok-broker.ensures.read) c.in_err-accounts.ensures.read)

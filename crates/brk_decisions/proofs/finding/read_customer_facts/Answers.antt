@@ -21,4 +21,5 @@ pub returns-in_err-same_tax_id-clause-read : goal.returns-in_err-same_tax_id-cla
 returns-in_err-same_tax_id-clause-read g c =
     let old = c.args.store.now in
     let p = err_from_is_err_and c.from_residual-in_err-same_tax_id.result c.from_residual-in_err-same_tax_id.ensures.1 in
-    rw p.1 (failed_after g.S.Store old c.customer_exists.new.store c.tax_id_exists.new.store _ p.0 _ _ (single_read_changes_nothing old c.customer_exists.new.store _ _ c.in_ok-same_id.ensures.read) c.in_err-same_tax_id.ensures.read)
+    rw p.1 (failed_after g.S.Store old c.customer_exists.new.store c.tax_id_exists.new.store _ p.0 _ _
+    (single_read_changes_nothing old c.customer_exists.new.store _ _ c.in_ok-same_id.ensures.read) c.in_err-same_tax_id.ensures.read)

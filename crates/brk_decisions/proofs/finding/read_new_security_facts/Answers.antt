@@ -11,6 +11,7 @@ use Rattle.brk_decisions.proofs.finding.read_new_security_facts.Goals as goal
 pub returns-clause-read : goal.returns-clause-read
 returns-clause-read g c =
     retold g.S.Store c.args.store.now c.security.new.self c.in_ok-security.field-0 _
-    (λ o (t : Tables). option_map abstract_security_row o ≡ find (λ r. bytes_eq r.symbol c.args.symbol.now) t.securities) (λ (found : ReferenceFacts) (t : Tables). found.same_id ≡ has_security t c.args.symbol.now)
+    (λ o (t : Tables). option_map abstract_security_row o ≡ find (λ r. bytes_eq r.symbol c.args.symbol.now) t.securities)
+    (λ (found : ReferenceFacts) (t : Tables). found.same_id ≡ has_security t c.args.symbol.now)
     (λ t e. c.is_some-same_id.ensures ∙ is_there abstract_security_row c.in_ok-security.field-0 (find (λ r. bytes_eq r.symbol c.args.symbol.now) t.securities) e)
     c.in_ok-security.ensures.read

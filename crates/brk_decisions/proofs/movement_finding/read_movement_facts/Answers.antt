@@ -28,4 +28,5 @@ pub returns-in_err-next-clause-read : goal.returns-in_err-next-clause-read
 returns-in_err-next-clause-read g c =
     let old = c.args.store.now in
     let p = err_from_is_err_and c.from_residual-in_err-next.result c.from_residual-in_err-next.ensures.1 in
-    rw p.1 (failed_after g.S.Store old c.account_balance.new.self c.next_movement_number_and_limit.new.self _ p.0 _ _ (single_read_changes_nothing old c.account_balance.new.self _ _ c.in_ok-balance.ensures.read) c.in_err-next.ensures.read)
+    rw p.1 (failed_after g.S.Store old c.account_balance.new.self c.next_movement_number_and_limit.new.self _ p.0 _ _
+    (single_read_changes_nothing old c.account_balance.new.self _ _ c.in_ok-balance.ensures.read) c.in_err-next.ensures.read)

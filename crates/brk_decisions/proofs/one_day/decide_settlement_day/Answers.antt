@@ -22,4 +22,5 @@ pub returns-in_err-rule-clause-read : goal.returns-in_err-rule-clause-read
 returns-in_err-rule-clause-read g c =
     let old = c.args.store.now in
     let p = err_from_is_err_and c.from_residual-in_err-rule.result c.from_residual-in_err-rule.ensures.1 in
-    rw p.1 (failed_after g.S.Store old c.last_stamp.new.self c.settlement_day.new.self _ p.0 _ _ (single_read_changes_nothing old c.last_stamp.new.self _ _ c.in_ok-last.ensures.read) c.in_err-rule.ensures.read)
+    rw p.1 (failed_after g.S.Store old c.last_stamp.new.self c.settlement_day.new.self _ p.0 _ _
+    (single_read_changes_nothing old c.last_stamp.new.self _ _ c.in_ok-last.ensures.read) c.in_err-rule.ensures.read)

@@ -38,4 +38,5 @@ pub returns-in_err-found-in-Some-clause-read : goal.returns-in_err-found-in-Some
 returns-in_err-found-in-Some-clause-read g c =
     let old = c.args.store.now in
     let p = err_from_is_err_and c.from_residual-in_err-found-in-Some.result c.from_residual-in_err-found-in-Some.ensures.1 in
-    rw p.1 (failed_after g.S.Store old c.account.new.self c.read_estimate_facts_with_account.new.store _ p.0 _ _ (single_read_changes_nothing old c.account.new.self _ _ c.in_ok-account.ensures.read) c.in_err-found-in-Some.ensures.read)
+    rw p.1 (failed_after g.S.Store old c.account.new.self c.read_estimate_facts_with_account.new.store _ p.0 _ _
+    (single_read_changes_nothing old c.account.new.self _ _ c.in_ok-account.ensures.read) c.in_err-found-in-Some.ensures.read)

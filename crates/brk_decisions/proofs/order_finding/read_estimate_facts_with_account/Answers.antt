@@ -31,10 +31,14 @@ pub returns-in_err-tested-clause-read : goal.returns-in_err-tested-clause-read
 returns-in_err-tested-clause-read g c =
     let old = c.args.store.now in
     let p = err_from_is_err_and c.from_residual-in_err-tested.result c.from_residual-in_err-tested.ensures.1 in
-    rw p.1 (failed_after g.S.Store old c.require_customer.new.store c.read_order_check_facts.new.store _ p.0 _ _ (single_read_changes_nothing old c.require_customer.new.store _ _ c.in_ok-customer.ensures.read) c.in_err-tested.ensures.read)
+    rw p.1 (failed_after g.S.Store old c.require_customer.new.store c.read_order_check_facts.new.store _ p.0 _ _
+    (single_read_changes_nothing old c.require_customer.new.store _ _ c.in_ok-customer.ensures.read) c.in_err-tested.ensures.read)
 
 pub returns-in_err-amounts-clause-read : goal.returns-in_err-amounts-clause-read
 returns-in_err-amounts-clause-read g c =
     let old = c.args.store.now in
     let p = err_from_is_err_and c.from_residual-in_err-amounts.result c.from_residual-in_err-amounts.ensures.1 in
-    rw p.1 (failed_after g.S.Store old c.read_order_check_facts.new.store c.read_estimate_amounts.new.store _ p.0 _ _ (unchanged_after g.S.Store old c.require_customer.new.store c.read_order_check_facts.new.store _ _ (single_read_changes_nothing old c.require_customer.new.store _ _ c.in_ok-customer.ensures.read) c.in_ok-tested.ensures.read) c.in_err-amounts.ensures.read)
+    rw p.1 (failed_after g.S.Store old c.read_order_check_facts.new.store c.read_estimate_amounts.new.store _ p.0 _ _
+    (unchanged_after g.S.Store old c.require_customer.new.store c.read_order_check_facts.new.store _ _
+    (single_read_changes_nothing old c.require_customer.new.store _ _ c.in_ok-customer.ensures.read) c.in_ok-tested.ensures.read)
+    c.in_err-amounts.ensures.read)

@@ -23,4 +23,5 @@ pub returns-in_err-last_trade-clause-read : goal.returns-in_err-last_trade-claus
 returns-in_err-last_trade-clause-read g c =
     let old = c.args.store.now in
     let p = err_from_is_err_and c.from_residual-in_err-last_trade.result c.from_residual-in_err-last_trade.ensures.1 in
-    rw p.1 (failed_after g.S.Store old c.read_estimate_facts.new.store c.greatest_trade_id.new.self _ p.0 _ _ (single_read_changes_nothing old c.read_estimate_facts.new.store _ _ c.in_ok-found.ensures.read) c.in_err-last_trade.ensures.read)
+    rw p.1 (failed_after g.S.Store old c.read_estimate_facts.new.store c.greatest_trade_id.new.self _ p.0 _ _
+    (single_read_changes_nothing old c.read_estimate_facts.new.store _ _ c.in_ok-found.ensures.read) c.in_err-last_trade.ensures.read)

@@ -24,4 +24,5 @@ pub returns-in_err-parties-clause-read : goal.returns-in_err-parties-clause-read
 returns-in_err-parties-clause-read g c =
     let old = c.args.store.now in
     let p = err_from_is_err_and c.from_residual-in_err-parties.result c.from_residual-in_err-parties.ensures.1 in
-    rw p.1 (failed_after g.S.Store old c.require_account.new.store c.read_party_facts_of_account_row.new.store _ p.0 _ _ (single_read_changes_nothing old c.require_account.new.store _ _ c.in_ok-row.ensures.read) c.in_err-parties.ensures.read)
+    rw p.1 (failed_after g.S.Store old c.require_account.new.store c.read_party_facts_of_account_row.new.store _ p.0 _ _
+    (single_read_changes_nothing old c.require_account.new.store _ _ c.in_ok-row.ensures.read) c.in_err-parties.ensures.read)

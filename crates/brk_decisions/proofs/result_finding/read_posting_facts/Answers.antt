@@ -23,4 +23,5 @@ pub returns-in_err-next-clause-read : goal.returns-in_err-next-clause-read
 returns-in_err-next-clause-read g c =
     let old = c.args.store.now in
     let p = err_from_is_err_and c.from_residual-in_err-next.result c.from_residual-in_err-next.ensures.1 in
-    rw p.1 (failed_after g.S.Store old c.settlement_day.new.self c.next_cash_row_number.new.self _ p.0 _ _ (single_read_changes_nothing old c.settlement_day.new.self _ _ c.in_ok-rule.ensures.read) c.in_err-next.ensures.read)
+    rw p.1 (failed_after g.S.Store old c.settlement_day.new.self c.next_cash_row_number.new.self _ p.0 _ _
+    (single_read_changes_nothing old c.settlement_day.new.self _ _ c.in_ok-rule.ensures.read) c.in_err-next.ensures.read)

@@ -29,4 +29,5 @@ pub returns-in_err-rate-clause-read : goal.returns-in_err-rate-clause-read
 returns-in_err-rate-clause-read g c =
     let old = c.args.store.now in
     let p = err_from_is_err_and c.from_residual-in_err-rate.result c.from_residual-in_err-rate.ensures.1 in
-    rw p.1 (failed_after g.S.Store old c.require_security.new.store c.read_commission_rate_of_band.new.store _ p.0 _ _ (single_read_changes_nothing old c.require_security.new.store _ _ c.in_ok-security.ensures.read) c.in_err-rate.ensures.read)
+    rw p.1 (failed_after g.S.Store old c.require_security.new.store c.read_commission_rate_of_band.new.store _ p.0 _ _
+    (single_read_changes_nothing old c.require_security.new.store _ _ c.in_ok-security.ensures.read) c.in_err-rate.ensures.read)

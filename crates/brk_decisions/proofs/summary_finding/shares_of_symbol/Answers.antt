@@ -12,7 +12,8 @@ returns c =
     let rows = c.args.rows.now in
     let found = find_from_yields_List (λ r. bytes_eq r.symbol c.args.symbol.now) _ _ c.find.result c.find.ensures.ran (YieldsList-from_slice rows cc) (λ x b q k. search (rules, tests)) in
     let some = sym found ∙ ap (option_map (λ r. r.now)) c.in-Some.is in
-    ap Some (to_z-of_z w64 c.shares_of_summary-qty.result (search rules) ∙ c.shares_of_summary-qty.ensures) ∙ sym (found_mapped (λ r. bytes_eq r.symbol c.args.symbol.now) abstract_summary_row (λ r. r.qty) rows ∙ ap (option_map (λ r. r.qty)) some)
+    ap Some (to_z-of_z w64 c.shares_of_summary-qty.result (search rules) ∙ c.shares_of_summary-qty.ensures)
+    ∙ sym (found_mapped (λ r. bytes_eq r.symbol c.args.symbol.now) abstract_summary_row (λ r. r.qty) rows ∙ ap (option_map (λ r. r.qty)) some)
 
 pub returns-in_default : goal.returns-in_default
 returns-in_default c =

@@ -41,16 +41,24 @@ pub returns-in_err-rate-clause-read : goal.returns-in_err-rate-clause-read
 returns-in_err-rate-clause-read g c =
     let old = c.args.store.now in
     let p = err_from_is_err_and c.from_residual-in_err-rate.result c.from_residual-in_err-rate.ensures.1 in
-    rw p.1 (failed_after g.S.Store old c.customer_exists.new.store c.read_rate_of_tax.new.store _ p.0 _ _ (single_read_changes_nothing old c.customer_exists.new.store _ _ c.in_ok-customer.ensures.read) c.in_err-rate.ensures.read)
+    rw p.1 (failed_after g.S.Store old c.customer_exists.new.store c.read_rate_of_tax.new.store _ p.0 _ _
+    (single_read_changes_nothing old c.customer_exists.new.store _ _ c.in_ok-customer.ensures.read) c.in_err-rate.ensures.read)
 
 pub returns-in_err-same_id-clause-read : goal.returns-in_err-same_id-clause-read
 returns-in_err-same_id-clause-read g c =
     let old = c.args.store.now in
     let p = err_from_is_err_and c.from_residual-in_err-same_id.result c.from_residual-in_err-same_id.ensures.1 in
-    rw p.1 (failed_after g.S.Store old c.read_rate_of_tax.new.store c.customer_pays_tax.new.store _ p.0 _ _ (unchanged_after g.S.Store old c.customer_exists.new.store c.read_rate_of_tax.new.store _ _ (single_read_changes_nothing old c.customer_exists.new.store _ _ c.in_ok-customer.ensures.read) c.in_ok-rate.ensures.read) c.in_err-same_id.ensures.read)
+    rw p.1 (failed_after g.S.Store old c.read_rate_of_tax.new.store c.customer_pays_tax.new.store _ p.0 _ _
+    (unchanged_after g.S.Store old c.customer_exists.new.store c.read_rate_of_tax.new.store _ _
+    (single_read_changes_nothing old c.customer_exists.new.store _ _ c.in_ok-customer.ensures.read) c.in_ok-rate.ensures.read)
+    c.in_err-same_id.ensures.read)
 
 pub returns-in_err-rates-clause-read : goal.returns-in_err-rates-clause-read
 returns-in_err-rates-clause-read g c =
     let old = c.args.store.now in
     let p = err_from_is_err_and c.from_residual-in_err-rates.result c.from_residual-in_err-rates.ensures.1 in
-    rw p.1 (failed_after g.S.Store old c.customer_pays_tax.new.store c.read_tax_rate_sum_within_limit.new.store _ p.0 _ _ (unchanged_after g.S.Store old c.read_rate_of_tax.new.store c.customer_pays_tax.new.store _ _ (unchanged_after g.S.Store old c.customer_exists.new.store c.read_rate_of_tax.new.store _ _ (single_read_changes_nothing old c.customer_exists.new.store _ _ c.in_ok-customer.ensures.read) c.in_ok-rate.ensures.read) c.in_ok-same_id.ensures.read) c.in_err-rates.ensures.read)
+    rw p.1 (failed_after g.S.Store old c.customer_pays_tax.new.store c.read_tax_rate_sum_within_limit.new.store _ p.0 _ _
+    (unchanged_after g.S.Store old c.read_rate_of_tax.new.store c.customer_pays_tax.new.store _ _
+    (unchanged_after g.S.Store old c.customer_exists.new.store c.read_rate_of_tax.new.store _ _
+    (single_read_changes_nothing old c.customer_exists.new.store _ _ c.in_ok-customer.ensures.read) c.in_ok-rate.ensures.read) c.in_ok-same_id.ensures.read)
+    c.in_err-rates.ensures.read)

@@ -21,4 +21,5 @@ pub returns-in_err-same_id-clause-read : goal.returns-in_err-same_id-clause-read
 returns-in_err-same_id-clause-read g c =
     let old = c.args.store.now in
     let p = err_from_is_err_and c.from_residual-in_err-same_id.result c.from_residual-in_err-same_id.ensures.1 in
-    rw p.1 (failed_after g.S.Store old c.account_exists.new.store c.permission_exists.new.store _ p.0 _ _ (single_read_changes_nothing old c.account_exists.new.store _ _ c.in_ok-account.ensures.read) c.in_err-same_id.ensures.read)
+    rw p.1 (failed_after g.S.Store old c.account_exists.new.store c.permission_exists.new.store _ p.0 _ _
+    (single_read_changes_nothing old c.account_exists.new.store _ _ c.in_ok-account.ensures.read) c.in_err-same_id.ensures.read)

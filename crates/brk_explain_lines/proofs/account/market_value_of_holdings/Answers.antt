@@ -16,5 +16,8 @@ loop-held-preserved c =
     let i = c.loop-held.held-index in
     let held = c.held-item.result in
     c.in_ok-total.ensures.sum ∙ ap (λ (z : ℤ). z +ℤ c.in_ok-worth.worth) c.loop-held.invariant
-    ∙ ap (λ (z : ℤ). lines.market_value_of_holdings (map abstract_priced_holding (take i all)) +ℤ z) c.in_ok-worth.ensures.worth ∙ sym (total_by-more market_value_of_holding (map abstract_priced_holding (take i all)) (abstract_priced_holding held))
-    ∙ ap (total_by market_value_of_holding) (sym (map-append abstract_priced_holding (take i all) (held ∷ [])) ∙ ap (map abstract_priced_holding) (ap (λ x. take i all ++ x ∷ []) c.held-item.is ∙ sym (take_more all i held c.loop-held-test.true)))
+    ∙ ap (λ (z : ℤ). lines.market_value_of_holdings (map abstract_priced_holding (take i all)) +ℤ z) c.in_ok-worth.ensures.worth
+    ∙ sym (total_by-more market_value_of_holding (map abstract_priced_holding (take i all)) (abstract_priced_holding held))
+    ∙ ap (total_by market_value_of_holding)
+    (sym (map-append abstract_priced_holding (take i all) (held ∷ []))
+    ∙ ap (map abstract_priced_holding) (ap (λ x. take i all ++ x ∷ []) c.held-item.is ∙ sym (take_more all i held c.loop-held-test.true)))

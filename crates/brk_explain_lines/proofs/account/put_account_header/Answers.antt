@@ -33,5 +33,14 @@ returns-clause-ok c =
     let r4 = a4 ++ r5 in
     let r3 = a3 ++ r4 in
     let r2 = a2 ++ r3 in
-    on_ok {P = x7 ≡ x6 ++ a7} c.put_text_line.result c.put_text_line.ensures.ok (λ h. more o a1 r2 x1 x7 c.in_ok-put_title_line.ensures.ok (more x1 a2 r3 x2 x7 c.in_ok-put_labeled_text_line.ensures.ok (more x2 a3 r4 x3 x7 c.in_ok-put_labeled_number_line.ensures.ok (more x3 a4 r5 x4 x7 c.in_ok-put_labeled_number_line-2.ensures.ok (more x4 a5 r6 x5 x7 c.in_ok-put_labeled_number_line-3.ensures.ok (more x5 a6 r7 x6 x7 c.in_ok-put_labeled_amount_line.ensures.ok (last x6 a7 x7 h))))))
-    ∙ (λ i. o ++ text_of_lines ((codes "Account " ++ decimal row.account.id ++ codes ", times in UTC") ∷ (labeled_text (codes "Name") (name i)) ∷ (labeled_number (codes "Customer") (c.get.ensures.value i)) ∷ (labeled_number (codes "Broker") (c.get-2.ensures.value i)) ∷ (labeled_number (codes "Tax status") (status i)) ∷ (labeled_amount (codes "Opening") (c.from-2.ensures i)) ∷ (codes "#      posted                       cash row         trade                 amount                balance name") ∷ [])))
+    on_ok {P = x7 ≡ x6 ++ a7} c.put_text_line.result c.put_text_line.ensures.ok
+    (λ h. more o a1 r2 x1 x7 c.in_ok-put_title_line.ensures.ok
+    (more x1 a2 r3 x2 x7 c.in_ok-put_labeled_text_line.ensures.ok
+    (more x2 a3 r4 x3 x7 c.in_ok-put_labeled_number_line.ensures.ok
+    (more x3 a4 r5 x4 x7 c.in_ok-put_labeled_number_line-2.ensures.ok
+    (more x4 a5 r6 x5 x7 c.in_ok-put_labeled_number_line-3.ensures.ok (more x5 a6 r7 x6 x7 c.in_ok-put_labeled_amount_line.ensures.ok (last x6 a7 x7 h))))))
+    ∙ (λ i. o ++ text_of_lines
+    ((codes "Account " ++ decimal row.account.id ++ codes ", times in UTC") ∷ (labeled_text (codes "Name") (name i))
+    ∷ (labeled_number (codes "Customer") (c.get.ensures.value i)) ∷ (labeled_number (codes "Broker") (c.get-2.ensures.value i))
+    ∷ (labeled_number (codes "Tax status") (status i)) ∷ (labeled_amount (codes "Opening") (c.from-2.ensures i))
+    ∷ (codes "#      posted                       cash row         trade                 amount                balance name") ∷ [])))

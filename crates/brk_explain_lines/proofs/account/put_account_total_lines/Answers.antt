@@ -19,5 +19,8 @@ returns-clause-ok c =
     let a3 = line_with_line_feed (account_counts_line c.args.cash c.args.lots c.args.symbols) in
     let r3 = a3 ++ [] in
     let r2 = a2 ++ r3 in
-    on_ok {P = x3 ≡ x2 ++ a3} c.put_account_counts_line.result c.put_account_counts_line.ensures.ok (λ h. more o a1 r2 x1 x3 c.in_ok-put_labeled_amount_line.ensures.ok (more x1 a2 r3 x2 x3 c.in_ok-put_labeled_amount_line-2.ensures.ok (last x2 a3 x3 h))
-    ∙ (λ i. o ++ text_of_lines ((labeled_amount (codes "Holdings") c.args.holdings) ∷ (labeled_amount (codes "Assets") (assets i)) ∷ (account_counts_line c.args.cash c.args.lots c.args.symbols) ∷ [])))
+    on_ok {P = x3 ≡ x2 ++ a3} c.put_account_counts_line.result c.put_account_counts_line.ensures.ok
+    (λ h. more o a1 r2 x1 x3 c.in_ok-put_labeled_amount_line.ensures.ok (more x1 a2 r3 x2 x3 c.in_ok-put_labeled_amount_line-2.ensures.ok (last x2 a3 x3 h))
+    ∙ (λ i. o ++ text_of_lines
+    ((labeled_amount (codes "Holdings") c.args.holdings) ∷ (labeled_amount (codes "Assets") (assets i))
+    ∷ (account_counts_line c.args.cash c.args.lots c.args.symbols) ∷ [])))

@@ -35,4 +35,7 @@ returns-clause-ok c =
     let x6 = c.put_spaced_text_line.new.out.items in
     let t6a = 32 ∷ c.as_bytes.result.now in
     on_ok {P = x6 ≡ x5 ++ line_with_line_feed t6a} c.put_spaced_text_line.result c.put_spaced_text_line.ensures.ok (λ h. line_end o s5 t6a x5 x6 h5 h
-    ∙ (λ i. o ++ (line_with_line_feed (((((((left_aligned_text 6 (codes "Posted")) ++ (32 ∷ timestamp_text row.stamp)) ++ (32 ∷ right_aligned_text 13 (decimal (c.get.ensures.value i)))) ++ (32 ∷ right_aligned_text 13 (trade_id_or_hyphen row.trade))) ++ (amount_column (c.from.ensures i))) ++ (amount_column c.args.balance)) ++ (32 ∷ (c.as_bytes.ensures.value i))))))
+    ∙ (λ i. o ++ (line_with_line_feed
+    (((((((left_aligned_text 6 (codes "Posted")) ++ (32 ∷ timestamp_text row.stamp)) ++ (32 ∷ right_aligned_text 13 (decimal (c.get.ensures.value i))))
+    ++ (32 ∷ right_aligned_text 13 (trade_id_or_hyphen row.trade))) ++ (amount_column (c.from.ensures i))) ++ (amount_column c.args.balance))
+    ++ (32 ∷ (c.as_bytes.ensures.value i))))))

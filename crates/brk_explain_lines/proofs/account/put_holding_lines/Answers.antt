@@ -22,4 +22,6 @@ loop-held-preserved c =
     ∙ ap (λ (t : Text). o ++ t) (sym (flat_map-append line_with_line_feed first (next ∷ [])))
     ∙ ap (λ hs. o ++ text_of_lines hs)
     (sym (map-append holding_line (map abstract_priced_holding (take i all)) (abstract_priced_holding held ∷ []))
-    ∙ ap (map holding_line) (sym (map-append abstract_priced_holding (take i all) (held ∷ [])) ∙ ap (map abstract_priced_holding) (ap (λ x. take i all ++ x ∷ []) c.held-item.is ∙ sym (take_more all i held c.loop-held-test.true))))
+    ∙ ap (map holding_line)
+    (sym (map-append abstract_priced_holding (take i all) (held ∷ []))
+    ∙ ap (map abstract_priced_holding) (ap (λ x. take i all ++ x ∷ []) c.held-item.is ∙ sym (take_more all i held c.loop-held-test.true))))

@@ -34,4 +34,5 @@ returns-clause-ok c =
     let x5 = c.end_line.new.out.items in
     let t5a = 10 ∷ [] in
     on_ok {P = x5 ≡ x4 ++ t5a} c.end_line.result c.end_line.ensures.ok (λ h. more o s4 t5a x4 x5 h4 h
-    ∙ (λ i. o ++ ((((((leading_row_columns (codes "Closed") (timestamp_text closing.stamp) closing.lot (shares i) closing.price) ++ (value_column (bought i))) ++ (value_column (sold i))) ++ (shares_column (left i))) ++ (10 ∷ [])))))
+    ∙ (λ i. o ++ ((((((leading_row_columns (codes "Closed") (timestamp_text closing.stamp) closing.lot (shares i) closing.price) ++ (value_column (bought i)))
+    ++ (value_column (sold i))) ++ (shares_column (left i))) ++ (10 ∷ [])))))

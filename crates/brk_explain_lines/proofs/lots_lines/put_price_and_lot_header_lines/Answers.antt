@@ -16,4 +16,6 @@ returns-clause-ok c =
     let a2 = line_with_line_feed (codes "#      opened                            lot      shares      price       bought for         sold for        left") in
     let r2 = a2 ++ [] in
     on_ok {P = x2 ≡ x1 ++ a2} c.put_text_line.result c.put_text_line.ensures.ok (λ h. more o a1 r2 x1 x2 c.in_ok-put_labeled_amount_line.ensures.ok (last x1 a2 x2 h)
-    ∙ (λ i. o ++ text_of_lines ((labeled_amount (codes "Price") (c.from.ensures i)) ∷ (codes "#      opened                            lot      shares      price       bought for         sold for        left") ∷ [])))
+    ∙ (λ i. o ++ text_of_lines
+    ((labeled_amount (codes "Price") (c.from.ensures i))
+    ∷ (codes "#      opened                            lot      shares      price       bought for         sold for        left") ∷ [])))

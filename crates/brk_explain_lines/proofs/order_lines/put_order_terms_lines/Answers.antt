@@ -32,8 +32,13 @@ returns-clause-ok c =
     let r4 = a4 ++ r5 in
     let r3 = a3 ++ r4 in
     let r2 = a2 ++ r3 in
-    more o a1 r2 x1 x6 c.in_ok-put_trade_type_line.ensures.ok (more x1 a2 r3 x2 x6 c.in_ok-put_security_line.ensures.ok (more x2 a3 r4 x3 x6 c.in_ok-put_labeled_number_line.ensures.ok (more x3 a4 r5 x4 x6 c.in_ok-put_labeled_amount_line.ensures.ok (more x4 a5 r6 x5 x6 c.in_ok-put_labeled_text_line.ensures.ok (last x5 a6 x6 c.in_ok-put_labeled_text_line-2.ensures.ok)))))
+    more o a1 r2 x1 x6 c.in_ok-put_trade_type_line.ensures.ok
+    (more x1 a2 r3 x2 x6 c.in_ok-put_security_line.ensures.ok
+    (more x2 a3 r4 x3 x6 c.in_ok-put_labeled_number_line.ensures.ok
+    (more x3 a4 r5 x4 x6 c.in_ok-put_labeled_amount_line.ensures.ok
+    (more x4 a5 r6 x5 x6 c.in_ok-put_labeled_text_line.ensures.ok (last x5 a6 x6 c.in_ok-put_labeled_text_line-2.ensures.ok)))))
     ∙ (λ i.
     c.args.out.now.items
-    ++ text_of_lines (trade_type_line o0 ∷ trade_security_line o0 ∷ labeled_number (codes "Shares") (qty i) ∷ labeled_amount (codes "Price asked") (c.from-2.ensures i) ∷ labeled_text (codes "Settles by") (settles i)
+    ++ text_of_lines (trade_type_line o0 ∷ trade_security_line o0 ∷ labeled_number (codes "Shares") (qty i)
+    ∷ labeled_amount (codes "Price asked") (c.from-2.ensures i) ∷ labeled_text (codes "Settles by") (settles i)
     ∷ labeled_text (codes "Closes") (closes i) ∷ []))

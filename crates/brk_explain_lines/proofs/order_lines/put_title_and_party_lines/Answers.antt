@@ -26,7 +26,10 @@ returns-clause-ok c =
     let r4 = a4 ++ r5 in
     let r3 = a3 ++ r4 in
     let r2 = a2 ++ r3 in
-    more o a1 r2 x1 x5 c.in_ok-put_title_line.ensures.ok (more x1 a2 r3 x2 x5 c.in_ok-put_account_line.ensures.ok (more x2 a3 r4 x3 x5 c.in_ok-put_labeled_number_line.ensures.ok (more x3 a4 r5 x4 x5 c.in_ok-put_labeled_number_line-2.ensures.ok (last x4 a5 x5 c.in_ok-put_labeled_text_line.ensures.ok))))
+    more o a1 r2 x1 x5 c.in_ok-put_title_line.ensures.ok
+    (more x1 a2 r3 x2 x5 c.in_ok-put_account_line.ensures.ok
+    (more x2 a3 r4 x3 x5 c.in_ok-put_labeled_number_line.ensures.ok
+    (more x3 a4 r5 x4 x5 c.in_ok-put_labeled_number_line-2.ensures.ok (last x4 a5 x5 c.in_ok-put_labeled_text_line.ensures.ok))))
     ∙ (λ i.
     c.args.out.now.items
     ++ text_of_lines (trade_title_line o0 ∷ trade_account_line o0 ∷ labeled_number (codes "Customer") (c.get.ensures.value i) ∷ labeled_number (codes "Broker") (c.get-2.ensures.value i)

@@ -26,5 +26,10 @@ returns-clause-ok c =
     let r4 = a4 ++ [] in
     let r3 = a3 ++ r4 in
     let r2 = a2 ++ r3 in
-    on_ok {P = x4 ≡ x3 ++ a4} c.put_labeled_day_line-2.result c.put_labeled_day_line-2.ensures.ok (λ h. more o a1 r2 x1 x4 c.in_ok-put_labeled_day_line.ensures.ok (more x1 a2 r3 x2 x4 c.in_ok-put_day_or_none_line.ensures.ok (more x2 a3 r4 x3 x4 c.in_ok-put_labeled_number_line.ensures.ok (last x3 a4 x4 h)))
-    ∙ (λ i. o ++ text_of_lines ((labeled_text (codes "Completed on") (day_text (c.day_of-completed.ensures i))) ∷ (labeled_text (codes "One day from") (option_map_or day_text rule (codes "none"))) ∷ (labeled_number (codes "Days to settle") (days i)) ∷ (labeled_text (codes "Due on") (day_text c.args.details.now.settlement.due_day)) ∷ [])))
+    on_ok {P = x4 ≡ x3 ++ a4} c.put_labeled_day_line-2.result c.put_labeled_day_line-2.ensures.ok
+    (λ h. more o a1 r2 x1 x4 c.in_ok-put_labeled_day_line.ensures.ok
+    (more x1 a2 r3 x2 x4 c.in_ok-put_day_or_none_line.ensures.ok (more x2 a3 r4 x3 x4 c.in_ok-put_labeled_number_line.ensures.ok (last x3 a4 x4 h)))
+    ∙ (λ i. o ++ text_of_lines
+    ((labeled_text (codes "Completed on") (day_text (c.day_of-completed.ensures i)))
+    ∷ (labeled_text (codes "One day from") (option_map_or day_text rule (codes "none"))) ∷ (labeled_number (codes "Days to settle") (days i))
+    ∷ (labeled_text (codes "Due on") (day_text c.args.details.now.settlement.due_day)) ∷ [])))

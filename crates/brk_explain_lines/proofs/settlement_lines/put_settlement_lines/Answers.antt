@@ -28,8 +28,13 @@ returns-clause-ok c =
     let r4 = a4 ++ r5 in
     let r3 = a3 ++ r4 in
     let r2 = a2 ++ r3 in
-    more o a1 r2 x1 x6 c.in_ok-put_labeled_amount_line.ensures.ok (more x1 a2 r3 x2 x6 c.in_ok-put_labeled_amount_line-2.ensures.ok (more x2 a3 r4 x3 x6 c.in_ok-put_labeled_amount_line-3.ensures.ok (more x3 a4 r5 x4 x6 c.in_ok-put_labeled_amount_line-4.ensures.ok (more x4 a5 r6 x5 x6 c.in_ok-put_labeled_amount_line-5.ensures.ok (last x5 a6 x6 c.in_ok-put_labeled_text_line.ensures.ok)))))
+    more o a1 r2 x1 x6 c.in_ok-put_labeled_amount_line.ensures.ok
+    (more x1 a2 r3 x2 x6 c.in_ok-put_labeled_amount_line-2.ensures.ok
+    (more x2 a3 r4 x3 x6 c.in_ok-put_labeled_amount_line-3.ensures.ok
+    (more x3 a4 r5 x4 x6 c.in_ok-put_labeled_amount_line-4.ensures.ok
+    (more x4 a5 r6 x5 x6 c.in_ok-put_labeled_amount_line-5.ensures.ok (last x5 a6 x6 c.in_ok-put_labeled_text_line.ensures.ok)))))
     ∙ (λ i.
     c.args.out.now.items
-    ++ text_of_lines (labeled_amount (codes "Value") (c.signed_trade_value.ensures i) ∷ labeled_amount (codes "Charge") (c.negated_charge.ensures i) ∷ labeled_amount (codes "Commission") (c.negated_commission.ensures i)
+    ++ text_of_lines (labeled_amount (codes "Value") (c.signed_trade_value.ensures i) ∷ labeled_amount (codes "Charge") (c.negated_charge.ensures i)
+    ∷ labeled_amount (codes "Commission") (c.negated_commission.ensures i)
     ∷ labeled_amount (codes "Tax withheld") (c.negated_withheld_tax.ensures i) ∷ labeled_amount (codes "Settlement") (c.from.ensures i) ∷ labeled_text (codes "Cash type") (word i) ∷ []))

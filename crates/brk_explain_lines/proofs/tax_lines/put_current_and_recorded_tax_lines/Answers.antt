@@ -22,5 +22,8 @@ returns-clause-ok c =
     let a3 = line_with_line_feed (labeled_amount (codes "Tax recorded") c.from.result) in
     let r3 = a3 ++ [] in
     let r2 = a2 ++ r3 in
-    on_ok {P = x3 ≡ x2 ++ a3} c.put_labeled_amount_line-2.result c.put_labeled_amount_line-2.ensures.ok (λ h. more o a1 r2 x1 x3 c.in_ok-put_tax_rate_sum_line.ensures.ok (more x1 a2 r3 x2 x3 c.in_ok-put_labeled_amount_line.ensures.ok (last x2 a3 x3 h))
-    ∙ (λ i. o ++ text_of_lines ((labeled_number (codes "Rates now") (rates i) ++ codes " of 100000") ∷ (labeled_amount (codes "Tax now") (c.in_ok-now.ensures.tax i)) ∷ (labeled_amount (codes "Tax recorded") (c.from.ensures i)) ∷ [])))
+    on_ok {P = x3 ≡ x2 ++ a3} c.put_labeled_amount_line-2.result c.put_labeled_amount_line-2.ensures.ok
+    (λ h. more o a1 r2 x1 x3 c.in_ok-put_tax_rate_sum_line.ensures.ok (more x1 a2 r3 x2 x3 c.in_ok-put_labeled_amount_line.ensures.ok (last x2 a3 x3 h))
+    ∙ (λ i. o ++ text_of_lines
+    ((labeled_number (codes "Rates now") (rates i) ++ codes " of 100000") ∷ (labeled_amount (codes "Tax now") (c.in_ok-now.ensures.tax i))
+    ∷ (labeled_amount (codes "Tax recorded") (c.from.ensures i)) ∷ [])))

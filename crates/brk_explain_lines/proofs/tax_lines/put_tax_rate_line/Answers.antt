@@ -26,4 +26,6 @@ returns-clause-ok c =
     let x4 = c.put_spaced_text_line.new.out.items in
     let t4a = 32 ∷ c.as_bytes.result.now in
     on_ok {P = x4 ≡ x3 ++ line_with_line_feed t4a} c.put_spaced_text_line.result c.put_spaced_text_line.ensures.ok (λ h. line_end o s3 t4a x3 x4 h3 h
-    ∙ (λ i. o ++ (line_with_line_feed ((((left_aligned_text 6 (codes "Rate")) ++ (32 ∷ right_aligned_text 13 (decimal (c.get.ensures.value i)))) ++ (32 ∷ right_aligned_text 11 (decimal (rate i)))) ++ (32 ∷ (name i))))))
+    ∙ (λ i. o ++ (line_with_line_feed
+    ((((left_aligned_text 6 (codes "Rate")) ++ (32 ∷ right_aligned_text 13 (decimal (c.get.ensures.value i))))
+    ++ (32 ∷ right_aligned_text 11 (decimal (rate i)))) ++ (32 ∷ (name i))))))

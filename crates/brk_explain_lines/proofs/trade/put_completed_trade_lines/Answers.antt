@@ -29,4 +29,5 @@ returns-clause-ok c =
     let h4 = more_lines o x3 x4 (l1 ++ l2 ++ l3) l4 h3 c.in_ok-put_settlement_lines.ensures.ok in
     let h5 = more_lines o x4 x5 (l1 ++ l2 ++ l3 ++ l4) l5 h4 c.in_ok-put_due_day_lines.ensures.ok in
     let h6 = more_lines o x5 x6 (l1 ++ l2 ++ l3 ++ l4 ++ l5) l6 h5 c.in_ok-put_balance_lines.ensures.ok in
-    on_ok c.put_counts_of_completed_trade.result c.put_counts_of_completed_trade.ensures.ok (λ h. more_lines o x6 x7 (l1 ++ l2 ++ l3 ++ l4 ++ l5 ++ l6) (lines.counts_lines_of_trade order details) h6 h)
+    on_ok c.put_counts_of_completed_trade.result c.put_counts_of_completed_trade.ensures.ok
+    (λ h. more_lines o x6 x7 (l1 ++ l2 ++ l3 ++ l4 ++ l5 ++ l6) (lines.counts_lines_of_trade order details) h6 h)

@@ -48,7 +48,8 @@ returns-clause-read g c =
     retold g.S.Store c.args.store.now c.loop-summary.store tt c.reverse.new.self
     (λ _. AreHeld c.args.account rest.items held)
     (λ held (t : Tables). map abstract_priced_holding held.items ≡ priced_holdings_of_account t c.args.account)
-    (λ t p. ap (map abstract_priced_holding) c.reverse.ensures.items ∙ all_made (λ r. priced_holding t (abstract_summary_row r)) abstract_priced_holding rest.items held _ (sym rest.ok.0 ∙ c.in_default.ensures.cases.0) p)
+    (λ t p. ap (map abstract_priced_holding) c.reverse.ensures.items
+    ∙ all_made (λ r. priced_holding t (abstract_summary_row r)) abstract_priced_holding rest.items held _ (sym rest.ok.0 ∙ c.in_default.ensures.cases.0) p)
     c.loop-summary.invariant
 
 pub returns-in_err-one-clause-read : goal.returns-in_err-one-clause-read

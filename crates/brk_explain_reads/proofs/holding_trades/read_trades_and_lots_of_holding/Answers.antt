@@ -26,7 +26,8 @@ found_lots t ids = flat_map (λ id. option_to_list (lot_opened_by_trade t id)) i
 -- the ids of a holding's trades, and the rows and the lots of the first of them
 abbrev FirstTrades : ℕ → Text → List ℕ → List trade.TradeRow → List LotDetails → ℕ → Tables → Type 0
 FirstTrades account symbol ids done lots i t =
-    (ids ≡ held_ids t account symbol) × (map (λ (r : trade.TradeRow). Some (abstract_trade_row r)) done ≡ map (trade_row_with_id t) (take i ids)) × (map abstract_lot_details lots ≡ found_lots t (take i ids))
+    (ids ≡ held_ids t account symbol) × (map (λ (r : trade.TradeRow). Some (abstract_trade_row r)) done ≡ map (trade_row_with_id t) (take i ids))
+    × (map abstract_lot_details lots ≡ found_lots t (take i ids))
 
 pub loop-id-init : goal.loop-id-init
 loop-id-init g c =

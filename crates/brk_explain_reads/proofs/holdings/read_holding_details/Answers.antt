@@ -109,4 +109,5 @@ returns-in_err-held-clause-read g c =
     let p = err_from_is_err_and c.from_residual-in_err-held.result c.from_residual-in_err-held.ensures.1 in
     rw p.1
     (failed_after g.S.Store old end p.0 _
-    (joined_reads_change_nothing old late end (both_change_nothing g.S.Store old mid late _ _ _ _ c.in_ok-row.ensures.read c.in_ok-security.ensures.read) (single_read_changes_nothing late end _ _ c.in_err-held.ensures.read)))
+    (joined_reads_change_nothing old late end (both_change_nothing g.S.Store old mid late _ _ _ _ c.in_ok-row.ensures.read c.in_ok-security.ensures.read)
+    (single_read_changes_nothing late end _ _ c.in_err-held.ensures.read)))

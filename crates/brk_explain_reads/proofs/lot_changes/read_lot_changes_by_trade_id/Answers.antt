@@ -44,7 +44,11 @@ loop-change-preserved g c =
     (λ _. FirstChanges c.args.lot changes later before i)
     (λ priced_change (t : Tables). abstract_priced_lot_change priced_change ≡ recorded_lot_change t (rows.abstract_lot_change_row change))
     (λ _. FirstChanges c.args.lot changes later (before ++ priced_change ∷ []) (i + 1))
-    (λ t p e. (p.0, one_more abstract_priced_lot_change (λ h. recorded_lot_change t (rows.abstract_lot_change_row h)) before later i priced_change change c.loop-change-test.true c.change-item.is e p.1))
+    (λ t p e. (
+      p.0,
+      one_more abstract_priced_lot_change (λ h. recorded_lot_change t (rows.abstract_lot_change_row h)) before later i priced_change change
+          c.loop-change-test.true c.change-item.is e p.1,
+    ))
     c.loop-change.invariant c.in_ok-priced_change.ensures.read)
 
 pub returns-clause-read : goal.returns-clause-read

@@ -49,4 +49,5 @@ returns-in_err-statuses-clause-read g c =
     let p = err_from_is_err_and c.from_residual-in_err-statuses.result c.from_residual-in_err-statuses.ensures.1 in
     rw p.1
     (failed_after g.S.Store old end p.0 _
-    (joined_reads_change_nothing old late end (both_change_nothing g.S.Store old mid late _ _ _ _ c.in_ok-account.ensures.read c.in_ok-security.ensures.read) (single_read_changes_nothing late end _ _ c.in_err-statuses.ensures.read)))
+    (joined_reads_change_nothing old late end (both_change_nothing g.S.Store old mid late _ _ _ _ c.in_ok-account.ensures.read c.in_ok-security.ensures.read)
+    (single_read_changes_nothing late end _ _ c.in_err-statuses.ensures.read)))

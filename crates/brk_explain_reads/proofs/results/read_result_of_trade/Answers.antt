@@ -29,7 +29,8 @@ returns-clause-read g c =
     (λ settled (t : Tables). AreTradeLotsInClosingOrder t u lots × AreTaxRatesAndBand t order terms × IsSettlementAndCashOfTrade t u.id settled)
     (λ t k s. (k.0, k.1, s))
     (read_both g.S.Store old c.read_trade_lots.new.store c.read_tax_rates_and_band.new.store {H = Fault} lots terms terms
-    (λ lots (t : Tables). AreTradeLotsInClosingOrder t u lots) (λ terms (t : Tables). AreTaxRatesAndBand t order terms) (λ terms (t : Tables). AreTradeLotsInClosingOrder t u lots × AreTaxRatesAndBand t order terms)
+    (λ lots (t : Tables). AreTradeLotsInClosingOrder t u lots) (λ terms (t : Tables). AreTaxRatesAndBand t order terms)
+    (λ terms (t : Tables). AreTradeLotsInClosingOrder t u lots × AreTaxRatesAndBand t order terms)
     (λ t a b. (a, b)) c.in_ok-lots.ensures.read c.in_ok-terms.ensures.read)
     c.in_ok-settled.ensures.read)
     c.in_ok-cash.ensures.read
@@ -51,4 +52,5 @@ returns-in_err-settled-clause-read g c =
     let p = err_from_is_err_and c.from_residual-in_err-settled.result c.from_residual-in_err-settled.ensures.1 in
     rw p.1
     (failed_after g.S.Store old end p.0 _
-    (joined_reads_change_nothing old late end (both_change_nothing g.S.Store old mid late _ _ _ _ c.in_ok-lots.ensures.read c.in_ok-terms.ensures.read) (single_read_changes_nothing late end _ _ c.in_err-settled.ensures.read)))
+    (joined_reads_change_nothing old late end (both_change_nothing g.S.Store old mid late _ _ _ _ c.in_ok-lots.ensures.read c.in_ok-terms.ensures.read)
+    (single_read_changes_nothing late end _ _ c.in_err-settled.ensures.read)))

@@ -21,14 +21,16 @@ returns-clause-read g c =
     let rule = c.in_ok-rule.rule in
     let settled : SettlementAndCash = record { settlement = settlement; cash = cash; rule = rule } in
     read_both g.S.Store old c.cash_row.new.self c.settlement_day.new.self {H = Fault} cash rule settled
-    (λ cash (t : Tables). (find (λ (s : SettlementRow). s.trade == trade) t.settlements ≡ Some (abstract_settlement_row settlement)) × (option_map abstract_move_row cash ≡ find (is_cash_row_of_trade trade) t.moves))
+    (λ cash (t : Tables). (find (λ (s : SettlementRow). s.trade == trade) t.settlements ≡ Some (abstract_settlement_row settlement))
+    × (option_map abstract_move_row cash ≡ find (is_cash_row_of_trade trade) t.moves))
     (λ rule (t : Tables). rule ≡ t.rule)
     (λ settled (t : Tables). IsSettlementAndCashOfTrade t trade settled)
     (λ t k e. (sym (ap (λ o. unwrap_or o zero_settlement_row) k.0), k.1, e))
     (read_both g.S.Store old c.read_existing_settlement.new.store c.cash_row.new.self {H = Fault} settlement cash cash
     (λ settlement (t : Tables). find (λ (s : SettlementRow). s.trade == trade) t.settlements ≡ Some (abstract_settlement_row settlement))
     (λ cash (t : Tables). option_map abstract_move_row cash ≡ find (is_cash_row_of_trade trade) t.moves)
-    (λ cash (t : Tables). (find (λ (s : SettlementRow). s.trade == trade) t.settlements ≡ Some (abstract_settlement_row settlement)) × (option_map abstract_move_row cash ≡ find (is_cash_row_of_trade trade) t.moves))
+    (λ cash (t : Tables). (find (λ (s : SettlementRow). s.trade == trade) t.settlements ≡ Some (abstract_settlement_row settlement))
+    × (option_map abstract_move_row cash ≡ find (is_cash_row_of_trade trade) t.moves))
     (λ t a b. (a, b)) c.in_ok-settlement.ensures.read c.in_ok-cash.ensures.read)
     c.in_ok-rule.ensures.read
 
@@ -49,4 +51,5 @@ returns-in_err-rule-clause-read g c =
     let p = err_from_is_err_and c.from_residual-in_err-rule.result c.from_residual-in_err-rule.ensures.1 in
     rw p.1
     (failed_after g.S.Store old end p.0 _
-    (joined_reads_change_nothing old late end (both_change_nothing g.S.Store old mid late _ _ _ _ c.in_ok-settlement.ensures.read c.in_ok-cash.ensures.read) (single_read_changes_nothing late end _ _ c.in_err-rule.ensures.read)))
+    (joined_reads_change_nothing old late end (both_change_nothing g.S.Store old mid late _ _ _ _ c.in_ok-settlement.ensures.read c.in_ok-cash.ensures.read)
+    (single_read_changes_nothing late end _ _ c.in_err-rule.ensures.read)))

@@ -15,7 +15,8 @@ loop-band-init c = first_last (Has c.args.qty) (map abstract_band c.args.bands.i
 
 pub loop-band-preserved : goal.loop-band-preserved
 loop-band-preserved c =
-    first_before abstract_band (Has c.args.qty) c.loop-band.rest.items c.pop.new.self.items c.in-Some.band (option_map abstract_band c.loop-band.found) (option_map abstract_band c.band_for_quantity_or_other-found.result) _
+    first_before abstract_band (Has c.args.qty) c.loop-band.rest.items c.pop.new.self.items c.in-Some.band (option_map abstract_band c.loop-band.found)
+    (option_map abstract_band c.band_for_quantity_or_other-found.result) _
     c.in-Some.ensures.items c.loop-band.invariant c.band_for_quantity_or_other-found.ensures
 
 none_left : (rest : List ref.Band) → length rest ≡ 0 → rest ≡ []
@@ -23,4 +24,6 @@ none_left [] e = refl
 none_left (b ∷ rest) e = absurd (omega (arith, e))
 
 pub returns : goal.returns
-returns c = sym (c.loop-band.invariant ∙ ap (λ rest. option_or (find (Has c.args.qty) (map abstract_band rest)) (option_map abstract_band c.loop-band.found)) (none_left c.loop-band.rest.items (sym c.loop-band.rest.ok.0 ∙ c.in_default.ensures.cases.0)))
+returns c = sym (c.loop-band.invariant
+    ∙ ap (λ rest. option_or (find (Has c.args.qty) (map abstract_band rest)) (option_map abstract_band c.loop-band.found))
+    (none_left c.loop-band.rest.items (sym c.loop-band.rest.ok.0 ∙ c.in_default.ensures.cases.0)))

@@ -19,5 +19,8 @@ returns-clause-ok c =
     let a3 = line_with_line_feed (codes "#      completed                       trade       account             commission                  total") in
     let r3 = a3 ++ [] in
     let r2 = a2 ++ r3 in
-    on_ok {P = x3 ≡ x2 ++ a3} c.put_text_line.result c.put_text_line.ensures.ok (λ h. more o a1 r2 x1 x3 c.in_ok-put_title_line.ensures.ok (more x1 a2 r3 x2 x3 c.in_ok-put_labeled_text_line.ensures.ok (last x2 a3 x3 h))
-    ∙ (λ i. o ++ text_of_lines ((codes "Broker " ++ decimal c.args.row.now.broker.id ++ codes ", times in UTC") ∷ (labeled_text (codes "Name") (name i)) ∷ (codes "#      completed                       trade       account             commission                  total") ∷ [])))
+    on_ok {P = x3 ≡ x2 ++ a3} c.put_text_line.result c.put_text_line.ensures.ok
+    (λ h. more o a1 r2 x1 x3 c.in_ok-put_title_line.ensures.ok (more x1 a2 r3 x2 x3 c.in_ok-put_labeled_text_line.ensures.ok (last x2 a3 x3 h))
+    ∙ (λ i. o ++ text_of_lines
+    ((codes "Broker " ++ decimal c.args.row.now.broker.id ++ codes ", times in UTC") ∷ (labeled_text (codes "Name") (name i))
+    ∷ (codes "#      completed                       trade       account             commission                  total") ∷ [])))

@@ -33,4 +33,6 @@ returns-clause-ok c =
     let x6 = c.end_line.new.out.items in
     let t6a = 10 ∷ [] in
     on_ok {P = x6 ≡ x5 ++ t6a} c.end_line.result c.end_line.ensures.ok (λ h. more o s5 t6a x5 x6 h5 h
-    ∙ (λ i. o ++ ((((((((left_aligned_text 6 (codes "Trade")) ++ (32 ∷ timestamp_text c.args.row.now.stamp)) ++ (32 ∷ right_aligned_text 13 (decimal (c.get.ensures.value i)))) ++ (32 ∷ right_aligned_text 13 (decimal (c.get-2.ensures.value i)))) ++ (amount_column (c.from.ensures i))) ++ (amount_column c.args.total)) ++ (10 ∷ [])))))
+    ∙ (λ i. o ++ ((((((((left_aligned_text 6 (codes "Trade")) ++ (32 ∷ timestamp_text c.args.row.now.stamp))
+    ++ (32 ∷ right_aligned_text 13 (decimal (c.get.ensures.value i)))) ++ (32 ∷ right_aligned_text 13 (decimal (c.get-2.ensures.value i))))
+    ++ (amount_column (c.from.ensures i))) ++ (amount_column c.args.total)) ++ (10 ∷ [])))))

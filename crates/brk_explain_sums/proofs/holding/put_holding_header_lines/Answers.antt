@@ -25,5 +25,7 @@ returns-clause-ok c =
     let a4 = line_with_line_feed head in
     let r3 = a4 ++ [] in
     let r2 = a3 ++ r3 in
-    more o a1 (a2 ++ r2) x1 x4 c.in_ok-put_holding_title_line.ensures.ok (more x1 a2 r2 x2 x4 c.in_ok-put_labeled_text_line.ensures.ok (more x2 a3 r3 x3 x4 c.in_ok-put_labeled_text_line-2.ensures.ok (last x3 a4 x4 c.in_ok-put_text_line.ensures.ok)))
+    more o a1 (a2 ++ r2) x1 x4 c.in_ok-put_holding_title_line.ensures.ok
+    (more x1 a2 r2 x2 x4 c.in_ok-put_labeled_text_line.ensures.ok
+    (more x2 a3 r3 x3 x4 c.in_ok-put_labeled_text_line-2.ensures.ok (last x3 a4 x4 c.in_ok-put_text_line.ensures.ok)))
     ∙ (λ i. o ++ text_of_lines (holding_title id (symbol i) ∷ labeled_text (codes "Account name") (account i) ∷ labeled_text (codes "Security") (security i) ∷ head ∷ []))

@@ -49,13 +49,16 @@ returns-clause-ok c =
     let r4 = a4 ++ a5 in
     let r3 = a3 ++ r4 in
     more o a1 (a2 ++ r3) x1 x5 c.in_ok-put_holding_header_lines.ensures.ok
-    (more x1 a2 r3 x2 x5 c.in_ok-put_holding_trade_lines.ensures.ok (more x2 a3 r4 x3 x5 c.in_ok-put_lot_columns_header.ensures.ok (more x3 a4 a5 x4 x5 c.in_ok-put_all_lot_history_lines.ensures.ok c.in_ok-put_holding_total_lines.ensures.ok)))
+    (more x1 a2 r3 x2 x5 c.in_ok-put_holding_trade_lines.ensures.ok
+    (more x2 a3 r4 x3 x5 c.in_ok-put_lot_columns_header.ensures.ok
+    (more x3 a4 a5 x4 x5 c.in_ok-put_all_lot_history_lines.ensures.ok c.in_ok-put_holding_total_lines.ensures.ok)))
     ∙ (λ i.
     o
     ++ (a1
     ++ (text_of_lines (holding_trade_lines (map abstract_trade_row (all_done i)))
     ++ (a3
-    ++ (text_of_lines (flat_map lot_history_lines (map abstract_lot_details (all_lots i))) ++ text_of_lines (holding_total_lines (map abstract_trade_row (all_done i)) (map abstract_lot_details (all_lots i)) (same i) details.price))))))
+    ++ (text_of_lines (flat_map lot_history_lines (map abstract_lot_details (all_lots i)))
+    ++ text_of_lines (holding_total_lines (map abstract_trade_row (all_done i)) (map abstract_lot_details (all_lots i)) (same i) details.price))))))
     ∙ ap (λ (t : Text). o ++ t)
     (five_parts top (holding_trade_lines (map abstract_trade_row details.done.items)) lot_columns_header (flat_map lot_history_lines (map abstract_lot_details details.lots.items))
     (holding_total_lines (map abstract_trade_row details.done.items) (map abstract_lot_details details.lots.items) details.shares details.price))

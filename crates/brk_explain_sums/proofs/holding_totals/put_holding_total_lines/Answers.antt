@@ -13,7 +13,8 @@ use Rattle.brk_explain_sums.proofs.holding_totals.put_holding_total_lines.Goals 
 
 three_parts : (a b c : List Text) → text_of_lines a ++ (text_of_lines b ++ text_of_lines c) ≡ text_of_lines ((a ++ b) ++ c)
 three_parts a b c =
-    sym (append_assoc (text_of_lines a) (text_of_lines b) (text_of_lines c)) ∙ ap (λ (l : Text). l ++ text_of_lines c) (sym (flat_map-append line_with_line_feed a b)) ∙ sym (flat_map-append line_with_line_feed (a ++ b) c)
+    sym (append_assoc (text_of_lines a) (text_of_lines b) (text_of_lines c))
+    ∙ ap (λ (l : Text). l ++ text_of_lines c) (sym (flat_map-append line_with_line_feed a b)) ∙ sym (flat_map-append line_with_line_feed (a ++ b) c)
 
 pub returns-clause-ok : goal.returns-clause-ok
 unfolding holding_total_lines
@@ -40,11 +41,13 @@ returns-clause-ok c =
     let a2 = text_of_lines (holding_value_lines shares price c.in_ok-cost.cost) in
     let x3 = c.put_holding_counts_line.new.out.items in
     let a3 = line_with_line_feed (holding_counts_line (length done) (length lots) c.in_ok-open_lots.open_lots c.in_ok-changes.changes) in
-    more o a1 (a2 ++ (a3 ++ [])) x1 x3 c.in_ok-put_purchase_sale_and_cost_lines.ensures.ok (more x1 a2 (a3 ++ []) x2 x3 c.in_ok-put_holding_value_lines.ensures.ok (last x2 a3 x3 c.in_ok-put_holding_counts_line.ensures.ok))
+    more o a1 (a2 ++ (a3 ++ [])) x1 x3 c.in_ok-put_purchase_sale_and_cost_lines.ensures.ok
+    (more x1 a2 (a3 ++ []) x2 x3 c.in_ok-put_holding_value_lines.ensures.ok (last x2 a3 x3 c.in_ok-put_holding_counts_line.ensures.ok))
     ∙ (λ i.
     o
     ++ (text_of_lines (purchase_sale_gain_and_cost_lines (bought i) (sold i) (gain i) (cost i))
     ++ (text_of_lines (holding_value_lines (same i) price (cost i)) ++ text_of_lines (holding_counts_line (trades i) (all i) (some i) (changes i) ∷ []))))
     ∙ ap (λ (t : Text). o ++ t)
-    (three_parts (purchase_sale_gain_and_cost_lines (total_purchase_value us) (total_sale_value us) (realised_gain_of_lots ls) (remaining_cost_of_lots ls)) (holding_value_lines c.args.shares price (remaining_cost_of_lots ls))
+    (three_parts (purchase_sale_gain_and_cost_lines (total_purchase_value us) (total_sale_value us) (realised_gain_of_lots ls) (remaining_cost_of_lots ls))
+    (holding_value_lines c.args.shares price (remaining_cost_of_lots ls))
     (holding_counts_line (length us) (length ls) (length (lots_not_fully_closed ls)) (count_of_lot_changes ls) ∷ []))

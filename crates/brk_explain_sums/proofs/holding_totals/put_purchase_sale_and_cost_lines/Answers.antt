@@ -20,4 +20,6 @@ returns-clause-ok c =
     let r4 = a4 ++ [] in
     let r3 = a3 ++ r4 in
     let r2 = a2 ++ r3 in
-    on_ok {P = x4 ≡ x3 ++ a4} c.put_labeled_amount_line-4.result c.put_labeled_amount_line-4.ensures.ok (λ h. more o a1 r2 x1 x4 c.in_ok-put_labeled_amount_line.ensures.ok (more x1 a2 r3 x2 x4 c.in_ok-put_labeled_amount_line-2.ensures.ok (more x2 a3 r4 x3 x4 c.in_ok-put_labeled_amount_line-3.ensures.ok (last x3 a4 x4 h))))
+    on_ok {P = x4 ≡ x3 ++ a4} c.put_labeled_amount_line-4.result c.put_labeled_amount_line-4.ensures.ok
+    (λ h. more o a1 r2 x1 x4 c.in_ok-put_labeled_amount_line.ensures.ok
+    (more x1 a2 r3 x2 x4 c.in_ok-put_labeled_amount_line-2.ensures.ok (more x2 a3 r4 x3 x4 c.in_ok-put_labeled_amount_line-3.ensures.ok (last x3 a4 x4 h))))

@@ -28,4 +28,5 @@ returns-clause-ok c =
     let x4 = c.end_line.new.out.items in
     let t4a = 10 ∷ [] in
     on_ok {P = x4 ≡ x3 ++ t4a} c.end_line.result c.end_line.ensures.ok (λ h. more o s3 t4a x3 x4 h3 h
-    ∙ (λ i. o ++ (((((leading_row_columns (codes "Change") (timestamp_text change.stamp) change.trade (shares i) change.price) ++ (value_column (c.in_ok-gain.ensures.gain i))) ++ (shares_column (left i))) ++ (10 ∷ [])))))
+    ∙ (λ i. o ++ (((((leading_row_columns (codes "Change") (timestamp_text change.stamp) change.trade (shares i) change.price)
+    ++ (value_column (c.in_ok-gain.ensures.gain i))) ++ (shares_column (left i))) ++ (10 ∷ [])))))

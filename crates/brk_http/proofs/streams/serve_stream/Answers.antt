@@ -23,7 +23,14 @@ returns-clause-changed_only_by_calls g c =
 pub returns-clause-refines_model : goal.returns-clause-refines_model
 returns-clause-refines_model g c =
     if_known (g.R.Read.remaining c.args.reader) (λ input h.
-    keeps model_parsers (λ old now call outcome new. DeskCallHasOutcome g.S.Store old now call outcome new) IsOutcomeOfCall (λ desk. HasCleanDisk (state g.S.Store desk)) (λ desk. Represents g.S.Store desk)
+    keeps model_parsers (λ old now call outcome new. DeskCallHasOutcome g.S.Store old now call outcome new) IsOutcomeOfCall
+    (λ desk. HasCleanDisk (state g.S.Store desk)) (λ desk. Represents g.S.Store desk)
     (λ old now call outcome new acts. earlier g.S.Store old new now call outcome acts) (λ old now call outcome new acts. steps g.S.Store old new now call outcome acts)
     g.C.Clock.gives input c.args.desk.now c.serve_requests.new.desk
-    (record { clock = c.args.clock.now; later = c.serve_requests.new.clock; old = g.W.Write.contents c.args.writer.now; new = g.W.Write.contents c.serve_requests.new.writer }) c.serve_requests.result h) c.serve_requests.ensures.gives
+    (record {
+      clock = c.args.clock.now;
+      later = c.serve_requests.new.clock;
+      old = g.W.Write.contents c.args.writer.now;
+      new =
+          g.W.Write.contents c.serve_requests.new.writer;
+    }) c.serve_requests.result h) c.serve_requests.ensures.gives

@@ -7,7 +7,8 @@ returns-in_default-clause-route g c = sym (no_text g.D.Service.forms.views c.arg
 
 pub returns-in_ok-parts-clause-route : goal.returns-in_ok-parts-clause-route
 returns-in_ok-parts-clause-route g c =
-    text_routed g.D.Service.view_text g.D.Service.forms.views c.args.target.now _ _ _ _ c.in-Ok.ensures.cases.0 c.in-Ok.ensures.cases.1 c.in_ok-parts.ensures c.deref.ensures.value c.route_of_segments.ensures.route
+    text_routed g.D.Service.view_text g.D.Service.forms.views c.args.target.now _ _ _ _ c.in-Ok.ensures.cases.0 c.in-Ok.ensures.cases.1 c.in_ok-parts.ensures
+    c.deref.ensures.value c.route_of_segments.ensures.route
 
 pub returns-else-matches_any_route-clause-route : goal.returns-else-matches_any_route-clause-route
 returns-else-matches_any_route-clause-route g c =

@@ -7,6 +7,12 @@ pub loop-header-preserved : goal.loop-header-preserved
 loop-header-preserved c =
     let none : Span = record { start = 0; end = 0 } in
     let d : HeaderSpan = record { name = none; value = none } in (
-      cc (c.facts_with_one_more_field-seen.ensures.value, c.of.ensures, c.of-in-loop-header.ensures, seen_more c.args.front.now c.args.headers.now c.loop-header.header-index d c.loop-header.seen c.loop-header-test.true c.loop-header.invariant.0),
+      cc (
+        c.facts_with_one_more_field-seen.ensures.value,
+        c.of.ensures,
+        c.of-in-loop-header.ensures,
+        seen_more c.args.front.now c.args.headers.now
+            c.loop-header.header-index d c.loop-header.seen c.loop-header-test.true c.loop-header.invariant.0,
+      ),
       c.facts_with_one_more_field-seen.ensures.small c.loop-header.invariant.1,
     )

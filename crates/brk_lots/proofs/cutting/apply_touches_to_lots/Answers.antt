@@ -62,7 +62,8 @@ returns-then-eq-clause-left c =
     ∙ ap (λ z. lot_with_nonzero_quantity z l ++ drop (first + length rows - 1 + 1) all) q
     ∙ ap (λ (n : ℕ). lot_with_nonzero_quantity c.index-touched-count.result.after l ++ drop n all) next
     ∙ ap (λ (ls : List Lot). lot_with_nonzero_quantity c.index-touched-count.result.after l ++ ls) (sym (drop-drop (length rows) first all))
-    ∙ sym (left_front r.0 r.1 (drop first all) c.requires.walk rows r.2 some c.index-touched-0.result f c.index-touched-0.is f0 same c.index-touched-count.result l c.index-touched-count.is (inside all first (first + length rows - 1) (length rows - 1) f at (omega (arith, some))))
+    ∙ sym (left_front r.0 r.1 (drop first all) c.requires.walk rows r.2 some c.index-touched-0.result f c.index-touched-0.is f0 same
+    c.index-touched-count.result l c.index-touched-count.is (inside all first (first + length rows - 1) (length rows - 1) f at (omega (arith, some))))
 
 pub overflow_sub-last : goal.overflow_sub-last
 overflow_sub-last c =
@@ -91,7 +92,8 @@ returns-clause-left c =
     let q = passed rows (length rows - 1) c.index-touched-count.result fit c.index-touched-count.is in
     ap (drop first) (c.remove_back_lots.ensures.left l (place all i f at) ∙ ap (λ z. take i all ++ lot_with_nonzero_quantity z l) q)
     ∙ front_kept all (lot_with_nonzero_quantity c.index-touched-count.result.after l) first i m back (omega (arith, at))
-    ∙ sym (left_back r.0 r.1 (drop first all) c.requires.walk rows r.2 some c.index-touched-0.result f c.index-touched-0.is f0 other c.index-touched-count.result l c.index-touched-count.is (inside all first i m f at back))
+    ∙ sym (left_back r.0 r.1 (drop first all) c.requires.walk rows r.2 some c.index-touched-0.result f c.index-touched-0.is f0 other
+    c.index-touched-count.result l c.index-touched-count.is (inside all first i m f at back))
 
 pub returns-clause-begins : goal.returns-clause-begins
 returns-clause-begins c =

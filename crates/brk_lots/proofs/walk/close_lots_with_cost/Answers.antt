@@ -18,8 +18,11 @@ drop_next : {X : Type 0} (n : ℕ) (xs : List X) (y : X) (ys : List X) → drop 
 drop_next n xs y ys e = sym (ap (drop 1) e) ∙ drop-drop 1 n xs
 
 -- nothing more is met of what the walk ends with
-ended : (side : Side) (qty left cost : ℕ) (touched : List Touch) (all rest : List Lot) → closed_share_count side left rest ≡ 0 → left + closed_share_count side qty all ≡ qty + closed_share_count side left rest
-    → touched ++ touches_of_first_shares (closed_share_count side left rest) rest ≡ touches_of_first_shares (closed_share_count side qty all) all → cost + cost_of_first_shares (closed_share_count side left rest) rest ≡ cost_of_first_shares (closed_share_count side qty all) all → IsResultOfClosingLots side qty all touched left cost
+ended : (side : Side) (qty left cost : ℕ) (touched : List Touch) (all rest : List Lot) → closed_share_count side left rest ≡ 0
+    → left + closed_share_count side qty all ≡ qty + closed_share_count side left rest
+    → touched ++ touches_of_first_shares (closed_share_count side left rest) rest ≡ touches_of_first_shares (closed_share_count side qty all) all
+    → cost + cost_of_first_shares (closed_share_count side left rest) rest ≡ cost_of_first_shares (closed_share_count side qty all) all
+    → IsResultOfClosingLots side qty all touched left cost
 ended side qty left cost touched all rest none il it ip =
     let z : touches_of_first_shares (closed_share_count side left rest) rest ≡ [] = rw none (touches_none rest) in
     let y : cost_of_first_shares (closed_share_count side left rest) rest ≡ 0 = rw none (paid_none rest) in
@@ -54,18 +57,25 @@ loop-left-preserved g c =
             let e : was.0 ≡ lot ∷ ls = m.1 in
             let walk : IsPositionInAnyOrder (lot ∷ ls) = subst IsPositionInAnyOrder e was.2 in
             let o : is_same_side (side_of_qty lot.qty) c.args.side ≡ false = search rules in
-            let n : closed_share_count c.args.side left (lot ∷ ls) ≡ c.min-shares.result + closed_share_count c.args.side (left - c.min-shares.result) ls = rw s (met_more c.args.side left lot ls walk o) in
-            let t : touches_of_first_shares (closed_share_count c.args.side left (lot ∷ ls)) (lot ∷ ls) ≡ c.touch_closing_shares.result ∷ touches_of_first_shares (closed_share_count c.args.side (left - c.min-shares.result) ls) ls =
+            let n : closed_share_count c.args.side left (lot ∷ ls) ≡ c.min-shares.result + closed_share_count c.args.side (left - c.min-shares.result) ls =
+            rw s (met_more c.args.side left lot ls walk o) in
+            let t : touches_of_first_shares (closed_share_count c.args.side left (lot ∷ ls)) (lot ∷ ls) ≡ c.touch_closing_shares.result
+            ∷ touches_of_first_shares (closed_share_count c.args.side (left - c.min-shares.result) ls) ls =
             rw (c.touch_closing_shares.ensures, s) (touches_more c.args.side left lot ls walk o (omega arith)) in
-            let p : cost_of_first_shares (closed_share_count c.args.side left (lot ∷ ls)) (lot ∷ ls) ≡ c.min-shares.result * lot.price + cost_of_first_shares (closed_share_count c.args.side (left - c.min-shares.result) ls) ls = rw s (paid_more c.args.side left lot ls walk o) in
+            let p : cost_of_first_shares (closed_share_count c.args.side left (lot ∷ ls)) (lot ∷ ls) ≡ c.min-shares.result * lot.price
+            + cost_of_first_shares (closed_share_count c.args.side (left - c.min-shares.result) ls) ls = rw s (paid_more c.args.side left lot ls walk o) in
             let il : left + closed_share_count c.args.side c.args.qty all ≡ c.args.qty + closed_share_count c.args.side left (lot ∷ ls) = rw e at was.3 in
-            let it : touched ++ touches_of_first_shares (closed_share_count c.args.side left (lot ∷ ls)) (lot ∷ ls) ≡ touches_of_first_shares (closed_share_count c.args.side c.args.qty all) all = rw e at was.4 in
-            let ip : c.loop-left.cost + cost_of_first_shares (closed_share_count c.args.side left (lot ∷ ls)) (lot ∷ ls) ≡ cost_of_first_shares (closed_share_count c.args.side c.args.qty all) all = rw e at was.5 in (
+            let it : touched ++ touches_of_first_shares (closed_share_count c.args.side left (lot ∷ ls)) (lot ∷ ls)
+            ≡ touches_of_first_shares (closed_share_count c.args.side c.args.qty all) all = rw e at was.4 in
+            let ip : c.loop-left.cost + cost_of_first_shares (closed_share_count c.args.side left (lot ∷ ls)) (lot ∷ ls)
+            ≡ cost_of_first_shares (closed_share_count c.args.side c.args.qty all) all = rw e at was.5 in (
               ls,
               m.2,
               walk.2,
               omega (arith, n, il),
-              append_assoc touched (c.touch_closing_shares.result ∷ []) (touches_of_first_shares (closed_share_count c.args.side (left - c.min-shares.result) ls) ls) ∙ ap (λ (ts : List Touch). touched ++ ts) (sym t) ∙ it,
+              append_assoc touched (c.touch_closing_shares.result ∷ [])
+                  (touches_of_first_shares (closed_share_count c.args.side (left - c.min-shares.result) ls) ls)
+                  ∙ ap (λ (ts : List Touch). touched ++ ts) (sym t) ∙ it,
               rw v (omega (arith, ip, p)),
             ),
       );

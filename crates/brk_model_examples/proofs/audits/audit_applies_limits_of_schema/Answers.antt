@@ -37,4 +37,12 @@ returns-clause-larger_limits c = inl (refl, inl (refl, inl (refl, inl (refl, inl
 
 pub returns-clause-no_cash_any_more : goal.returns-clause-no_cash_any_more
 unfolding model_on_literals left
-returns-clause-no_cash_any_more c = inl (refl, inl (refl, inl (refl, inl (refl, inl (refl, inl (refl, inl (refl, inl (refl, inl (refl, inr (λ e. let q : Equal 1 0 = ap left e.0 in omega (q, arith), refl))))))))))
+returns-clause-no_cash_any_more c =
+    inl (
+      refl,
+      inl (
+        refl,
+        inl
+            (refl, inl (refl, inl (refl, inl (refl, inl (refl, inl (refl, inl (refl, inr (λ e. let q : Equal 1 0 = ap left e.0 in omega (q, arith), refl)))))))),
+      ),
+    )

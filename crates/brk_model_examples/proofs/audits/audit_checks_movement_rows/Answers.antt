@@ -38,4 +38,24 @@ returns-clause-at_a_completion c = inl (refl, inr (λ e. let q : Same false true
 
 pub returns-clause-before_it : goal.returns-clause-before_it
 unfolding model_on_literals first_stamp
-returns-clause-before_it c = inl (refl, inl (refl, inl (refl, inl (refl, inl (refl, inl (refl, inl (refl, inl (refl, inl (refl, inr (λ e. let q : Equal 1709251200017 1709251200005 = ap first_stamp e.1 in omega (q, arith), refl))))))))))
+returns-clause-before_it c =
+    inl (
+      refl,
+      inl (
+        refl,
+        inl (
+          refl,
+          inl (
+            refl,
+            inl (
+              refl,
+              inl (
+                refl,
+                inl
+                    (refl, inl (refl, inl (refl, inr (λ e. let q : Equal 1709251200017 1709251200005 = ap first_stamp e.1 in omega (q, arith), refl)))),
+              ),
+            ),
+          ),
+        ),
+      ),
+    )

@@ -108,19 +108,57 @@ returns-clause-other_count c = inl (refl, inl (refl, inl (refl, inl (refl, inl (
 
 pub returns-clause-other_commissions : goal.returns-clause-other_commissions
 unfolding model_on_literals first_natural
-returns-clause-other_commissions c = inl (refl, inl (refl, inl (refl, inl (refl, inl (refl, inl (refl, inl (refl, inr (λ e. let q : Equal 1011 1010 = ap first_natural e in omega (q, arith), refl))))))))
+returns-clause-other_commissions c =
+    inl (
+      refl,
+      inl (
+        refl,
+        inl
+            (refl, inl (refl, inl (refl, inl (refl, inl (refl, inr (λ e. let q : Equal 1011 1010 = ap first_natural e in omega (q, arith), refl)))))),
+      ),
+    )
 
 pub returns-clause-other_commission : goal.returns-clause-other_commission
 unfolding model_on_literals first_natural
-returns-clause-other_commission c = inl (refl, inl (refl, inl (refl, inl (refl, inl (refl, inl (refl, inl (refl, inr (λ e. let q : Equal 1010 1011 = ap first_natural e in omega (q, arith), refl))))))))
+returns-clause-other_commission c =
+    inl (
+      refl,
+      inl (
+        refl,
+        inl
+            (refl, inl (refl, inl (refl, inl (refl, inl (refl, inr (λ e. let q : Equal 1010 1011 = ap first_natural e in omega (q, arith), refl)))))),
+      ),
+    )
 
 pub returns-clause-other_settlement : goal.returns-clause-other_settlement
 unfolding model_on_literals settled
-returns-clause-other_settlement c = inl (refl, inl (refl, inl (refl, inl (refl, inl (refl, inl (refl, inl (refl, inl (refl, inr (λ e. let q : Equal 102509 102510 = ap settled e in omega (q, arith), refl)))))))))
+returns-clause-other_settlement c =
+    inl (
+      refl,
+      inl (
+        refl,
+        inl
+            (refl, inl (refl, inl (refl, inl (refl, inl (refl, inl (refl, inr (λ e. let q : Equal 102509 102510 = ap settled e in omega (q, arith), refl))))))),
+      ),
+    )
 
 pub returns-clause-other_cash : goal.returns-clause-other_cash
 unfolding model_on_literals moved
-returns-clause-other_cash c = inl (refl, inl (refl, inl (refl, inl (refl, inl (refl, inl (refl, inl (refl, inl (refl, inl (refl, inr (λ e. let q : Equal 102509 102510 = ap moved e.1 in omega (q, arith), refl))))))))))
+returns-clause-other_cash c =
+    inl (
+      refl,
+      inl (
+        refl,
+        inl (
+          refl,
+          inl (
+            refl,
+            inl
+                (refl, inl (refl, inl (refl, inl (refl, inl (refl, inr (λ e. let q : Equal 102509 102510 = ap moved e.1 in omega (q, arith), refl)))))),
+          ),
+        ),
+      ),
+    )
 
 pub returns-clause-second_row : goal.returns-clause-second_row
 unfolding model_on_literals
@@ -128,19 +166,63 @@ returns-clause-second_row c = inr (λ e. let q : Same false true = e in absurd (
 
 pub returns-clause-other_number : goal.returns-clause-other_number
 unfolding model_on_literals first_id
-returns-clause-other_number c = inl (refl, inl (refl, inl (refl, inl (refl, inl (refl, inl (refl, inl (refl, inl (refl, inl (refl, inr (λ e. let q : Equal 2 1 = ap first_id e.1 in omega (q, arith), refl))))))))))
+returns-clause-other_number c =
+    inl (
+      refl,
+      inl (
+        refl,
+        inl
+            (refl, inl (refl, inl (refl, inl (refl, inl (refl, inl (refl, inl (refl, inr (λ e. let q : Equal 2 1 = ap first_id e.1 in omega (q, arith), refl)))))))),
+      ),
+    )
 
 pub returns-clause-left_behind : goal.returns-clause-left_behind
 unfolding model_on_literals left
-returns-clause-left_behind c = inl (refl, inl (refl, inl (refl, inl (refl, inl (refl, inl (refl, inl (refl, inl (refl, inl (refl, inr (λ e. let q : Equal 1 0 = ap left e.0 in omega (q, arith), refl))))))))))
+returns-clause-left_behind c =
+    inl (
+      refl,
+      inl (
+        refl,
+        inl
+            (refl, inl (refl, inl (refl, inl (refl, inl (refl, inl (refl, inl (refl, inr (λ e. let q : Equal 1 0 = ap left e.0 in omega (q, arith), refl)))))))),
+      ),
+    )
 
 pub returns-clause-early_day : goal.returns-clause-early_day
 unfolding model_on_literals first_due
-returns-clause-early_day c = inl (refl, inl (refl, inl (refl, inl (refl, inl (refl, inl (refl, inl (refl, inl (refl, inr (λ e. let q : Equal 19785 19784 = ap first_due e in omega (q, arith), refl)))))))))
+returns-clause-early_day c =
+    inl (
+      refl,
+      inl (
+        refl,
+        inl
+            (refl, inl (refl, inl (refl, inl (refl, inl (refl, inl (refl, inr (λ e. let q : Equal 19785 19784 = ap first_due e in omega (q, arith), refl))))))),
+      ),
+    )
 
 pub returns-clause-other_balance : goal.returns-clause-other_balance
 unfolding model_on_literals first_number
-returns-clause-other_balance c = inl (refl, inl (refl, inl (refl, inl (refl, inl (refl, inl (refl, inl (refl, inl (refl, inl (refl, inl ((refl, refl), inr (λ e. let q : Equal 897491 897490 = ap first_number e in omega (q, arith), refl)))))))))))
+returns-clause-other_balance c =
+    inl (
+      refl,
+      inl (
+        refl,
+        inl (
+          refl,
+          inl (
+            refl,
+            inl (
+              refl,
+              inl (
+                refl,
+                inl
+                    (refl, inl (refl, inl (refl, inl ((refl, refl), inr (λ e. let q : Equal 897491 897490 = ap first_number e in omega (q, arith), refl))))),
+              ),
+            ),
+          ),
+        ),
+      ),
+    )
 
 pub returns-clause-two_changes : goal.returns-clause-two_changes
 unfolding model_on_literals length_of_lots

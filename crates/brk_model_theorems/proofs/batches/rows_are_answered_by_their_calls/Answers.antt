@@ -7,4 +7,6 @@ pub returns-clause-called : goal.returns-clause-called
 returns-clause-called c = λ form name base after moments rows answers. calls-of form step_of_row name base after moments rows answers
 
 pub returns-clause-answered : goal.returns-clause-answered
-returns-clause-answered c = λ form name base after moments rows answers h. (answered-of form step_of_row name base after moments rows answers h, one-each form step_of_row name base after moments rows answers h)
+returns-clause-answered c =
+    λ form name base after moments rows answers h.
+    (answered-of form step_of_row name base after moments rows answers h, one-each form step_of_row name base after moments rows answers h)

@@ -12,4 +12,5 @@ loop-rest-preserved c =
 
 pub returns-then-not-is_empty-clause-read : goal.returns-then-not-is_empty-clause-read
 returns-then-not-is_empty-clause-read c =
-    not_ticks (abstract_parse_result abstract_ticks_of_vector c.loop-rest.ticks) (read_ticks (texts_of_fields c.args.fields.now)) c.loop-rest.rest.now c.in_default.len_below c.if-not-is_empty.ensures c.loop-rest.invariant
+    not_ticks (abstract_parse_result abstract_ticks_of_vector c.loop-rest.ticks) (read_ticks (texts_of_fields c.args.fields.now)) c.loop-rest.rest.now
+    c.in_default.len_below c.if-not-is_empty.ensures c.loop-rest.invariant

@@ -32,7 +32,8 @@ returns-in_default-parse_qty-clause-read c =
 
 pub returns-in-Err-clause-read : goal.returns-in-Err-clause-read
 returns-in-Err-clause-read c =
-    type_refused c.args.told c.in-Some.account c.in-Some-2.symbol c.in-Some-parse_word_as_boolean.is_cash c.in-Some-parse_word_as_boolean-2.is_lifo (abstract_executor c.in-Some-3.executor) c.in-Some-parse_qty.qty
+    type_refused c.args.told c.in-Some.account c.in-Some-2.symbol c.in-Some-parse_word_as_boolean.is_cash c.in-Some-parse_word_as_boolean-2.is_lifo
+    (abstract_executor c.in-Some-3.executor) c.in-Some-parse_qty.qty
     c.in-Err.refusal
     (sym c.in-Some.ensures) (sym c.in_ok-symbol.ensures.read ∙ ap (λ o. ok_or o BadText) c.in-Some-2.is) (sym c.in-Some-parse_word_as_boolean.ensures) (sym c.in-Some-parse_word_as_boolean-2.ensures)
     (sym c.in_ok-executor.ensures.read ∙ ap (λ o. ok_or (option_map abstract_executor o) BadText) c.in-Some-3.is) (sym c.in-Some-parse_qty.ensures)
@@ -40,7 +41,8 @@ returns-in-Err-clause-read c =
 
 pub returns-clause-read : goal.returns-clause-read
 returns-clause-read c =
-    all_read c.args.told c.in-Some.account c.in-Some-2.symbol c.in-Some-parse_word_as_boolean.is_cash c.in-Some-parse_word_as_boolean-2.is_lifo (abstract_executor c.in-Some-3.executor) c.in-Some-parse_qty.qty
+    all_read c.args.told c.in-Some.account c.in-Some-2.symbol c.in-Some-parse_word_as_boolean.is_cash c.in-Some-parse_word_as_boolean-2.is_lifo
+    (abstract_executor c.in-Some-3.executor) c.in-Some-parse_qty.qty
     c.in-Ok.order_type
     (sym c.in-Some.ensures) (sym c.in_ok-symbol.ensures.read ∙ ap (λ o. ok_or o BadText) c.in-Some-2.is) (sym c.in-Some-parse_word_as_boolean.ensures) (sym c.in-Some-parse_word_as_boolean-2.ensures)
     (sym c.in_ok-executor.ensures.read ∙ ap (λ o. ok_or (option_map abstract_executor o) BadText) c.in-Some-3.is) (sym c.in-Some-parse_qty.ensures)

@@ -10,7 +10,8 @@ loop-before-preserved c =
     c.in_ok-push_str-2.ensures.bytes ∙ ap (λ (t : List ℕ). t ++ c.args.new.now) c.in_ok-push_str.ensures.bytes in (
       search rules,
       subst (λ (t : List ℕ). IsReplacedSoFar c.args.part.now c.args.new.now c.args.text.now t c.in-Some.after.now) (sym written)
-          (one_replaced c.args.part.now c.args.new.now c.args.text.now (string_bytes c.loop-before.written) c.loop-before.rest.now c.in-Some.before.now c.in-Some.after.now i j c.requires found front back len c.loop-before.invariant.1),
+          (one_replaced c.args.part.now c.args.new.now c.args.text.now (string_bytes c.loop-before.written) c.loop-before.rest.now c.in-Some.before.now
+          c.in-Some.after.now i j c.requires found front back len c.loop-before.invariant.1),
     )
 
 -- src/wording.rt:16:1

@@ -12,4 +12,5 @@ returns-clause-read g c =
     let row = c.args.row.now in
     let of : ℤ → AccountWorth = λ assets. record { account = row.account.id; balance = row.balance; assets = assets } in
     retold g.S.Store c.args.store.now c.read_holdings_value.new.store c.in_ok-assets.assets (of c.in_ok-assets.assets)
-    (λ assets (t : Tables). assets ≡ market_value_of_account t row.account.id) (λ worth (t : Tables). worth ≡ worth_of_account t (abstract_account_row row)) (λ t e. ap of e) c.in_ok-assets.ensures.read
+    (λ assets (t : Tables). assets ≡ market_value_of_account t row.account.id) (λ worth (t : Tables). worth ≡ worth_of_account t (abstract_account_row row))
+    (λ t e. ap of e) c.in_ok-assets.ensures.read

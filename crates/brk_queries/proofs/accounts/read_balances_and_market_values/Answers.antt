@@ -50,17 +50,21 @@ returns-clause-read g c =
     retold g.S.Store c.args.store.now c.loop-row.store tt c.loop-row.worths
     (λ _. FirstWorths c.args.customer rows c.loop-row.worths.items i)
     (λ worths (t : Tables). worths.items ≡ map (worth_of_account t) (filter (λ (a : tables.AccountRow). a.customer == c.args.customer) t.accounts))
-    (λ t p. p.1 ∙ ap (map (λ r. worth_of_account t (abstract_account_row r))) (take_all i rows c.loop-row-test.false) ∙ sym (map_map (worth_of_account t) abstract_account_row rows) ∙ ap (map (worth_of_account t)) p.0)
+    (λ t p. p.1 ∙ ap (map (λ r. worth_of_account t (abstract_account_row r))) (take_all i rows c.loop-row-test.false)
+    ∙ sym (map_map (worth_of_account t) abstract_account_row rows) ∙ ap (map (worth_of_account t)) p.0)
     c.loop-row.invariant
 
 pub returns-in_err-worth-clause-read : goal.returns-in_err-worth-clause-read
 returns-in_err-worth-clause-read g c =
     let old = c.args.store.now in
     let p = err_from_is_err_and c.from_residual-in_err-worth.result c.from_residual-in_err-worth.ensures.1 in
-    rw p.1 (failed_after g.S.Store old c.loop-row.store c.read_balance_and_market_value.new.store _ p.0 _ _ (single_read_changes_nothing old c.loop-row.store _ _ c.loop-row.invariant) c.in_err-worth.ensures.read)
+    rw p.1 (failed_after g.S.Store old c.loop-row.store c.read_balance_and_market_value.new.store _ p.0 _ _
+    (single_read_changes_nothing old c.loop-row.store _ _ c.loop-row.invariant) c.in_err-worth.ensures.read)
 
 pub returns-in_err-push-clause-read : goal.returns-in_err-push-clause-read
 returns-in_err-push-clause-read g c =
     let old = c.args.store.now in
     let p = err_from_is_err_and c.from_residual-in_err-push.result c.from_residual-in_err-push.ensures.1 in
-    rw p.1 (none_read g.S.Store old c.read_balance_and_market_value.new.store p.0 _ (unchanged_after g.S.Store old c.loop-row.store c.read_balance_and_market_value.new.store _ _ (single_read_changes_nothing old c.loop-row.store _ _ c.loop-row.invariant) c.in_ok-worth.ensures.read))
+    rw p.1 (none_read g.S.Store old c.read_balance_and_market_value.new.store p.0 _
+    (unchanged_after g.S.Store old c.loop-row.store c.read_balance_and_market_value.new.store _ _
+    (single_read_changes_nothing old c.loop-row.store _ _ c.loop-row.invariant) c.in_ok-worth.ensures.read))

@@ -40,10 +40,13 @@ pub returns-in_err-worths-clause-read : goal.returns-in_err-worths-clause-read
 returns-in_err-worths-clause-read g c =
     let old = c.args.store.now in
     let p = err_from_is_err_and c.from_residual-in_err-worths.result c.from_residual-in_err-worths.ensures.1 in
-    rw p.1 (failed_after g.S.Store old c.customer_by_tax_id.new.self c.read_balances_and_market_values.new.store _ p.0 _ _ (single_read_changes_nothing old c.customer_by_tax_id.new.self _ _ c.in_ok-found.ensures.read) c.in_err-worths.ensures.read)
+    rw p.1 (failed_after g.S.Store old c.customer_by_tax_id.new.self c.read_balances_and_market_values.new.store _ p.0 _ _
+    (single_read_changes_nothing old c.customer_by_tax_id.new.self _ _ c.in_ok-found.ensures.read) c.in_err-worths.ensures.read)
 
 pub returns-in_err-view-clause-read : goal.returns-in_err-view-clause-read
 returns-in_err-view-clause-read g c =
     let old = c.args.store.now in
     let p = err_from_is_err_and c.from_residual-in_err-view.result c.from_residual-in_err-view.ensures.1 in
-    rw p.1 (none_read g.S.Store old c.read_balances_and_market_values.new.store p.0 _ (unchanged_after g.S.Store old c.customer_by_tax_id.new.self c.read_balances_and_market_values.new.store _ _ (single_read_changes_nothing old c.customer_by_tax_id.new.self _ _ c.in_ok-found.ensures.read) c.in_ok-worths.ensures.read))
+    rw p.1 (none_read g.S.Store old c.read_balances_and_market_values.new.store p.0 _
+    (unchanged_after g.S.Store old c.customer_by_tax_id.new.self c.read_balances_and_market_values.new.store _ _
+    (single_read_changes_nothing old c.customer_by_tax_id.new.self _ _ c.in_ok-found.ensures.read) c.in_ok-worths.ensures.read))

@@ -16,7 +16,8 @@ use Rattle.brk_store.specs.ReadSequences.{single_read_changes_nothing}
 use Rattle.brk_queries.proofs.head.read_statement_head.Goals as goal
 
 -- the worth of what the account with an id holds
-worth_is : (t : Tables) (id : ℕ) (a : AccountRow) (worth : ℤ) → Some a ≡ find (λ (r : AccountRow). r.id == id) t.accounts → worth ≡ market_value_of_account t id → worth ≡ market_value_of_account_row t a
+worth_is : (t : Tables) (id : ℕ) (a : AccountRow) (worth : ℤ) → Some a ≡ find (λ (r : AccountRow). r.id == id) t.accounts → worth ≡ market_value_of_account t id
+    → worth ≡ market_value_of_account_row t a
 worth_is t id a worth found e = e ∙ ap (market_value_of_account t) (sym (eqb-true a.id id (find-at (λ (r : AccountRow). r.id == id) t.accounts a (sym found)).passes))
 
 pub returns-in_default-clause-read : goal.returns-in_default-clause-read
@@ -41,4 +42,5 @@ pub returns-in_err-holdings-clause-read : goal.returns-in_err-holdings-clause-re
 returns-in_err-holdings-clause-read g c =
     let old = c.args.store.now in
     let p = err_from_is_err_and c.from_residual-in_err-holdings.result c.from_residual-in_err-holdings.ensures.1 in
-    rw p.1 (failed_after g.S.Store old c.account.new.self c.read_holdings_value.new.store _ p.0 _ _ (single_read_changes_nothing old c.account.new.self _ _ c.in_ok-row.ensures.read) c.in_err-holdings.ensures.read)
+    rw p.1 (failed_after g.S.Store old c.account.new.self c.read_holdings_value.new.store _ p.0 _ _
+    (single_read_changes_nothing old c.account.new.self _ _ c.in_ok-row.ensures.read) c.in_err-holdings.ensures.read)

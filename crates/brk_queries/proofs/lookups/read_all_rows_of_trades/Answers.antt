@@ -18,7 +18,9 @@ use Rattle.brk_queries.proofs.lookups.read_all_rows_of_trades.Goals as goal
 -- trades that are left, and those after them that were looked up, are all of some
 abbrev AreAll : List TradeRow → List TradeRow → List LookedUp → Tables → Type 0
 AreAll trades rest found t =
-    (base : Base) → BooksInvariant base → AuditInvariant base → t ≡ sheets base → map (λ r. table_rows_of_trade t (abstract_trade_row r)) rest ++ map rows_of_looked_up_trade (reverse found) ≡ map (λ r. table_rows_of_trade t (abstract_trade_row r)) trades
+    (base : Base) → BooksInvariant base → AuditInvariant base → t ≡ sheets base
+    → map (λ r. table_rows_of_trade t (abstract_trade_row r)) rest ++ map rows_of_looked_up_trade (reverse found)
+    ≡ map (λ r. table_rows_of_trade t (abstract_trade_row r)) trades
 
 pub loop-trade-init : goal.loop-trade-init
 loop-trade-init g c =
@@ -39,7 +41,8 @@ loop-trade-preserved g c =
     (λ _. AreAll trades before all)
     (HasAllRowsOfTrade (abstract_trade_row trade))
     (λ _. AreAll trades rest (all ++ one ∷ []))
-    (λ t p e base books sound s. popped (λ r. table_rows_of_trade t (abstract_trade_row r)) rows_of_looked_up_trade before rest trade all one _ c.in-Some.ensures.items (p base books sound s) (e base books sound s))
+    (λ t p e base books sound s. popped (λ r. table_rows_of_trade t (abstract_trade_row r)) rows_of_looked_up_trade before rest trade all one _
+    c.in-Some.ensures.items (p base books sound s) (e base books sound s))
     c.loop-trade.invariant (one_read g.S.Store c.loop-trade.store c.read_all_rows_of_trade.new.store (Ok one) (HasAllRowsOfTrade (abstract_trade_row trade)) c.in_ok-one.ensures.read))
 
 pub returns-clause-read : goal.returns-clause-read
@@ -59,10 +62,12 @@ pub returns-in_err-one-clause-read : goal.returns-in_err-one-clause-read
 returns-in_err-one-clause-read g c =
     let old = c.args.store.now in
     let p = err_from_is_err_and c.from_residual.result c.from_residual.ensures.1 in
-    rw p.1 (reads_failed g.S.Store old c.read_all_rows_of_trade.new.store p.0 _ (unchanged_after g.S.Store old c.loop-trade.store c.read_all_rows_of_trade.new.store _ _ (c.loop-trade.invariant.unchanged) c.in_err-one.ensures.read))
+    rw p.1 (reads_failed g.S.Store old c.read_all_rows_of_trade.new.store p.0 _
+    (unchanged_after g.S.Store old c.loop-trade.store c.read_all_rows_of_trade.new.store _ _ (c.loop-trade.invariant.unchanged) c.in_err-one.ensures.read))
 
 pub returns-in_err-push-clause-read : goal.returns-in_err-push-clause-read
 returns-in_err-push-clause-read g c =
     let old = c.args.store.now in
     let p = err_from_is_err_and c.from_residual-in_err-push.result c.from_residual-in_err-push.ensures.1 in
-    rw p.1 (reads_failed g.S.Store old c.read_all_rows_of_trade.new.store p.0 _ (unchanged_after g.S.Store old c.loop-trade.store c.read_all_rows_of_trade.new.store _ _ (c.loop-trade.invariant.unchanged) c.in_ok-one.ensures.read))
+    rw p.1 (reads_failed g.S.Store old c.read_all_rows_of_trade.new.store p.0 _
+    (unchanged_after g.S.Store old c.loop-trade.store c.read_all_rows_of_trade.new.store _ _ (c.loop-trade.invariant.unchanged) c.in_ok-one.ensures.read))

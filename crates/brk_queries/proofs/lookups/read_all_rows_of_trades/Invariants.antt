@@ -12,7 +12,8 @@ use Rattle.brk_queries.proofs.lookups.read_all_rows_of_trades.Given as goal
 abbrev pub invariant-loop-trade : goal.invariant-loop-trade
 invariant-loop-trade g l = ReadSequencePost {V = Unit {0}} {E = Fault} g.S.Store l.fn.store l.store (Ok tt)
     (λ _ t. (base : Base) → BooksInvariant base → AuditInvariant base → t ≡ sheets base
-    → map (λ r. table_rows_of_trade t (abstract_trade_row r)) l.rest.items ++ map rows_of_looked_up_trade (reverse l.found.items) ≡ map (λ r. table_rows_of_trade t (abstract_trade_row r)) l.fn.trades.items)
+    → map (λ r. table_rows_of_trade t (abstract_trade_row r)) l.rest.items ++ map rows_of_looked_up_trade (reverse l.found.items)
+    ≡ map (λ r. table_rows_of_trade t (abstract_trade_row r)) l.fn.trades.items)
 
 abbrev pub decreases-loop-trade : goal.decreases-loop-trade
 decreases-loop-trade g l = length l.rest.items

@@ -57,10 +57,14 @@ pub returns-in_err-trades-clause-read : goal.returns-in_err-trades-clause-read
 returns-in_err-trades-clause-read g c =
     let old = c.args.store.now in
     let p = err_from_is_err_and c.from_residual-in_err-trades.result c.from_residual-in_err-trades.ensures.1 in
-    rw p.1 (failed_after g.S.Store old c.security.new.self c.first_twenty_trades_of_symbol.new.self _ p.0 _ _ (single_read_changes_nothing old c.security.new.self _ _ c.in_ok-_row.ensures.read) c.in_err-trades.ensures.read)
+    rw p.1 (failed_after g.S.Store old c.security.new.self c.first_twenty_trades_of_symbol.new.self _ p.0 _ _
+    (single_read_changes_nothing old c.security.new.self _ _ c.in_ok-_row.ensures.read) c.in_err-trades.ensures.read)
 
 pub returns-in_err-found-clause-read : goal.returns-in_err-found-clause-read
 returns-in_err-found-clause-read g c =
     let old = c.args.store.now in
     let p = err_from_is_err_and c.from_residual-in_err-found.result c.from_residual-in_err-found.ensures.1 in
-    rw p.1 (none_read g.S.Store old c.read_all_rows_of_trades.new.store p.0 _ (joined_reads_change_nothing old c.first_twenty_trades_of_symbol.new.self c.read_all_rows_of_trades.new.store (unchanged_after g.S.Store old c.security.new.self c.first_twenty_trades_of_symbol.new.self _ _ (single_read_changes_nothing old c.security.new.self _ _ c.in_ok-_row.ensures.read) c.in_ok-trades.ensures.read) c.in_err-found.ensures.read.unchanged))
+    rw p.1 (none_read g.S.Store old c.read_all_rows_of_trades.new.store p.0 _
+    (joined_reads_change_nothing old c.first_twenty_trades_of_symbol.new.self c.read_all_rows_of_trades.new.store
+    (unchanged_after g.S.Store old c.security.new.self c.first_twenty_trades_of_symbol.new.self _ _
+    (single_read_changes_nothing old c.security.new.self _ _ c.in_ok-_row.ensures.read) c.in_ok-trades.ensures.read) c.in_err-found.ensures.read.unchanged))

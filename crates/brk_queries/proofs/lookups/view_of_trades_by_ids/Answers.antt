@@ -44,7 +44,8 @@ returns-clause-read g c =
     (AreFound ids)
     (λ found. HaveAllRowsOfTrades (map abstract_trade_row ordered.items) found.items)
     (AnswersQueryAsModel (TradesWith ids))
-    (λ t e p. trades_seen ids c.in-Some.named.items ordered.items found view c.args.trades.now.distinct c.args.trades.now.few c.in_ok-ordered.ensures.order c.lookup_ids.ensures.value c.lookup_ids.ensures.view t e p)
+    (λ t e p. trades_seen ids c.in-Some.named.items ordered.items found view c.args.trades.now.distinct c.args.trades.now.few c.in_ok-ordered.ensures.order
+    c.lookup_ids.ensures.value c.lookup_ids.ensures.view t e p)
     (read_with_reads g.S.Store old c.last_stamp.new.self mid {H = Fault} c.in_ok-_last._last named named (λ last (t : Tables). last ≡ t.last) (AreFound ids) (AreFound ids) (λ t _ e. e)
     c.in_ok-_last.ensures.read (rw (c.in-Some.is, c.ids.ensures) at c.in_ok-named.ensures.read))
     c.in_ok-found.ensures.read
@@ -53,16 +54,24 @@ pub returns-in_err-named-clause-read : goal.returns-in_err-named-clause-read
 returns-in_err-named-clause-read g c =
     let old = c.args.store.now in
     let p = err_from_is_err_and c.from_residual-in_err-named.result c.from_residual-in_err-named.ensures.1 in
-    rw p.1 (none_read g.S.Store old c.read_trades_by_ids.new.store p.0 _ (joined_reads_change_nothing old c.last_stamp.new.self c.read_trades_by_ids.new.store (single_read_changes_nothing old c.last_stamp.new.self _ _ c.in_ok-_last.ensures.read) c.in_err-named.ensures.read.unchanged))
+    rw p.1 (none_read g.S.Store old c.read_trades_by_ids.new.store p.0 _
+    (joined_reads_change_nothing old c.last_stamp.new.self c.read_trades_by_ids.new.store
+    (single_read_changes_nothing old c.last_stamp.new.self _ _ c.in_ok-_last.ensures.read) c.in_err-named.ensures.read.unchanged))
 
 pub returns-in_err-ordered-clause-read : goal.returns-in_err-ordered-clause-read
 returns-in_err-ordered-clause-read g c =
     let old = c.args.store.now in
     let p = err_from_is_err_and c.from_residual-in_err-ordered.result c.from_residual-in_err-ordered.ensures.1 in
-    rw p.1 (none_read g.S.Store old c.read_trades_by_ids.new.store p.0 _ (joined_reads_change_nothing old c.last_stamp.new.self c.read_trades_by_ids.new.store (single_read_changes_nothing old c.last_stamp.new.self _ _ c.in_ok-_last.ensures.read) c.in_ok-named.ensures.read.unchanged))
+    rw p.1 (none_read g.S.Store old c.read_trades_by_ids.new.store p.0 _
+    (joined_reads_change_nothing old c.last_stamp.new.self c.read_trades_by_ids.new.store
+    (single_read_changes_nothing old c.last_stamp.new.self _ _ c.in_ok-_last.ensures.read) c.in_ok-named.ensures.read.unchanged))
 
 pub returns-in_err-found-clause-read : goal.returns-in_err-found-clause-read
 returns-in_err-found-clause-read g c =
     let old = c.args.store.now in
     let p = err_from_is_err_and c.from_residual-in_err-found.result c.from_residual-in_err-found.ensures.1 in
-    rw p.1 (none_read g.S.Store old c.read_all_rows_of_trades.new.store p.0 _ (joined_reads_change_nothing old c.read_trades_by_ids.new.store c.read_all_rows_of_trades.new.store (joined_reads_change_nothing old c.last_stamp.new.self c.read_trades_by_ids.new.store (single_read_changes_nothing old c.last_stamp.new.self _ _ c.in_ok-_last.ensures.read) c.in_ok-named.ensures.read.unchanged) c.in_err-found.ensures.read.unchanged))
+    rw p.1 (none_read g.S.Store old c.read_all_rows_of_trades.new.store p.0 _
+    (joined_reads_change_nothing old c.read_trades_by_ids.new.store c.read_all_rows_of_trades.new.store
+    (joined_reads_change_nothing old c.last_stamp.new.self c.read_trades_by_ids.new.store
+    (single_read_changes_nothing old c.last_stamp.new.self _ _ c.in_ok-_last.ensures.read) c.in_ok-named.ensures.read.unchanged)
+    c.in_err-found.ensures.read.unchanged))

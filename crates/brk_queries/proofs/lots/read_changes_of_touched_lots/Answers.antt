@@ -41,7 +41,8 @@ loop-change-preserved g c =
     (λ _. AreKept c.args.trade before c.loop-change.kept.items)
     (λ touches (t : Tables). touches.items ≡ stamped_changes_of_lot t change.lot)
     (λ _. AreKept c.args.trade rest c.merge_lot_changes_into_first_twenty.new.kept.items)
-    (λ t p e. kept_more t before rest change touches.items c.loop-change.kept.items c.merge_lot_changes_into_first_twenty.new.kept.items _ c.in-Some.ensures.items e c.in_ok-merge_lot_changes_into_first_twenty.ensures.merged p)
+    (λ t p e. kept_more t before rest change touches.items c.loop-change.kept.items c.merge_lot_changes_into_first_twenty.new.kept.items _
+    c.in-Some.ensures.items e c.in_ok-merge_lot_changes_into_first_twenty.ensures.merged p)
     c.loop-change.invariant c.in_ok-touches.ensures.read
 
 pub returns-clause-read : goal.returns-clause-read
@@ -60,10 +61,13 @@ pub returns-in_err-touches-clause-read : goal.returns-in_err-touches-clause-read
 returns-in_err-touches-clause-read g c =
     let old = c.args.store.now in
     let p = err_from_is_err_and c.from_residual-in_err-touches.result c.from_residual-in_err-touches.ensures.1 in
-    rw p.1 (failed_after g.S.Store old c.loop-change.store c.read_stamped_changes_of_lot.new.store _ p.0 _ _ (single_read_changes_nothing old c.loop-change.store _ _ c.loop-change.invariant) c.in_err-touches.ensures.read)
+    rw p.1 (failed_after g.S.Store old c.loop-change.store c.read_stamped_changes_of_lot.new.store _ p.0 _ _
+    (single_read_changes_nothing old c.loop-change.store _ _ c.loop-change.invariant) c.in_err-touches.ensures.read)
 
 pub returns-in_err-merge_lot_changes_into_first_twenty-clause-read : goal.returns-in_err-merge_lot_changes_into_first_twenty-clause-read
 returns-in_err-merge_lot_changes_into_first_twenty-clause-read g c =
     let old = c.args.store.now in
     let p = err_from_is_err_and c.from_residual-in_err-merge_lot_changes_into_first_twenty.result c.from_residual-in_err-merge_lot_changes_into_first_twenty.ensures.1 in
-    rw p.1 (none_read g.S.Store old c.read_stamped_changes_of_lot.new.store p.0 _ (unchanged_after g.S.Store old c.loop-change.store c.read_stamped_changes_of_lot.new.store _ _ (single_read_changes_nothing old c.loop-change.store _ _ c.loop-change.invariant) c.in_ok-touches.ensures.read))
+    rw p.1 (none_read g.S.Store old c.read_stamped_changes_of_lot.new.store p.0 _
+    (unchanged_after g.S.Store old c.loop-change.store c.read_stamped_changes_of_lot.new.store _ _
+    (single_read_changes_nothing old c.loop-change.store _ _ c.loop-change.invariant) c.in_ok-touches.ensures.read))

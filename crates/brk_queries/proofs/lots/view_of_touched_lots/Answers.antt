@@ -64,10 +64,13 @@ pub returns-in_err-trade-clause-read : goal.returns-in_err-trade-clause-read
 returns-in_err-trade-clause-read g c =
     let old = c.args.store.now in
     let p = err_from_is_err_and c.from_residual-in_err-trade.result c.from_residual-in_err-trade.ensures.1 in
-    rw p.1 (failed_after g.S.Store old c.account.new.self c.first_trade_of_account_since.new.self _ p.0 _ _ (single_read_changes_nothing old c.account.new.self _ _ c.in_ok-_row.ensures.read) c.in_err-trade.ensures.read)
+    rw p.1 (failed_after g.S.Store old c.account.new.self c.first_trade_of_account_since.new.self _ p.0 _ _
+    (single_read_changes_nothing old c.account.new.self _ _ c.in_ok-_row.ensures.read) c.in_err-trade.ensures.read)
 
 pub returns-in_err-lots-clause-read : goal.returns-in_err-lots-clause-read
 returns-in_err-lots-clause-read g c =
     let old = c.args.store.now in
     let p = err_from_is_err_and c.from_residual-in_err-lots.result c.from_residual-in_err-lots.ensures.1 in
-    rw p.1 (failed_after g.S.Store old c.first_trade_of_account_since.new.self c.read_changes_of_touched_lots.new.store _ p.0 _ _ (unchanged_after g.S.Store old c.account.new.self c.first_trade_of_account_since.new.self _ _ (single_read_changes_nothing old c.account.new.self _ _ c.in_ok-_row.ensures.read) c.in_ok-trade.ensures.read) c.in_err-lots.ensures.read)
+    rw p.1 (failed_after g.S.Store old c.first_trade_of_account_since.new.self c.read_changes_of_touched_lots.new.store _ p.0 _ _
+    (unchanged_after g.S.Store old c.account.new.self c.first_trade_of_account_since.new.self _ _
+    (single_read_changes_nothing old c.account.new.self _ _ c.in_ok-_row.ensures.read) c.in_ok-trade.ensures.read) c.in_err-lots.ensures.read)

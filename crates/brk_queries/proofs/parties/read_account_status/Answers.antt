@@ -27,4 +27,5 @@ pub returns-in_err-broker-clause-read : goal.returns-in_err-broker-clause-read
 returns-in_err-broker-clause-read g c =
     let old = c.args.store.now in
     let p = err_from_is_err_and c.from_residual-in_err-broker.result c.from_residual-in_err-broker.ensures.1 in
-    rw p.1 (failed_after g.S.Store old c.require_customer_with_id.new.store c.require_broker_name.new.store _ p.0 _ _ (single_read_changes_nothing old c.require_customer_with_id.new.store _ _ c.in_ok-customer.ensures.read) c.in_err-broker.ensures.read)
+    rw p.1 (failed_after g.S.Store old c.require_customer_with_id.new.store c.require_broker_name.new.store _ p.0 _ _
+    (single_read_changes_nothing old c.require_customer_with_id.new.store _ _ c.in_ok-customer.ensures.read) c.in_err-broker.ensures.read)

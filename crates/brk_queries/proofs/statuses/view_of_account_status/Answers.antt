@@ -50,10 +50,13 @@ pub returns-in_err-trades-clause-read : goal.returns-in_err-trades-clause-read
 returns-in_err-trades-clause-read g c =
     let old = c.args.store.now in
     let p = err_from_is_err_and c.from_residual-in_err-trades.result c.from_residual-in_err-trades.ensures.1 in
-    rw p.1 (failed_after g.S.Store old c.account.new.self c.read_recent_trades_with_securities.new.store _ p.0 _ _ (single_read_changes_nothing old c.account.new.self _ _ c.in_ok-row.ensures.read) c.in_err-trades.ensures.read)
+    rw p.1 (failed_after g.S.Store old c.account.new.self c.read_recent_trades_with_securities.new.store _ p.0 _ _
+    (single_read_changes_nothing old c.account.new.self _ _ c.in_ok-row.ensures.read) c.in_err-trades.ensures.read)
 
 pub returns-in_err-found-clause-read : goal.returns-in_err-found-clause-read
 returns-in_err-found-clause-read g c =
     let old = c.args.store.now in
     let p = err_from_is_err_and c.from_residual-in_err-found.result c.from_residual-in_err-found.ensures.1 in
-    rw p.1 (failed_after g.S.Store old c.read_recent_trades_with_securities.new.store c.read_account_status.new.store _ p.0 _ _ (unchanged_after g.S.Store old c.account.new.self c.read_recent_trades_with_securities.new.store _ _ (single_read_changes_nothing old c.account.new.self _ _ c.in_ok-row.ensures.read) c.in_ok-trades.ensures.read) c.in_err-found.ensures.read)
+    rw p.1 (failed_after g.S.Store old c.read_recent_trades_with_securities.new.store c.read_account_status.new.store _ p.0 _ _
+    (unchanged_after g.S.Store old c.account.new.self c.read_recent_trades_with_securities.new.store _ _
+    (single_read_changes_nothing old c.account.new.self _ _ c.in_ok-row.ensures.read) c.in_ok-trades.ensures.read) c.in_err-found.ensures.read)

@@ -39,5 +39,7 @@ returns-clause-read g c =
     reads_retold g.S.Store c.args.store.now c.read_sector_requests_of_broker.new.store mine tt
     (λ rows (t : Tables). map abstract_request_row rows.items ≡ filter (is_sector_request_of_broker t sector b.id) (map abstract_request_row all))
     (λ _ (t : Tables). map abstract_request_row all ≡ t.requests → c.push.new.self.items ≡ found ++ volumes_of_brokers_in_sector t sector (b ∷ []))
-    (λ t e whole. c.in_ok-push.ensures.items ∙ ap (λ vs. found ++ vs) (some_to_trade t sector b mine.items v (e ∙ ap (filter (is_sector_request_of_broker t sector b.id)) whole) some refl c.in_ok-name.ensures.cases worth))
+    (λ t e whole. c.in_ok-push.ensures.items
+    ∙ ap (λ vs. found ++ vs)
+    (some_to_trade t sector b mine.items v (e ∙ ap (filter (is_sector_request_of_broker t sector b.id)) whole) some refl c.in_ok-name.ensures.cases worth))
     c.in_ok-mine.ensures.read

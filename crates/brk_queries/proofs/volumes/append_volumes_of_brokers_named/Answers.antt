@@ -19,7 +19,8 @@ use Rattle.brk_queries.proofs.volumes.append_volumes_of_brokers_named.Goals as g
 -- what the first brokers with a name have to trade
 abbrev FirstVolumes : Text → Text → List RequestRow → List BrokerRow → List BrokerVolume → List BrokerVolume → ℕ → Tables → Type 0
 FirstVolumes sector name requests rows before found i t =
-    (map abstract_broker_row rows ≡ filter (λ (b : tables.BrokerRow). bytes_eq b.name name) t.brokers) × (map abstract_request_row requests ≡ t.requests → found ≡ before ++ volumes_of_brokers_in_sector t sector (map abstract_broker_row (take i rows)))
+    (map abstract_broker_row rows ≡ filter (λ (b : tables.BrokerRow). bytes_eq b.name name) t.brokers)
+    × (map abstract_request_row requests ≡ t.requests → found ≡ before ++ volumes_of_brokers_in_sector t sector (map abstract_broker_row (take i rows)))
 
 pub loop-row-init : goal.loop-row-init
 loop-row-init g c =
@@ -53,6 +54,10 @@ returns-clause-read g c =
     let before = c.args.found.now.items in
     retold g.S.Store c.args.store.now c.loop-row.store tt tt
     (λ _. FirstVolumes sector c.args.name.now c.args.requests.now rows before c.loop-row.found.items c.loop-row.row-index)
-    (λ _ (t : Tables). map abstract_request_row c.args.requests.now ≡ t.requests → c.loop-row.found.items ≡ before ++ volumes_of_brokers_in_sector t sector (filter (λ (b : tables.BrokerRow). bytes_eq b.name c.args.name.now) t.brokers))
-    (λ t p whole. p.1 whole ∙ ap (λ rs. before ++ volumes_of_brokers_in_sector t sector (map abstract_broker_row rs)) (take_all c.loop-row.row-index rows c.loop-row-test.false) ∙ ap (λ bs. before ++ volumes_of_brokers_in_sector t sector bs) p.0)
+    (λ _ (t : Tables). map abstract_request_row c.args.requests.now ≡ t.requests
+    → c.loop-row.found.items ≡ before
+    ++ volumes_of_brokers_in_sector t sector (filter (λ (b : tables.BrokerRow). bytes_eq b.name c.args.name.now) t.brokers))
+    (λ t p whole. p.1 whole
+    ∙ ap (λ rs. before ++ volumes_of_brokers_in_sector t sector (map abstract_broker_row rs)) (take_all c.loop-row.row-index rows c.loop-row-test.false)
+    ∙ ap (λ bs. before ++ volumes_of_brokers_in_sector t sector bs) p.0)
     c.loop-row.invariant

@@ -59,4 +59,5 @@ pub returns-in_err-append_volumes_of_brokers_named-clause-read : goal.returns-in
 returns-in_err-append_volumes_of_brokers_named-clause-read g c =
     let old = c.args.store.now in
     let p = err_from_is_err_and c.from_residual-in_err-append_volumes_of_brokers_named.result c.from_residual-in_err-append_volumes_of_brokers_named.ensures.1 in
-    rw p.1 (failed_after g.S.Store old c.loop-name.store c.append_volumes_of_brokers_named.new.store _ p.0 _ _ (single_read_changes_nothing old c.loop-name.store _ _ c.loop-name.invariant) c.in_err-append_volumes_of_brokers_named.ensures.read)
+    rw p.1 (failed_after g.S.Store old c.loop-name.store c.append_volumes_of_brokers_named.new.store _ p.0 _ _
+    (single_read_changes_nothing old c.loop-name.store _ _ c.loop-name.invariant) c.in_err-append_volumes_of_brokers_named.ensures.read)

@@ -9,4 +9,6 @@ use Rattle.brk_queries.proofs.volumes.read_volumes_of_brokers_named.Given as goa
 
 abbrev pub invariant-loop-name : goal.invariant-loop-name
 invariant-loop-name g l = ReadPost {V = Unit {0}} {E = Fault} g.S.Store l.fn.store l.store (Ok tt)
-    (λ _ t. (map abstract_request_row l.requests.items ≡ t.requests) × (l.found.items ≡ map (volume.volume_of_broker_in_sector t l.fn.sector) (flat_map (brokers_of_name_in_sector t l.fn.sector) (take l.name-index l.names))))
+    (λ _ t. (map abstract_request_row l.requests.items ≡ t.requests)
+    × (l.found.items ≡ map (volume.volume_of_broker_in_sector t l.fn.sector)
+    (flat_map (brokers_of_name_in_sector t l.fn.sector) (take l.name-index l.names))))

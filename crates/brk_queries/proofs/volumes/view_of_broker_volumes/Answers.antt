@@ -18,5 +18,6 @@ returns-clause-read g c =
     retold g.S.Store c.args.store.now c.read_volumes_of_brokers_named.new.store found (Ok view)
     (λ found (t : Tables). found.items ≡ map (volume.volume_of_broker_in_sector t sector) (flat_map (brokers_of_name_in_sector t sector) names))
     (AnswersQueryAsModel (VolumeOf sector names))
-    (λ t e. volume_seen sector names found.items c.in_ok-view.ensures.value.0 view (rw c.names-names.ensures.names at c.names-names.ensures.distinct) c.in_ok-view.ensures.value.1 c.in_ok-view.ensures.view t e)
+    (λ t e. volume_seen sector names found.items c.in_ok-view.ensures.value.0 view (rw c.names-names.ensures.names at c.names-names.ensures.distinct)
+    c.in_ok-view.ensures.value.1 c.in_ok-view.ensures.view t e)
     (rw c.names-names.ensures.names at c.in_ok-found.ensures.read)

@@ -14,8 +14,15 @@ returns-in-Err-write_all_bytes g c = record {
   written = λ line lines made fails.
       let bytes : c.as_slice.result.now ≡ text_of_lines (line ∷ lines) = c.as_slice.ensures.value ∙ (rw c.in-Ok.is at made) in
       let part = c.in-Err-write_all_bytes.ensures.err in
-      let pieces = cut line lines part.0 in
-      (pieces.0, pieces.1, pieces.2, pieces.3, pieces.4, subst (λ (t : Text). Appends (g.W.Write.contents c.args.writer.now) (g.W.Write.contents c.write_all_bytes.new.writer) t) pieces.5 (rw bytes at part.1));
+      let pieces = cut line lines part.0 in (
+        pieces.0,
+        pieces.1,
+        pieces.2,
+        pieces.3,
+        pieces.4,
+        subst
+            (λ (t : Text). Appends (g.W.Write.contents c.args.writer.now) (g.W.Write.contents c.write_all_bytes.new.writer) t) pieces.5 (rw bytes at part.1),
+      );
 }
 
 pub returns : goal.returns

@@ -14,4 +14,5 @@ returns-clause-step g c =
     let statement = c.in_ok-statement.statement in
     let names = map (λ (name : Bor (List ℕ)). name.now) c.args.names.now in
     says_columns c.args.text.now (state g.S.Store c.args.tx.now.conn.now) (state g.S.Store c.prepare.new.self.conn.now) names c.columns_have_names.result statement c.prepare.ensures.survives
-    (λ clean. (c.in_ok-statement.ensures.ok clean).1) c.in_ok-statement.ensures.shape (subst (λ columns. IsTrue c.columns_have_names.result ↔ columns ≡ names) c.column_names.ensures c.columns_have_names.ensures)
+    (λ clean. (c.in_ok-statement.ensures.ok clean).1) c.in_ok-statement.ensures.shape
+    (subst (λ columns. IsTrue c.columns_have_names.result ↔ columns ≡ names) c.column_names.ensures c.columns_have_names.ensures)

@@ -28,10 +28,13 @@ loop-change-preserved g c =
     let d = state g.S.Store c.apply_change.new.tx.conn.now in
     record {
       same = c.apply_change.ensures.same_reference ∙ c.loop-change.invariant.same;
-      step = step_then a b d tt (Ok tt) (λ _ x y. ChangesTablesBy desk_tables (tables_after_changes (take i xs)) x.now y.now) (λ _ x y. ChangesTablesBy desk_tables (tables_after_change c.change-item.result) x.now y.now) (λ _ x y. ChangesTablesBy desk_tables (tables_after_changes (take (i + 1) xs)) x.now y.now)
+      step = step_then a b d tt (Ok tt) (λ _ x y. ChangesTablesBy desk_tables (tables_after_changes (take i xs)) x.now y.now)
+          (λ _ x y. ChangesTablesBy desk_tables (tables_after_change c.change-item.result) x.now y.now)
+          (λ _ x y. ChangesTablesBy desk_tables (tables_after_changes (take (i + 1) xs)) x.now y.now)
           (λ v p q t tree h.
           let e : tables_after_changes (take (i + 1) xs) t ≡ tables_after_change c.change-item.result (tables_after_changes (take i xs) t) =
-          fold_more (λ (u : Tables) (k : Change). tables_after_change k u) t xs i c.change-item.result c.loop-change-test.true ∙ ap (λ (k : Change). tables_after_change k (tables_after_changes (take i xs) t)) (sym c.change-item.is) in
+          fold_more (λ (u : Tables) (k : Change). tables_after_change k u) t xs i c.change-item.result c.loop-change-test.true
+          ∙ ap (λ (k : Change). tables_after_change k (tables_after_changes (take i xs) t)) (sym c.change-item.is) in
           let before = p t tree h in
           let turned = q (tables_after_changes (take i xs) t) tree before.0 in
           (subst (λ u. HasTables desk_tables u tree d.now) (sym e) turned.0, spares_then tree a.now b.now d.now before.1 turned.1))
@@ -52,5 +55,7 @@ returns-in_err-apply_change-clause-step g c =
     let d = state g.S.Store c.apply_change.new.tx.conn.now in
     let fault = c.in_err-apply_change.field-0.0 in
     let p = err_from_is_err_and c.from_residual.result c.from_residual.ensures.1 in
-    failed_then a b d tt c.from_residual.result fault fault (λ _ x y. ChangesTablesBy desk_tables (tables_after_changes (take c.loop-change.change-index c.args.changes.now)) x.now y.now) (λ _ x y. ChangesTablesBy desk_tables (tables_after_change c.change-item.result) x.now y.now)
+    failed_then a b d tt c.from_residual.result fault fault
+    (λ _ x y. ChangesTablesBy desk_tables (tables_after_changes (take c.loop-change.change-index c.args.changes.now)) x.now y.now)
+    (λ _ x y. ChangesTablesBy desk_tables (tables_after_change c.change-item.result) x.now y.now)
     (λ _ x y. ChangesTablesBy desk_tables (tables_after_changes c.args.changes.now) x.now y.now) (p.1 ∙ ap Err p.2) c.loop-change.invariant.step c.in_err-apply_change.ensures.step

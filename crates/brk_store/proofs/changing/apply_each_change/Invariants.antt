@@ -10,5 +10,6 @@ use Rattle.brk_store.proofs.changing.apply_each_change.Given as goal
 abbrev pub invariant-loop-change : goal.invariant-loop-change
 invariant-loop-change g l = record {
   same : l.tx.conn.ghost_name ≡ l.fn.tx.conn.ghost_name;
-  step : IsTransactionStep {V = Unit {0}} {E = Fault} (state g.S.Store l.fn.tx.conn.now) (state g.S.Store l.tx.conn.now) (Ok tt) (λ _ a b. ChangesTablesBy desk_tables (tables_after_changes (take l.change-index l.changes)) a.now b.now);
+  step : IsTransactionStep {V = Unit {0}} {E = Fault} (state g.S.Store l.fn.tx.conn.now) (state g.S.Store l.tx.conn.now) (Ok tt)
+      (λ _ a b. ChangesTablesBy desk_tables (tables_after_changes (take l.change-index l.changes)) a.now b.now);
 }

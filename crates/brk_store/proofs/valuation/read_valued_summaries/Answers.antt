@@ -65,4 +65,5 @@ pub returns-in_err-sum-clause-read : goal.returns-in_err-sum-clause-read
 returns-in_err-sum-clause-read g c =
     let old = c.args.store.now in
     let p = err_from_is_err_and c.from_residual-in_err-sum.result c.from_residual-in_err-sum.ensures.1 in
-    rw p.1 (failed_after g.S.Store old c.loop-row.store c.add_value_at_last_price.new.store _ p.0 _ _ (single_read_changes_nothing old c.loop-row.store _ _ c.loop-row.invariant) c.in_err-sum.ensures.read)
+    rw p.1 (failed_after g.S.Store old c.loop-row.store c.add_value_at_last_price.new.store _ p.0 _ _
+    (single_read_changes_nothing old c.loop-row.store _ _ c.loop-row.invariant) c.in_err-sum.ensures.read)

@@ -23,4 +23,5 @@ returns-clause-step g c =
     let old = state g.S.Store c.args.tx.now.conn.now in
     let new = state g.S.Store c.select_rows.new.tx.conn.now in
     look_first desk_tables move_cells move_back move_is_back abstract_move_row LastMove.statement [] old new c.in_ok-rows.rows (λ rows. rows.items) _ c.deref.ensures.value c.in_ok-rows.ensures.step
-    c.decode_first_row.result c.decode_first_row.ensures.value (λ (t : Tables). take 1 (reverse t.moves)) (λ (t : Tables). slice_get (reverse t.moves) 0) (λ t. first_of (reverse t.moves)) (tells_last_move old new _)
+    c.decode_first_row.result c.decode_first_row.ensures.value (λ (t : Tables). take 1 (reverse t.moves)) (λ (t : Tables). slice_get (reverse t.moves) 0)
+    (λ t. first_of (reverse t.moves)) (tells_last_move old new _)

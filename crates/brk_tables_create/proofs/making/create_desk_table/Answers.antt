@@ -10,4 +10,5 @@ pub returns-clause-step : goal.returns-clause-step
 returns-clause-step g c =
     let old = state g.S.Store c.args.tx.now.conn.now in
     let new = state g.S.Store c.execute_statement.new.tx.conn.now in
-    step_weaker old new c.execute_statement.result _ _ (λ _ ran. let mine = subst (λ text. ExecutesStatement text [] old new) c.create_table_text.ensures ran in makes_of (specified_table c.args.table) old new mine.0 mine.1) c.execute_statement.ensures.step
+    step_weaker old new c.execute_statement.result _ _ (λ _ ran. let mine = subst (λ text. ExecutesStatement text [] old new) c.create_table_text.ensures ran in
+    makes_of (specified_table c.args.table) old new mine.0 mine.1) c.execute_statement.ensures.step

@@ -24,7 +24,9 @@ loop-table-preserved g c =
     let d = state g.S.Store c.create_desk_table.new.tx.conn.now in
     record {
       same = c.create_desk_table.ensures.same_reference ∙ c.loop-table.invariant.same;
-      step = step_then a b d tt (Ok tt) (λ _ x y. each (take i tables) x.now y.now) (λ _ x y. CreatesTableOfShape x.now y.now (table_definition_at_tree (specified_table (get_or tables i TheDesk)))) (λ _ x y. each (take (i + 1) tables) x.now y.now)
+      step = step_then a b d tt (Ok tt) (λ _ x y. each (take i tables) x.now y.now)
+          (λ _ x y. CreatesTableOfShape x.now y.now (table_definition_at_tree (specified_table (get_or tables i TheDesk))))
+          (λ _ x y. each (take (i + 1) tables) x.now y.now)
           (λ _ p made. made_at TheDesk tables i c.loop-table-test.true a.now b.now d.now p made)
           c.loop-table.invariant.step c.in_ok-create_desk_table.ensures.step;
     }
@@ -32,4 +34,5 @@ loop-table-preserved g c =
 pub returns-clause-step : goal.returns-clause-step
 returns-clause-step g c =
     let whole : take c.loop-table.table-index c.args.tables.now ≡ c.args.tables.now = take_all c.loop-table.table-index c.args.tables.now c.loop-table-test.false in
-    subst (λ (l : List Table). IsTransactionStep {V = Unit {0}} {E = Fault} (state g.S.Store c.args.tx.now.conn.now) (state g.S.Store c.loop-table.tx.conn.now) (Ok tt) (λ _ x y. each l x.now y.now)) whole c.loop-table.invariant.step
+    subst (λ (l : List Table). IsTransactionStep {V = Unit {0}} {E = Fault} (state g.S.Store c.args.tx.now.conn.now) (state g.S.Store c.loop-table.tx.conn.now)
+    (Ok tt) (λ _ x y. each l x.now y.now)) whole c.loop-table.invariant.step

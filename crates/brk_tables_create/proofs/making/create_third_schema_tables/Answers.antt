@@ -13,5 +13,6 @@ returns-clause-step g c =
     let a = state g.S.Store c.args.tx.now.conn.now in
     let b = state g.S.Store c.create_each_table.new.tx.conn.now in
     let d = state g.S.Store c.add_desk_row.new.tx.conn.now in
-    step_then a b d tt c.add_desk_row.result (λ _ x y. CreatesEachTable (map table_definition_at_tree all_tables) x.now y.now) (λ _. ExecutesStatement insert_desk_row_text []) (λ _ x y. CreatesDeskTables x.now y.now)
+    step_then a b d tt c.add_desk_row.result (λ _ x y. CreatesEachTable (map table_definition_at_tree all_tables) x.now y.now)
+    (λ _. ExecutesStatement insert_desk_row_text []) (λ _ x y. CreatesDeskTables x.now y.now)
     (λ _ made row. founds_desk a.now b d (founds_bare a.now b.now made) row) c.in_ok-create_each_table.ensures.step c.add_desk_row.ensures.step

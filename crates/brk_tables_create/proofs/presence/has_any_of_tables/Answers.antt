@@ -33,7 +33,8 @@ returns-then-branch-clause-step g c =
     let made : Bool → State → State → Type 0 = λ has a b. (b.now ≡ a.now) × (list_any (test a.now) (take i tables) ≡ false) × (has ≡ test a.now (get_or tables i d)) in
     step_read old new c.in_ok-table_exists.field-0 (Ok true) made (λ has a b. (b.now ≡ a.now) × (has ≡ list_any (test a.now) tables))
     (λ w e p. let f : true ≡ w = cc in (p.0, sym f ∙ sym (found_at (test old.now) d tables i c.loop-table-test.true (sym p.2 ∙ c.if-branch.true))))
-    (step_then old mid new tt (Ok c.in_ok-table_exists.field-0) (λ _ a b. (b.now ≡ a.now) × (list_any (test a.now) (take i tables) ≡ false)) (λ has a b. IsTrue a.is_open × (b.now ≡ a.now) × (has ≡ test a.now (get_or tables i d))) made
+    (step_then old mid new tt (Ok c.in_ok-table_exists.field-0) (λ _ a b. (b.now ≡ a.now) × (list_any (test a.now) (take i tables) ≡ false))
+    (λ has a b. IsTrue a.is_open × (b.now ≡ a.now) × (has ≡ test a.now (get_or tables i d))) made
     (λ v p q. (q.1 ∙ p.0, p.1, q.2 ∙ ap (λ db. test db (get_or tables i d)) p.0)) c.loop-table.invariant.step c.in_ok-table_exists.ensures.step)
 
 pub loop-table-preserved : goal.loop-table-preserved
@@ -49,7 +50,8 @@ loop-table-preserved g c =
       same = c.table_exists.ensures.same_reference ∙ c.loop-table.invariant.same;
       step = step_read old new c.in_ok-table_exists.field-0 (Ok tt) made _
           (λ w e p. (p.0, none_at (test old.now) d tables i c.loop-table-test.true p.1 (sym p.2 ∙ c.if-branch.false)))
-          (step_then old mid new tt (Ok c.in_ok-table_exists.field-0) (λ _ a b. (b.now ≡ a.now) × (list_any (test a.now) (take i tables) ≡ false)) (λ has a b. IsTrue a.is_open × (b.now ≡ a.now) × (has ≡ test a.now (get_or tables i d))) made
+          (step_then old mid new tt (Ok c.in_ok-table_exists.field-0) (λ _ a b. (b.now ≡ a.now) × (list_any (test a.now) (take i tables) ≡ false))
+          (λ has a b. IsTrue a.is_open × (b.now ≡ a.now) × (has ≡ test a.now (get_or tables i d))) made
           (λ v p q. (q.1 ∙ p.0, p.1, q.2 ∙ ap (λ db. test db (get_or tables i d)) p.0)) c.loop-table.invariant.step c.in_ok-table_exists.ensures.step);
     }
 

@@ -30,5 +30,6 @@ returns-clause-step g c =
     let made : Bool → State → State → Type 0 = λ one a b. (b.now ≡ a.now) × (list_all (test a.now) c.args.present.now ≡ true) × (one ≡ list_any (test a.now) c.args.absent.now) in
     step_read old new one (Ok (not one)) made _
     (λ w e p. let f : w ≡ not one = cc in (p.0, f ∙ ap not p.2 ∙ sym (ap (λ b. b && not (list_any (test old.now) c.args.absent.now)) p.1)))
-    (step_then old mid new c.in_ok-has_each_of_tables.field-0 (Ok one) (λ has a b. (b.now ≡ a.now) × (has ≡ list_all (test a.now) c.args.present.now)) (λ has a b. (b.now ≡ a.now) × (has ≡ list_any (test a.now) c.args.absent.now)) made
+    (step_then old mid new c.in_ok-has_each_of_tables.field-0 (Ok one) (λ has a b. (b.now ≡ a.now) × (has ≡ list_all (test a.now) c.args.present.now))
+    (λ has a b. (b.now ≡ a.now) × (has ≡ list_any (test a.now) c.args.absent.now)) made
     (λ v p q. (q.0 ∙ p.0, sym p.1 ∙ c.if-not-branch.false, q.1 ∙ ap (λ db. list_any (test db) c.args.absent.now) p.0)) c.in_ok-has_each_of_tables.ensures.step c.in_ok-has_any_of_tables.ensures.step)

@@ -10,4 +10,10 @@ pub returns-clause-step : goal.returns-clause-step
 returns-clause-step g c =
     let old = state g.S.Store c.args.tx.now.conn.now in
     let new = state g.S.Store c.statement_compiles.new.tx.conn.now in
-    step_weaker old new c.statement_compiles.result _ _ (λ has p. (p.0, p.1, probed_of (specified_table c.args.table) old.now.schema has (subst (λ text. IsCompilationOutcome text has old.now.schema) c.existence_probe_text.ensures p.2))) c.statement_compiles.ensures.step
+    step_weaker old new c.statement_compiles.result _ _
+    (λ has p. (
+      p.0,
+      p.1,
+      probed_of (specified_table c.args.table) old.now.schema has
+          (subst (λ text. IsCompilationOutcome text has old.now.schema) c.existence_probe_text.ensures p.2),
+    )) c.statement_compiles.ensures.step

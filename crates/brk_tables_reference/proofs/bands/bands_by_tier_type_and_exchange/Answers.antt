@@ -21,5 +21,10 @@ pub returns-clause-step : goal.returns-clause-step
 returns-clause-step g c =
     let old = state g.S.Store c.args.tx.now.conn.now in
     let new = state g.S.Store c.select_rows.new.tx.conn.now in
-    look_all desk_tables band_cells band_back band_is_back abstract_band BandsFor.statement (Int (pos c.args.tier) ∷ Text (trade_type_code c.args.kind) ∷ Text c.args.exchange.now ∷ []) old new c.in_ok-rows.rows (λ rows. rows.items) _ c.deref.ensures.value (rw (c.tier_as_parameter.ensures, c.trade_type_as_parameter.ensures, c.text_as_parameter.ensures, c.as_str.ensures) at c.in_ok-rows.ensures.step)
-    (λ all. all.items) c.decode_rows.result c.decode_rows.ensures.value (λ t. filter (λ (r : Band). (r.tier == c.args.tier) && is_same_trade_type r.kind c.args.kind && bytes_eq r.exchange c.args.exchange.now) t.bands) (tells_bands old new c.args.tier c.args.kind c.args.exchange.now _)
+    look_all desk_tables band_cells band_back band_is_back abstract_band BandsFor.statement
+    (Int (pos c.args.tier) ∷ Text (trade_type_code c.args.kind) ∷ Text c.args.exchange.now ∷ []) old new c.in_ok-rows.rows (λ rows. rows.items) _
+    c.deref.ensures.value
+    (rw (c.tier_as_parameter.ensures, c.trade_type_as_parameter.ensures, c.text_as_parameter.ensures, c.as_str.ensures) at c.in_ok-rows.ensures.step)
+    (λ all. all.items) c.decode_rows.result c.decode_rows.ensures.value
+    (λ t. filter (λ (r : Band). (r.tier == c.args.tier) && is_same_trade_type r.kind c.args.kind && bytes_eq r.exchange c.args.exchange.now) t.bands)
+    (tells_bands old new c.args.tier c.args.kind c.args.exchange.now _)

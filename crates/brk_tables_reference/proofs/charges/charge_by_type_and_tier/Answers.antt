@@ -21,5 +21,11 @@ pub returns-clause-step : goal.returns-clause-step
 returns-clause-step g c =
     let old = state g.S.Store c.args.tx.now.conn.now in
     let new = state g.S.Store c.select_rows.new.tx.conn.now in
-    look_first desk_tables charge_cells charge_back charge_is_back abstract_charge ChargeByKey.statement (Text (trade_type_code c.args.kind) ∷ Int (pos c.args.tier) ∷ []) old new c.in_ok-rows.rows (λ rows. rows.items) _ c.deref.ensures.value (rw (c.trade_type_as_parameter.ensures, c.tier_as_parameter.ensures) at c.in_ok-rows.ensures.step)
-    c.decode_first_row.result c.decode_first_row.ensures.value (λ t. filter (λ (r : Charge). is_same_trade_type r.kind c.args.kind && (r.tier == c.args.tier)) t.charges) (λ t. find (λ (r : Charge). is_same_trade_type r.kind c.args.kind && (r.tier == c.args.tier)) t.charges) (λ t. slice_get-filter (λ (r : Charge). is_same_trade_type r.kind c.args.kind && (r.tier == c.args.tier)) t.charges) (tells_charge old new c.args.kind c.args.tier _)
+    look_first desk_tables charge_cells charge_back charge_is_back abstract_charge ChargeByKey.statement
+    (Text (trade_type_code c.args.kind) ∷ Int (pos c.args.tier) ∷ []) old new c.in_ok-rows.rows (λ rows. rows.items) _ c.deref.ensures.value
+    (rw (c.trade_type_as_parameter.ensures, c.tier_as_parameter.ensures) at c.in_ok-rows.ensures.step)
+    c.decode_first_row.result c.decode_first_row.ensures.value
+    (λ t. filter (λ (r : Charge). is_same_trade_type r.kind c.args.kind && (r.tier == c.args.tier)) t.charges)
+    (λ t. find (λ (r : Charge). is_same_trade_type r.kind c.args.kind && (r.tier == c.args.tier)) t.charges)
+    (λ t. slice_get-filter (λ (r : Charge). is_same_trade_type r.kind c.args.kind && (r.tier == c.args.tier)) t.charges)
+    (tells_charge old new c.args.kind c.args.tier _)

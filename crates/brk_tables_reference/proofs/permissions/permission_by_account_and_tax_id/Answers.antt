@@ -21,5 +21,11 @@ pub returns-clause-step : goal.returns-clause-step
 returns-clause-step g c =
     let old = state g.S.Store c.args.tx.now.conn.now in
     let new = state g.S.Store c.select_rows.new.tx.conn.now in
-    look_first desk_tables permission_cells permission_back permission_is_back abstract_permission PermissionByKey.statement (Int (pos c.args.account) ∷ Text c.args.tax_id.now ∷ []) old new c.in_ok-rows.rows (λ rows. rows.items) _ c.deref.ensures.value (rw (c.id_as_parameter.ensures, c.text_as_parameter.ensures, c.as_str.ensures) at c.in_ok-rows.ensures.step)
-    c.decode_first_row.result c.decode_first_row.ensures.value (λ t. filter (λ (r : Permission). (r.account == c.args.account) && bytes_eq r.tax_id c.args.tax_id.now) t.permissions) (λ t. find (λ (r : Permission). (r.account == c.args.account) && bytes_eq r.tax_id c.args.tax_id.now) t.permissions) (λ t. slice_get-filter (λ (r : Permission). (r.account == c.args.account) && bytes_eq r.tax_id c.args.tax_id.now) t.permissions) (tells_permission old new c.args.account c.args.tax_id.now _)
+    look_first desk_tables permission_cells permission_back permission_is_back abstract_permission PermissionByKey.statement
+    (Int (pos c.args.account) ∷ Text c.args.tax_id.now ∷ []) old new c.in_ok-rows.rows (λ rows. rows.items) _ c.deref.ensures.value
+    (rw (c.id_as_parameter.ensures, c.text_as_parameter.ensures, c.as_str.ensures) at c.in_ok-rows.ensures.step)
+    c.decode_first_row.result c.decode_first_row.ensures.value
+    (λ t. filter (λ (r : Permission). (r.account == c.args.account) && bytes_eq r.tax_id c.args.tax_id.now) t.permissions)
+    (λ t. find (λ (r : Permission). (r.account == c.args.account) && bytes_eq r.tax_id c.args.tax_id.now) t.permissions)
+    (λ t. slice_get-filter (λ (r : Permission). (r.account == c.args.account) && bytes_eq r.tax_id c.args.tax_id.now) t.permissions)
+    (tells_permission old new c.args.account c.args.tax_id.now _)

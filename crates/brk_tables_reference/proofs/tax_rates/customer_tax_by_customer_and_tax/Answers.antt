@@ -20,5 +20,11 @@ pub returns-clause-step : goal.returns-clause-step
 returns-clause-step g c =
     let old = state g.S.Store c.args.tx.now.conn.now in
     let new = state g.S.Store c.select_rows.new.tx.conn.now in
-    look_first desk_tables customer_tax_cells customer_tax_back customer_tax_is_back abstract_customer_tax CustomerTaxByKey.statement (Int (pos c.args.customer) ∷ Int (pos c.args.tax) ∷ []) old new c.in_ok-rows.rows (λ rows. rows.items) _ c.deref.ensures.value (rw (c.id_as_parameter.ensures, c.id_as_parameter-2.ensures) at c.in_ok-rows.ensures.step)
-    c.decode_first_row.result c.decode_first_row.ensures.value (λ t. filter (λ (r : CustomerTax). (r.customer == c.args.customer) && (r.tax == c.args.tax)) t.customer_taxes) (λ t. find (λ (r : CustomerTax). (r.customer == c.args.customer) && (r.tax == c.args.tax)) t.customer_taxes) (λ t. slice_get-filter (λ (r : CustomerTax). (r.customer == c.args.customer) && (r.tax == c.args.tax)) t.customer_taxes) (tells_customer_tax old new c.args.customer c.args.tax _)
+    look_first desk_tables customer_tax_cells customer_tax_back customer_tax_is_back abstract_customer_tax CustomerTaxByKey.statement
+    (Int (pos c.args.customer) ∷ Int (pos c.args.tax) ∷ []) old new c.in_ok-rows.rows (λ rows. rows.items) _ c.deref.ensures.value
+    (rw (c.id_as_parameter.ensures, c.id_as_parameter-2.ensures) at c.in_ok-rows.ensures.step)
+    c.decode_first_row.result c.decode_first_row.ensures.value
+    (λ t. filter (λ (r : CustomerTax). (r.customer == c.args.customer) && (r.tax == c.args.tax)) t.customer_taxes)
+    (λ t. find (λ (r : CustomerTax). (r.customer == c.args.customer) && (r.tax == c.args.tax)) t.customer_taxes)
+    (λ t. slice_get-filter (λ (r : CustomerTax). (r.customer == c.args.customer) && (r.tax == c.args.tax)) t.customer_taxes)
+    (tells_customer_tax old new c.args.customer c.args.tax _)

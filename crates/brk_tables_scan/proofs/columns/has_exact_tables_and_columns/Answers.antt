@@ -27,7 +27,13 @@ returns-clause-step g c =
     let mid = state g.S.Store c.has_exact_tables_by_name.new.tx.conn.now in
     let new = state g.S.Store c.tables_have_columns.new.tx.conn.now in
     let named : Bool → State → State → Type 0 = λ has a b. IsTrue a.is_open × (b.now ≡ a.now) × (has ≡ has_exact_table_names desk a.now.schema) in
-    step_then old mid new c.in_ok-has_exact_tables_by_name.field-0 c.tables_have_columns.result named (λ has a b. (b.now ≡ a.now) × IsHeadingCheckOutcome (map heading_of_table (tables_in_schema desk)) has a.now.schema)
+    step_then old mid new c.in_ok-has_exact_tables_by_name.field-0 c.tables_have_columns.result named
+    (λ has a b. (b.now ≡ a.now) × IsHeadingCheckOutcome (map heading_of_table (tables_in_schema desk)) has a.now.schema)
     (λ has a b. IsTrue a.is_open × (b.now ≡ a.now) × (IsTrue has ↔ HasTablesOfSchema desk a.now.schema × LacksTablesOfLaterSchemas desk a.now.schema))
-    (λ v p q. (p.0, q.0 ∙ p.1, columns_tell old.now.schema desk (sym p.2 ∙ c.if-not-branch.false) v (subst (λ d. IsHeadingCheckOutcome (map heading_of_table (tables_in_schema desk)) v d.schema) p.1 q.1)))
+    (λ v p q. (
+      p.0,
+      q.0 ∙ p.1,
+      columns_tell old.now.schema desk (sym p.2 ∙ c.if-not-branch.false) v
+          (subst (λ d. IsHeadingCheckOutcome (map heading_of_table (tables_in_schema desk)) v d.schema) p.1 q.1),
+    ))
     c.in_ok-has_exact_tables_by_name.ensures.step c.tables_have_columns.ensures.step

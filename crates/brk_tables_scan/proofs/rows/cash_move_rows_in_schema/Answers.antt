@@ -7,4 +7,6 @@ pub returns-clause-step : goal.returns-clause-step
 returns-clause-step g c =
     let old = state g.S.Store c.args.tx.now.conn.now in
     let new = state g.S.Store c.cash_move_rows.new.tx.conn.now in
-    step_weaker old new c.cash_move_rows.result _ _ (λ rows s. (s.1, ((λ _. s.2), λ off. absurd (let e = sym off ∙ sym c.has_cash_move_table.ensures ∙ c.if-not-has_cash_move_table.false in cc)))) c.cash_move_rows.ensures.step
+    step_weaker old new c.cash_move_rows.result _ _
+    (λ rows s. (s.1, ((λ _. s.2), λ off. absurd (let e = sym off ∙ sym c.has_cash_move_table.ensures ∙ c.if-not-has_cash_move_table.false in cc))))
+    c.cash_move_rows.ensures.step

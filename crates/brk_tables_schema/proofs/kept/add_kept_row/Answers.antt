@@ -8,4 +8,14 @@ pub returns-clause-step : goal.returns-clause-step
 returns-clause-step g c =
     let old = state g.S.Store c.args.tx.now.conn.now in
     let new = state g.S.Store c.execute_statement.new.tx.conn.now in
-    step_weaker old new c.execute_statement.result _ _ (λ _ ran. adds_kept old new (abstract_kept_row c.args.kept.now) (rw (c.text_as_parameter.ensures, c.as_str.ensures, c.row_number_as_parameter.ensures, c.text_as_parameter-2.ensures, c.as_str-2.ensures.value, c.text_as_parameter-3.ensures, c.as_str-3.ensures.value) at ran)) c.execute_statement.ensures.step
+    step_weaker old new c.execute_statement.result _ _
+    (λ _ ran. adds_kept old new (abstract_kept_row c.args.kept.now)
+    (rw (
+      c.text_as_parameter.ensures,
+      c.as_str.ensures,
+      c.row_number_as_parameter.ensures,
+      c.text_as_parameter-2.ensures,
+      c.as_str-2.ensures.value,
+      c.text_as_parameter-3.ensures,
+      c.as_str-3.ensures.value,
+    ) at ran)) c.execute_statement.ensures.step

@@ -21,5 +21,11 @@ pub returns-clause-step : goal.returns-clause-step
 returns-clause-step g c =
     let old = state g.S.Store c.args.tx.now.conn.now in
     let new = state g.S.Store c.select_rows.new.tx.conn.now in
-    look_first desk_tables kept_cells kept_back kept_is_back abstract_kept_row KeptByKey.statement (Text c.args.key.now.batch ∷ Int (pos c.args.key.now.row) ∷ []) old new c.in_ok-rows.rows (λ rows. rows.items) _ c.deref.ensures.value (rw (c.text_as_parameter.ensures, c.as_str.ensures, c.row_number_as_parameter.ensures) at c.in_ok-rows.ensures.step)
-    c.decode_first_row.result c.decode_first_row.ensures.value (λ t. filter (λ (k : Kept). bytes_eq k.key.batch c.args.key.now.batch && (k.key.row == c.args.key.now.row)) t.kept) (λ t. find (λ (k : Kept). bytes_eq k.key.batch c.args.key.now.batch && (k.key.row == c.args.key.now.row)) t.kept) (λ t. slice_get-filter (λ (k : Kept). bytes_eq k.key.batch c.args.key.now.batch && (k.key.row == c.args.key.now.row)) t.kept) (tells_kept old new c.args.key.now.batch c.args.key.now.row _)
+    look_first desk_tables kept_cells kept_back kept_is_back abstract_kept_row KeptByKey.statement
+    (Text c.args.key.now.batch ∷ Int (pos c.args.key.now.row) ∷ []) old new c.in_ok-rows.rows (λ rows. rows.items) _ c.deref.ensures.value
+    (rw (c.text_as_parameter.ensures, c.as_str.ensures, c.row_number_as_parameter.ensures) at c.in_ok-rows.ensures.step)
+    c.decode_first_row.result c.decode_first_row.ensures.value
+    (λ t. filter (λ (k : Kept). bytes_eq k.key.batch c.args.key.now.batch && (k.key.row == c.args.key.now.row)) t.kept)
+    (λ t. find (λ (k : Kept). bytes_eq k.key.batch c.args.key.now.batch && (k.key.row == c.args.key.now.row)) t.kept)
+    (λ t. slice_get-filter (λ (k : Kept). bytes_eq k.key.batch c.args.key.now.batch && (k.key.row == c.args.key.now.row)) t.kept)
+    (tells_kept old new c.args.key.now.batch c.args.key.now.row _)

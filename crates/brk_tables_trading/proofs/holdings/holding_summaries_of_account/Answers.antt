@@ -19,5 +19,6 @@ pub returns-clause-step : goal.returns-clause-step
 returns-clause-step g c =
     let old = state g.S.Store c.args.tx.now.conn.now in
     let new = state g.S.Store c.select_rows.new.tx.conn.now in
-    look_all desk_tables summary_cells summary_back summary_is_back abstract_summary_row SummariesOf.statement (Int (pos c.args.account) ∷ []) old new c.in_ok-rows.rows (λ rows. rows.items) _ c.deref.ensures.value (rw (c.id_as_parameter.ensures) at c.in_ok-rows.ensures.step)
+    look_all desk_tables summary_cells summary_back summary_is_back abstract_summary_row SummariesOf.statement (Int (pos c.args.account) ∷ []) old new
+    c.in_ok-rows.rows (λ rows. rows.items) _ c.deref.ensures.value (rw (c.id_as_parameter.ensures) at c.in_ok-rows.ensures.step)
     (λ all. all.items) c.decode_rows.result c.decode_rows.ensures.value (λ t. filter (λ (r : SummaryRow). r.account == c.args.account) t.summaries) (tells_summaries old new c.args.account _)

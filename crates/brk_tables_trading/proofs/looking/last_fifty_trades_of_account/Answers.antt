@@ -18,5 +18,6 @@ pub returns-clause-step : goal.returns-clause-step
 returns-clause-step g c =
     let old = state g.S.Store c.args.tx.now.conn.now in
     let new = state g.S.Store c.select_rows.new.tx.conn.now in
-    look_all desk_tables trade_cells trade_back trade_is_back abstract_trade_row LastFiftyOfAccount.statement (natural_as_value c.args.account ∷ []) old new c.in_ok-rows.rows (λ rows. rows.items) _ c.deref.ensures.value (rw (c.id_as_parameter.ensures) at c.in_ok-rows.ensures.step)
+    look_all desk_tables trade_cells trade_back trade_is_back abstract_trade_row LastFiftyOfAccount.statement (natural_as_value c.args.account ∷ []) old new
+    c.in_ok-rows.rows (λ rows. rows.items) _ c.deref.ensures.value (rw (c.id_as_parameter.ensures) at c.in_ok-rows.ensures.step)
     (λ all. all.items) c.decode_rows.result c.decode_rows.ensures.value (λ t. take 50 (trade_rows_recent_first (trade_rows_of_account t c.args.account))) (tells_last_fifty old new c.args.account _)

@@ -21,5 +21,10 @@ pub returns-clause-step : goal.returns-clause-step
 returns-clause-step g c =
     let old = state g.S.Store c.args.tx.now.conn.now in
     let new = state g.S.Store c.select_rows.new.tx.conn.now in
-    look_all desk_tables request_cells request_back request_is_back abstract_request_row RequestsAbove.statement (Text c.args.symbol.now ∷ Text (trade_type_code c.args.kind) ∷ natural_as_value c.args.price ∷ []) old new c.in_ok-rows.rows (λ rows. rows.items) _ c.deref.ensures.value (rw (c.text_as_parameter.ensures, c.as_str.ensures, c.trade_type_as_parameter.ensures, c.price_as_parameter.ensures) at c.in_ok-rows.ensures.step)
-    (λ all. all.items) c.decode_rows.result c.decode_rows.ensures.value (λ t. filter (λ (r : RequestRow). bytes_eq r.symbol c.args.symbol.now && (is_same_trade_type r.kind c.args.kind && nat_le c.args.price r.bid)) t.requests) (tells_requests_above old new c.args.symbol.now c.args.kind c.args.price _)
+    look_all desk_tables request_cells request_back request_is_back abstract_request_row RequestsAbove.statement
+    (Text c.args.symbol.now ∷ Text (trade_type_code c.args.kind) ∷ natural_as_value c.args.price ∷ []) old new c.in_ok-rows.rows (λ rows. rows.items) _
+    c.deref.ensures.value
+    (rw (c.text_as_parameter.ensures, c.as_str.ensures, c.trade_type_as_parameter.ensures, c.price_as_parameter.ensures) at c.in_ok-rows.ensures.step)
+    (λ all. all.items) c.decode_rows.result c.decode_rows.ensures.value
+    (λ t. filter (λ (r : RequestRow). bytes_eq r.symbol c.args.symbol.now && (is_same_trade_type r.kind c.args.kind && nat_le c.args.price r.bid))
+    t.requests) (tells_requests_above old new c.args.symbol.now c.args.kind c.args.price _)

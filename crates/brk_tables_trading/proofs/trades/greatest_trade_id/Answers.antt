@@ -27,4 +27,5 @@ returns-clause-step g c =
     let new = state g.S.Store c.select_rows.new.tx.conn.now in
     step_weaker old new c.decode_first_row.result _ _ (λ o looks. (looks.0, looks.1, λ t tree h. rw (as_it_is o) at (looks.2 t tree h)))
     (look_first desk_tables id_cells id_back id_is_back (λ (n : ℕ). n) LastTradeId.statement [] old new c.in_ok-rows.rows (λ rows. rows.items) _ c.deref.ensures.value c.in_ok-rows.ensures.step
-    c.decode_first_row.result c.decode_first_row.ensures.value (λ (t : Tables). map (λ (r : TradeRow). r.id) (take 1 (reverse t.trades))) (λ (t : Tables). option_map (λ (r : TradeRow). r.id) (slice_get (reverse t.trades) 0)) (λ t. first_of (reverse t.trades)) (tells_last_id old new _))
+    c.decode_first_row.result c.decode_first_row.ensures.value (λ (t : Tables). map (λ (r : TradeRow). r.id) (take 1 (reverse t.trades)))
+    (λ (t : Tables). option_map (λ (r : TradeRow). r.id) (slice_get (reverse t.trades) 0)) (λ t. first_of (reverse t.trades)) (tells_last_id old new _))

@@ -22,7 +22,12 @@ returns-clause-step g c =
     let b = state g.S.Store c.account_id_of_trade.new.tx.conn.now in
     let d = state g.S.Store c.add_cash_row.new.tx.conn.now in
     let named : string_bytes c.in_ok-clone.field-0 ≡ string_bytes c.args.row.now.name = search rules in
-    step_then a b d (Some account) c.add_cash_row.result (λ o. IsUnchangedAndSatisfies desk_tables (λ t. o ≡ option_map (λ r. r.account) (trade_row_with_id t row.trade))) (λ _ x y. ChangesTablesBy desk_tables (tables_with_cash_row (numbered_row id account row)) x.now y.now) (λ _ x y. ChangesTablesBy desk_tables (tables_with_numbered_cash_row id row) x.now y.now)
+    step_then a b d (Some account) c.add_cash_row.result
+    (λ o. IsUnchangedAndSatisfies desk_tables (λ t. o ≡ option_map (λ r. r.account) (trade_row_with_id t row.trade)))
+    (λ _ x y. ChangesTablesBy desk_tables (tables_with_cash_row (numbered_row id account row)) x.now y.now)
+    (λ _ x y. ChangesTablesBy desk_tables (tables_with_numbered_cash_row id row) x.now y.now)
     (λ _ p q. adds_numbered id account row a.now b.now d.now p.1 p.2 q)
-    (subst (λ o. IsTransactionStep {V = Option _} {E = Fault} a b (Ok o) (λ o. IsUnchangedAndSatisfies desk_tables (λ t. o ≡ option_map (λ r. r.account) (trade_row_with_id t row.trade)))) c.in-Some.is c.in_ok-account.ensures.step)
+    (subst (λ o. IsTransactionStep {V = Option _} {E = Fault} a b (Ok o)
+    (λ o. IsUnchangedAndSatisfies desk_tables (λ t. o ≡ option_map (λ r. r.account) (trade_row_with_id t row.trade)))) c.in-Some.is
+    c.in_ok-account.ensures.step)
     (rw named at c.add_cash_row.ensures.step)

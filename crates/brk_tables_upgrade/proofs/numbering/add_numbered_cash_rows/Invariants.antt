@@ -12,5 +12,6 @@ abbrev pub invariant-loop-row : goal.invariant-loop-row
 invariant-loop-row g l = record {
   same : l.tx.conn.ghost_name ≡ l.fn.tx.conn.ghost_name;
   next : l.number ≡ 1 + l.row-index;
-  step : IsTransactionStep {V = Unit {0}} {E = Fault} (state g.S.Store l.fn.tx.conn.now) (state g.S.Store l.tx.conn.now) (Ok tt) (λ _ a b. ChangesTablesBy desk_tables (tables_with_cash_rows_numbered_from 1 (take l.row-index (map abstract_cash_row l.rows))) a.now b.now);
+  step : IsTransactionStep {V = Unit {0}} {E = Fault} (state g.S.Store l.fn.tx.conn.now) (state g.S.Store l.tx.conn.now) (Ok tt)
+      (λ _ a b. ChangesTablesBy desk_tables (tables_with_cash_rows_numbered_from 1 (take l.row-index (map abstract_cash_row l.rows))) a.now b.now);
 }

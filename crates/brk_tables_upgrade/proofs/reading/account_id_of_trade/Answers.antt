@@ -28,7 +28,9 @@ as_it_is None = refl
 as_it_is (Some n) = refl
 
 -- the account of the first
-first_of : (trade : ℕ) (rows : List TradeRow) → slice_get (map (λ (r : TradeRow). r.account) (filter (λ r. r.id == trade) rows)) 0 ≡ option_map (λ (r : TradeRow). r.account) (find (λ r. r.id == trade) rows)
+first_of : (trade : ℕ) (rows : List TradeRow)
+    → slice_get (map (λ (r : TradeRow). r.account) (filter (λ r. r.id == trade) rows)) 0
+    ≡ option_map (λ (r : TradeRow). r.account) (find (λ r. r.id == trade) rows)
 first_of trade [] = refl
 first_of trade (r ∷ rows) = elim (cases_Bool (r.id == trade)) [ inl e ↦ rw e refl | inr e ↦ rw e (first_of trade rows) ]
 
@@ -42,6 +44,9 @@ returns-clause-step g c =
     let new = state g.S.Store c.select_rows.new.tx.conn.now in
     let trade = c.args.trade in
     step_weaker old new c.decode_first_row.result _ _ (λ o looks. (looks.0, looks.1, λ t tree h. rw (as_it_is o) at (looks.2 t tree h)))
-    (look_first desk_tables id_cells id_back (λ n. refl) (λ (n : ℕ). n) AccountOfTrade.statement (natural_as_value trade ∷ []) old new c.in_ok-rows.rows (λ rows. rows.items) _ c.deref.ensures.value (rw (c.id_as_parameter.ensures) at c.in_ok-rows.ensures.step)
-    c.decode_first_row.result c.decode_first_row.ensures.value (λ (t : Tables). map (λ (r : TradeRow). r.account) (filter (λ (r : TradeRow). r.id == trade) t.trades)) (λ (t : Tables). option_map (λ (r : TradeRow). r.account) (trade_row_with_id t trade)) (λ t. first_of trade t.trades)
+    (look_first desk_tables id_cells id_back (λ n. refl) (λ (n : ℕ). n) AccountOfTrade.statement (natural_as_value trade ∷ []) old new c.in_ok-rows.rows
+    (λ rows. rows.items) _ c.deref.ensures.value (rw (c.id_as_parameter.ensures) at c.in_ok-rows.ensures.step)
+    c.decode_first_row.result c.decode_first_row.ensures.value
+    (λ (t : Tables). map (λ (r : TradeRow). r.account) (filter (λ (r : TradeRow). r.id == trade) t.trades))
+    (λ (t : Tables). option_map (λ (r : TradeRow). r.account) (trade_row_with_id t trade)) (λ t. first_of trade t.trades)
     (λ shown t tree h. tells_account old new trade _ shown t tree h ∙ twice (filter (λ (r : TradeRow). r.id == trade) t.trades)))

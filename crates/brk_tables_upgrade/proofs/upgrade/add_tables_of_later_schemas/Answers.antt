@@ -16,5 +16,6 @@ returns-clause-step g c =
     let a = state g.S.Store c.args.tx.now.conn.now in
     let b = state g.S.Store c.create_tables_of_later_schemas.new.tx.conn.now in
     let d = state g.S.Store c.set_schema_number_to_three.new.tx.conn.now in
-    step_then a b d tt c.set_schema_number_to_three.result (λ _ x y. CreatesEachTable (map table_definition_at_tree (tables_of_later_schemas desk)) x.now y.now) (λ _ x y. SetsSchemaNumberToThree x.now y.now) (λ _ x y. AddsTablesOfLaterSchemas desk x.now y.now)
+    step_then a b d tt c.set_schema_number_to_three.result (λ _ x y. CreatesEachTable (map table_definition_at_tree (tables_of_later_schemas desk)) x.now y.now)
+    (λ _ x y. SetsSchemaNumberToThree x.now y.now) (λ _ x y. AddsTablesOfLaterSchemas desk x.now y.now)
     (λ _ made raises. raised desk a.now b.now d.now made raises) c.in_ok-create_tables_of_later_schemas.ensures.step c.set_schema_number_to_three.ensures.step

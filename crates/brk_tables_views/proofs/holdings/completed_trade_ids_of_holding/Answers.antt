@@ -24,8 +24,13 @@ returns-clause-step g c =
     let old = state g.S.Store c.args.tx.now.conn.now in
     let new = state g.S.Store c.select_rows.new.tx.conn.now in
     step_weaker old new c.decode_rows.result _ _ (λ all looks. (looks.0, looks.1, λ t tree h. as_they_are all.items ∙ looks.2 t tree h))
-    (look_all desk_tables id_cells id_back id_is_back (λ (n : ℕ). n) CompletedOfHolding.statement (natural_as_value c.args.account ∷ Words c.args.symbol.now ∷ Words (trade_status_code Completed) ∷ []) old new c.in_ok-rows.rows (λ rows. rows.items) _ c.deref.ensures.value
+    (look_all desk_tables id_cells id_back id_is_back (λ (n : ℕ). n) CompletedOfHolding.statement
+    (natural_as_value c.args.account ∷ Words c.args.symbol.now ∷ Words (trade_status_code Completed) ∷ []) old new c.in_ok-rows.rows (λ rows. rows.items) _
+    c.deref.ensures.value
     (rw (c.id_as_parameter.ensures, c.text_as_parameter.ensures, c.as_str.ensures, c.status_as_parameter.ensures) at c.in_ok-rows.ensures.step)
     (λ all. all.items) c.decode_rows.result c.decode_rows.ensures.value
-    (λ t. map (λ (r : TradeRow). r.id) (trade_rows_oldest_first (filter (λ (r : TradeRow). (r.account == c.args.account) && (bytes_eq r.symbol c.args.symbol.now && is_same_trade_status r.status Completed)) t.trades)))
+    (λ t. map (λ (r : TradeRow). r.id)
+    (trade_rows_oldest_first
+    (filter (λ (r : TradeRow). (r.account == c.args.account) && (bytes_eq r.symbol c.args.symbol.now && is_same_trade_status r.status Completed))
+    t.trades)))
     (tells_completed_of_holding old new c.args.account c.args.symbol.now _))

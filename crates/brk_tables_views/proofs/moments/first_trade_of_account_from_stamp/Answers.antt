@@ -27,7 +27,14 @@ returns-clause-step g c =
     let old = state g.S.Store c.args.tx.now.conn.now in
     let new = state g.S.Store c.select_rows.new.tx.conn.now in
     let since = λ (t : Tables). take 1 (trade_rows_oldest_first (filter (λ (r : TradeRow). nat_le c.args.first r.stamp) (trade_rows_of_account t c.args.account))) in
-    step_weaker old new c.decode_first_row.result _ _ (λ o looks. (looks.0, looks.1, λ t tree h. ap option_to_list (looks.2 t tree h) ∙ one (trade_rows_oldest_first (filter (λ (r : TradeRow). nat_le c.args.first r.stamp) (trade_rows_of_account t c.args.account)))))
-    (look_first desk_tables trade_cells trade_back trade_is_back abstract_trade_row FirstSince.statement (natural_as_value c.args.account ∷ natural_as_value c.args.first ∷ []) old new c.in_ok-rows.rows (λ rows. rows.items) _ c.deref.ensures.value
+    step_weaker old new c.decode_first_row.result _ _
+    (λ o looks. (
+      looks.0,
+      looks.1,
+      λ t tree h. ap option_to_list (looks.2 t tree h)
+          ∙ one (trade_rows_oldest_first (filter (λ (r : TradeRow). nat_le c.args.first r.stamp) (trade_rows_of_account t c.args.account))),
+    ))
+    (look_first desk_tables trade_cells trade_back trade_is_back abstract_trade_row FirstSince.statement
+    (natural_as_value c.args.account ∷ natural_as_value c.args.first ∷ []) old new c.in_ok-rows.rows (λ rows. rows.items) _ c.deref.ensures.value
     (rw (c.id_as_parameter.ensures, c.stamp_as_parameter.ensures) at c.in_ok-rows.ensures.step)
     c.decode_first_row.result c.decode_first_row.ensures.value since (λ t. slice_get (since t) 0) (λ t. refl) (tells_first_since old new c.args.account c.args.first _))

@@ -20,6 +20,11 @@ pub returns-clause-step : goal.returns-clause-step
 returns-clause-step g c =
     let old = state g.S.Store c.args.tx.now.conn.now in
     let new = state g.S.Store c.select_rows.new.tx.conn.now in
-    look_all desk_tables trade_cells trade_back trade_is_back abstract_trade_row TwentyOfAccount.statement (natural_as_value c.args.account ∷ natural_as_value c.args.first ∷ natural_as_value c.args.last ∷ []) old new c.in_ok-rows.rows (λ rows. rows.items) _ c.deref.ensures.value
+    look_all desk_tables trade_cells trade_back trade_is_back abstract_trade_row TwentyOfAccount.statement
+    (natural_as_value c.args.account ∷ natural_as_value c.args.first ∷ natural_as_value c.args.last ∷ []) old new c.in_ok-rows.rows (λ rows. rows.items) _
+    c.deref.ensures.value
     (rw (c.id_as_parameter.ensures, c.stamp_as_parameter.ensures, c.stamp_as_parameter-2.ensures) at c.in_ok-rows.ensures.step)
-    (λ all. all.items) c.decode_rows.result c.decode_rows.ensures.value (λ t. take 20 (trade_rows_oldest_first (filter (λ (r : TradeRow). (r.account == c.args.account) && row_stamp_is_between c.args.first c.args.last r) t.trades))) (tells_twenty_of_account old new c.args.account c.args.first c.args.last _)
+    (λ all. all.items) c.decode_rows.result c.decode_rows.ensures.value
+    (λ t. take 20 (trade_rows_oldest_first
+    (filter (λ (r : TradeRow). (r.account == c.args.account) && row_stamp_is_between c.args.first c.args.last r) t.trades)))
+    (tells_twenty_of_account old new c.args.account c.args.first c.args.last _)

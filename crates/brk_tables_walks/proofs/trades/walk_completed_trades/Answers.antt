@@ -19,6 +19,9 @@ pub returns-clause-walked : goal.returns-clause-walked
 returns-clause-walked g c =
     let old = c.args.conn.now in
     let new = c.walk_query_rows.new.conn in
-    walks abstract_trade_row trade_cells trade_back trade_is_back g.S.Store old new completed_trades_by_stamp_and_id g.V.Visitor.takes g.V.Visitor.stops _ _ _ CompletedByAge.statement (Words (trade_status_code Completed) ∷ [])
+    walks abstract_trade_row trade_cells trade_back trade_is_back g.S.Store old new completed_trades_by_stamp_and_id g.V.Visitor.takes g.V.Visitor.stops _ _ _
+    CompletedByAge.statement (Words (trade_status_code Completed) ∷ [])
     (tells_completed_by_age (state g.S.Store old) (state g.S.Store old)) (λ rows up begins. completed_start (state g.S.Store old) rows up begins)
-    c.walk_query_rows.ensures.crash (c.is_autocommit-is_autocommit.ensures.settled (search rules)) (rw c.status_as_parameter.ensures at c.walk_query_rows.ensures.all) (rw c.status_as_parameter.ensures at c.walk_query_rows.ensures.early) c.walk_query_rows.ensures.changes_at_most_by_rollback c.walk_query_rows.ensures.fault
+    c.walk_query_rows.ensures.crash (c.is_autocommit-is_autocommit.ensures.settled (search rules))
+    (rw c.status_as_parameter.ensures at c.walk_query_rows.ensures.all) (rw c.status_as_parameter.ensures at c.walk_query_rows.ensures.early)
+    c.walk_query_rows.ensures.changes_at_most_by_rollback c.walk_query_rows.ensures.fault

@@ -95,7 +95,9 @@ returns-in-Err-visit-clause-early g c clean =
       records = was.0;
       next = c.in-Ok-decode_record.item;
       is_open = was.3.0.was_open;
-      begins = begins_at _ _ _ _ still_so.0.now_is _ (subst (Begins _ _ (state g.S.Store now)) (sym (map_one g.R.Record.cells was.0 _ _ c.in-Ok-decode_record.ensures.value)) (given_begin g.S.Store _ _ now _ on));
+      begins = begins_at _ _ _ _ still_so.0.now_is _
+          (subst (Begins _ _ (state g.S.Store now)) (sym (map_one g.R.Record.cells was.0 _ _ c.in-Ok-decode_record.ensures.value))
+          (given_begin g.S.Store _ _ now _ on));
       at = c.rows.visitor;
       taken = was.2;
       stopped = c.in-Err-visit.ensures.stops;
@@ -126,8 +128,13 @@ rows-preserved g c =
       λ clean.
           let was = i.4 (omega (arith, moved.survives.clean, clean)) in
           let on = (rw (c.in-Ok-Some.is, c.in-Ok-Some.field-0-is) at (moved.ok clean)) c.args.sql.now (bound c.args.params.now) (map g.R.Record.cells was.0) was.1 in
-          let it = c.in-Ok-decode_record.item in
-          (was.0 ++ it ∷ [], subst (HasGiven g.S.Store _ _ _) (sym (map_one g.R.Record.cells was.0 _ _ c.in-Ok-decode_record.ensures.value)) on, folds_one _ _ was.0 _ it _ was.2 c.in-Ok-visit.ensures.takes, unchanged_then _ _ _ was.3 (rw c.in-Ok-Some.is at (moved.same clean))),
+          let it = c.in-Ok-decode_record.item in (
+            was.0 ++ it ∷ [],
+            subst (HasGiven g.S.Store _ _ _) (sym (map_one g.R.Record.cells was.0 _ _ c.in-Ok-decode_record.ensures.value)) on,
+            folds_one _ _
+                was.0 _ it _ was.2 c.in-Ok-visit.ensures.takes,
+            unchanged_then _ _ _ was.3 (rw c.in-Ok-Some.is at (moved.same clean)),
+          ),
     )
 
 pub returns-clause-early : goal.returns-clause-early
@@ -153,8 +160,14 @@ returns-in-Err-decode_record-clause-early g c clean =
     let moved = c.next.follows.holds-at-none in
     let now = c.next.follows.lender-at-none.conn.now in
     let late : HasCleanDisk (state g.S.Store now) = search rules in
-    let was = c.rows.invariant.4 (omega (arith, moved.survives.clean, late)) in
-    (c.in-Err-decode_record.ensures.fault, record { records = was.0; begins = inr (was.3.0.was_open, begins_at _ _ _ _ was.3.0.now_is _ (given_begin g.S.Store _ _ c.rows.rows.conn.now _ was.1)); taken = was.2 })
+    let was = c.rows.invariant.4 (omega (arith, moved.survives.clean, late)) in (
+      c.in-Err-decode_record.ensures.fault,
+      record {
+        records = was.0;
+        begins = inr (was.3.0.was_open, begins_at _ _ _ _ was.3.0.now_is _ (given_begin g.S.Store _ _ c.rows.rows.conn.now _ was.1));
+        taken = was.2;
+      },
+    )
 
 pub returns-in-Err-clause-leads : goal.returns-in-Err-clause-leads
 returns-in-Err-clause-leads g c = g.met.V.Visitor.reflexive _

@@ -10,5 +10,6 @@ returns-else-is_trade_closing_lots-clause-values g c ls trade stamp lifo given h
     let terms = c.args.terms.now in
     let fits : FitsSigned w64 terms.held = search rules in
     let same : to_z w64 (of_z w64 terms.held) ≡ terms.held = to_z-of_z w64 terms.held fits in
-    let none : is_trade_closing_lots terms.side terms.held ≡ false = sym (ap (λ (z : ℤ). is_trade_closing_lots terms.side z) same) ∙ sym c.is_trade_closing_lots.ensures ∙ c.if-is_trade_closing_lots.false in
+    let none : is_trade_closing_lots terms.side terms.held ≡ false = sym (ap (λ (z : ℤ). is_trade_closing_lots terms.side z) same)
+    ∙ sym c.is_trade_closing_lots.ensures ∙ c.if-is_trade_closing_lots.false in
     c.zero_closing_values.ensures.values (deal_from_terms terms trade stamp lifo) ls given.1 (subst (λ (z : ℤ). is_trade_closing_lots terms.side z ≡ false) held none)

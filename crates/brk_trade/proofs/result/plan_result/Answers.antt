@@ -22,8 +22,11 @@ returns-in-Err-checked_result_figures-clause-planned g c =
     let moved : c.match-moved.moved ≡ stamp_after c.args.last c.args.now = elim c.match-moved.branch [ in-Some-moved w ↦ search rules | in-None w ↦ search rules ] in
     let told = rw moved at c.in-Err-checked_result_figures.ensures in
     let refusal = c.in-Err-checked_result_figures.refusal in
-    let late : (ls : List Lot) (stamp : ℕ) → AreLotsBeforeTrade (AreLotsOfFaithfulSource (g.L.LotSource.reads_faithfully c.effect_of_trade_on_lots.new.source) (g.L.LotSource.remaining c.args.source.now)) found ls
-    → first_refusal (result_checks found c.args.price (closing_values_of_deal (deal_of_trade_row found.trade c.args.price stamp) (shares_of_lots ls)) (stamp_after c.args.last c.args.now)) ≡ Some refusal = λ ls stamp met.
+    let late : (ls : List Lot) (stamp : ℕ)
+    → AreLotsBeforeTrade (AreLotsOfFaithfulSource (g.L.LotSource.reads_faithfully c.effect_of_trade_on_lots.new.source)
+    (g.L.LotSource.remaining c.args.source.now)) found ls
+    → first_refusal (result_checks found c.args.price (closing_values_of_deal (deal_of_trade_row found.trade c.args.price stamp) (shares_of_lots ls))
+    (stamp_after c.args.last c.args.now)) ≡ Some refusal = λ ls stamp met.
     let closes : IsEffectOfDealOnLots (deal_of_trade_row found.trade c.args.price c.match-moved.at) ls closed = c.in_ok-closed.ensures.closed ls met in
     refused_by_values found c.args.price ls c.match-moved.at stamp closed (stamp_after c.args.last c.args.now) refusal closes c.in-Ok.ensures.0 told in
     rw c.in-Some.is (record { early = rw c.in-Ok.ensures.0 tt; late = late })
@@ -42,7 +45,9 @@ returns-clause-planned g c =
     let tested = rw done.1 at done.0 in
     let changed : ResultFigures → Type 0 = λ o. AreResultChanges found price closed o c.in_ok-changes.changes.items in
     let plan : Plan = record { changes = c.in_ok-changes.changes; reply = Completed outcome.completed } in
-    let completed : IsResultPlan found price (AreLotsOfFaithfulSource (g.L.LotSource.reads_faithfully c.effect_of_trade_on_lots.new.source) (g.L.LotSource.remaining c.args.source.now)) c.args.last c.args.now plan = record {
+    let completed : IsResultPlan found price
+    (AreLotsOfFaithfulSource (g.L.LotSource.reads_faithfully c.effect_of_trade_on_lots.new.source) (g.L.LotSource.remaining c.args.source.now)) c.args.last
+    c.args.now plan = record {
       stamp = outcome.completed.stamp;
       closed = closed;
       stamped = stamped;
@@ -59,7 +64,8 @@ returns-in-Err-clause-planned g c =
     let cause = c.in-Err.ensures in
     rw c.in-Some.is (record {
       early = rw cause refl;
-      late = λ ls stamp met. first_refuses found c.args.price (closing_values_of_deal (deal_of_trade_row found.trade c.args.price stamp) (shares_of_lots ls)) (stamp_after c.args.last c.args.now) c.in-Err.refusal cause;
+      late = λ ls stamp met. first_refuses found c.args.price (closing_values_of_deal (deal_of_trade_row found.trade c.args.price stamp) (shares_of_lots ls))
+          (stamp_after c.args.last c.args.now) c.in-Err.refusal cause;
     })
 
 pub returns-in-Err-checked_result_figures-clause-asked : goal.returns-in-Err-checked_result_figures-clause-asked

@@ -19,7 +19,8 @@ use Rattle.brk_update_decisions.proofs.finding.read_cash_trades_with_names.Goals
 -- what was read is of the first of the trades that are chosen
 abbrev FirstPaid : Text → (first last : ℕ) → List TradeRow → List CashText → ℕ → Tables → Type 0
 FirstPaid symbol first last rows paid i t =
-    (map abstract_trade_row rows ≡ first_twenty_completed_cash_trade_rows_of_symbol symbol first last t) × (map cash_text_row_of_typed_row paid ≡ map (λ r. cash_text_row_in_tables t (abstract_trade_row r)) (take i rows))
+    (map abstract_trade_row rows ≡ first_twenty_completed_cash_trade_rows_of_symbol symbol first last t)
+    × (map cash_text_row_of_typed_row paid ≡ map (λ r. cash_text_row_in_tables t (abstract_trade_row r)) (take i rows))
 
 pub loop-trade-init : goal.loop-trade-init
 loop-trade-init g c =
@@ -44,7 +45,8 @@ loop-trade-preserved g c =
     (λ t p e. (
       p.0,
       ap (map cash_text_row_of_typed_row) c.in_ok-push.ensures.items
-          ∙ one_more cash_text_row_of_typed_row (λ r. cash_text_row_in_tables t (abstract_trade_row r)) c.loop-trade.paid.items rows i _ trade c.loop-trade-test.true c.trade-item.is (λ k. (trade.id, trade.kind, trade.qty, e k)) p.1,
+          ∙ one_more cash_text_row_of_typed_row (λ r. cash_text_row_in_tables t (abstract_trade_row r)) c.loop-trade.paid.items rows i _ trade
+          c.loop-trade-test.true c.trade-item.is (λ k. (trade.id, trade.kind, trade.qty, e k)) p.1,
     ))
     c.loop-trade.invariant c.in_ok-name.ensures.read
 
@@ -56,17 +58,21 @@ returns-clause-read g c =
     retold g.S.Store c.args.store.now c.loop-trade.store tt c.loop-trade.paid
     (λ _. FirstPaid c.args.symbol.now span.first span.last rows c.loop-trade.paid.items i)
     (λ paid (t : Tables). CashTextsMatchTables t (first_twenty_completed_cash_trade_rows_of_symbol c.args.symbol.now span.first span.last t) paid.items)
-    (λ t p. p.1 ∙ ap (map (λ r. cash_text_row_in_tables t (abstract_trade_row r))) (take_all i rows c.loop-trade-test.false) ∙ twice abstract_trade_row (cash_text_row_in_tables t) rows ∙ ap (map (cash_text_row_in_tables t)) p.0)
+    (λ t p. p.1 ∙ ap (map (λ r. cash_text_row_in_tables t (abstract_trade_row r))) (take_all i rows c.loop-trade-test.false)
+    ∙ twice abstract_trade_row (cash_text_row_in_tables t) rows ∙ ap (map (cash_text_row_in_tables t)) p.0)
     c.loop-trade.invariant
 
 pub returns-in_err-name-clause-read : goal.returns-in_err-name-clause-read
 returns-in_err-name-clause-read g c =
     let old = c.args.store.now in
     let p = err_from_is_err_and c.from_residual-in_err-name.result c.from_residual-in_err-name.ensures.1 in
-    rw p.1 (failed_after g.S.Store old c.loop-trade.store c.require_cash_name.new.store _ p.0 _ _ (single_read_changes_nothing old c.loop-trade.store _ _ c.loop-trade.invariant) c.in_err-name.ensures.read)
+    rw p.1 (failed_after g.S.Store old c.loop-trade.store c.require_cash_name.new.store _ p.0 _ _
+    (single_read_changes_nothing old c.loop-trade.store _ _ c.loop-trade.invariant) c.in_err-name.ensures.read)
 
 pub returns-in_err-push-clause-read : goal.returns-in_err-push-clause-read
 returns-in_err-push-clause-read g c =
     let old = c.args.store.now in
     let p = err_from_is_err_and c.from_residual-in_err-push.result c.from_residual-in_err-push.ensures.1 in
-    rw p.1 (none_read g.S.Store old c.require_cash_name.new.store p.0 _ (unchanged_after g.S.Store old c.loop-trade.store c.require_cash_name.new.store _ _ (single_read_changes_nothing old c.loop-trade.store _ _ c.loop-trade.invariant) c.in_ok-name.ensures.read))
+    rw p.1 (none_read g.S.Store old c.require_cash_name.new.store p.0 _
+    (unchanged_after g.S.Store old c.loop-trade.store c.require_cash_name.new.store _ _
+    (single_read_changes_nothing old c.loop-trade.store _ _ c.loop-trade.invariant) c.in_ok-name.ensures.read))

@@ -40,4 +40,5 @@ pub returns-in_err-settled-clause-read : goal.returns-in_err-settled-clause-read
 returns-in_err-settled-clause-read g c =
     let old = c.args.store.now in
     let p = err_from_is_err_and c.from_residual-in_err-settled.result c.from_residual-in_err-settled.ensures.1 in
-    rw p.1 (failed_after g.S.Store old c.account_row_exists.new.store c.read_trades_with_cash_types.new.store _ p.0 _ _ (single_read_changes_nothing old c.account_row_exists.new.store _ _ c.in_ok-account_row_exists.ensures.read) c.in_err-settled.ensures.read)
+    rw p.1 (failed_after g.S.Store old c.account_row_exists.new.store c.read_trades_with_cash_types.new.store _ p.0 _ _
+    (single_read_changes_nothing old c.account_row_exists.new.store _ _ c.in_ok-account_row_exists.ensures.read) c.in_err-settled.ensures.read)

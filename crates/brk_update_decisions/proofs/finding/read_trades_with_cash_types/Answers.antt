@@ -17,7 +17,8 @@ use Rattle.brk_update_decisions.proofs.finding.read_trades_with_cash_types.Goals
 -- what was read is of the first of the trades that are chosen
 abbrev FirstSettled : (account first last : ℕ) → List TradeRow → List SettlementText → ℕ → Tables → Type 0
 FirstSettled account first last rows settled i t =
-    (map abstract_trade_row rows ≡ first_twenty_completed_trade_rows_of_account account first last t) × (map settlement_text_row_of_typed_row settled ≡ map (λ r. settlement_text_row_in_tables t (abstract_trade_row r)) (take i rows))
+    (map abstract_trade_row rows ≡ first_twenty_completed_trade_rows_of_account account first last t)
+    × (map settlement_text_row_of_typed_row settled ≡ map (λ r. settlement_text_row_in_tables t (abstract_trade_row r)) (take i rows))
 
 pub loop-trade-init : goal.loop-trade-init
 loop-trade-init g c =
@@ -42,7 +43,8 @@ loop-trade-preserved g c =
     (λ t p e. (
       p.0,
       ap (map settlement_text_row_of_typed_row) c.in_ok-push.ensures.items
-          ∙ one_more settlement_text_row_of_typed_row (λ r. settlement_text_row_in_tables t (abstract_trade_row r)) c.loop-trade.settled.items rows i _ trade c.loop-trade-test.true c.trade-item.is (λ k. (trade.id, trade.is_cash, e k)) p.1,
+          ∙ one_more settlement_text_row_of_typed_row (λ r. settlement_text_row_in_tables t (abstract_trade_row r)) c.loop-trade.settled.items rows i _ trade
+          c.loop-trade-test.true c.trade-item.is (λ k. (trade.id, trade.is_cash, e k)) p.1,
     ))
     c.loop-trade.invariant c.in_ok-cash_type.ensures.read
 
@@ -54,17 +56,21 @@ returns-clause-read g c =
     retold g.S.Store c.args.store.now c.loop-trade.store tt c.loop-trade.settled
     (λ _. FirstSettled c.args.account span.first span.last rows c.loop-trade.settled.items i)
     (λ settled (t : Tables). SettlementTextsMatchTables t (first_twenty_completed_trade_rows_of_account c.args.account span.first span.last t) settled.items)
-    (λ t p. p.1 ∙ ap (map (λ r. settlement_text_row_in_tables t (abstract_trade_row r))) (take_all i rows c.loop-trade-test.false) ∙ twice abstract_trade_row (settlement_text_row_in_tables t) rows ∙ ap (map (settlement_text_row_in_tables t)) p.0)
+    (λ t p. p.1 ∙ ap (map (λ r. settlement_text_row_in_tables t (abstract_trade_row r))) (take_all i rows c.loop-trade-test.false)
+    ∙ twice abstract_trade_row (settlement_text_row_in_tables t) rows ∙ ap (map (settlement_text_row_in_tables t)) p.0)
     c.loop-trade.invariant
 
 pub returns-in_err-cash_type-clause-read : goal.returns-in_err-cash_type-clause-read
 returns-in_err-cash_type-clause-read g c =
     let old = c.args.store.now in
     let p = err_from_is_err_and c.from_residual-in_err-cash_type.result c.from_residual-in_err-cash_type.ensures.1 in
-    rw p.1 (failed_after g.S.Store old c.loop-trade.store c.require_cash_type.new.store _ p.0 _ _ (single_read_changes_nothing old c.loop-trade.store _ _ c.loop-trade.invariant) c.in_err-cash_type.ensures.read)
+    rw p.1 (failed_after g.S.Store old c.loop-trade.store c.require_cash_type.new.store _ p.0 _ _
+    (single_read_changes_nothing old c.loop-trade.store _ _ c.loop-trade.invariant) c.in_err-cash_type.ensures.read)
 
 pub returns-in_err-push-clause-read : goal.returns-in_err-push-clause-read
 returns-in_err-push-clause-read g c =
     let old = c.args.store.now in
     let p = err_from_is_err_and c.from_residual-in_err-push.result c.from_residual-in_err-push.ensures.1 in
-    rw p.1 (none_read g.S.Store old c.require_cash_type.new.store p.0 _ (unchanged_after g.S.Store old c.loop-trade.store c.require_cash_type.new.store _ _ (single_read_changes_nothing old c.loop-trade.store _ _ c.loop-trade.invariant) c.in_ok-cash_type.ensures.read))
+    rw p.1 (none_read g.S.Store old c.require_cash_type.new.store p.0 _
+    (unchanged_after g.S.Store old c.loop-trade.store c.require_cash_type.new.store _ _
+    (single_read_changes_nothing old c.loop-trade.store _ _ c.loop-trade.invariant) c.in_ok-cash_type.ensures.read))

@@ -22,7 +22,8 @@ loop-made-preserved g c =
     let last = c.execute_call-outcome.new.self in
     let inside : vec_len c.loop-made.out < vec_capacity c.loop-made.out = (let r = c.loop-made.invariant.room in let t = c.loop-made-test.true in omega arith) in
     let pushed = c.push.ensures.items ∙ went_in c.push.result (c.loop-made.out.items ++ outcome ∷ []) c.loop-made.out.items (c.push.ensures.succeeds inside) in
-    let more = made_then (λ old now call outcome new. OutcomePost g.S.Store old new now call outcome) first c.loop-made.self last (take i calls) (item ∷ []) made.0 (outcome ∷ []) made.2 (last, c.execute_call-outcome.ensures.executed, refl) in
+    let more = made_then (λ old now call outcome new. OutcomePost g.S.Store old new now call outcome) first c.loop-made.self last (take i calls) (item ∷ [])
+    made.0 (outcome ∷ []) made.2 (last, c.execute_call-outcome.ensures.executed, refl) in
     let taken : take i calls ++ item ∷ [] ≡ take (i + 1) calls = ap (λ x. take i calls ++ x ∷ []) c.made-item.is ∙ sym (take_more calls i item c.loop-made-test.true) in
     record {
       made = (
@@ -44,5 +45,6 @@ returns-clause-executed g c =
     let calls = c.args.calls.now in
     let made = c.loop-made.invariant.made in
     let whole : IsCallSequence (λ old now call outcome new. OutcomePost g.S.Store old new now call outcome) c.args.self.now calls made.0 c.loop-made.self =
-    subst (λ done. IsCallSequence (λ old now call outcome new. OutcomePost g.S.Store old new now call outcome) c.args.self.now done made.0 c.loop-made.self) (take_all c.loop-made.made-index calls c.loop-made-test.false) made.2 in
+    subst (λ done. IsCallSequence (λ old now call outcome new. OutcomePost g.S.Store old new now call outcome) c.args.self.now done made.0 c.loop-made.self)
+    (take_all c.loop-made.made-index calls c.loop-made-test.false) made.2 in
     (made.0, made.1, run_of g.S.Store c.args.self.now c.loop-made.self calls made.0 whole)

@@ -25,7 +25,8 @@ lawful d ls ms closing p h e = rw (e ∙ booked d ls closing p h) (booked_lots d
 spelled : (d : Deal) (ls ms : List Lot) (closing : Closing) → IsPosition ls → IsApplicableClosing d ls closing → IsBooked ls closing ms → shares_of_lots ms ≡ shares_after_deal (shares_of_lots ls) d
 spelled d ls ms closing p h e = rw (e ∙ booked d ls closing p h) (booked_lots d ls p h.fresh h.later).1
 
-listed : (d : Deal) (ls ms : List Lot) (closing : Closing) → IsPosition ls → IsApplicableClosing d ls closing → IsBooked ls closing ms → map abstract_lot ms ≡ lots_of_shares (shares_after_deal (shares_of_lots ls) d)
+listed : (d : Deal) (ls ms : List Lot) (closing : Closing) → IsPosition ls → IsApplicableClosing d ls closing → IsBooked ls closing ms
+    → map abstract_lot ms ≡ lots_of_shares (shares_after_deal (shares_of_lots ls) d)
 listed d ls ms closing p h e =
     let b = booked_lots d ls p h.fresh h.later in
     rw (e ∙ booked d ls closing p h) (sym (lots_walk (lots_after d ls) (walk_of (lots_after d ls) b.0)) ∙ ap lots_of_shares b.1)
@@ -41,12 +42,18 @@ apply_touches_to_lots-self-inside-requires-clause-rows c =
     let taken = λ (ls : List Lot). touches_of_first_shares (closed_share_count d.side d.qty (list_reversed_if_lifo d.is_lifo ls)) (list_reversed_if_lifo d.is_lifo ls) in
     let e = rows_back d c.args.self.now c.args.closing.now (walk_of c.args.self.now p) h.fresh h.closes in
     let all = c.self.inside.lots.items in
-    let k = closed_share_count d.side d.qty (list_reversed_if_lifo d.is_lifo (drop c.self.inside.first all)) in
-    (d.is_lifo, k, c.deref.ensures.value ∙ e ∙ ap taken (sym c.self.view_is) ∙ ap (λ (ls : List Lot). touches_of_first_shares k (list_reversed_if_lifo d.is_lifo (drop c.self.inside.first ls))) (sym c.reserve.ensures.items))
+    let k = closed_share_count d.side d.qty (list_reversed_if_lifo d.is_lifo (drop c.self.inside.first all)) in (
+      d.is_lifo,
+      k,
+      c.deref.ensures.value ∙ e ∙ ap taken (sym c.self.view_is)
+          ∙ ap (λ (ls : List Lot). touches_of_first_shares k (list_reversed_if_lifo d.is_lifo (drop c.self.inside.first ls))) (sym c.reserve.ensures.items),
+    )
 
 -- what the cut leaves
-cut : (first : ℕ) (all now ls left : List Lot) (rows touched : List Touch) → left ≡ lots_after_touches rows (drop first now) → rows ≡ touched → now ≡ all → drop first all ≡ ls → left ≡ lots_after_touches touched ls
-cut first all now ls left rows touched e r n v = e ∙ ap (λ (ts : List Touch). lots_after_touches ts (drop first now)) r ∙ ap (λ (ms : List Lot). lots_after_touches touched (drop first ms)) n ∙ ap (lots_after_touches touched) v
+cut : (first : ℕ) (all now ls left : List Lot) (rows touched : List Touch) → left ≡ lots_after_touches rows (drop first now) → rows ≡ touched → now ≡ all
+    → drop first all ≡ ls → left ≡ lots_after_touches touched ls
+cut first all now ls left rows touched e r n v = e ∙ ap (λ (ts : List Touch). lots_after_touches ts (drop first now)) r
+    ∙ ap (λ (ms : List Lot). lots_after_touches touched (drop first ms)) n ∙ ap (lots_after_touches touched) v
 
 -- where a lot is opened
 pushed : (c : goal.In_ok-push) → IsBooked c.args.self.now c.args.closing.now (drop c.apply_touches_to_lots-self-inside.result c.push.new.self.items)
@@ -55,7 +62,8 @@ pushed c =
     let left = c.apply_touches_to_lots-self-inside.new.lots.items in
     let lot = c.in-Some.lot in
     let begins : first ≤ length left = omega (arith, c.apply_touches_to_lots-self-inside.ensures.begins) in
-    let e = cut c.self.inside.first c.self.inside.lots.items c.reserve.new.self.items c.args.self.now (drop first left) c.deref.result.now c.args.closing.now.touched.items c.apply_touches_to_lots-self-inside.ensures.left c.deref.ensures.value c.reserve.ensures.items c.self.view_is in
+    let e = cut c.self.inside.first c.self.inside.lots.items c.reserve.new.self.items c.args.self.now (drop first left) c.deref.result.now
+    c.args.closing.now.touched.items c.apply_touches_to_lots-self-inside.ensures.left c.deref.ensures.value c.reserve.ensures.items c.self.view_is in
     ap (drop first) c.in_ok-push.ensures.items ∙ drop-append-le first left (lot ∷ []) begins ∙ ap (λ (ls : List Lot). ls ++ lot ∷ []) e
     ∙ ap (λ (o : Option Lot). lots_after_touches c.args.closing.now.touched.items c.args.self.now ++ option_to_list o) (sym c.in-Some.is)
 
@@ -64,7 +72,8 @@ alone : (c : goal.In_default) → IsBooked c.args.self.now c.args.closing.now (d
 alone c =
     let first = c.apply_touches_to_lots-self-inside.result in
     let left = c.apply_touches_to_lots-self-inside.new.lots.items in
-    let e = cut c.self.inside.first c.self.inside.lots.items c.reserve.new.self.items c.args.self.now (drop first left) c.deref.result.now c.args.closing.now.touched.items c.apply_touches_to_lots-self-inside.ensures.left c.deref.ensures.value c.reserve.ensures.items c.self.view_is in
+    let e = cut c.self.inside.first c.self.inside.lots.items c.reserve.new.self.items c.args.self.now (drop first left) c.deref.result.now
+    c.args.closing.now.touched.items c.apply_touches_to_lots-self-inside.ensures.left c.deref.ensures.value c.reserve.ensures.items c.self.view_is in
     e ∙ sym (append-nil (lots_after_touches c.args.closing.now.touched.items c.args.self.now))
     ∙ ap (λ (o : Option Lot). lots_after_touches c.args.closing.now.touched.items c.args.self.now ++ option_to_list o) (sym c.in_default.is)
 
@@ -72,7 +81,14 @@ pub invariant_of-self-in-Continue-branch-2 : goal.invariant_of-self-in-Continue-
 invariant_of-self-in-Continue-branch-2 c =
     let p : IsPosition c.args.self.now = rw (← c.self.view_is) c.self.invariant.1 in
     let n = c.in_ok-push.ensures.items in
-    let begins : c.apply_touches_to_lots-self-inside.result ≤ length c.push.new.self.items = omega (arith, c.apply_touches_to_lots-self-inside.ensures.begins, ap length n, length-append c.apply_touches_to_lots-self-inside.new.lots.items (c.in-Some.lot ∷ [])) in
+    let begins : c.apply_touches_to_lots-self-inside.result ≤ length c.push.new.self.items =
+    omega (
+      arith,
+      c.apply_touches_to_lots-self-inside.ensures.begins,
+      ap length n,
+      length-append c.apply_touches_to_lots-self-inside.new.lots.items
+          (c.in-Some.lot ∷ []),
+    ) in
     (begins, lawful c.requires.0 c.args.self.now _ c.args.closing.now p c.requires.1 (pushed c))
 
 pub invariant_of-self-in_default : goal.invariant_of-self-in_default

@@ -16,5 +16,6 @@ invariant-loop-deal l =
       deals : AreDistinctAscendingDeals rest;
       older : AllByRecursion (λ d. AllByRecursion (IsOlder d) (shares_of_lots l.position)) rest;
       shares : fold shares_after_deal (shares_of_lots l.position) rest ≡ replay (map abstract_deal l.deals);
-      rows : map abstract_deal_touch l.rows.items ++ lot_changes_of_deals rest (shares_of_lots l.position) ≡ map abstract_deal_touch l.fn.rows.items ++ lot_changes_of_deals (map abstract_deal l.deals) [];
+      rows : map abstract_deal_touch l.rows.items ++ lot_changes_of_deals rest (shares_of_lots l.position) ≡ map abstract_deal_touch l.fn.rows.items
+          ++ lot_changes_of_deals (map abstract_deal l.deals) [];
     }

@@ -27,7 +27,10 @@ returns-in_err-write_account_lines g c =
         written = λ clean t holds.
             let mid = clean_then g.S.Store c.account_details.new.self c.write_account_lines.new.desk c.in_err-write_account_lines.ensures.keeps clean in
             let are_details = (rw (c.in-Ok-Some.is, c.in-Ok-Some.field-0-is) at (c.account_details.ensures.read.answered mid)) t holds in
-            reported (WritesLinesOrRefuses (explanation t (AccountOf c.args.account)) _ _) _ _ fails (tells_fault (explanation t (AccountOf c.args.account)) (all_account_lines t c.args.account c.in-Ok-Some.details) (account_told t c.args.account c.in-Ok-Some.details are_details) _ _ _ (c.in_err-write_account_lines.ensures.written clean t (first.same_rows t holds)));
+            reported (WritesLinesOrRefuses (explanation t (AccountOf c.args.account)) _ _) _ _ fails
+            (tells_fault (explanation t (AccountOf c.args.account)) (all_account_lines t c.args.account c.in-Ok-Some.details)
+            (account_told t c.args.account c.in-Ok-Some.details are_details) _ _ _
+            (c.in_err-write_account_lines.ensures.written clean t (first.same_rows t holds)));
         fault = reported_fault _ _ fails c.in_err-write_account_lines.ensures.fault;
         keeps = keeps_then g.S.Store c.args.desk.now c.account_details.new.self c.write_account_lines.new.desk first c.in_err-write_account_lines.ensures.keeps;
         unwritten = λ refusal is. absurd (no_refusal _ _ refusal fails is);
@@ -42,7 +45,9 @@ returns g c =
         written = λ clean t holds.
             let mid = clean_then g.S.Store c.account_details.new.self c.write_account_lines.new.desk c.in_ok-write_account_lines.ensures.keeps clean in
             let are_details = (rw (c.in-Ok-Some.is, c.in-Ok-Some.field-0-is) at (c.account_details.ensures.read.answered mid)) t holds in
-            tells_all (explanation t (AccountOf c.args.account)) (all_account_lines t c.args.account c.in-Ok-Some.details) (account_told t c.args.account c.in-Ok-Some.details are_details) _ _ (c.in_ok-write_account_lines.ensures.written clean t (first.same_rows t holds));
+            tells_all (explanation t (AccountOf c.args.account)) (all_account_lines t c.args.account c.in-Ok-Some.details)
+            (account_told t c.args.account c.in-Ok-Some.details are_details) _ _
+            (c.in_ok-write_account_lines.ensures.written clean t (first.same_rows t holds));
         fault = tt;
         keeps = keeps_then g.S.Store c.args.desk.now c.account_details.new.self c.write_account_lines.new.desk first c.in_ok-write_account_lines.ensures.keeps;
         unwritten = λ refusal is. absurd (let same = is in cc);

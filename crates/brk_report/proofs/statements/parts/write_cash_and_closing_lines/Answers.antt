@@ -23,7 +23,8 @@ returns-in_err-write_line-clause-written g c = λ clean t holds.
     let done = c.in_ok-moved.ensures.written clean t holds in
     days_broke t _ _ _ _ _ _ _ _ c.from_residual-in_err-write_line.ensures.1
     (breaks_behind (opening_and_cash_lines t c.args.account c.args.from c.args.to c.args.opening) (amount_line (codes "Closing") closing ∷ []) _ _ _ _ done.0
-    (subst (λ (z : ℤ). FailsWithinLines (amount_line (codes "Closing") z ∷ []) (g.W.Write.contents c.write_opening_and_cash_lines.new.writer) (g.W.Write.contents c.write_line.new.writer) c.in_err-write_line.field-0.0) done.2
+    (subst (λ (z : ℤ). FailsWithinLines (amount_line (codes "Closing") z ∷ []) (g.W.Write.contents c.write_opening_and_cash_lines.new.writer)
+    (g.W.Write.contents c.write_line.new.writer) c.in_err-write_line.field-0.0) done.2
     (c.in_err-write_line.ensures.written (amount_line (codes "Closing") c.in_ok-moved.moved.total) c.amount_line.ensures.line (wants _ c.amount_line.ensures.fault))))
 
 pub returns-clause-written : goal.returns-clause-written
@@ -32,7 +33,8 @@ returns-clause-written g c = λ clean t holds.
     let closing = c.args.opening +ℤ cash_row_total (cash_move_rows_before_day c.args.from rows) +ℤ cash_row_total (cash_move_rows_within_days c.args.from c.args.to rows) in
     let done = c.in_ok-moved.ensures.written clean t holds in (
       then_all (opening_and_cash_lines t c.args.account c.args.from c.args.to c.args.opening) (amount_line (codes "Closing") closing ∷ []) _ _ _ done.0
-          (subst (λ (z : ℤ). Appends (g.W.Write.contents c.write_opening_and_cash_lines.new.writer) (g.W.Write.contents c.write_line.new.writer) (text_of_lines (amount_line (codes "Closing") z ∷ []))) done.2
+          (subst (λ (z : ℤ). Appends (g.W.Write.contents c.write_opening_and_cash_lines.new.writer) (g.W.Write.contents c.write_line.new.writer)
+          (text_of_lines (amount_line (codes "Closing") z ∷ []))) done.2
           (c.in_ok-write_line.ensures.written (amount_line (codes "Closing") c.in_ok-moved.moved.total) c.amount_line.ensures.line (wants _ c.amount_line.ensures.fault))),
       done.1,
     )

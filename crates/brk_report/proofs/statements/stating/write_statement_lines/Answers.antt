@@ -36,7 +36,9 @@ returns-clause-written g c = λ clean t holds.
     let rest = lot_and_total_lines t a.account a.head.now.holdings (length (cash_move_rows_within_days a.from a.to (sorted_cash_rows_of_account t a.account))) in
     behind (statement_header_lines a.account a.head.now.name a.from a.to) (days ++ rest) _ _ _ _ c.in_ok-write_header_lines.ensures
     (behind days rest _ _ _ _ done.0
-    (subst (λ (n : ℕ). WritesLines (lot_and_total_lines t a.account a.head.now.holdings n) (g.W.Write.contents c.write_cash_and_closing_lines.new.writer) (g.W.Write.contents c.write_lot_and_total_lines.new.writer) c.write_lot_and_total_lines.result) done.1 (c.write_lot_and_total_lines.ensures.written clean t second)))
+    (subst (λ (n : ℕ). WritesLines (lot_and_total_lines t a.account a.head.now.holdings n) (g.W.Write.contents c.write_cash_and_closing_lines.new.writer)
+    (g.W.Write.contents c.write_lot_and_total_lines.new.writer) c.write_lot_and_total_lines.result) done.1
+    (c.write_lot_and_total_lines.ensures.written clean t second)))
 
 pub returns-in_err-write_header_lines-clause-fault : goal.returns-in_err-write_header_lines-clause-fault
 returns-in_err-write_header_lines-clause-fault g c = on_err IsMemoryStoreOrWriteFault _ _ c.from_residual.ensures.1 (in_broken _ _ _ _ c.in_err-write_header_lines.ensures)

@@ -9,7 +9,8 @@ use Rattle.brk_report.proofs.statements.visitors.write_opening_and_row_lines.Goa
 pub returns-in_err-write_opening_line_unless_written : goal.returns-in_err-write_opening_line_unless_written
 returns-in_err-write_opening_line_unless_written g c =
     breaks_as _ _ _ _ _ c.from_residual.ensures.1
-    (breaks_before (opening_line_unless_written c.args.moved.is_opened c.args.moved.total) (cash_row_line (abstract_move_row c.args.item.now) ∷ []) _ _ _ c.in_err-write_opening_line_unless_written.ensures)
+    (breaks_before (opening_line_unless_written c.args.moved.is_opened c.args.moved.total) (cash_row_line (abstract_move_row c.args.item.now) ∷ []) _ _ _
+    c.in_err-write_opening_line_unless_written.ensures)
 
 pub returns : goal.returns
 returns g c =

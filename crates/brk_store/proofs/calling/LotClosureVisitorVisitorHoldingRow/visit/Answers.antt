@@ -5,11 +5,13 @@ use Rattle.brk_changes.specs.declared.holding_row.HoldingRow.{HoldingRow}
 use Rattle.brk_store.specs.Calling.{IsClosureCallWithLot}
 use Rattle.brk_store.proofs.calling.LotClosureVisitorVisitorHoldingRow.visit.Goals as goal
 
-ok_at : {F E : Type 0} (m : Mut F (Bor (List ℕ) × (Bor Lot × Unit {0})) (Result (Unit {0}) E)) (f : F) (x : HoldingRow) (r : Result (Unit {0}) E) (f' : F) → IsClosureCallWithLot m f x r f' → OnOk r (IsClosureCallWithLot m f x (Ok tt) f')
+ok_at : {F E : Type 0} (m : Mut F (Bor (List ℕ) × (Bor Lot × Unit {0})) (Result (Unit {0}) E)) (f : F) (x : HoldingRow) (r : Result (Unit {0}) E) (f' : F)
+    → IsClosureCallWithLot m f x r f' → OnOk r (IsClosureCallWithLot m f x (Ok tt) f')
 ok_at m f x (Ok u) f' h = h
 ok_at m f x (Err e) f' h = tt
 
-err_at : {F E : Type 0} (m : Mut F (Bor (List ℕ) × (Bor Lot × Unit {0})) (Result (Unit {0}) E)) (f : F) (x : HoldingRow) (r : Result (Unit {0}) E) (f' : F) → IsClosureCallWithLot m f x r f' → IfErr r (λ e. IsClosureCallWithLot m f x (Err e) f')
+err_at : {F E : Type 0} (m : Mut F (Bor (List ℕ) × (Bor Lot × Unit {0})) (Result (Unit {0}) E)) (f : F) (x : HoldingRow) (r : Result (Unit {0}) E) (f' : F)
+    → IsClosureCallWithLot m f x r f' → IfErr r (λ e. IsClosureCallWithLot m f x (Err e) f')
 err_at m f x (Ok u) f' h = tt
 err_at m f x (Err e) f' h = h
 

@@ -20,5 +20,6 @@ returns-clause-first_lot g c told ls h =
     let left : ls ≡ map lot_of_row (drop self.read rows) = h.2 ∙ ap (λ p. remaining_page_lots p self.ended self.read rows) none ∙ ap (λ b. remaining_page_lots [] b self.read rows) c.if-self.false in
     let first : c.match-first.first ≡ option_map lot_of_typed_row (slice_get page 0) = elim c.match-first.branch [ in-Some w ↦ search rules | in-None w ↦ search rules ] in
     rw c.in_ok-page.ensures.same
-    (turned g.S.Store after.store.now self.lifo self.account self.symbol.now h.0 (c.in_ok-page.ensures.store.same_rows h.0 h.1) self.read after.read page (nat_lt c.len.result 16) c.match-first.first ls
+    (turned g.S.Store after.store.now self.lifo self.account self.symbol.now h.0 (c.in_ok-page.ensures.store.same_rows h.0 h.1) self.read after.read page
+    (nat_lt c.len.result 16) c.match-first.first ls
     (c.in_ok-page.ensures.rows told h.0 h.1) count ended first left)

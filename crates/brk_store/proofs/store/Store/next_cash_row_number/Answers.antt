@@ -18,9 +18,11 @@ pub returns-in-Some-new-clause-read : goal.returns-in-Some-new-clause-read
 returns-in-Some-new-clause-read g c =
     let row = c.in_ok-row.field-0 in
     let number : c.match-branch-2.number ≡ number_of (option_map abstract_move_row row) + 1 = elim c.match-branch-2.branch [
-      | in-Some w ↦ (let is = w.in-Some.is in let known : w.in-Some.row.id + 1 ≡ number_of (option_map abstract_move_row row) + 1 = rw is refl in (let counted : c.match-branch-2.number ≡ w.in-Some.row.id + 1 = search rules in counted ∙ known))
+      | in-Some w ↦ (let is = w.in-Some.is in let known : w.in-Some.row.id + 1 ≡ number_of (option_map abstract_move_row row) + 1 = rw is refl in
+          (let counted : c.match-branch-2.number ≡ w.in-Some.row.id + 1 = search rules in counted ∙ known))
       | in-None w ↦ (let known : 1 ≡ number_of (option_map abstract_move_row row) + 1 = rw w.in-None.is refl in (let counted : c.match-branch-2.number ≡ 1 = search rules in counted ∙ known))
     ] in
     let next : c.in-Some-new.next ≡ c.match-branch-2.number = search rules in
-    retold g.S.Store c.args.self.now c.last_cash_row.new.self row c.in-Some-new.next (λ o (t : Tables). option_map abstract_move_row o ≡ slice_get (reverse t.moves) 0) (λ next (t : Tables). next ≡ last_cash_row_number_or_zero t + 1)
+    retold g.S.Store c.args.self.now c.last_cash_row.new.self row c.in-Some-new.next
+    (λ o (t : Tables). option_map abstract_move_row o ≡ slice_get (reverse t.moves) 0) (λ next (t : Tables). next ≡ last_cash_row_number_or_zero t + 1)
     (λ t e. next ∙ number ∙ ap (λ n. n + 1) (last_of (option_map abstract_move_row row) t e)) c.in_ok-row.ensures.read

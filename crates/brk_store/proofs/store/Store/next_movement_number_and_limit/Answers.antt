@@ -21,10 +21,12 @@ pub returns-then-get-lt-GREATEST_MOVEMENT_COUNT-clause-read : goal.returns-then-
 returns-then-get-lt-GREATEST_MOVEMENT_COUNT-clause-read g c =
     let next = c.in_ok-next.next in
     let low : next < greatest_id = rw c.get.ensures.value at c.if-get-lt-GREATEST_MOVEMENT_COUNT.true in
-    retold_of g.S.Store c.args.self.now c.next_cash_row_number.new.self next (next, false) IsNext AreNextAndAll (λ t has is. (is, too_few t (state g.S.Store c.args.self.now).now next has is low)) c.in_ok-next.ensures.read
+    retold_of g.S.Store c.args.self.now c.next_cash_row_number.new.self next (next, false) IsNext AreNextAndAll
+    (λ t has is. (is, too_few t (state g.S.Store c.args.self.now).now next has is low)) c.in_ok-next.ensures.read
 
 pub returns-clause-read : goal.returns-clause-read
 returns-clause-read g c =
     let next = c.in_ok-next.next in
     let all = c.in_ok-has_all_movements.has_all_movements in
-    read_with g.S.Store c.args.self.now c.next_cash_row_number.new.self c.has_greatest_movement_count.new.self next all (next, all) IsNext AreAll AreNextAndAll (λ t is are. (is, are)) c.in_ok-next.ensures.read c.in_ok-has_all_movements.ensures.read
+    read_with g.S.Store c.args.self.now c.next_cash_row_number.new.self c.has_greatest_movement_count.new.self next all (next, all) IsNext AreAll AreNextAndAll
+    (λ t is are. (is, are)) c.in_ok-next.ensures.read c.in_ok-has_all_movements.ensures.read

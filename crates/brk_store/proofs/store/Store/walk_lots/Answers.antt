@@ -4,12 +4,36 @@ use Rattle.brk_store.proofs.Walking.{is_walked_by}
 use Rattle.brk_store.proofs.store.Store.walk_lots.Goals as goal
 
 pub returns-in-Ok : goal.returns-in-Ok
-returns-in-Ok g c = record { called = (c.visit_lots.new.visitor.call, c.visit_lots.result, is_walked_by _ _ _ _ _ (λ v. v.call) (λ p x q. IsClosureCallWithLot g.F.FnMut p x (Ok tt) q) (λ p x e q. IsClosureCallWithLot g.F.FnMut p x (Err e) q) _ _ _ c.visit_lots.ensures.walked, rw c.in-Ok.is refl) }
+returns-in-Ok g c = record {
+  called = (
+    c.visit_lots.new.visitor.call,
+    c.visit_lots.result,
+    is_walked_by _ _ _ _ _ (λ v. v.call) (λ p x q. IsClosureCallWithLot g.F.FnMut p x (Ok tt) q)
+        (λ p x e q. IsClosureCallWithLot g.F.FnMut p x (Err e) q) _ _ _ c.visit_lots.ensures.walked,
+    rw c.in-Ok.is refl,
+  );
+}
 
 pub returns-in-Err-Failed : goal.returns-in-Err-Failed
 returns-in-Err-Failed g c =
-    record { called = (c.visit_lots.new.visitor.call, c.visit_lots.result, is_walked_by _ _ _ _ _ (λ v. v.call) (λ p x q. IsClosureCallWithLot g.F.FnMut p x (Ok tt) q) (λ p x e q. IsClosureCallWithLot g.F.FnMut p x (Err e) q) _ _ _ c.visit_lots.ensures.walked, rw (c.in-Err-Failed.is, c.in-Err-Failed.field-0-is) (_, refl, c.from.ensures)) }
+    record {
+      called = (
+        c.visit_lots.new.visitor.call,
+        c.visit_lots.result,
+        is_walked_by _ _ _ _ _ (λ v. v.call)
+            (λ p x q. IsClosureCallWithLot g.F.FnMut p x (Ok tt) q) (λ p x e q. IsClosureCallWithLot g.F.FnMut p x (Err e) q) _ _ _ c.visit_lots.ensures.walked,
+        rw (c.in-Err-Failed.is, c.in-Err-Failed.field-0-is) (_, refl, c.from.ensures),
+      );
+    }
 
 pub returns : goal.returns
 returns g c =
-    record { called = (c.visit_lots.new.visitor.call, c.visit_lots.result, is_walked_by _ _ _ _ _ (λ v. v.call) (λ p x q. IsClosureCallWithLot g.F.FnMut p x (Ok tt) q) (λ p x e q. IsClosureCallWithLot g.F.FnMut p x (Err e) q) _ _ _ c.visit_lots.ensures.walked, rw (c.in-Err-Cause.is, c.in-Err-Cause.field-0-is) refl) }
+    record {
+      called = (
+        c.visit_lots.new.visitor.call,
+        c.visit_lots.result,
+        is_walked_by _ _ _ _ _ (λ v. v.call)
+            (λ p x q. IsClosureCallWithLot g.F.FnMut p x (Ok tt) q) (λ p x e q. IsClosureCallWithLot g.F.FnMut p x (Err e) q) _ _ _ c.visit_lots.ensures.walked,
+        rw (c.in-Err-Cause.is, c.in-Err-Cause.field-0-is) refl,
+      );
+    }

@@ -4,13 +4,28 @@ use Rattle.brk_tables_schema.proofs.Unformed.{handed_on, no_form_at, wrong_lengt
 use Rattle.brk_tables_schema.proofs.reference_records.ChargeRecord.from_row.Goals as goal
 
 pub returns-in_err-check_column_count-clause-form : goal.returns-in_err-check_column_count-clause-form
-returns-in_err-check_column_count-clause-form c = λ h. wrong_length charge_column_cell_checks c.args.row.now (c.check_column_count.ensures.form (handed_on c.check_column_count.result c.from_residual.result _ c.from_residual.ensures.1 c.in_err-check_column_count.was h))
+returns-in_err-check_column_count-clause-form c =
+    λ h. wrong_length charge_column_cell_checks c.args.row.now
+    (c.check_column_count.ensures.form
+    (handed_on c.check_column_count.result c.from_residual.result _ c.from_residual.ensures.1 c.in_err-check_column_count.was h))
 
 pub returns-in_err-trade_type_in_column-clause-form : goal.returns-in_err-trade_type_in_column-clause-form
-returns-in_err-trade_type_in_column-clause-form c = λ h. no_form_at charge_column_cell_checks c.args.row.now 0 _ refl (c.trade_type_in_column.ensures.form (handed_on c.trade_type_in_column.result c.from_residual-in_err-trade_type_in_column.result _ c.from_residual-in_err-trade_type_in_column.ensures.1 c.in_err-trade_type_in_column.was h))
+returns-in_err-trade_type_in_column-clause-form c =
+    λ h. no_form_at charge_column_cell_checks c.args.row.now 0 _ refl
+    (c.trade_type_in_column.ensures.form
+    (handed_on c.trade_type_in_column.result c.from_residual-in_err-trade_type_in_column.result _ c.from_residual-in_err-trade_type_in_column.ensures.1
+    c.in_err-trade_type_in_column.was h))
 
 pub returns-in_err-tier_in_column-clause-form : goal.returns-in_err-tier_in_column-clause-form
-returns-in_err-tier_in_column-clause-form c = λ h. no_form_at charge_column_cell_checks c.args.row.now 1 _ refl (c.tier_in_column.ensures.form (handed_on c.tier_in_column.result c.from_residual-in_err-tier_in_column.result _ c.from_residual-in_err-tier_in_column.ensures.1 c.in_err-tier_in_column.was h))
+returns-in_err-tier_in_column-clause-form c =
+    λ h. no_form_at charge_column_cell_checks c.args.row.now 1 _ refl
+    (c.tier_in_column.ensures.form
+    (handed_on c.tier_in_column.result c.from_residual-in_err-tier_in_column.result _ c.from_residual-in_err-tier_in_column.ensures.1
+    c.in_err-tier_in_column.was h))
 
 pub returns-in_err-charge_amount_in_column-clause-form : goal.returns-in_err-charge_amount_in_column-clause-form
-returns-in_err-charge_amount_in_column-clause-form c = λ h. no_form_at charge_column_cell_checks c.args.row.now 2 _ refl (c.charge_amount_in_column.ensures.form (handed_on c.charge_amount_in_column.result c.from_residual-in_err-charge_amount_in_column.result _ c.from_residual-in_err-charge_amount_in_column.ensures.1 c.in_err-charge_amount_in_column.was h))
+returns-in_err-charge_amount_in_column-clause-form c =
+    λ h. no_form_at charge_column_cell_checks c.args.row.now 2 _ refl
+    (c.charge_amount_in_column.ensures.form
+    (handed_on c.charge_amount_in_column.result c.from_residual-in_err-charge_amount_in_column.result _ c.from_residual-in_err-charge_amount_in_column.ensures.1
+    c.in_err-charge_amount_in_column.was h))

@@ -4,13 +4,27 @@ use Rattle.brk_tables_schema.proofs.Unformed.{handed_on, no_form_at, wrong_lengt
 use Rattle.brk_tables_schema.proofs.reference_records.TaxRecord.from_row.Goals as goal
 
 pub returns-in_err-check_column_count-clause-form : goal.returns-in_err-check_column_count-clause-form
-returns-in_err-check_column_count-clause-form c = λ h. wrong_length tax_rate_column_cell_checks c.args.row.now (c.check_column_count.ensures.form (handed_on c.check_column_count.result c.from_residual.result _ c.from_residual.ensures.1 c.in_err-check_column_count.was h))
+returns-in_err-check_column_count-clause-form c =
+    λ h. wrong_length tax_rate_column_cell_checks c.args.row.now
+    (c.check_column_count.ensures.form
+    (handed_on c.check_column_count.result c.from_residual.result _ c.from_residual.ensures.1 c.in_err-check_column_count.was h))
 
 pub returns-in_err-id_in_column-clause-form : goal.returns-in_err-id_in_column-clause-form
-returns-in_err-id_in_column-clause-form c = λ h. no_form_at tax_rate_column_cell_checks c.args.row.now 0 _ refl (c.id_in_column.ensures.form (handed_on c.id_in_column.result c.from_residual-in_err-id_in_column.result _ c.from_residual-in_err-id_in_column.ensures.1 c.in_err-id_in_column.was h))
+returns-in_err-id_in_column-clause-form c =
+    λ h. no_form_at tax_rate_column_cell_checks c.args.row.now 0 _ refl
+    (c.id_in_column.ensures.form
+    (handed_on c.id_in_column.result c.from_residual-in_err-id_in_column.result _ c.from_residual-in_err-id_in_column.ensures.1 c.in_err-id_in_column.was h))
 
 pub returns-in_err-well_formed_text_in_column-clause-form : goal.returns-in_err-well_formed_text_in_column-clause-form
-returns-in_err-well_formed_text_in_column-clause-form c = λ h. no_form_at tax_rate_column_cell_checks c.args.row.now 1 _ refl (c.well_formed_text_in_column.ensures.form (handed_on c.well_formed_text_in_column.result c.from_residual-in_err-well_formed_text_in_column.result _ c.from_residual-in_err-well_formed_text_in_column.ensures.1 c.in_err-well_formed_text_in_column.was h))
+returns-in_err-well_formed_text_in_column-clause-form c =
+    λ h. no_form_at tax_rate_column_cell_checks c.args.row.now 1 _ refl
+    (c.well_formed_text_in_column.ensures.form
+    (handed_on c.well_formed_text_in_column.result c.from_residual-in_err-well_formed_text_in_column.result _
+    c.from_residual-in_err-well_formed_text_in_column.ensures.1 c.in_err-well_formed_text_in_column.was h))
 
 pub returns-in_err-tax_rate_in_column-clause-form : goal.returns-in_err-tax_rate_in_column-clause-form
-returns-in_err-tax_rate_in_column-clause-form c = λ h. no_form_at tax_rate_column_cell_checks c.args.row.now 2 _ refl (c.tax_rate_in_column.ensures.form (handed_on c.tax_rate_in_column.result c.from_residual-in_err-tax_rate_in_column.result _ c.from_residual-in_err-tax_rate_in_column.ensures.1 c.in_err-tax_rate_in_column.was h))
+returns-in_err-tax_rate_in_column-clause-form c =
+    λ h. no_form_at tax_rate_column_cell_checks c.args.row.now 2 _ refl
+    (c.tax_rate_in_column.ensures.form
+    (handed_on c.tax_rate_in_column.result c.from_residual-in_err-tax_rate_in_column.result _ c.from_residual-in_err-tax_rate_in_column.ensures.1
+    c.in_err-tax_rate_in_column.was h))

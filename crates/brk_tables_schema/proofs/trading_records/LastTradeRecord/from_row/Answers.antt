@@ -15,16 +15,35 @@ returns-clause-value c =
     (four_columns c.args.row.now c.in_ok-check_column_count.ensures.columns)
 
 pub returns-in_err-check_column_count-clause-form : goal.returns-in_err-check_column_count-clause-form
-returns-in_err-check_column_count-clause-form c = λ h. wrong_length last_trade_column_cell_checks c.args.row.now (c.check_column_count.ensures.form (handed_on c.check_column_count.result c.from_residual.result _ c.from_residual.ensures.1 c.in_err-check_column_count.was h))
+returns-in_err-check_column_count-clause-form c =
+    λ h. wrong_length last_trade_column_cell_checks c.args.row.now
+    (c.check_column_count.ensures.form
+    (handed_on c.check_column_count.result c.from_residual.result _ c.from_residual.ensures.1 c.in_err-check_column_count.was h))
 
 pub returns-in_err-well_formed_text_in_column-clause-form : goal.returns-in_err-well_formed_text_in_column-clause-form
-returns-in_err-well_formed_text_in_column-clause-form c = λ h. no_form_at last_trade_column_cell_checks c.args.row.now 0 _ refl (c.well_formed_text_in_column.ensures.form (handed_on c.well_formed_text_in_column.result c.from_residual-in_err-well_formed_text_in_column.result _ c.from_residual-in_err-well_formed_text_in_column.ensures.1 c.in_err-well_formed_text_in_column.was h))
+returns-in_err-well_formed_text_in_column-clause-form c =
+    λ h. no_form_at last_trade_column_cell_checks c.args.row.now 0 _ refl
+    (c.well_formed_text_in_column.ensures.form
+    (handed_on c.well_formed_text_in_column.result c.from_residual-in_err-well_formed_text_in_column.result _
+    c.from_residual-in_err-well_formed_text_in_column.ensures.1 c.in_err-well_formed_text_in_column.was h))
 
 pub returns-in_err-stamp_in_column-clause-form : goal.returns-in_err-stamp_in_column-clause-form
-returns-in_err-stamp_in_column-clause-form c = λ h. no_form_at last_trade_column_cell_checks c.args.row.now 1 _ refl (c.stamp_in_column.ensures.form (handed_on c.stamp_in_column.result c.from_residual-in_err-stamp_in_column.result _ c.from_residual-in_err-stamp_in_column.ensures.1 c.in_err-stamp_in_column.was h))
+returns-in_err-stamp_in_column-clause-form c =
+    λ h. no_form_at last_trade_column_cell_checks c.args.row.now 1 _ refl
+    (c.stamp_in_column.ensures.form
+    (handed_on c.stamp_in_column.result c.from_residual-in_err-stamp_in_column.result _ c.from_residual-in_err-stamp_in_column.ensures.1
+    c.in_err-stamp_in_column.was h))
 
 pub returns-in_err-price_in_column-clause-form : goal.returns-in_err-price_in_column-clause-form
-returns-in_err-price_in_column-clause-form c = λ h. no_form_at last_trade_column_cell_checks c.args.row.now 2 _ refl (c.price_in_column.ensures.form (handed_on c.price_in_column.result c.from_residual-in_err-price_in_column.result _ c.from_residual-in_err-price_in_column.ensures.1 c.in_err-price_in_column.was h))
+returns-in_err-price_in_column-clause-form c =
+    λ h. no_form_at last_trade_column_cell_checks c.args.row.now 2 _ refl
+    (c.price_in_column.ensures.form
+    (handed_on c.price_in_column.result c.from_residual-in_err-price_in_column.result _ c.from_residual-in_err-price_in_column.ensures.1
+    c.in_err-price_in_column.was h))
 
 pub returns-in_err-volume_in_column-clause-form : goal.returns-in_err-volume_in_column-clause-form
-returns-in_err-volume_in_column-clause-form c = λ h. no_form_at last_trade_column_cell_checks c.args.row.now 3 _ refl (c.volume_in_column.ensures.form (handed_on c.volume_in_column.result c.from_residual-in_err-volume_in_column.result _ c.from_residual-in_err-volume_in_column.ensures.1 c.in_err-volume_in_column.was h))
+returns-in_err-volume_in_column-clause-form c =
+    λ h. no_form_at last_trade_column_cell_checks c.args.row.now 3 _ refl
+    (c.volume_in_column.ensures.form
+    (handed_on c.volume_in_column.result c.from_residual-in_err-volume_in_column.result _ c.from_residual-in_err-volume_in_column.ensures.1
+    c.in_err-volume_in_column.was h))

@@ -11,26 +11,60 @@ six_columns _ h = absurd (omega (arith, h))
 
 pub returns-clause-value : goal.returns-clause-value
 returns-clause-value c =
-    rw (sym c.in_ok-cash_row_id_in_column.ensures.value, sym c.in_ok-id_in_column.ensures.value, sym c.in_ok-optional_id_in_column.ensures.value, sym c.in_ok-stamp_in_column.ensures.value, sym c.in_ok-cents_in_column.ensures.value, sym c.in_ok-text_in_column.ensures.value)
+    rw (
+      sym c.in_ok-cash_row_id_in_column.ensures.value,
+      sym c.in_ok-id_in_column.ensures.value,
+      sym c.in_ok-optional_id_in_column.ensures.value,
+      sym
+          c.in_ok-stamp_in_column.ensures.value,
+      sym c.in_ok-cents_in_column.ensures.value,
+      sym c.in_ok-text_in_column.ensures.value,
+    )
     (six_columns c.args.row.now c.in_ok-check_column_count.ensures.columns)
 
 pub returns-in_err-check_column_count-clause-form : goal.returns-in_err-check_column_count-clause-form
-returns-in_err-check_column_count-clause-form c = λ h. wrong_length move_column_cell_checks c.args.row.now (c.check_column_count.ensures.form (handed_on c.check_column_count.result c.from_residual.result _ c.from_residual.ensures.1 c.in_err-check_column_count.was h))
+returns-in_err-check_column_count-clause-form c =
+    λ h. wrong_length move_column_cell_checks c.args.row.now
+    (c.check_column_count.ensures.form
+    (handed_on c.check_column_count.result c.from_residual.result _ c.from_residual.ensures.1 c.in_err-check_column_count.was h))
 
 pub returns-in_err-cash_row_id_in_column-clause-form : goal.returns-in_err-cash_row_id_in_column-clause-form
-returns-in_err-cash_row_id_in_column-clause-form c = λ h. no_form_at move_column_cell_checks c.args.row.now 0 _ refl (c.cash_row_id_in_column.ensures.form (handed_on c.cash_row_id_in_column.result c.from_residual-in_err-cash_row_id_in_column.result _ c.from_residual-in_err-cash_row_id_in_column.ensures.1 c.in_err-cash_row_id_in_column.was h))
+returns-in_err-cash_row_id_in_column-clause-form c =
+    λ h. no_form_at move_column_cell_checks c.args.row.now 0 _ refl
+    (c.cash_row_id_in_column.ensures.form
+    (handed_on c.cash_row_id_in_column.result c.from_residual-in_err-cash_row_id_in_column.result _ c.from_residual-in_err-cash_row_id_in_column.ensures.1
+    c.in_err-cash_row_id_in_column.was h))
 
 pub returns-in_err-id_in_column-clause-form : goal.returns-in_err-id_in_column-clause-form
-returns-in_err-id_in_column-clause-form c = λ h. no_form_at move_column_cell_checks c.args.row.now 1 _ refl (c.id_in_column.ensures.form (handed_on c.id_in_column.result c.from_residual-in_err-id_in_column.result _ c.from_residual-in_err-id_in_column.ensures.1 c.in_err-id_in_column.was h))
+returns-in_err-id_in_column-clause-form c =
+    λ h. no_form_at move_column_cell_checks c.args.row.now 1 _ refl
+    (c.id_in_column.ensures.form
+    (handed_on c.id_in_column.result c.from_residual-in_err-id_in_column.result _ c.from_residual-in_err-id_in_column.ensures.1 c.in_err-id_in_column.was h))
 
 pub returns-in_err-optional_id_in_column-clause-form : goal.returns-in_err-optional_id_in_column-clause-form
-returns-in_err-optional_id_in_column-clause-form c = λ h. no_form_at move_column_cell_checks c.args.row.now 2 _ refl (c.optional_id_in_column.ensures.form (handed_on c.optional_id_in_column.result c.from_residual-in_err-optional_id_in_column.result _ c.from_residual-in_err-optional_id_in_column.ensures.1 c.in_err-optional_id_in_column.was h))
+returns-in_err-optional_id_in_column-clause-form c =
+    λ h. no_form_at move_column_cell_checks c.args.row.now 2 _ refl
+    (c.optional_id_in_column.ensures.form
+    (handed_on c.optional_id_in_column.result c.from_residual-in_err-optional_id_in_column.result _ c.from_residual-in_err-optional_id_in_column.ensures.1
+    c.in_err-optional_id_in_column.was h))
 
 pub returns-in_err-stamp_in_column-clause-form : goal.returns-in_err-stamp_in_column-clause-form
-returns-in_err-stamp_in_column-clause-form c = λ h. no_form_at move_column_cell_checks c.args.row.now 3 _ refl (c.stamp_in_column.ensures.form (handed_on c.stamp_in_column.result c.from_residual-in_err-stamp_in_column.result _ c.from_residual-in_err-stamp_in_column.ensures.1 c.in_err-stamp_in_column.was h))
+returns-in_err-stamp_in_column-clause-form c =
+    λ h. no_form_at move_column_cell_checks c.args.row.now 3 _ refl
+    (c.stamp_in_column.ensures.form
+    (handed_on c.stamp_in_column.result c.from_residual-in_err-stamp_in_column.result _ c.from_residual-in_err-stamp_in_column.ensures.1
+    c.in_err-stamp_in_column.was h))
 
 pub returns-in_err-cents_in_column-clause-form : goal.returns-in_err-cents_in_column-clause-form
-returns-in_err-cents_in_column-clause-form c = λ h. no_form_at move_column_cell_checks c.args.row.now 4 _ refl (c.cents_in_column.ensures.form (handed_on c.cents_in_column.result c.from_residual-in_err-cents_in_column.result _ c.from_residual-in_err-cents_in_column.ensures.1 c.in_err-cents_in_column.was h))
+returns-in_err-cents_in_column-clause-form c =
+    λ h. no_form_at move_column_cell_checks c.args.row.now 4 _ refl
+    (c.cents_in_column.ensures.form
+    (handed_on c.cents_in_column.result c.from_residual-in_err-cents_in_column.result _ c.from_residual-in_err-cents_in_column.ensures.1
+    c.in_err-cents_in_column.was h))
 
 pub returns-in_err-text_in_column-clause-form : goal.returns-in_err-text_in_column-clause-form
-returns-in_err-text_in_column-clause-form c = λ h. no_form_at move_column_cell_checks c.args.row.now 5 _ refl (c.text_in_column.ensures.form (handed_on c.text_in_column.result c.from_residual-in_err-text_in_column.result _ c.from_residual-in_err-text_in_column.ensures.1 c.in_err-text_in_column.was h))
+returns-in_err-text_in_column-clause-form c =
+    λ h. no_form_at move_column_cell_checks c.args.row.now 5 _ refl
+    (c.text_in_column.ensures.form
+    (handed_on c.text_in_column.result c.from_residual-in_err-text_in_column.result _ c.from_residual-in_err-text_in_column.ensures.1
+    c.in_err-text_in_column.was h))

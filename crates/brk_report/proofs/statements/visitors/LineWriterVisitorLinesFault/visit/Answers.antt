@@ -9,4 +9,5 @@ returns-in_default-clause-stops g c = (inr refl, ([], g.R.Line.line c.args.item.
 
 pub returns-in_err-write_line-clause-stops : goal.returns-in_err-write_line-clause-stops
 returns-in_err-write_line-clause-stops g c =
-    on_err (FailsWithinLines (g.R.Line.line c.args.item.now ∷ []) _ _) _ _ c.from_residual.ensures.1 (c.in_err-write_line.ensures.written (g.R.Line.line c.args.item.now) c.line.ensures.line c.line.ensures.fault)
+    on_err (FailsWithinLines (g.R.Line.line c.args.item.now ∷ []) _ _) _ _ c.from_residual.ensures.1
+    (c.in_err-write_line.ensures.written (g.R.Line.line c.args.item.now) c.line.ensures.line c.line.ensures.fault)
