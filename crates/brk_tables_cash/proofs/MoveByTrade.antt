@@ -110,8 +110,8 @@ module _ (schema : Schema) (at tree : ℕ) (h : IsTableAt schema (move_table tre
         heading_is schema at (move_table tree) found (codes "CASH_MOVE") [] [] true true (e.Column None (codes "CM_ID")) (codes "CM_ID") (codes "CM_ID") 0
             (integer_column (codes "CM_ID")) refl refl refl,
         column_is schema at (move_table tree) found (codes "CASH_MOVE") [] [] true true (codes "CM_CA_ID") 1 (integer_column (codes "CM_CA_ID")) refl refl,
-        heading_is schema at (move_table tree) found (codes "CASH_MOVE") [] [] true true (e.Column None (codes "CM_CA_ID")) (codes "CM_CA_ID")
-            (codes "CM_CA_ID") 1 (integer_column (codes "CM_CA_ID")) refl refl refl,
+        heading_is schema at (move_table tree) found (codes "CASH_MOVE") [] [] true true (e.Column None (codes "CM_CA_ID")) (codes "CM_CA_ID") (codes "CM_CA_ID")
+            1 (integer_column (codes "CM_CA_ID")) refl refl refl,
         column_is schema at (move_table tree) found (codes "CASH_MOVE") [] [] true true (codes "CM_T_ID") 2 (nullable_integer_column (codes "CM_T_ID")) refl refl,
         heading_is schema at (move_table tree) found (codes "CASH_MOVE") [] [] true true (e.Column None (codes "CM_T_ID")) (codes "CM_T_ID") (codes "CM_T_ID") 2
             (nullable_integer_column (codes "CM_T_ID")) refl refl refl,

@@ -108,8 +108,8 @@ module _ (schema : Schema) (at tree : ℕ) (h : IsTableAt schema (account_table 
   shows =
       rw (
         column_is schema at (account_table tree) found (codes "CUSTOMER_ACCOUNT") [] [] true true (codes "CA_ID") 0 (integer_column (codes "CA_ID")) refl refl,
-        heading_is schema at (account_table tree) found (codes "CUSTOMER_ACCOUNT") [] [] true true (e.Column None (codes "CA_ID")) (codes "CA_ID")
-            (codes "CA_ID") 0 (integer_column (codes "CA_ID")) refl refl refl,
+        heading_is schema at (account_table tree) found (codes "CUSTOMER_ACCOUNT") [] [] true true (e.Column None (codes "CA_ID")) (codes "CA_ID") (codes "CA_ID")
+            0 (integer_column (codes "CA_ID")) refl refl refl,
         column_is schema at (account_table tree) found (codes "CUSTOMER_ACCOUNT") [] [] true true (codes "CA_C_ID") 1 (integer_column (codes "CA_C_ID")) refl refl,
         heading_is schema at (account_table tree) found (codes "CUSTOMER_ACCOUNT") [] [] true true (e.Column None (codes "CA_C_ID")) (codes "CA_C_ID")
             (codes "CA_C_ID") 1 (integer_column (codes "CA_C_ID")) refl refl refl,

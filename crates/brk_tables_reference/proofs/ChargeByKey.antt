@@ -106,8 +106,8 @@ module _ (schema : Schema) (at tree : ℕ) (h : IsTableAt schema (charge_table t
   shows =
       rw (
         column_is schema at (charge_table tree) found (codes "CHARGE") [] [] true true (codes "CH_TT_ID") 0 (text_column (codes "CH_TT_ID")) refl refl,
-        heading_is schema at (charge_table tree) found (codes "CHARGE") [] [] true true (e.Column None (codes "CH_TT_ID")) (codes "CH_TT_ID") (codes "CH_TT_ID")
-            0 (text_column (codes "CH_TT_ID")) refl refl refl,
+        heading_is schema at (charge_table tree) found (codes "CHARGE") [] [] true true (e.Column None (codes "CH_TT_ID")) (codes "CH_TT_ID") (codes "CH_TT_ID") 0
+            (text_column (codes "CH_TT_ID")) refl refl refl,
         column_is schema at (charge_table tree) found (codes "CHARGE") [] [] true true (codes "CH_C_TIER") 1 (integer_column (codes "CH_C_TIER")) refl refl,
         heading_is schema at (charge_table tree) found (codes "CHARGE") [] [] true true (e.Column None (codes "CH_C_TIER")) (codes "CH_C_TIER")
             (codes "CH_C_TIER") 1 (integer_column (codes "CH_C_TIER")) refl refl refl,

@@ -111,8 +111,8 @@ module _ (schema : Schema) (at tree : ℕ) (h : IsTableAt schema (security_table
         heading_is schema at (security_table tree) found (codes "SECURITY") [] [] true true (e.Column None (codes "S_NAME")) (codes "S_NAME") (codes "S_NAME") 1
             (text_column (codes "S_NAME")) refl refl refl,
         column_is schema at (security_table tree) found (codes "SECURITY") [] [] true true (codes "S_EX_ID") 2 (text_column (codes "S_EX_ID")) refl refl,
-        heading_is schema at (security_table tree) found (codes "SECURITY") [] [] true true (e.Column None (codes "S_EX_ID")) (codes "S_EX_ID")
-            (codes "S_EX_ID") 2 (text_column (codes "S_EX_ID")) refl refl refl,
+        heading_is schema at (security_table tree) found (codes "SECURITY") [] [] true true (e.Column None (codes "S_EX_ID")) (codes "S_EX_ID") (codes "S_EX_ID")
+            2 (text_column (codes "S_EX_ID")) refl refl refl,
         column_is schema at (security_table tree) found (codes "SECURITY") [] [] true true (codes "S_SECTOR") 3 (text_column (codes "S_SECTOR")) refl refl,
         heading_is schema at (security_table tree) found (codes "SECURITY") [] [] true true (e.Column None (codes "S_SECTOR")) (codes "S_SECTOR")
             (codes "S_SECTOR") 3 (text_column (codes "S_SECTOR")) refl refl refl,

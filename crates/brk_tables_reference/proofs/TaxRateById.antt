@@ -107,11 +107,11 @@ module _ (schema : Schema) (at tree : ℕ) (h : IsTableAt schema (tax_rate_table
         heading_is schema at (tax_rate_table tree) found (codes "TAXRATE") [] [] true true (e.Column None (codes "TX_ID")) (codes "TX_ID") (codes "TX_ID") 0
             (integer_column (codes "TX_ID")) refl refl refl,
         column_is schema at (tax_rate_table tree) found (codes "TAXRATE") [] [] true true (codes "TX_NAME") 1 (text_column (codes "TX_NAME")) refl refl,
-        heading_is schema at (tax_rate_table tree) found (codes "TAXRATE") [] [] true true (e.Column None (codes "TX_NAME")) (codes "TX_NAME") (codes "TX_NAME")
-            1 (text_column (codes "TX_NAME")) refl refl refl,
+        heading_is schema at (tax_rate_table tree) found (codes "TAXRATE") [] [] true true (e.Column None (codes "TX_NAME")) (codes "TX_NAME") (codes "TX_NAME") 1
+            (text_column (codes "TX_NAME")) refl refl refl,
         column_is schema at (tax_rate_table tree) found (codes "TAXRATE") [] [] true true (codes "TX_RATE") 2 (integer_column (codes "TX_RATE")) refl refl,
-        heading_is schema at (tax_rate_table tree) found (codes "TAXRATE") [] [] true true (e.Column None (codes "TX_RATE")) (codes "TX_RATE") (codes "TX_RATE")
-            2 (integer_column (codes "TX_RATE")) refl refl refl,
+        heading_is schema at (tax_rate_table tree) found (codes "TAXRATE") [] [] true true (e.Column None (codes "TX_RATE")) (codes "TX_RATE") (codes "TX_RATE") 2
+            (integer_column (codes "TX_RATE")) refl refl refl,
       )
 
   matches : matching lower (outermost schema) (level_one (codes "TAXRATE") at columns) core (after 3 binary)

@@ -139,8 +139,8 @@ are_raw_sheets_well_formed desk raw =
     && are_summary_and_settlement_rows_well_formed raw.last && are_later_schema_rows_well_formed raw.later
 
 -- The raw rows of each table are, in order, the encodings of the typed rows `sheets`. Of KEPT,
--- `sheets` has the keys alone: its raw rows are, in order, the encodings of `whole`, typed rows
--- with these keys and any texts. The row of DESK has the number of the schema `desk`.
+-- `sheets` has the keys alone: its raw rows are, in order, the encodings of `whole`, typed rows with
+-- these keys and any texts. The row of DESK has the number of the schema `desk`.
 pub record DecodesSheets (desk : Schema) (sheets : Sheets) (raw : RawSheets) : Type 0 where
   pub whole : List typed.Kept
   pub keys : keys_of_kept_rows whole ≡ map abstract_key sheets.kept.items

@@ -103,8 +103,8 @@ module _ (schema : Schema) (at tree : ℕ) (h : IsTableAt schema (desk_row_table
         column_is schema at (desk_row_table tree) found (codes "DESK") [] [] true true (codes "D_ID") 0 (integer_column (codes "D_ID")) refl refl,
         heading_is schema at (desk_row_table tree) found (codes "DESK") [] [] true true (e.Column None (codes "D_ID")) (codes "D_ID") (codes "D_ID") 0 (integer_column (codes "D_ID")) refl refl refl,
         column_is schema at (desk_row_table tree) found (codes "DESK") [] [] true true (codes "D_SCHEMA") 1 (integer_column (codes "D_SCHEMA")) refl refl,
-        heading_is schema at (desk_row_table tree) found (codes "DESK") [] [] true true (e.Column None (codes "D_SCHEMA")) (codes "D_SCHEMA") (codes "D_SCHEMA")
-            1 (integer_column (codes "D_SCHEMA")) refl refl refl,
+        heading_is schema at (desk_row_table tree) found (codes "DESK") [] [] true true (e.Column None (codes "D_SCHEMA")) (codes "D_SCHEMA") (codes "D_SCHEMA") 1
+            (integer_column (codes "D_SCHEMA")) refl refl refl,
         column_is schema at (desk_row_table tree) found (codes "DESK") [] [] true true (codes "D_LAST") 2 (nullable_integer_column (codes "D_LAST")) refl refl,
         heading_is schema at (desk_row_table tree) found (codes "DESK") [] [] true true (e.Column None (codes "D_LAST")) (codes "D_LAST") (codes "D_LAST") 2
             (nullable_integer_column (codes "D_LAST")) refl refl refl,

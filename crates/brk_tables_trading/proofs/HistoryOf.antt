@@ -112,8 +112,8 @@ module _ (schema : Schema) (at tree : ℕ) (h : IsTableAt schema (history_table 
         heading_is schema at (history_table tree) found (codes "TRADE_HISTORY") [] [] true true (e.Column None (codes "TH_ST_ID")) (codes "TH_ST_ID")
             (codes "TH_ST_ID") 1 (text_column (codes "TH_ST_ID")) refl refl refl,
         column_is schema at (history_table tree) found (codes "TRADE_HISTORY") [] [] true true (codes "TH_DTS") 2 (integer_column (codes "TH_DTS")) refl refl,
-        heading_is schema at (history_table tree) found (codes "TRADE_HISTORY") [] [] true true (e.Column None (codes "TH_DTS")) (codes "TH_DTS")
-            (codes "TH_DTS") 2 (integer_column (codes "TH_DTS")) refl refl refl,
+        heading_is schema at (history_table tree) found (codes "TRADE_HISTORY") [] [] true true (e.Column None (codes "TH_DTS")) (codes "TH_DTS") (codes "TH_DTS")
+            2 (integer_column (codes "TH_DTS")) refl refl refl,
       )
 
   matches : matching lower (outermost schema) (level_one (codes "TRADE_HISTORY") at columns) core (after 3 binary)

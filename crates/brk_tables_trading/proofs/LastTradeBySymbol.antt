@@ -108,14 +108,14 @@ module _ (schema : Schema) (at tree : ℕ) (h : IsTableAt schema (last_trade_tab
         heading_is schema at (last_trade_table tree) found (codes "LAST_TRADE") [] [] true true (e.Column None (codes "LT_S_SYMB")) (codes "LT_S_SYMB")
             (codes "LT_S_SYMB") 0 (text_column (codes "LT_S_SYMB")) refl refl refl,
         column_is schema at (last_trade_table tree) found (codes "LAST_TRADE") [] [] true true (codes "LT_DTS") 1 (integer_column (codes "LT_DTS")) refl refl,
-        heading_is schema at (last_trade_table tree) found (codes "LAST_TRADE") [] [] true true (e.Column None (codes "LT_DTS")) (codes "LT_DTS")
-            (codes "LT_DTS") 1 (integer_column (codes "LT_DTS")) refl refl refl,
+        heading_is schema at (last_trade_table tree) found (codes "LAST_TRADE") [] [] true true (e.Column None (codes "LT_DTS")) (codes "LT_DTS") (codes "LT_DTS")
+            1 (integer_column (codes "LT_DTS")) refl refl refl,
         column_is schema at (last_trade_table tree) found (codes "LAST_TRADE") [] [] true true (codes "LT_PRICE") 2 (integer_column (codes "LT_PRICE")) refl refl,
         heading_is schema at (last_trade_table tree) found (codes "LAST_TRADE") [] [] true true (e.Column None (codes "LT_PRICE")) (codes "LT_PRICE")
             (codes "LT_PRICE") 2 (integer_column (codes "LT_PRICE")) refl refl refl,
         column_is schema at (last_trade_table tree) found (codes "LAST_TRADE") [] [] true true (codes "LT_VOL") 3 (integer_column (codes "LT_VOL")) refl refl,
-        heading_is schema at (last_trade_table tree) found (codes "LAST_TRADE") [] [] true true (e.Column None (codes "LT_VOL")) (codes "LT_VOL")
-            (codes "LT_VOL") 3 (integer_column (codes "LT_VOL")) refl refl refl,
+        heading_is schema at (last_trade_table tree) found (codes "LAST_TRADE") [] [] true true (e.Column None (codes "LT_VOL")) (codes "LT_VOL") (codes "LT_VOL")
+            3 (integer_column (codes "LT_VOL")) refl refl refl,
       )
 
   matches : matching lower (outermost schema) (level_one (codes "LAST_TRADE") at columns) core (after 4 binary)

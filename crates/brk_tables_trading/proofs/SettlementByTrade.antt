@@ -114,8 +114,8 @@ module _ (schema : Schema) (at tree : ℕ) (h : IsTableAt schema (settlement_tab
         heading_is schema at (settlement_table tree) found (codes "SETTLEMENT") [] [] true true (e.Column None (codes "SE_CASH_DUE_DATE"))
             (codes "SE_CASH_DUE_DATE") (codes "SE_CASH_DUE_DATE") 2 (integer_column (codes "SE_CASH_DUE_DATE")) refl refl refl,
         column_is schema at (settlement_table tree) found (codes "SETTLEMENT") [] [] true true (codes "SE_AMT") 3 (integer_column (codes "SE_AMT")) refl refl,
-        heading_is schema at (settlement_table tree) found (codes "SETTLEMENT") [] [] true true (e.Column None (codes "SE_AMT")) (codes "SE_AMT")
-            (codes "SE_AMT") 3 (integer_column (codes "SE_AMT")) refl refl refl,
+        heading_is schema at (settlement_table tree) found (codes "SETTLEMENT") [] [] true true (e.Column None (codes "SE_AMT")) (codes "SE_AMT") (codes "SE_AMT")
+            3 (integer_column (codes "SE_AMT")) refl refl refl,
       )
 
   matches : matching lower (outermost schema) (level_one (codes "SETTLEMENT") at columns) core (after 4 binary)

@@ -105,11 +105,11 @@ module _ (schema : Schema) (at tree : ℕ) (h : IsTableAt schema (cash_table tre
         heading_is schema at (cash_table tree) found (codes "CASH_TRANSACTION") [] [] true true (e.Column None (codes "CT_T_ID")) (codes "CT_T_ID")
             (codes "CT_T_ID") 0 (integer_column (codes "CT_T_ID")) refl refl refl,
         column_is schema at (cash_table tree) found (codes "CASH_TRANSACTION") [] [] true true (codes "CT_DTS") 1 (integer_column (codes "CT_DTS")) refl refl,
-        heading_is schema at (cash_table tree) found (codes "CASH_TRANSACTION") [] [] true true (e.Column None (codes "CT_DTS")) (codes "CT_DTS")
-            (codes "CT_DTS") 1 (integer_column (codes "CT_DTS")) refl refl refl,
+        heading_is schema at (cash_table tree) found (codes "CASH_TRANSACTION") [] [] true true (e.Column None (codes "CT_DTS")) (codes "CT_DTS") (codes "CT_DTS")
+            1 (integer_column (codes "CT_DTS")) refl refl refl,
         column_is schema at (cash_table tree) found (codes "CASH_TRANSACTION") [] [] true true (codes "CT_AMT") 2 (integer_column (codes "CT_AMT")) refl refl,
-        heading_is schema at (cash_table tree) found (codes "CASH_TRANSACTION") [] [] true true (e.Column None (codes "CT_AMT")) (codes "CT_AMT")
-            (codes "CT_AMT") 2 (integer_column (codes "CT_AMT")) refl refl refl,
+        heading_is schema at (cash_table tree) found (codes "CASH_TRANSACTION") [] [] true true (e.Column None (codes "CT_AMT")) (codes "CT_AMT") (codes "CT_AMT")
+            2 (integer_column (codes "CT_AMT")) refl refl refl,
         column_is schema at (cash_table tree) found (codes "CASH_TRANSACTION") [] [] true true (codes "CT_NAME") 3 (text_column (codes "CT_NAME")) refl refl,
         heading_is schema at (cash_table tree) found (codes "CASH_TRANSACTION") [] [] true true (e.Column None (codes "CT_NAME")) (codes "CT_NAME")
             (codes "CT_NAME") 3 (text_column (codes "CT_NAME")) refl refl refl,

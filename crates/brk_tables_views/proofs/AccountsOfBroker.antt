@@ -104,8 +104,8 @@ module _ (schema : Schema) (at tree : ℕ) (h : IsTableAt schema (account_table 
   shows =
       rw (
         column_is schema at (account_table tree) found (codes "CUSTOMER_ACCOUNT") [] [] true true (codes "CA_ID") 0 (integer_column (codes "CA_ID")) refl refl,
-        heading_is schema at (account_table tree) found (codes "CUSTOMER_ACCOUNT") [] [] true true (e.Column None (codes "CA_ID")) (codes "CA_ID")
-            (codes "CA_ID") 0 (integer_column (codes "CA_ID")) refl refl refl,
+        heading_is schema at (account_table tree) found (codes "CUSTOMER_ACCOUNT") [] [] true true (e.Column None (codes "CA_ID")) (codes "CA_ID") (codes "CA_ID")
+            0 (integer_column (codes "CA_ID")) refl refl refl,
       )
 
   matches : matching lower (outermost schema) (level_one (codes "CUSTOMER_ACCOUNT") at columns) core (after 1 nothing)

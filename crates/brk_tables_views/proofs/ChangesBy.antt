@@ -106,8 +106,8 @@ module _ (schema : Schema) (at tree : ℕ) (h : IsTableAt schema (holding_histor
   shows =
       rw (
         column_is schema at (holding_history_table tree) found (codes "HOLDING_HISTORY") [] [] true true (codes "HH_H_T_ID") 0 (integer_column (codes "HH_H_T_ID")) refl refl,
-        heading_is schema at (holding_history_table tree) found (codes "HOLDING_HISTORY") [] [] true true (e.Column None (codes "HH_H_T_ID"))
-            (codes "HH_H_T_ID") (codes "HH_H_T_ID") 0 (integer_column (codes "HH_H_T_ID")) refl refl refl,
+        heading_is schema at (holding_history_table tree) found (codes "HOLDING_HISTORY") [] [] true true (e.Column None (codes "HH_H_T_ID")) (codes "HH_H_T_ID")
+            (codes "HH_H_T_ID") 0 (integer_column (codes "HH_H_T_ID")) refl refl refl,
         column_is schema at (holding_history_table tree) found (codes "HOLDING_HISTORY") [] [] true true (codes "HH_T_ID") 1 (integer_column (codes "HH_T_ID")) refl refl,
         heading_is schema at (holding_history_table tree) found (codes "HOLDING_HISTORY") [] [] true true (e.Column None (codes "HH_T_ID")) (codes "HH_T_ID")
             (codes "HH_T_ID") 1 (integer_column (codes "HH_T_ID")) refl refl refl,

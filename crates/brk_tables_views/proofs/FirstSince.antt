@@ -126,8 +126,8 @@ module _ (schema : Schema) (at tree : ℕ) (h : IsTableAt schema (trade_table tr
         heading_is schema at (trade_table tree) found (codes "TRADE") [] [] true true (e.Column None (codes "T_TT_ID")) (codes "T_TT_ID") (codes "T_TT_ID") 3
             (text_column (codes "T_TT_ID")) refl refl refl,
         column_is schema at (trade_table tree) found (codes "TRADE") [] [] true true (codes "T_IS_CASH") 4 (integer_column (codes "T_IS_CASH")) refl refl,
-        heading_is schema at (trade_table tree) found (codes "TRADE") [] [] true true (e.Column None (codes "T_IS_CASH")) (codes "T_IS_CASH")
-            (codes "T_IS_CASH") 4 (integer_column (codes "T_IS_CASH")) refl refl refl,
+        heading_is schema at (trade_table tree) found (codes "TRADE") [] [] true true (e.Column None (codes "T_IS_CASH")) (codes "T_IS_CASH") (codes "T_IS_CASH")
+            4 (integer_column (codes "T_IS_CASH")) refl refl refl,
         column_is schema at (trade_table tree) found (codes "TRADE") [] [] true true (codes "T_S_SYMB") 5 (text_column (codes "T_S_SYMB")) refl refl,
         heading_is schema at (trade_table tree) found (codes "TRADE") [] [] true true (e.Column None (codes "T_S_SYMB")) (codes "T_S_SYMB") (codes "T_S_SYMB") 5
             (text_column (codes "T_S_SYMB")) refl refl refl,
@@ -152,8 +152,7 @@ module _ (schema : Schema) (at tree : ℕ) (h : IsTableAt schema (trade_table tr
         heading_is schema at (trade_table tree) found (codes "TRADE") [] [] true true (e.Column None (codes "T_COMM")) (codes "T_COMM") (codes "T_COMM") 12
             (integer_column (codes "T_COMM")) refl refl refl,
         column_is schema at (trade_table tree) found (codes "TRADE") [] [] true true (codes "T_TAX") 13 (integer_column (codes "T_TAX")) refl refl,
-        heading_is schema at (trade_table tree) found (codes "TRADE") [] [] true true (e.Column None (codes "T_TAX")) (codes "T_TAX") (codes "T_TAX") 13
-            (integer_column (codes "T_TAX")) refl refl refl,
+        heading_is schema at (trade_table tree) found (codes "TRADE") [] [] true true (e.Column None (codes "T_TAX")) (codes "T_TAX") (codes "T_TAX") 13 (integer_column (codes "T_TAX")) refl refl refl,
         column_is schema at (trade_table tree) found (codes "TRADE") [] [] true true (codes "T_LIFO") 14 (integer_column (codes "T_LIFO")) refl refl,
         heading_is schema at (trade_table tree) found (codes "TRADE") [] [] true true (e.Column None (codes "T_LIFO")) (codes "T_LIFO") (codes "T_LIFO") 14
             (integer_column (codes "T_LIFO")) refl refl refl,

@@ -113,8 +113,8 @@ module _ (schema : Schema) (at tree : ℕ) (h : IsTableAt schema (request_table 
         heading_is schema at (request_table tree) found (codes "TRADE_REQUEST") [] [] true true (e.Column None (codes "TR_S_SYMB")) (codes "TR_S_SYMB")
             (codes "TR_S_SYMB") 2 (text_column (codes "TR_S_SYMB")) refl refl refl,
         column_is schema at (request_table tree) found (codes "TRADE_REQUEST") [] [] true true (codes "TR_QTY") 3 (integer_column (codes "TR_QTY")) refl refl,
-        heading_is schema at (request_table tree) found (codes "TRADE_REQUEST") [] [] true true (e.Column None (codes "TR_QTY")) (codes "TR_QTY")
-            (codes "TR_QTY") 3 (integer_column (codes "TR_QTY")) refl refl refl,
+        heading_is schema at (request_table tree) found (codes "TRADE_REQUEST") [] [] true true (e.Column None (codes "TR_QTY")) (codes "TR_QTY") (codes "TR_QTY")
+            3 (integer_column (codes "TR_QTY")) refl refl refl,
         column_is schema at (request_table tree) found (codes "TRADE_REQUEST") [] [] true true (codes "TR_BID_PRICE") 4 (integer_column (codes "TR_BID_PRICE")) refl refl,
         heading_is schema at (request_table tree) found (codes "TRADE_REQUEST") [] [] true true (e.Column None (codes "TR_BID_PRICE")) (codes "TR_BID_PRICE")
             (codes "TR_BID_PRICE") 4 (integer_column (codes "TR_BID_PRICE")) refl refl refl,

@@ -112,17 +112,17 @@ module _ (schema : Schema) (at tree : ℕ) (h : IsTableAt schema (holding_table 
         heading_is schema at (holding_table tree) found (codes "HOLDING") [] [] true true (e.Column None (codes "H_T_ID")) (codes "H_T_ID") (codes "H_T_ID") 0
             (integer_column (codes "H_T_ID")) refl refl refl,
         column_is schema at (holding_table tree) found (codes "HOLDING") [] [] true true (codes "H_CA_ID") 1 (integer_column (codes "H_CA_ID")) refl refl,
-        heading_is schema at (holding_table tree) found (codes "HOLDING") [] [] true true (e.Column None (codes "H_CA_ID")) (codes "H_CA_ID") (codes "H_CA_ID")
-            1 (integer_column (codes "H_CA_ID")) refl refl refl,
+        heading_is schema at (holding_table tree) found (codes "HOLDING") [] [] true true (e.Column None (codes "H_CA_ID")) (codes "H_CA_ID") (codes "H_CA_ID") 1
+            (integer_column (codes "H_CA_ID")) refl refl refl,
         column_is schema at (holding_table tree) found (codes "HOLDING") [] [] true true (codes "H_S_SYMB") 2 (text_column (codes "H_S_SYMB")) refl refl,
-        heading_is schema at (holding_table tree) found (codes "HOLDING") [] [] true true (e.Column None (codes "H_S_SYMB")) (codes "H_S_SYMB")
-            (codes "H_S_SYMB") 2 (text_column (codes "H_S_SYMB")) refl refl refl,
+        heading_is schema at (holding_table tree) found (codes "HOLDING") [] [] true true (e.Column None (codes "H_S_SYMB")) (codes "H_S_SYMB") (codes "H_S_SYMB")
+            2 (text_column (codes "H_S_SYMB")) refl refl refl,
         column_is schema at (holding_table tree) found (codes "HOLDING") [] [] true true (codes "H_DTS") 3 (integer_column (codes "H_DTS")) refl refl,
         heading_is schema at (holding_table tree) found (codes "HOLDING") [] [] true true (e.Column None (codes "H_DTS")) (codes "H_DTS") (codes "H_DTS") 3
             (integer_column (codes "H_DTS")) refl refl refl,
         column_is schema at (holding_table tree) found (codes "HOLDING") [] [] true true (codes "H_PRICE") 4 (integer_column (codes "H_PRICE")) refl refl,
-        heading_is schema at (holding_table tree) found (codes "HOLDING") [] [] true true (e.Column None (codes "H_PRICE")) (codes "H_PRICE") (codes "H_PRICE")
-            4 (integer_column (codes "H_PRICE")) refl refl refl,
+        heading_is schema at (holding_table tree) found (codes "HOLDING") [] [] true true (e.Column None (codes "H_PRICE")) (codes "H_PRICE") (codes "H_PRICE") 4
+            (integer_column (codes "H_PRICE")) refl refl refl,
         column_is schema at (holding_table tree) found (codes "HOLDING") [] [] true true (codes "H_QTY") 5 (integer_column (codes "H_QTY")) refl refl,
         heading_is schema at (holding_table tree) found (codes "HOLDING") [] [] true true (e.Column None (codes "H_QTY")) (codes "H_QTY") (codes "H_QTY") 5
             (integer_column (codes "H_QTY")) refl refl refl,
