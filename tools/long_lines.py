@@ -86,9 +86,9 @@ def parts(line):
     return done + [line]
 
 
-def broken(text):
-    """A text with the lines that have more than MOST characters in parts."""
-    return '\n'.join(part for line in text.split('\n') for part in (parts(line) if len(line) > MOST else [line]))
+def broken(text, most=MOST):
+    """A text with the lines that have more than `most` characters in parts."""
+    return '\n'.join(part for line in text.split('\n') for part in (parts(line) if len(line) > most else [line]))
 
 
 def main():

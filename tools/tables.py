@@ -218,6 +218,9 @@ def of_use(line, body):
     kept = [name for name in names[2].split(', ') if is_named(name.split(' as ')[-1], body)]
     return [f'{names[1]}{{{", ".join(kept)}}}'] if kept else []
 
+# a line that has at most so many characters has at most 200 when `rt fmt` has indented it
+MOST_WRITTEN = 192
+
 # what stood in the files that were written, and when it was written
 BEFORE = {}
 
@@ -233,7 +236,7 @@ def save(path, text):
         with open(path) as file:
             BEFORE[path] = (file.read(), os.stat(path))
     with open(path, 'w') as file:
-        file.write(broken(text) if '/proofs/' in path else text)
+        file.write(broken(text, MOST_WRITTEN) if '/proofs/' in path else text)
 
 def write(crate, name, what, table, body):
     save(f'crates/{crate}/proofs/{name}.antt', HEAD.format(what=what, table=table) + body)

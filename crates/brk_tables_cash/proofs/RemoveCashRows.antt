@@ -37,7 +37,8 @@ unfolding sql_lowering_definitions
 draft_is schema at tree found = refl
 
 pub understood_as : (schema : Schema) (at tree : ℕ) → IsTableAt schema (cash_table tree) at
-    → (compiled schema statement ≡ Ok (meant (read statement) [] (Delete at (record { lets = []; body = selection tree terms project [] whole_page })))) ⊎ (compiled schema statement ≡ Err Mismatch)
+    → (compiled schema statement ≡ Ok (meant (read statement) [] (Delete at (record { lets = []; body = selection tree terms project [] whole_page }))))
+    ⊎ (compiled schema statement ≡ Err Mismatch)
 unfolding everything
 understood_as schema at tree h =
     deletes_or schema statement (read statement) refl refl (codes "CASH_TRANSACTION") at (cash_table tree) h.named h.found test (draft tree) refl

@@ -45,10 +45,16 @@ draft tree = simple (Inner tree ∷ []) terms project
 
 draft_is : (schema : Schema) (at tree : ℕ) → slice_get schema.tables at ≡ Some (move_table tree) → updated schema at (move_table tree) sets (Some test) ≡ Ok (draft tree)
 unfolding sql_lowering_definitions
-draft_is schema at tree found = rw (column_is schema at (move_table tree) found (codes "CASH_MOVE") [] [] false true (codes "CM_T_ID") 2 (nullable_integer_column (codes "CM_T_ID")) refl refl, found)
+draft_is schema at tree found =
+    rw (
+      column_is schema at (move_table tree) found (codes "CASH_MOVE") [] [] false true (codes "CM_T_ID") 2 (nullable_integer_column (codes "CM_T_ID")) refl
+          refl,
+      found,
+    )
 
 pub understood_as : (schema : Schema) (at tree : ℕ) → IsTableAt schema (move_table tree) at
-    → (compiled schema statement ≡ Ok (meant (read statement) [] (Update at (record { lets = []; body = selection tree terms project [] whole_page })))) ⊎ (compiled schema statement ≡ Err Mismatch)
+    → (compiled schema statement ≡ Ok (meant (read statement) [] (Update at (record { lets = []; body = selection tree terms project [] whole_page }))))
+    ⊎ (compiled schema statement ≡ Err Mismatch)
 unfolding everything
 understood_as schema at tree h =
     updates_or schema statement (read statement) refl refl (codes "CASH_MOVE") at (move_table tree) h.named h.found sets (Some test) (draft tree) refl

@@ -105,7 +105,8 @@ module _ (schema : Schema) (at tree : ℕ) (h : IsTableAt schema (broker_table t
   shows =
       rw (
         column_is schema at (broker_table tree) found (codes "BROKER") [] [] true true (codes "B_ID") 0 (integer_column (codes "B_ID")) refl refl,
-        heading_is schema at (broker_table tree) found (codes "BROKER") [] [] true true (e.Column None (codes "B_ID")) (codes "B_ID") (codes "B_ID") 0 (integer_column (codes "B_ID")) refl refl refl,
+        heading_is schema at (broker_table tree) found (codes "BROKER") [] [] true true (e.Column None (codes "B_ID")) (codes "B_ID") (codes "B_ID") 0
+            (integer_column (codes "B_ID")) refl refl refl,
         column_is schema at (broker_table tree) found (codes "BROKER") [] [] true true (codes "B_NAME") 1 (text_column (codes "B_NAME")) refl refl,
         heading_is schema at (broker_table tree) found (codes "BROKER") [] [] true true (e.Column None (codes "B_NAME")) (codes "B_NAME") (codes "B_NAME") 1
             (text_column (codes "B_NAME")) refl refl refl,

@@ -106,7 +106,8 @@ module _ (schema : Schema) (at tree : ℕ) (h : IsTableAt schema (customer_table
   shows =
       rw (
         column_is schema at (customer_table tree) found (codes "CUSTOMER") [] [] true true (codes "C_ID") 0 (integer_column (codes "C_ID")) refl refl,
-        heading_is schema at (customer_table tree) found (codes "CUSTOMER") [] [] true true (e.Column None (codes "C_ID")) (codes "C_ID") (codes "C_ID") 0 (integer_column (codes "C_ID")) refl refl refl,
+        heading_is schema at (customer_table tree) found (codes "CUSTOMER") [] [] true true (e.Column None (codes "C_ID")) (codes "C_ID") (codes "C_ID") 0
+            (integer_column (codes "C_ID")) refl refl refl,
         column_is schema at (customer_table tree) found (codes "CUSTOMER") [] [] true true (codes "C_TIER") 1 (integer_column (codes "C_TIER")) refl refl,
         heading_is schema at (customer_table tree) found (codes "CUSTOMER") [] [] true true (e.Column None (codes "C_TIER")) (codes "C_TIER") (codes "C_TIER") 1
             (integer_column (codes "C_TIER")) refl refl refl,

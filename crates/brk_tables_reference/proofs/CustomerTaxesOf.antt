@@ -115,7 +115,12 @@ module _ (schema : Schema) (at tree : ℕ) (h : IsTableAt schema (customer_tax_t
   matches : matching lower (outermost schema) (level_one (codes "CUSTOMER_TAXRATE") at columns) core (after 2 binary)
       ≡ Ok (record { steps = Inner tree ∷ []; filter = terms }, after 5 nothing)
   unfolding sql_lowering_definitions
-  matches = rw (found, column_is schema at (customer_tax_table tree) found (codes "CUSTOMER_TAXRATE") columns [] false true (codes "CX_C_ID") 0 (integer_column (codes "CX_C_ID")) refl refl, found)
+  matches = rw (
+    found,
+    column_is schema at (customer_tax_table tree) found (codes "CUSTOMER_TAXRATE") columns [] false true (codes "CX_C_ID") 0
+        (integer_column (codes "CX_C_ID")) refl refl,
+    found,
+  )
 
   sorted : sorts lower (inside schema (level_one (codes "CUSTOMER_TAXRATE") at columns) false) columns by (after 5 nothing) ≡ Ok ((draft tree).order, after 7 binary)
   unfolding sql_lowering_definitions

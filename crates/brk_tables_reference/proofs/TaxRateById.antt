@@ -52,7 +52,8 @@ source = roll-Source (record { is_left = false; origin = Table (codes "TAXRATE")
 abbrev pub core : Core
 core = roll-Core (record {
   distinct = false;
-  shown = One (e.Column None (codes "TX_ID")) None (codes "TX_ID") ∷ One (e.Column None (codes "TX_NAME")) None (codes "TX_NAME") ∷ One (e.Column None (codes "TX_RATE")) None (codes "TX_RATE") ∷ [];
+  shown = One (e.Column None (codes "TX_ID")) None (codes "TX_ID") ∷ One (e.Column None (codes "TX_NAME")) None (codes "TX_NAME")
+      ∷ One (e.Column None (codes "TX_RATE")) None (codes "TX_RATE") ∷ [];
   from = source ∷ [];
   filter = Some (e.Binary operator.Eq (e.Column None (codes "TX_ID")) (e.Parameter 1));
   group = [];

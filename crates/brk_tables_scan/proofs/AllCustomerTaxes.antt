@@ -106,7 +106,8 @@ module _ (schema : Schema) (at tree : ℕ) (h : IsTableAt schema (customer_tax_t
   shows : result lower (outermost schema) (level_one (codes "CUSTOMER_TAXRATE") at []) core (fresh 2 max_budget) ≡ Ok (columns, after 2 binary)
   unfolding sql_lowering_definitions
   shows =
-      columns_shown schema at (customer_tax_table tree) found (codes "CUSTOMER_TAXRATE") (customer_tax_table tree).columns (refl, refl, (refl, refl, tt)) max_budget (max_budget - 3) refl core refl
+      columns_shown schema at (customer_tax_table tree) found (codes "CUSTOMER_TAXRATE") (customer_tax_table tree).columns (refl, refl, (refl, refl, tt))
+      max_budget (max_budget - 3) refl core refl
 
   matches : matching lower (outermost schema) (level_one (codes "CUSTOMER_TAXRATE") at columns) core (after 2 binary)
       ≡ Ok (record { steps = Inner tree ∷ []; filter = terms }, after 2 binary)

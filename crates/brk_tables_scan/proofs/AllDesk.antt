@@ -51,7 +51,8 @@ source = roll-Source (record { is_left = false; origin = Table (codes "DESK"); a
 abbrev pub core : Core
 core = roll-Core (record {
   distinct = false;
-  shown = One (e.Column None (codes "D_ID")) None (codes "D_ID") ∷ One (e.Column None (codes "D_SCHEMA")) None (codes "D_SCHEMA") ∷ One (e.Column None (codes "D_LAST")) None (codes "D_LAST") ∷ [];
+  shown = One (e.Column None (codes "D_ID")) None (codes "D_ID") ∷ One (e.Column None (codes "D_SCHEMA")) None (codes "D_SCHEMA")
+      ∷ One (e.Column None (codes "D_LAST")) None (codes "D_LAST") ∷ [];
   from = source ∷ [];
   filter = None;
   group = [];

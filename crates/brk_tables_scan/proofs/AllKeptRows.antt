@@ -107,7 +107,8 @@ module _ (schema : Schema) (at tree : ℕ) (h : IsTableAt schema (kept_table tre
   shows : result lower (outermost schema) (level_one (codes "KEPT") at []) core (fresh 2 max_budget) ≡ Ok (columns, after 4 binary)
   unfolding sql_lowering_definitions
   shows =
-      columns_shown schema at (kept_table tree) found (codes "KEPT") (kept_table tree).columns (refl, refl, (refl, refl, (refl, refl, (refl, refl, tt)))) max_budget (max_budget - 5) refl core refl
+      columns_shown schema at (kept_table tree) found (codes "KEPT") (kept_table tree).columns (refl, refl, (refl, refl, (refl, refl, (refl, refl, tt))))
+      max_budget (max_budget - 5) refl core refl
 
   matches : matching lower (outermost schema) (level_one (codes "KEPT") at columns) core (after 4 binary)
       ≡ Ok (record { steps = Inner tree ∷ []; filter = terms }, after 4 binary)

@@ -89,7 +89,8 @@ abbrev pub output : List ℕ → ℕ → Carried → Output
 output name place carried = record { name = name; is_alias = false; is_column = true; term = col 1 place; carried = carried }
 
 abbrev pub columns : List Output
-columns = output (codes "AP_CA_ID") 1 binary ∷ output (codes "AP_TAX_ID") 2 binary ∷ output (codes "AP_ACL") 3 binary ∷ output (codes "AP_L_NAME") 4 binary ∷ output (codes "AP_F_NAME") 5 binary ∷ []
+columns = output (codes "AP_CA_ID") 1 binary ∷ output (codes "AP_TAX_ID") 2 binary ∷ output (codes "AP_ACL") 3 binary ∷ output (codes "AP_L_NAME") 4 binary
+    ∷ output (codes "AP_F_NAME") 5 binary ∷ []
 
 abbrev pub names : List (List ℕ)
 names = codes "AP_CA_ID" ∷ codes "AP_TAX_ID" ∷ codes "AP_ACL" ∷ codes "AP_L_NAME" ∷ codes "AP_F_NAME" ∷ []

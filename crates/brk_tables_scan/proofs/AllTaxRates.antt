@@ -51,7 +51,8 @@ source = roll-Source (record { is_left = false; origin = Table (codes "TAXRATE")
 abbrev pub core : Core
 core = roll-Core (record {
   distinct = false;
-  shown = One (e.Column None (codes "TX_ID")) None (codes "TX_ID") ∷ One (e.Column None (codes "TX_NAME")) None (codes "TX_NAME") ∷ One (e.Column None (codes "TX_RATE")) None (codes "TX_RATE") ∷ [];
+  shown = One (e.Column None (codes "TX_ID")) None (codes "TX_ID") ∷ One (e.Column None (codes "TX_NAME")) None (codes "TX_NAME")
+      ∷ One (e.Column None (codes "TX_RATE")) None (codes "TX_RATE") ∷ [];
   from = source ∷ [];
   filter = None;
   group = [];
@@ -105,7 +106,8 @@ module _ (schema : Schema) (at tree : ℕ) (h : IsTableAt schema (tax_rate_table
   shows : result lower (outermost schema) (level_one (codes "TAXRATE") at []) core (fresh 2 max_budget) ≡ Ok (columns, after 3 binary)
   unfolding sql_lowering_definitions
   shows =
-      columns_shown schema at (tax_rate_table tree) found (codes "TAXRATE") (tax_rate_table tree).columns (refl, refl, (refl, refl, (refl, refl, tt))) max_budget (max_budget - 4) refl core refl
+      columns_shown schema at (tax_rate_table tree) found (codes "TAXRATE") (tax_rate_table tree).columns (refl, refl, (refl, refl, (refl, refl, tt)))
+      max_budget (max_budget - 4) refl core refl
 
   matches : matching lower (outermost schema) (level_one (codes "TAXRATE") at columns) core (after 3 binary)
       ≡ Ok (record { steps = Inner tree ∷ []; filter = terms }, after 3 binary)

@@ -107,7 +107,8 @@ module _ (schema : Schema) (at tree : ℕ) (h : IsTableAt schema (history_table 
   shows : result lower (outermost schema) (level_one (codes "TRADE_HISTORY") at []) core (fresh 2 max_budget) ≡ Ok (columns, after 3 binary)
   unfolding sql_lowering_definitions
   shows =
-      columns_shown schema at (history_table tree) found (codes "TRADE_HISTORY") (history_table tree).columns (refl, refl, (refl, refl, (refl, refl, tt))) max_budget (max_budget - 4) refl core refl
+      columns_shown schema at (history_table tree) found (codes "TRADE_HISTORY") (history_table tree).columns (refl, refl, (refl, refl, (refl, refl, tt)))
+      max_budget (max_budget - 4) refl core refl
 
   matches : matching lower (outermost schema) (level_one (codes "TRADE_HISTORY") at columns) core (after 3 binary)
       ≡ Ok (record { steps = Inner tree ∷ []; filter = terms }, after 3 binary)

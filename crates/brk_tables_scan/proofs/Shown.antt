@@ -56,7 +56,8 @@ kept_shown old new rows shown =
 
 pub broker_shown : (old new : State) (rows : List Row) → Shown AllBrokers.statement [] old new rows → ShowsAllRows Brokers rows old.now
 broker_shown old new rows shown =
-    shows_all Brokers (key_total broker_key) broker_once AllBrokers.statement (read AllBrokers.statement) AllBrokers.project AllBrokers.order AllBrokers.names AllBrokers.understood_as (λ tree r. refl)
+    shows_all Brokers (key_total broker_key) broker_once AllBrokers.statement (read AllBrokers.statement) AllBrokers.project AllBrokers.order AllBrokers.names
+    AllBrokers.understood_as (λ tree r. refl)
     (λ tree a b x y e f. let p0 : column a 0 ≡ natural_as_value x.id = cc in let q0 : column b 0 ≡ natural_as_value y.id = cc in rw (p0, q0) refl) old new rows shown
 
 pub customer_shown : (old new : State) (rows : List Row) → Shown AllCustomers.statement [] old new rows → ShowsAllRows Customers rows old.now
@@ -92,7 +93,8 @@ last_trade_shown old new rows shown =
 
 pub charge_shown : (old new : State) (rows : List Row) → Shown AllCharges.statement [] old new rows → ShowsAllRows Charges rows old.now
 charge_shown old new rows shown =
-    shows_all Charges (key_total charge_key) charge_once AllCharges.statement (read AllCharges.statement) AllCharges.project AllCharges.order AllCharges.names AllCharges.understood_as (λ tree r. refl)
+    shows_all Charges (key_total charge_key) charge_once AllCharges.statement (read AllCharges.statement) AllCharges.project AllCharges.order AllCharges.names
+    AllCharges.understood_as (λ tree r. refl)
     (λ tree a b x y e f. let p0 : column a 1 ≡ Words (trade_type_code x.kind) = cc in let q0 : column b 1 ≡ Words (trade_type_code y.kind) = cc in
     let p1 : column a 2 ≡ natural_as_value x.tier = cc in let q1 : column b 2 ≡ natural_as_value y.tier = cc in rw (p0, q0, p1, q1) refl) old new rows shown
 

@@ -49,7 +49,8 @@ source = roll-Source (record { is_left = false; origin = Table (codes "DESK"); a
 abbrev pub core : Core
 core = roll-Core (record {
   distinct = false;
-  shown = One (e.Column None (codes "D_ID")) None (codes "D_ID") ∷ One (e.Column None (codes "D_SCHEMA")) None (codes "D_SCHEMA") ∷ One (e.Column None (codes "D_LAST")) None (codes "D_LAST") ∷ [];
+  shown = One (e.Column None (codes "D_ID")) None (codes "D_ID") ∷ One (e.Column None (codes "D_SCHEMA")) None (codes "D_SCHEMA")
+      ∷ One (e.Column None (codes "D_LAST")) None (codes "D_LAST") ∷ [];
   from = source ∷ [];
   filter = None;
   group = [];
@@ -101,7 +102,8 @@ module _ (schema : Schema) (at tree : ℕ) (h : IsTableAt schema (desk_row_table
   shows =
       rw (
         column_is schema at (desk_row_table tree) found (codes "DESK") [] [] true true (codes "D_ID") 0 (integer_column (codes "D_ID")) refl refl,
-        heading_is schema at (desk_row_table tree) found (codes "DESK") [] [] true true (e.Column None (codes "D_ID")) (codes "D_ID") (codes "D_ID") 0 (integer_column (codes "D_ID")) refl refl refl,
+        heading_is schema at (desk_row_table tree) found (codes "DESK") [] [] true true (e.Column None (codes "D_ID")) (codes "D_ID") (codes "D_ID") 0
+            (integer_column (codes "D_ID")) refl refl refl,
         column_is schema at (desk_row_table tree) found (codes "DESK") [] [] true true (codes "D_SCHEMA") 1 (integer_column (codes "D_SCHEMA")) refl refl,
         heading_is schema at (desk_row_table tree) found (codes "DESK") [] [] true true (e.Column None (codes "D_SCHEMA")) (codes "D_SCHEMA") (codes "D_SCHEMA") 1
             (integer_column (codes "D_SCHEMA")) refl refl refl,

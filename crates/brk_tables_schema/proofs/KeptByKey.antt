@@ -111,9 +111,11 @@ module _ (schema : Schema) (at tree : ℕ) (h : IsTableAt schema (kept_table tre
         column_is schema at (kept_table tree) found (codes "KEPT") [] [] true true (codes "K_N") 1 (integer_column (codes "K_N")) refl refl,
         heading_is schema at (kept_table tree) found (codes "KEPT") [] [] true true (e.Column None (codes "K_N")) (codes "K_N") (codes "K_N") 1 (integer_column (codes "K_N")) refl refl refl,
         column_is schema at (kept_table tree) found (codes "KEPT") [] [] true true (codes "K_ROW") 2 (text_column (codes "K_ROW")) refl refl,
-        heading_is schema at (kept_table tree) found (codes "KEPT") [] [] true true (e.Column None (codes "K_ROW")) (codes "K_ROW") (codes "K_ROW") 2 (text_column (codes "K_ROW")) refl refl refl,
+        heading_is schema at (kept_table tree) found (codes "KEPT") [] [] true true (e.Column None (codes "K_ROW")) (codes "K_ROW") (codes "K_ROW") 2
+            (text_column (codes "K_ROW")) refl refl refl,
         column_is schema at (kept_table tree) found (codes "KEPT") [] [] true true (codes "K_LINE") 3 (text_column (codes "K_LINE")) refl refl,
-        heading_is schema at (kept_table tree) found (codes "KEPT") [] [] true true (e.Column None (codes "K_LINE")) (codes "K_LINE") (codes "K_LINE") 3 (text_column (codes "K_LINE")) refl refl refl,
+        heading_is schema at (kept_table tree) found (codes "KEPT") [] [] true true (e.Column None (codes "K_LINE")) (codes "K_LINE") (codes "K_LINE") 3
+            (text_column (codes "K_LINE")) refl refl refl,
       )
 
   matches : matching lower (outermost schema) (level_one (codes "KEPT") at columns) core (after 4 binary)

@@ -48,7 +48,8 @@ unfolding sql_lowering_definitions
 draft_is schema at tree found = rw (column_is schema at (desk_row_table tree) found (codes "DESK") [] [] false true (codes "D_ID") 0 (integer_column (codes "D_ID")) refl refl)
 
 pub understood_as : (schema : Schema) (at tree : ℕ) → IsTableAt schema (desk_row_table tree) at
-    → (compiled schema statement ≡ Ok (meant (read statement) [] (Update at (record { lets = []; body = selection tree terms project [] whole_page })))) ⊎ (compiled schema statement ≡ Err Mismatch)
+    → (compiled schema statement ≡ Ok (meant (read statement) [] (Update at (record { lets = []; body = selection tree terms project [] whole_page }))))
+    ⊎ (compiled schema statement ≡ Err Mismatch)
 unfolding everything
 understood_as schema at tree h =
     updates_or schema statement (read statement) refl refl (codes "DESK") at (desk_row_table tree) h.named h.found sets (Some test) (draft tree) refl

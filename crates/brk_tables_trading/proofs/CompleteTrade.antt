@@ -48,7 +48,8 @@ unfolding sql_lowering_definitions
 draft_is schema at tree found = rw (column_is schema at (trade_table tree) found (codes "TRADE") [] [] false true (codes "T_ID") 0 (integer_column (codes "T_ID")) refl refl)
 
 pub understood_as : (schema : Schema) (at tree : ℕ) → IsTableAt schema (trade_table tree) at
-    → (compiled schema statement ≡ Ok (meant (read statement) [] (Update at (record { lets = []; body = selection tree terms project [] whole_page })))) ⊎ (compiled schema statement ≡ Err Mismatch)
+    → (compiled schema statement ≡ Ok (meant (read statement) [] (Update at (record { lets = []; body = selection tree terms project [] whole_page }))))
+    ⊎ (compiled schema statement ≡ Err Mismatch)
 unfolding everything
 understood_as schema at tree h =
     updates_or schema statement (read statement) refl refl (codes "TRADE") at (trade_table tree) h.named h.found sets (Some test) (draft tree) refl

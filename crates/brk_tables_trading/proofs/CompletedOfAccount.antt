@@ -78,7 +78,8 @@ abbrev pub select : ast.Select
 select = ast.roll-Select (record { with = []; first = core; others = []; order = by; limit = Some (e.Integer (codes "20")); offset = None })
 
 abbrev pub terms : List Term
-terms = op2 (Compare Eq Binary) (col 1 3) (col 0 0) ∷ op2 (Compare Eq Binary) (col 1 9) (col 0 1) ∷ op2 (Compare Ge Binary) (col 1 2) (col 0 2) ∷ op2 (Compare Le Binary) (col 1 2) (col 0 3) ∷ []
+terms = op2 (Compare Eq Binary) (col 1 3) (col 0 0) ∷ op2 (Compare Eq Binary) (col 1 9) (col 0 1) ∷ op2 (Compare Ge Binary) (col 1 2) (col 0 2)
+    ∷ op2 (Compare Le Binary) (col 1 2) (col 0 3) ∷ []
 
 abbrev pub project : List Term
 project = col 1 0 ∷ col 1 2 ∷ col 1 3 ∷ col 1 4 ∷ col 1 5 ∷ col 1 6 ∷ col 1 7 ∷ col 1 8 ∷ col 1 9 ∷ col 1 10 ∷ col 1 11 ∷ col 1 12 ∷ col 1 13 ∷ col 1 14 ∷ col 1 15 ∷ []
@@ -120,9 +121,11 @@ module _ (schema : Schema) (at tree : ℕ) (h : IsTableAt schema (trade_table tr
   shows =
       rw (
         column_is schema at (trade_table tree) found (codes "TRADE") [] [] true true (codes "T_ID") 0 (integer_column (codes "T_ID")) refl refl,
-        heading_is schema at (trade_table tree) found (codes "TRADE") [] [] true true (e.Column None (codes "T_ID")) (codes "T_ID") (codes "T_ID") 0 (integer_column (codes "T_ID")) refl refl refl,
+        heading_is schema at (trade_table tree) found (codes "TRADE") [] [] true true (e.Column None (codes "T_ID")) (codes "T_ID") (codes "T_ID") 0
+            (integer_column (codes "T_ID")) refl refl refl,
         column_is schema at (trade_table tree) found (codes "TRADE") [] [] true true (codes "T_DTS") 1 (integer_column (codes "T_DTS")) refl refl,
-        heading_is schema at (trade_table tree) found (codes "TRADE") [] [] true true (e.Column None (codes "T_DTS")) (codes "T_DTS") (codes "T_DTS") 1 (integer_column (codes "T_DTS")) refl refl refl,
+        heading_is schema at (trade_table tree) found (codes "TRADE") [] [] true true (e.Column None (codes "T_DTS")) (codes "T_DTS") (codes "T_DTS") 1
+            (integer_column (codes "T_DTS")) refl refl refl,
         column_is schema at (trade_table tree) found (codes "TRADE") [] [] true true (codes "T_ST_ID") 2 (text_column (codes "T_ST_ID")) refl refl,
         heading_is schema at (trade_table tree) found (codes "TRADE") [] [] true true (e.Column None (codes "T_ST_ID")) (codes "T_ST_ID") (codes "T_ST_ID") 2
             (text_column (codes "T_ST_ID")) refl refl refl,
@@ -136,7 +139,8 @@ module _ (schema : Schema) (at tree : ℕ) (h : IsTableAt schema (trade_table tr
         heading_is schema at (trade_table tree) found (codes "TRADE") [] [] true true (e.Column None (codes "T_S_SYMB")) (codes "T_S_SYMB") (codes "T_S_SYMB") 5
             (text_column (codes "T_S_SYMB")) refl refl refl,
         column_is schema at (trade_table tree) found (codes "TRADE") [] [] true true (codes "T_QTY") 6 (integer_column (codes "T_QTY")) refl refl,
-        heading_is schema at (trade_table tree) found (codes "TRADE") [] [] true true (e.Column None (codes "T_QTY")) (codes "T_QTY") (codes "T_QTY") 6 (integer_column (codes "T_QTY")) refl refl refl,
+        heading_is schema at (trade_table tree) found (codes "TRADE") [] [] true true (e.Column None (codes "T_QTY")) (codes "T_QTY") (codes "T_QTY") 6
+            (integer_column (codes "T_QTY")) refl refl refl,
         column_is schema at (trade_table tree) found (codes "TRADE") [] [] true true (codes "T_BID_PRICE") 7 (integer_column (codes "T_BID_PRICE")) refl refl,
         heading_is schema at (trade_table tree) found (codes "TRADE") [] [] true true (e.Column None (codes "T_BID_PRICE")) (codes "T_BID_PRICE")
             (codes "T_BID_PRICE") 7 (integer_column (codes "T_BID_PRICE")) refl refl refl,
@@ -156,7 +160,8 @@ module _ (schema : Schema) (at tree : ℕ) (h : IsTableAt schema (trade_table tr
         heading_is schema at (trade_table tree) found (codes "TRADE") [] [] true true (e.Column None (codes "T_COMM")) (codes "T_COMM") (codes "T_COMM") 12
             (integer_column (codes "T_COMM")) refl refl refl,
         column_is schema at (trade_table tree) found (codes "TRADE") [] [] true true (codes "T_TAX") 13 (integer_column (codes "T_TAX")) refl refl,
-        heading_is schema at (trade_table tree) found (codes "TRADE") [] [] true true (e.Column None (codes "T_TAX")) (codes "T_TAX") (codes "T_TAX") 13 (integer_column (codes "T_TAX")) refl refl refl,
+        heading_is schema at (trade_table tree) found (codes "TRADE") [] [] true true (e.Column None (codes "T_TAX")) (codes "T_TAX") (codes "T_TAX") 13
+            (integer_column (codes "T_TAX")) refl refl refl,
         column_is schema at (trade_table tree) found (codes "TRADE") [] [] true true (codes "T_LIFO") 14 (integer_column (codes "T_LIFO")) refl refl,
         heading_is schema at (trade_table tree) found (codes "TRADE") [] [] true true (e.Column None (codes "T_LIFO")) (codes "T_LIFO") (codes "T_LIFO") 14
             (integer_column (codes "T_LIFO")) refl refl refl,

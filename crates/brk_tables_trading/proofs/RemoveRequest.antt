@@ -43,7 +43,8 @@ unfolding sql_lowering_definitions
 draft_is schema at tree found = rw (column_is schema at (request_table tree) found (codes "TRADE_REQUEST") [] [] false true (codes "TR_T_ID") 0 (integer_column (codes "TR_T_ID")) refl refl)
 
 pub understood_as : (schema : Schema) (at tree : ℕ) → IsTableAt schema (request_table tree) at
-    → (compiled schema statement ≡ Ok (meant (read statement) [] (Delete at (record { lets = []; body = selection tree terms project [] whole_page })))) ⊎ (compiled schema statement ≡ Err Mismatch)
+    → (compiled schema statement ≡ Ok (meant (read statement) [] (Delete at (record { lets = []; body = selection tree terms project [] whole_page }))))
+    ⊎ (compiled schema statement ≡ Err Mismatch)
 unfolding everything
 understood_as schema at tree h =
     deletes_or schema statement (read statement) refl refl (codes "TRADE_REQUEST") at (request_table tree) h.named h.found test (draft tree) refl

@@ -48,7 +48,8 @@ unfolding sql_lowering_definitions
 draft_is schema at tree found = rw (column_is schema at (account_table tree) found (codes "CUSTOMER_ACCOUNT") [] [] false true (codes "CA_ID") 0 (integer_column (codes "CA_ID")) refl refl)
 
 pub understood_as : (schema : Schema) (at tree : ℕ) → IsTableAt schema (account_table tree) at
-    → (compiled schema statement ≡ Ok (meant (read statement) [] (Update at (record { lets = []; body = selection tree terms project [] whole_page })))) ⊎ (compiled schema statement ≡ Err Mismatch)
+    → (compiled schema statement ≡ Ok (meant (read statement) [] (Update at (record { lets = []; body = selection tree terms project [] whole_page }))))
+    ⊎ (compiled schema statement ≡ Err Mismatch)
 unfolding everything
 understood_as schema at tree h =
     updates_or schema statement (read statement) refl refl (codes "CUSTOMER_ACCOUNT") at (account_table tree) h.named h.found sets (Some test) (draft tree) refl

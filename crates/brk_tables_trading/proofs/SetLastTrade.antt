@@ -44,10 +44,16 @@ draft tree = simple (Inner tree ∷ []) terms project
 
 draft_is : (schema : Schema) (at tree : ℕ) → slice_get schema.tables at ≡ Some (last_trade_table tree) → updated schema at (last_trade_table tree) sets (Some test) ≡ Ok (draft tree)
 unfolding sql_lowering_definitions
-draft_is schema at tree found = rw (column_is schema at (last_trade_table tree) found (codes "LAST_TRADE") [] [] false true (codes "LT_S_SYMB") 0 (text_column (codes "LT_S_SYMB")) refl refl, found)
+draft_is schema at tree found =
+    rw (
+      column_is schema at (last_trade_table tree) found (codes "LAST_TRADE") [] [] false true (codes "LT_S_SYMB") 0 (text_column (codes "LT_S_SYMB")) refl
+          refl,
+      found,
+    )
 
 pub understood_as : (schema : Schema) (at tree : ℕ) → IsTableAt schema (last_trade_table tree) at
-    → (compiled schema statement ≡ Ok (meant (read statement) [] (Update at (record { lets = []; body = selection tree terms project [] whole_page })))) ⊎ (compiled schema statement ≡ Err Mismatch)
+    → (compiled schema statement ≡ Ok (meant (read statement) [] (Update at (record { lets = []; body = selection tree terms project [] whole_page }))))
+    ⊎ (compiled schema statement ≡ Err Mismatch)
 unfolding everything
 understood_as schema at tree h =
     updates_or schema statement (read statement) refl refl (codes "LAST_TRADE") at (last_trade_table tree) h.named h.found sets (Some test) (draft tree) refl

@@ -55,7 +55,8 @@ draft_is schema at tree found =
     )
 
 pub understood_as : (schema : Schema) (at tree : ℕ) → IsTableAt schema (summary_table tree) at
-    → (compiled schema statement ≡ Ok (meant (read statement) [] (Update at (record { lets = []; body = selection tree terms project [] whole_page })))) ⊎ (compiled schema statement ≡ Err Mismatch)
+    → (compiled schema statement ≡ Ok (meant (read statement) [] (Update at (record { lets = []; body = selection tree terms project [] whole_page }))))
+    ⊎ (compiled schema statement ≡ Err Mismatch)
 unfolding everything
 understood_as schema at tree h =
     updates_or schema statement (read statement) refl refl (codes "HOLDING_SUMMARY") at (summary_table tree) h.named h.found sets (Some test) (draft tree) refl

@@ -115,9 +115,11 @@ module _ (schema : Schema) (at tree : ℕ) (h : IsTableAt schema (trade_table tr
   shows =
       rw (
         column_is schema at (trade_table tree) found (codes "TRADE") [] [] true true (codes "T_ID") 0 (integer_column (codes "T_ID")) refl refl,
-        heading_is schema at (trade_table tree) found (codes "TRADE") [] [] true true (e.Column None (codes "T_ID")) (codes "T_ID") (codes "T_ID") 0 (integer_column (codes "T_ID")) refl refl refl,
+        heading_is schema at (trade_table tree) found (codes "TRADE") [] [] true true (e.Column None (codes "T_ID")) (codes "T_ID") (codes "T_ID") 0
+            (integer_column (codes "T_ID")) refl refl refl,
         column_is schema at (trade_table tree) found (codes "TRADE") [] [] true true (codes "T_DTS") 1 (integer_column (codes "T_DTS")) refl refl,
-        heading_is schema at (trade_table tree) found (codes "TRADE") [] [] true true (e.Column None (codes "T_DTS")) (codes "T_DTS") (codes "T_DTS") 1 (integer_column (codes "T_DTS")) refl refl refl,
+        heading_is schema at (trade_table tree) found (codes "TRADE") [] [] true true (e.Column None (codes "T_DTS")) (codes "T_DTS") (codes "T_DTS") 1
+            (integer_column (codes "T_DTS")) refl refl refl,
         column_is schema at (trade_table tree) found (codes "TRADE") [] [] true true (codes "T_ST_ID") 2 (text_column (codes "T_ST_ID")) refl refl,
         heading_is schema at (trade_table tree) found (codes "TRADE") [] [] true true (e.Column None (codes "T_ST_ID")) (codes "T_ST_ID") (codes "T_ST_ID") 2
             (text_column (codes "T_ST_ID")) refl refl refl,
@@ -131,7 +133,8 @@ module _ (schema : Schema) (at tree : ℕ) (h : IsTableAt schema (trade_table tr
         heading_is schema at (trade_table tree) found (codes "TRADE") [] [] true true (e.Column None (codes "T_S_SYMB")) (codes "T_S_SYMB") (codes "T_S_SYMB") 5
             (text_column (codes "T_S_SYMB")) refl refl refl,
         column_is schema at (trade_table tree) found (codes "TRADE") [] [] true true (codes "T_QTY") 6 (integer_column (codes "T_QTY")) refl refl,
-        heading_is schema at (trade_table tree) found (codes "TRADE") [] [] true true (e.Column None (codes "T_QTY")) (codes "T_QTY") (codes "T_QTY") 6 (integer_column (codes "T_QTY")) refl refl refl,
+        heading_is schema at (trade_table tree) found (codes "TRADE") [] [] true true (e.Column None (codes "T_QTY")) (codes "T_QTY") (codes "T_QTY") 6
+            (integer_column (codes "T_QTY")) refl refl refl,
         column_is schema at (trade_table tree) found (codes "TRADE") [] [] true true (codes "T_BID_PRICE") 7 (integer_column (codes "T_BID_PRICE")) refl refl,
         heading_is schema at (trade_table tree) found (codes "TRADE") [] [] true true (e.Column None (codes "T_BID_PRICE")) (codes "T_BID_PRICE")
             (codes "T_BID_PRICE") 7 (integer_column (codes "T_BID_PRICE")) refl refl refl,
@@ -151,7 +154,8 @@ module _ (schema : Schema) (at tree : ℕ) (h : IsTableAt schema (trade_table tr
         heading_is schema at (trade_table tree) found (codes "TRADE") [] [] true true (e.Column None (codes "T_COMM")) (codes "T_COMM") (codes "T_COMM") 12
             (integer_column (codes "T_COMM")) refl refl refl,
         column_is schema at (trade_table tree) found (codes "TRADE") [] [] true true (codes "T_TAX") 13 (integer_column (codes "T_TAX")) refl refl,
-        heading_is schema at (trade_table tree) found (codes "TRADE") [] [] true true (e.Column None (codes "T_TAX")) (codes "T_TAX") (codes "T_TAX") 13 (integer_column (codes "T_TAX")) refl refl refl,
+        heading_is schema at (trade_table tree) found (codes "TRADE") [] [] true true (e.Column None (codes "T_TAX")) (codes "T_TAX") (codes "T_TAX") 13
+            (integer_column (codes "T_TAX")) refl refl refl,
         column_is schema at (trade_table tree) found (codes "TRADE") [] [] true true (codes "T_LIFO") 14 (integer_column (codes "T_LIFO")) refl refl,
         heading_is schema at (trade_table tree) found (codes "TRADE") [] [] true true (e.Column None (codes "T_LIFO")) (codes "T_LIFO") (codes "T_LIFO") 14
             (integer_column (codes "T_LIFO")) refl refl refl,

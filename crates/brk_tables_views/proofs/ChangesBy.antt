@@ -122,7 +122,12 @@ module _ (schema : Schema) (at tree : ℕ) (h : IsTableAt schema (holding_histor
   matches : matching lower (outermost schema) (level_one (codes "HOLDING_HISTORY") at columns) core (after 4 binary)
       ≡ Ok (record { steps = Inner tree ∷ []; filter = terms }, after 7 nothing)
   unfolding sql_lowering_definitions
-  matches = rw (found, column_is schema at (holding_history_table tree) found (codes "HOLDING_HISTORY") columns [] false true (codes "HH_T_ID") 1 (integer_column (codes "HH_T_ID")) refl refl, found)
+  matches = rw (
+    found,
+    column_is schema at (holding_history_table tree) found (codes "HOLDING_HISTORY") columns [] false true (codes "HH_T_ID") 1
+        (integer_column (codes "HH_T_ID")) refl refl,
+    found,
+  )
 
   sorted : sorts lower (inside schema (level_one (codes "HOLDING_HISTORY") at columns) false) columns by (after 7 nothing) ≡ Ok ((draft tree).order, after 9 binary)
   unfolding sql_lowering_definitions

@@ -107,7 +107,8 @@ module _ (schema : Schema) (at tree : ℕ) (h : IsTableAt schema (trade_table tr
   shows =
       rw (
         column_is schema at (trade_table tree) found (codes "TRADE") [] [] true true (codes "T_ID") 0 (integer_column (codes "T_ID")) refl refl,
-        heading_is schema at (trade_table tree) found (codes "TRADE") [] [] true true (e.Column None (codes "T_ID")) (codes "T_ID") (codes "T_ID") 0 (integer_column (codes "T_ID")) refl refl refl,
+        heading_is schema at (trade_table tree) found (codes "TRADE") [] [] true true (e.Column None (codes "T_ID")) (codes "T_ID") (codes "T_ID") 0
+            (integer_column (codes "T_ID")) refl refl refl,
       )
 
   matches : matching lower (outermost schema) (level_one (codes "TRADE") at columns) core (after 1 nothing)

@@ -76,7 +76,8 @@ abbrev pub project : List Term
 project = col 1 0 ∷ col 1 2 ∷ col 1 3 ∷ col 1 4 ∷ col 1 5 ∷ col 1 6 ∷ []
 
 abbrev pub order : List (Term × Key)
-order = (col 1 3, record { collation = Binary; descending = false }) ∷ (col 1 4, record { collation = Binary; descending = false }) ∷ (col 1 0, record { collation = Binary; descending = false }) ∷ []
+order = (col 1 3, record { collation = Binary; descending = false }) ∷ (col 1 4, record { collation = Binary; descending = false })
+    ∷ (col 1 0, record { collation = Binary; descending = false }) ∷ []
 
 abbrev pub paging : Term × Term
 paging = (lit (Int (negsuc 0)), lit (Int (pos 0)))
@@ -152,7 +153,8 @@ module _ (schema : Schema) (at tree : ℕ) (h : IsTableAt schema (holding_table 
       ≡ Ok (meant (read statement) [] (Select (record { lets = []; body = selection tree terms project order paging }) names)))
       ⊎ (compiled schema statement ≡ Err Mismatch)
   unfolding everything
-  understood_as = reads_or schema statement (read statement) refl refl select (draft tree) names (None ∷ Some Binary ∷ Some Binary ∷ Some Binary ∷ Some Binary ∷ Some Binary ∷ []) refl meaning_is
+  understood_as = reads_or schema statement (read statement) refl refl select (draft tree) names
+      (None ∷ Some Binary ∷ Some Binary ∷ Some Binary ∷ Some Binary ∷ Some Binary ∷ []) refl meaning_is
 
 pub plain : (schema : Schema) (c : Compiled) → understood schema statement ≡ Ok c → c.returning ≡ None
 unfolding everything
