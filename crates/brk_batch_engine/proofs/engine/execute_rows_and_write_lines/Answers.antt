@@ -8,19 +8,19 @@ use Rattle.brk_batch_engine.proofs.Reached.{reached_start}
 use Rattle.brk_batch_engine.proofs.RowSteps.{end_line_written, end_record_failed, first_row_ended, next_record_ended, no_turn_left, row_decided, row_ended}
 use Rattle.brk_batch_engine.proofs.engine.execute_rows_and_write_lines.Goals as goal
 
-pub returns-in_err-read_first_row : goal.returns-in_err-read_first_row
-returns-in_err-read_first_row g c = λ text h.
+pub returns-in_err-read_record_after_header : goal.returns-in_err-read_record_after_header
+returns-in_err-read_record_after_header g c = λ text h.
     let p = err_from_is_err_and c.from_residual.result c.from_residual.ensures.1 in
     rw (p.1, p.2) (first_row_ended g.D.Rows.meets_disk_assumption g.D.Rows.represents g.D.Rows.crash_exposes_only g.D.Rows.acts g.D.Rows.form g.D.Rows.step g.C.Clock.gives g.R.Read.remaining
-    c.args.desk.now c.args.name.now c.args.clock.now (g.W.Write.contents c.args.writer.now) c.args.records.now _ text c.requires.named c.in_err-read_first_row.ensures.err h)
+    c.args.desk.now c.args.name.now c.args.clock.now (g.W.Write.contents c.args.writer.now) c.args.records.now _ text c.requires.named c.in_err-read_record_after_header.ensures.err h)
 
 pub loop-settled-init : goal.loop-settled-init
 loop-settled-init g c =
     let start = reached_start g.D.Rows.meets_disk_assumption (RepresentsDurably g.D.Rows.represents g.D.Rows.crash_exposes_only) g.D.Rows.acts g.D.Rows.form
     g.D.Rows.step g.C.Clock.gives g.R.Read.remaining c.args.desk.now
     (record { name = c.args.name.now; clock = c.args.clock.now; old = g.W.Write.contents c.args.writer.now; reader = c.args.records.now }) _ _ c.requires.named
-    c.in_ok-read_first_row.ensures.read in
-    record { setup = c.in_ok-read_first_row.ensures.setup; reached = start.0; written = rw start.1 (Appends-nil _) }
+    c.in_ok-read_record_after_header.ensures.read in
+    record { setup = c.in_ok-read_record_after_header.ensures.setup; reached = start.0; written = rw start.1 (Appends-nil _) }
 
 pub returns-in_err-check_end_record_and_write_end_line : goal.returns-in_err-check_end_record_and_write_end_line
 returns-in_err-check_end_record_and_write_end_line g c = λ text h.
