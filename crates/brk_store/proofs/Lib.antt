@@ -16,4 +16,4 @@ pub mod WalkedLists
 pub mod Walking
 pub mod Sequences
 pub mod ReadResults
-pub mod Valuation
+pub mod MarketValues

@@ -10,7 +10,7 @@ use Rattle.brk_store.specs.Valuation.{AreValuedSummariesOfAccount, market_value_
 use Rattle.brk_store.specs.declared.valuation.ValuedSummaries.{ValuedSummaries}
 use Rattle.brk_store.proofs.Retelling.{retold}
 use Rattle.brk_store.proofs.Sequences.{failed_after, read_with}
-use Rattle.brk_store.proofs.Valuation.{total_by-none, worth_more}
+use Rattle.brk_store.proofs.MarketValues.{total_by-none, worth_more}
 use Rattle.std.proofs.lemmas.Result.{err_from_is_err_and}
 use Rattle.brk_store.specs.ReadSequences.{single_read_changes_nothing}
 use Rattle.brk_store.proofs.valuation.read_valued_summaries.Goals as goal
