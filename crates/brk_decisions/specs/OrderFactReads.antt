@@ -1,12 +1,10 @@
 -- The facts in the tables that decide on an order.
-use Rattle.std.specs.Prelude.{◌≡◌, ℕ, ◌==◌, ◌+ℤ◌, ◌*ℤ◌, ℤ, pos, false, filter, find, map, Option, Some, None, IfSome, option_map}
-use Rattle.brk_model.specs.Joins.{account_row_with_id, last_price_in_tables, security_row_with_symbol}
-use Rattle.brk_model.specs.Lists.{total_by}
+use Rattle.std.specs.Prelude.{◌≡◌, ℕ, ◌==◌, ◌+ℤ◌, ℤ, pos, false, find, Option, Some, None, IfSome, option_map}
+use Rattle.brk_model.specs.Joins.{account_row_with_id, security_row_with_symbol}
 use Rattle.brk_model.specs.Orders.{is_customer_or_has_permission}
-use Rattle.brk_model.specs.Tables.{SummaryRow, Tables}
+use Rattle.brk_model.specs.Tables.{Tables}
 use Rattle.brk_money.specs.OrderTypes.{trade_type_of_order_type}
 use Rattle.brk_money.specs.Spelling.{Text}
-use Rattle.brk_changes.specs.Rows.{abstract_summary_row}
 use Rattle.brk_orders.specs.declared.order.Order.{Order}
 use Rattle.brk_ref.specs.Records.{abstract_account_row, abstract_customer, abstract_executor}
 use Rattle.brk_ref.specs.declared.account.AccountRow.{AccountRow}
@@ -18,7 +16,7 @@ use Rattle.brk_book_theorems.specs.Reads.{customer_tax_rate_sum}
 use Rattle.brk_book_theorems.specs.TradeReads.{commission_band_of_quantity, permission_list_for_tax_id, summary_row_of_position}
 use Rattle.brk_decisions.specs.declared.tested.OrderCheckFacts.{OrderCheckFacts}
 use Rattle.brk_decisions.specs.declared.amounts.Amounts.{Amounts}
-use Rattle.brk_store.specs.declared.valuation.ValuedSummaries.{ValuedSummaries}
+use Rattle.brk_store.specs.Valuation.{market_value_of_account}
 
 -- The customer with the id `id` exists in the tables `t`, and its row equals `customer`.
 abbrev pub IsCustomerWithId : Tables → ℕ → Customer → Type 0

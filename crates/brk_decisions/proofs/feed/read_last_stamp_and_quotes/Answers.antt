@@ -11,7 +11,7 @@ use Rattle.brk_trade_theorems.proofs.Quotes.{no_quotes}
 use Rattle.brk_store.specs.Holds.{ReadPost}
 use Rattle.brk_decisions.proofs.Feeds.{IsQuoteOfTickOrNone, QuotesAndLastStampMatch, one_quoted, one_not_listed, one_read}
 use Rattle.brk_store.proofs.Retelling.{retold}
-use Rattle.brk_store.proofs.Sequences.{failed_after, read_failed, read_with}
+use Rattle.brk_store.proofs.Sequences.{failed_after, read_with}
 use Rattle.brk_store.specs.ReadSequences.{single_read_changes_nothing}
 use Rattle.brk_decisions.proofs.feed.read_last_stamp_and_quotes.Goals as goal
 use Rattle.brk_decisions.proofs.feed.read_last_stamp_and_quotes.Goals.{then-has_no_quote_of_symbol+in_ok-quote+in-Some+in_ok-push}
@@ -79,12 +79,11 @@ pub returns-in_err-push-clause-read : goal.returns-in_err-push-clause-read
 returns-in_err-push-clause-read g c =
     let ticks = c.args.ticks.now in
     let tick = c.tick-item.result in
-    let last = c.in_ok-last.last in
+    let old = c.args.store.now in
     let p = err_from_is_err_and c.from_residual-in_err-push.result c.from_residual-in_err-push.ensures.1 in
     rw (p.1)
-    (read_failed g.S.Store c.args.store.now c.loop-tick.store c.read_quote_of_tick.new.store tt c.in_ok-quote.field-0 p.0
-    (λ _. QuotesAndLastStampMatch ticks (take c.loop-tick.tick-index ticks) (states_of_quotes c.loop-tick.quotes.items) last) (IsQuoteOfTickOrNone ticks tick) _
-    c.loop-tick.invariant c.in_ok-quote.ensures.read)
+    (failed_after g.S.Store old c.loop-tick.store c.read_quote_of_tick.new.store (Ok c.in_ok-quote.field-0) p.0 (IsQuoteOfTickOrNone ticks tick) _
+    (single_read_changes_nothing old c.loop-tick.store _ _ c.loop-tick.invariant) c.in_ok-quote.ensures.read)
 
 pub returns-in_err-quote-clause-read : goal.returns-in_err-quote-clause-read
 returns-in_err-quote-clause-read g c =
