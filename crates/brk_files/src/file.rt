@@ -71,9 +71,11 @@ fn adopt_connection<S: Alter>(
     Store::adopt(alloc, conn)
 }
 
-// Adopts the database of a connection as a store. If the adoption fails, closes the file, ignores
-// an error of this, and fails with the fault of the adoption: `Damaged` with the first condition
-// that fails, `Memory` or `Store`.
+// Adopts the database of a connection as a store, upgraded to schema 3. If the adoption fails,
+// closes the file, ignores an error of this, and fails with the fault of the adoption: `Damaged`
+// with the first condition that fails, `Memory` or `Store`. A database that was still open after
+// the adoption failed is unchanged; a crash then exposes a prior crash state or, if the rows of an
+// older schema pass their audit, the tables after the upgrade.
 fn adopt_or_close_connection(
     rt: &HostRuntime,
     conn: Connection<FileStore<File>>,
