@@ -26,7 +26,7 @@ fn read_trade_status<S: Alter>(store: &mut Store<S>, trade: Id) -> Result<Option
 }
 
 /// Decides on the cancel of a trade at the clock reading `now`: returns its plan, or the refusal.
-/// It is the decision of the model if the tables are those of a base that satisfies the books
+/// It is the decision of the model if the tables equal those of a base that satisfies the books
 /// invariant. If the database is still open, it is unchanged. A crash after the call exposes only
 /// states that a crash before the call could expose.
 ///

@@ -58,8 +58,8 @@ fn plan_estimate_over_lots<S: Alter>(
 
 /// Returns the estimated figures of an order, in cents (Trade-Order): its price, the buy and the
 /// sell value of the shares that it would close, the tax, the commission, the charge and the
-/// account's assets; or the refusal. They are those of the model if the tables are those of a base
-/// that satisfies the books invariant. If the database is still open, it is unchanged. A crash
+/// account's assets; or the refusal. They equal those of the model if the tables equal those of a
+/// base that satisfies the books invariant. If the database is still open, it is unchanged. A crash
 /// after the call exposes only states that a crash before the call could expose.
 ///
 /// Fails with `Memory` or `Store` only; with `Store` also if the account's customer or one of the

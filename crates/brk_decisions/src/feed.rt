@@ -77,9 +77,9 @@ fn read_last_stamp_and_quotes<S: Alter>(
 }
 
 /// Decides on a feed of ticks at the clock reading `now`: returns its plan, or the refusal. It is
-/// the decision of the model if the tables are those of a base that satisfies the books invariant.
-/// If the database is still open, it is unchanged. A crash after the call exposes only states that
-/// a crash before the call could expose.
+/// the decision of the model if the tables equal those of a base that satisfies the books
+/// invariant. If the database is still open, it is unchanged. A crash after the call exposes only
+/// states that a crash before the call could expose.
 ///
 /// Fails with `Memory` or `Store` only.
 pub fn decide_feed<S: Alter>(

@@ -15,7 +15,7 @@ use sqlite::Alter;
 use std::alloc::Global;
 
 /// Decides on a deposit or a withdrawal at the clock reading `now`: returns its plan, or the
-/// refusal. It is the decision of the model if the tables are those of a base that satisfies the
+/// refusal. It is the decision of the model if the tables equal those of a base that satisfies the
 /// books invariant. If the database is still open, it is unchanged. A crash after the call exposes
 /// only states that a crash before the call could expose.
 ///

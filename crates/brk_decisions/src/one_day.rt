@@ -14,7 +14,7 @@ use std::alloc::Global;
 
 /// Decides on a command that sets the settlement day, the first day whose completions settle after
 /// one day, to `day`, at the clock reading `now`: returns its plan, or the refusal. It is the
-/// decision of the model if the tables are those of a base that satisfies the books invariant. If
+/// decision of the model if the tables equal those of a base that satisfies the books invariant. If
 /// the database is still open, it is unchanged. A crash after the call exposes only states that a
 /// crash before the call could expose.
 ///

@@ -62,7 +62,7 @@ fn plan_order_over_lots<S: Alter>(
 }
 
 /// Decides on an order at the clock reading `now` (Trade-Order): returns its plan, or the refusal.
-/// It is the decision of the model if the tables are those of a base that satisfies the books
+/// It is the decision of the model if the tables equal those of a base that satisfies the books
 /// invariant. If the database is still open, it is unchanged. A crash after the call exposes only
 /// states that a crash before the call could expose.
 ///

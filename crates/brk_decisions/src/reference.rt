@@ -15,7 +15,7 @@ use std::alloc::Global;
 
 /// Decides on a command that adds a reference record, such as a broker or a charge, at the clock
 /// reading `now`: returns its plan, or the refusal. It is the decision of the model if the tables
-/// are those of a base that satisfies the books invariant. If the database is still open, it is
+/// equal those of a base that satisfies the books invariant. If the database is still open, it is
 /// unchanged. A crash after the call exposes only states that a crash before the call could expose.
 ///
 /// Fails with `Memory` or `Store` only; with `Store` also if the record is a tax of a customer who

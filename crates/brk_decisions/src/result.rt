@@ -94,7 +94,7 @@ fn plan_result_from_facts<S: Alter>(
 }
 
 /// Decides on the result of a trade at the clock reading `now` (Trade-Result): returns its plan, or
-/// the refusal. It is the decision of the model if the tables are those of a base that satisfies
+/// the refusal. It is the decision of the model if the tables equal those of a base that satisfies
 /// the books invariant. If the database is still open, it is unchanged. A crash after the call
 /// exposes only states that a crash before the call could expose.
 ///

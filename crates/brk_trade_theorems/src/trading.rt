@@ -29,7 +29,7 @@ pub fn refused_commands_return_their_refusal()
 /// Proves, for a base that satisfies the books invariant and a clock reading of at most the
 /// greatest stamp, that the checks of a cancel against the row of its trade refuse it exactly as
 /// the model does. If they pass, the model accepts the cancel with the reply `CanceledTrade`. The
-/// tables after it are those of `tables_after_cancel`, with the stamp of the cancel as the last
+/// tables after it equal those of `tables_after_cancel`, with the stamp of the cancel as the last
 /// stamp, and the base after it satisfies the books invariant.
 pub fn cancels_change_tables_as_specified()
     ensures first { (base : Base) (now id : ℕ) → BooksInvariant base → now ≤ greatest_stamp
@@ -44,7 +44,7 @@ pub fn cancels_change_tables_as_specified()
 /// Proves, for a base that satisfies the books invariant and a clock reading of at most the
 /// greatest stamp, that the checks of a feed against the last trades of its symbols refuse it
 /// exactly as the model does. If they pass, the model accepts the feed with the reply `Ticked`,
-/// which lists the trades that it triggers. The tables after it are those of `tables_after_feed`,
+/// which lists the trades that it triggers. The tables after it equal those of `tables_after_feed`,
 /// with the stamp of the feed as the last stamp, and the base after it satisfies the books
 /// invariant.
 pub fn feeds_change_tables_as_specified()
