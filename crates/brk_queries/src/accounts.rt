@@ -59,8 +59,8 @@ fn read_balances_and_market_values<S: Alter>(
 
 /// Returns the view of the balances and the market values of the accounts of the customer with the
 /// id `customer`, sorted by market value, then by id, ascending. Refuses with `NoCustomer` if there
-/// is no such customer. The result is that of the model if the tables are those of a base that
-/// satisfies the books invariant and the audit invariant. If the database is still open, it is
+/// is no such customer. The result equals that of the model if the tables equal those of a base
+/// that satisfies the books invariant and the audit invariant. If the database is still open, it is
 /// unchanged. Fails with `Memory` or `Store` only; with `Store` also if a held symbol has no last
 /// price or a sum overflows.
 pub fn view_of_account_values<S: Alter>(
@@ -81,10 +81,10 @@ pub fn view_of_account_values<S: Alter>(
 
 /// Returns the view of the balances and the market values of the accounts of the customer with the
 /// tax id `tax_id`, sorted by market value, then by id, ascending. Refuses with `NoCustomer` if
-/// there is no such customer. The result is that of the model if the tables are those of a base
-/// that satisfies the books invariant and the audit invariant. If the database is still open, it is
-/// unchanged. Fails with `Memory` or `Store` only; with `Store` also if a held symbol has no last
-/// price or a sum overflows.
+/// there is no such customer. The result equals that of the model if the tables equal those of a
+/// base that satisfies the books invariant and the audit invariant. If the database is still open,
+/// it is unchanged. Fails with `Memory` or `Store` only; with `Store` also if a held symbol has no
+/// last price or a sum overflows.
 pub fn view_of_account_values_by_tax_id<S: Alter>(
     alloc: Global,
     store: &mut Store<S>,

@@ -23,7 +23,7 @@ use sqlite::Alter;
 use std::alloc::Global;
 
 // Returns a trade with the rows that other tables contain for it: its settlement and its cash row,
-// each if it exists, and its history. These rows are specified only if the tables are those of a
+// each if it exists, and its history. These rows are specified only if the tables equal those of a
 // base that satisfies the books invariant and the audit invariant. If the database is still open,
 // it is unchanged. Fails with `Memory` or `Store` only.
 fn read_all_rows_of_trade<S: Alter>(
@@ -41,7 +41,7 @@ fn read_all_rows_of_trade<S: Alter>(
 }
 
 // Returns the trades `trades`, in the order of this list, each with its settlement and its cash
-// row, if they exist, and its history. The result is specified only if the tables are those of a
+// row, if they exist, and its history. The result is specified only if the tables equal those of a
 // base that satisfies the books invariant and the audit invariant. If the database is still open,
 // it is unchanged. Fails with `Memory` or `Store` only.
 fn read_all_rows_of_trades<S: Alter>(
@@ -64,9 +64,9 @@ fn read_all_rows_of_trades<S: Alter>(
 
 /// Returns the view of the trades with the ids in `trades`, sorted by stamp, then by id, ascending,
 /// each with its settlement and its cash row, if they exist, and its history. Refuses with
-/// `NoTrade` if one of the trades does not exist. The result is that of the model if the tables are
-/// those of a base that satisfies the books invariant and the audit invariant. If the database is
-/// still open, it is unchanged. Fails with `Memory` or `Store` only.
+/// `NoTrade` if one of the trades does not exist. The result equals that of the model if the tables
+/// equal those of a base that satisfies the books invariant and the audit invariant. If the
+/// database is still open, it is unchanged. Fails with `Memory` or `Store` only.
 pub fn view_of_trades_by_ids<S: Alter>(
     alloc: Global,
     store: &mut Store<S>,
@@ -88,8 +88,8 @@ pub fn view_of_trades_by_ids<S: Alter>(
 /// Returns the view of the first 20 trades of an account, or of all if there are fewer, whose
 /// stamps are in `span`, both ends included, sorted by stamp, then by id, ascending, each with its
 /// settlement and its cash row, if they exist, and its history. Refuses with `NoAccount` if the
-/// account does not exist. The result is that of the model if the tables are those of a base that
-/// satisfies the books invariant and the audit invariant. If the database is still open, it is
+/// account does not exist. The result equals that of the model if the tables equal those of a base
+/// that satisfies the books invariant and the audit invariant. If the database is still open, it is
 /// unchanged. Fails with `Memory` or `Store` only.
 pub fn view_of_account_trades<S: Alter>(
     alloc: Global,
@@ -111,8 +111,8 @@ pub fn view_of_account_trades<S: Alter>(
 /// Returns the view of the first 20 trades of a symbol, or of all if there are fewer, whose stamps
 /// are in `span`, both ends included, sorted by stamp, then by id, ascending, each with its
 /// settlement and its cash row, if they exist, and its history. Refuses with `NoSecurity` if the
-/// security does not exist. The result is that of the model if the tables are those of a base that
-/// satisfies the books invariant and the audit invariant. If the database is still open, it is
+/// security does not exist. The result equals that of the model if the tables equal those of a base
+/// that satisfies the books invariant and the audit invariant. If the database is still open, it is
 /// unchanged. Fails with `Memory` or `Store` only.
 pub fn view_of_symbol_trades<S: Alter>(
     alloc: Global,

@@ -80,10 +80,10 @@ fn read_changes_of_touched_lots<S: Alter>(
 /// status has the stamp `first` or a later one (of equally old trades the one with the least id):
 /// the id of this trade, and the first 20 changes of these lots, by any trade, or all if there are
 /// fewer, sorted by stamp, then by lot, ascending. Without such a trade the view has no record.
-/// Refuses with `NoAccount` if the account does not exist. The result is that of the model if the
-/// tables are those of a base that satisfies the books invariant and the audit invariant. If the
-/// database is still open, it is unchanged. Fails with `Memory` or `Store` only; with `Store` also
-/// if a trade that made one of the changes does not exist.
+/// Refuses with `NoAccount` if the account does not exist. The result equals that of the model if
+/// the tables equal those of a base that satisfies the books invariant and the audit invariant. If
+/// the database is still open, it is unchanged. Fails with `Memory` or `Store` only; with `Store`
+/// also if a trade that made one of the changes does not exist.
 pub fn view_of_touched_lots<S: Alter>(
     alloc: Global,
     store: &mut Store<S>,

@@ -52,7 +52,7 @@ fn read_recent_trades_with_history<S: Alter>(
 
 /// Returns the view of the last ten trades of an account, or of all if it has fewer, the most
 /// recent first, with their status changes. Refuses with `NoAccount` if the account does not exist.
-/// The result is that of the model if the tables are those of a base that satisfies the books
+/// The result equals that of the model if the tables equal those of a base that satisfies the books
 /// invariant and the audit invariant. If the database is still open, it is unchanged. Fails with
 /// `Memory` or `Store` only.
 pub fn view_of_recent_trades<S: Alter>(

@@ -168,9 +168,9 @@ fn read_volumes_of_brokers_named<S: Alter>(
 
 /// Returns the view of the volumes in the sector, in cents, of the brokers with the names `names`
 /// that have a pending request for a security in it, sorted by volume, descending, then by name and
-/// id, ascending. Never refuses. The view is that of the model if the tables are those of a base
-/// that satisfies the books invariant and the audit invariant. If the database is still open, it is
-/// unchanged. Fails with `Memory` or `Store` only.
+/// id, ascending. Never refuses. The view equals that of the model if the tables equal those of a
+/// base that satisfies the books invariant and the audit invariant. If the database is still open,
+/// it is unchanged. Fails with `Memory` or `Store` only.
 pub fn view_of_broker_volumes<S: Alter>(
     alloc: Global,
     store: &mut Store<S>,
