@@ -20,8 +20,8 @@ use std::alloc::Global;
 
 // Decides on a command at the clock reading `now`: reads the tables and returns the plan of the
 // command, or its refusal, and applies no plan. The result is the decision of the model if the
-// tables are those of a base that satisfies the books invariant. If the database is still open, it
-// is unchanged. Fails with `Memory` or `Store` only; with `Store` also if a row that it reads is
+// tables equal those of a base that satisfies the books invariant. If the database is still open,
+// it is unchanged. Fails with `Memory` or `Store` only; with `Store` also if a row that it reads is
 // malformed, a row that another row requires does not exist, a lot has no shares, a number or a sum
 // is out of range, or no number is left for a cash row.
 pub(crate) fn decide_command<S: Alter>(
