@@ -2,7 +2,7 @@
 """Breaks the lines of proofs that have more than 200 characters, at a blank with few open brackets, before an operator or after `=`, `in` or `;`
 if there is one. It moves blanks and line ends alone, so a proof is the same text to the prover. Run it at the top of the repository after proofs
 were written, and then `rt fmt` in the crates that it changed, which indents what it broke; tools/tables.py does both for the proofs that it writes.
-It leaves a line without such a blank, the head of a module, and a list behind `unfolding`.
+It leaves a line without such a blank.
 
     tools/long_lines.py CRATE..         prints the file and the length of each line that it leaves"""
 import glob
@@ -70,7 +70,7 @@ def parts(line):
     text = line.lstrip()
     if text.startswith(('use ', 'pub use ')):
         return parts_of_list(line)
-    if text.startswith(('--', 'unfolding', 'module ')) or text.endswith(' where'):
+    if text.startswith('--'):
         return [line]
     indent, done = len(line) - len(text), []
     while len(line) > AIM:

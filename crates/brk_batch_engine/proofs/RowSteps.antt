@@ -42,7 +42,8 @@ module _ {D S X C R : Type 0} (meets_disk_assumption : D → Type 0) (represents
       (Err (record { rows = 0; kind = failed.0 })) (read_memory failed.0 failed.2)
       (λ T other base. nothing_read form other gives text (record { base = base; after = base; clock = clock; later = clock; old = old; new = old }) failed.0 (untouched base clock old) failed.2))
 
-  module _ (first : D) (head : BatchStart C R) (desk : D) (place : BatchPosition C R) (r : HasReachedPosition meets_disk_assumption (RepresentsDurably represents crash_exposes_only) acts form step gives rem first head desk place)
+  module _ (first : D) (head : BatchStart C R) (desk : D) (place : BatchPosition C R)
+      (r : HasReachedPosition meets_disk_assumption (RepresentsDurably represents crash_exposes_only) acts form step gives rem first head desk place)
       (mid : Option Text) (wrote : Appends head.old mid (answer_lines_from 1 r.answers)) where
     abbrev decided : {T : Type 0} (other : RowStep T X) (base after : T)
         → CallsHaveAnswers other base (calls_of_rows head.name r.answered.moments (well_formed_rows_from form 1 r.rows)) r.answered.replies after

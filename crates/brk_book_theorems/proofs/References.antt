@@ -77,7 +77,8 @@ first_broker_row b = record { id = b.id; name = b.name; trades = pos 0; commissi
 
 pub broker_rows : (base : Base) (stamp : ℕ) (b : Broker) → BooksInvariant base → is_some (broker_with_id base b.id) ≡ false
     → sheets (base_after_accepted_command base stamp (AddBroker b)) ≡ tables_with_last_stamp stamp (tables_with_broker b (sheets base))
-unfolding tables_of_base_in_schema tables_sorted_by_key base_after_command_unstamped shares_of_position holding_summary_quantity balance_of_account trade_count_of_broker commission_total_of_broker first_broker_row
+unfolding tables_of_base_in_schema tables_sorted_by_key base_after_command_unstamped shares_of_position holding_summary_quantity balance_of_account
+    trade_count_of_broker commission_total_of_broker first_broker_row
 broker_rows base stamp b books h =
     let done : List Trade = completed_trades base in
     let none : trades_of_broker base.accounts done b.id ≡ [] = no_broker_trades base b.id books h in
@@ -158,7 +159,8 @@ first_account_row a = record { id = a.id; customer = a.customer; broker = a.brok
 
 pub account_rows : (base : Base) (stamp : ℕ) (a : Account) → BooksInvariant base → is_some (account_with_id base a.id) ≡ false
     → sheets (base_after_accepted_command base stamp (AddAccount a)) ≡ tables_with_last_stamp stamp (tables_with_account a (sheets base))
-unfolding tables_of_base_in_schema tables_sorted_by_key base_after_command_unstamped shares_of_position holding_summary_quantity balance_of_account trade_count_of_broker commission_total_of_broker first_account_row
+unfolding tables_of_base_in_schema tables_sorted_by_key base_after_command_unstamped shares_of_position holding_summary_quantity balance_of_account
+    trade_count_of_broker commission_total_of_broker first_account_row
 account_rows base stamp a books h =
     let done : List Trade = completed_trades base in
     let after : List Account = more base a in

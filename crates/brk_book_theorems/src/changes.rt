@@ -73,7 +73,7 @@ pub fn cancels_change_only_their_rows()
 /// the row of LAST_TRADE of the tick's symbol and submits the trades whose requests the tick's
 /// price triggers, and then sets the last stamp. To submit a trade is to set its status and stamp,
 /// to add a row of TRADE_HISTORY and to delete its row of TRADE_REQUEST. No other row changes
-/// (`rows`). The ids of the submitted trades are those of the triggered trades of the model
+/// (`rows`). The ids of the submitted trades equal those of the triggered trades of the model
 /// (`triggered`).
 pub fn feeds_change_only_their_rows()
     ensures rows { (base : Base) (now : ℕ) (ticks : List Tick)

@@ -6,7 +6,7 @@ use brk_money::{Amount, Id, Price, Qty, Stamp, Status, TradeType};
 use brk_ref::{ChargeAmount, Symbol};
 
 /// A trade in its current status (a row of TRADE). It has a price once it is completed. Its stamp
-/// is that of its current status.
+/// equals that of its current status.
 #[derive(Drop)]
 pub struct TradeRow {
     pub id: Id,

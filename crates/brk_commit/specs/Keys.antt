@@ -29,7 +29,7 @@ abbrev pub tables_with_stored_command : Option Key → Command → Reply → Tab
 tables_with_stored_command None command reply t = t
 tables_with_stored_command (Some key) command reply t = tables_with_stored_reply (stored_reply_row key command reply) t
 
--- The postcondition of reading the row of KEPT under a key. With a key it is that of a read
+-- The postcondition of reading the row of KEPT under a key. With a key it equals that of a read
 -- (`ReadPost`) whose value is the row under the key, or `None` if there is none. Without a key the
 -- result is `None`, not a fault, and the store is unchanged.
 abbrev pub ReadStoredReplyPost : {S : Type 0} → Ghosts S → Held S → Held S → Option Key → Result (Option row.Kept) Fault → Type 0

@@ -46,7 +46,8 @@ no_account t order e = record {
   summary = λ p. absurd (not_none NoAccount p);
 }
 
-module _ (t : Tables) (account : ℕ) (a : ref.AccountRow) (c : customer.Customer) (there : Some (abstract_account_row a) ≡ account_row_with_id t account) (k : IsCustomerWithId t a.account.customer c) where
+module _ (t : Tables) (account : ℕ) (a : ref.AccountRow) (c : customer.Customer) (there : Some (abstract_account_row a) ≡ account_row_with_id t account)
+    (k : IsCustomerWithId t a.account.customer c) where
   if_account : (holds : AccountRow → Type 0) → holds (abstract_account_row a) → IfSome (account_row_with_id t account) holds
   if_account holds h = subst (λ x. IfSome x holds) there h
 

@@ -23,7 +23,7 @@ use Rattle.brk_book_theorems.specs.Books.{BooksInvariant}
 use Rattle.brk_trade_theorems.specs.OrderPlans.{OrderLotsSatisfy, EstimateFactsMatchTables, OrderFactsMatchTables, PlanOrderPrecondition}
 use Rattle.brk_trade_theorems.proofs.OrderDoing.{estimate_answered, estimate_refused, estimate_told, order_refused, plan_order_does}
 use Rattle.brk_store.specs.Holds.{ReadPost}
-use Rattle.brk_decisions.specs.Decisions.{IsEstimateOfModel}
+use Rattle.brk_decisions.specs.Estimates.{IsEstimateOfModel}
 use Rattle.brk_trade_theorems.specs.Plans.{DecidesCommand}
 use Rattle.brk_store.proofs.Sequences.{read_with}
 

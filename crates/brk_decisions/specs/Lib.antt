@@ -1,4 +1,4 @@
-pub mod Decisions
+pub mod Estimates
 pub mod OrderFactReads
 pub mod LotReads
 pub mod ResultFactReads

@@ -1,7 +1,7 @@
 //! Decisions on estimates of orders.
 
 ghost use Rattle.std.specs.Prelude.{◌≡◌, ◌+◌, false, Some, IfErr, IfOk, OnErr, MatchResult};
-ghost use Rattle.brk_decisions.specs.Decisions.{IsEstimateOfModel};
+ghost use Rattle.brk_decisions.specs.Estimates.{IsEstimateOfModel};
 ghost use Rattle.brk_decisions.specs.LotReads.{AreLotsBeforeReads};
 ghost use Rattle.brk_lots.specs.Against.{is_trade_closing_lots};
 ghost use Rattle.brk_model.specs.Run.{IsCallFault};

@@ -10,7 +10,7 @@ use Rattle.brk_plans.specs.Replies.{abstract_estimate, estimate_from_model}
 use Rattle.brk_plans.specs.declared.estimate.Estimate.{Estimate}
 use Rattle.brk_view.specs.Views.{estimate_record}
 use Rattle.brk_view.specs.declared.view.View.TheVariants as views
-use Rattle.brk_decisions.specs.Decisions.{IsEstimateOfModel}
+use Rattle.brk_decisions.specs.Estimates.{IsEstimateOfModel}
 use Rattle.brk_queries.specs.QueryResults.{AnswersQueryAsModel}
 
 -- an estimate of the definitions is shown as they show it

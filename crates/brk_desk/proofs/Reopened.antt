@@ -69,7 +69,8 @@ module _ {S : Type 0} (g : Ghosts S) (settled : RecoversOnlyLastCommit g) where
 
   -- trees with the tables of the third schema: what is adopted over them is audited, and nothing is
   -- written
-  module _ (trees : Trees) (conn store : Held S) (result : Result (Unit {0}) Fault) (opened : IsNewConnectionToDiskContent g trees conn) (audited : AuditPost g conn store result) (clean : HasCleanDisk (state g store)) where
+  module _ (trees : Trees) (conn store : Held S) (result : Result (Unit {0}) Fault) (opened : IsNewConnectionToDiskContent g trees conn)
+      (audited : AuditPost g conn store result) (clean : HasCleanDisk (state g store)) where
     clean_conn : HasCleanDisk (state g conn)
     clean_conn = clean_before (state g conn) (state g store) (λ _. ⊥) audited.survives clean
 
@@ -111,7 +112,8 @@ module _ {S : Type 0} (g : Ghosts S) (settled : RecoversOnlyLastCommit g) where
             (subst (λ (t : Tables). IsDiskContentOfRows t trees) (sym empty_rows) none) (λ base. base ≡ empty_base) refl)
       ]
 
-  module _ (first left conn store : Held S) (base : Base) (result : Result (Unit {0}) Fault) (at : RepresentsDurableBase g first base) (clean : HasCleanDisk (state g left)) (again : IsNewConnectionAfterCrash g left conn)
+  module _ (first left conn store : Held S) (base : Base) (result : Result (Unit {0}) Fault) (at : RepresentsDurableBase g first base)
+      (clean : HasCleanDisk (state g left)) (again : IsNewConnectionAfterCrash g left conn)
       (adopted : AdoptPost g conn store result) (after : HasCleanDisk (state g store)) where
     -- a stop within a call
     pub call_taken_over : (now : ℕ) (command : Command) (key : Option Key) (answer : Result CommandAnswer Fault) → CommandPost g first left now command key answer

@@ -125,7 +125,8 @@ module _ {S : Type 0} (g : Ghosts S) where
     )
 
     -- one call more that acknowledges nothing, and may have committed trees of `Comes`
-    module _ (made : Call) (o : Outcome) (quiet : AcknowledgesNothing (model_outcome o)) (known : FailsOnlyWithMemoryOrStore o) (formed : CallMeetsAuditFormats (model_call (now, made))) (clean : HasCleanDisk (state g c) → HasCleanDisk (state g b))
+    module _ (made : Call) (o : Outcome) (quiet : AcknowledgesNothing (model_outcome o)) (known : FailsOnlyWithMemoryOrStore o)
+        (formed : CallMeetsAuditFormats (model_call (now, made))) (clean : HasCleanDisk (state g c) → HasCleanDisk (state g b))
         (same : HasCleanDisk (state g c) → IsTrue (state g c).is_open → WasOpenAndIsUnchanged (state g b) (state g c))
         (told : HasCleanDisk (state g c) → (mid : Base) → Represents g b mid → Represents g c mid
         × IsOutcomeOfCall mid (model_call (now, made)).0 (model_call (now, made)).1 (model_outcome o) mid) (Comes : Trees → Type 0)

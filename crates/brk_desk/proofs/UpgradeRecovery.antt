@@ -53,7 +53,8 @@ each_answer (Err Store) P Q f p = tt
 module _ {S : Type 0} (g : Ghosts S) (settled : RecoversOnlyLastCommit g) where
   -- ---- an adoption that went well
 
-  module _ (trees : Trees) (conn store : Held S) (opened : IsNewConnectionToDiskContent g trees conn) (adopted : AdoptPost g conn store (Ok tt)) (clean : HasCleanDisk (state g store)) (defined : ConnectionTablesWithDeskNamesAreDeskTables g conn) where
+  module _ (trees : Trees) (conn store : Held S) (opened : IsNewConnectionToDiskContent g trees conn) (adopted : AdoptPost g conn store (Ok tt))
+      (clean : HasCleanDisk (state g store)) (defined : ConnectionTablesWithDeskNamesAreDeskTables g conn) where
     before : HasCleanDisk (state g conn)
     before = clean_before (state g conn) (state g store) _ (adopted.survives defined) clean
 

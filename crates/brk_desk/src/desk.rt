@@ -19,8 +19,8 @@ use std::alloc::Global;
 use std::marker::Model;
 
 /// A desk, which executes commands and answers queries over one store. A *base* is the abstract
-/// state of a brokerage; a desk *represents* it if its tables are those of the base and the base is
-/// consistent. A command is *acknowledged* once its call has returned `Done`; `Again` returns a
+/// state of a brokerage; a desk *represents* it if its tables equal those of the base and the base
+/// is consistent. A command is *acknowledged* once its call has returned `Done`; `Again` returns a
 /// stored reply and acknowledges nothing.
 ///
 /// A *crash* is the end of the process or the machine. It *exposes* what the next open of the

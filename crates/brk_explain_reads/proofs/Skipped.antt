@@ -147,7 +147,8 @@ module _ {S A X M V W E : Type 0} (g : Ghosts S) (old mid new : Held S) (of : X 
         one_on p h.0 x (filter (test (keep p)) xs) q (test (keep p) x) h.1.1 (subst (λ a. FoldsTo takes (inner h.0) (filter (test a) xs) (inner q)) h.1.0 more.1),
       )
 
-  module _ {Y F : Type 0} (before after : W) (result : Result (Unit {0}) (WalkError E)) (w : WalkPost g mid new of all TakesOn StopsOn before after result) (y : Y) (Q : Y → Tables → Type 0) (first : ReadPost {E = F} g old mid (Ok y) Q) (pick : Tables → M → Bool)
+  module _ {Y F : Type 0} (before after : W) (result : Result (Unit {0}) (WalkError E)) (w : WalkPost g mid new of all TakesOn StopsOn before after result)
+      (y : Y) (Q : Y → Tables → Type 0) (first : ReadPost {E = F} g old mid (Ok y) Q) (pick : Tables → M → Bool)
       (passes : (t : Tables) → HasDeskTables t (state g old).now → Q y t → (x : X) → test (keep before) x ≡ pick t (of x)) (picked : (t : Tables) → filter (pick t) (all t) ≡ list t) where
     kept_on : IsUnchangedByReads g mid new
     kept_on = record { same_rows = w.same_rows; unchanged_if_open = w.unchanged_if_open; survives = w.survives }

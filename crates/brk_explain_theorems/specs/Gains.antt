@@ -22,9 +22,9 @@ abbrev pub lot_change_sum_of_trade : Tables → ℕ → ℤ
 lot_change_sum_of_trade tables trade = total_by (λ row. row.after -ℤ row.before) (filter (λ row. row.trade == trade) tables.holding_history)
 
 -- The totals that the explanation of a holding prints match its position: the realised gain is the
--- sum of the gains of its deals, the cost basis is that of its lots, and the numbers of shares are
--- its quantity. The cost basis is also the realised gain plus the purchases plus the sales, which
--- count below 0.
+-- sum of the gains of its deals, the cost basis equals that of its lots, and the numbers of shares
+-- are its quantity. The cost basis is also the realised gain plus the purchases plus the sales,
+-- which count below 0.
 pub record PrintedHoldingMatchesDeals (base : Base) (account : ℕ) (symbol : Text) : Type 0 where
   -- The gains, added up by lot, are the gains of the deals, added up by trade.
   pub gained : realised_gain_in_symbol (sheets base) account symbol ≡ realised_gain_sum (deals_of_position (completed_trades base) account symbol) []

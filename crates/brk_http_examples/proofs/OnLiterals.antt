@@ -11,5 +11,6 @@ use Rattle.brk_http_model.specs.Asked.{demand_of_request}
 
 -- Proof-only: to unfold it is to unfold all definitions that the examples compute.
 unfoldable pub web_on_literals : ⊤
-unfolding serde_json_on_literals httparse_on_literals model_on_literals head_length head_end texts_of_body json_texts_object json_records_object json_error_object split_at_byte route_of_target reply_bytes demand_of_request
+unfolding serde_json_on_literals httparse_on_literals model_on_literals head_length head_end texts_of_body json_texts_object json_records_object
+    json_error_object split_at_byte route_of_target reply_bytes demand_of_request
 web_on_literals = tt

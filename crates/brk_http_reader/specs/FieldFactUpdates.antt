@@ -9,7 +9,7 @@ use Rattle.brk_http_reader.specs.declared.fields.FieldFactsSoFar.{FieldFactsSoFa
 -- and a value: whether there is a `Transfer-Encoding` (`chunked`), whether `Connection: close` asks
 -- to close the stream (`closes`), whether there is a `Content-Length` (`any_length`), and the body
 -- length in bytes, or the problem with it (`len`). If `p` is a `Content-Length`, this is what its
--- value gives, or `BadRequest` if there was one before; otherwise it is that of `s`.
+-- value gives, or `BadRequest` if there was one before; otherwise it equals that of `s`.
 abbrev pub facts_with_field : FieldFactsSoFar → HeadField → FieldFactsSoFar
 facts_with_field s p = record {
   chunked = s.chunked || is_equal_ignoring_case p.0 (codes "transfer-encoding");

@@ -41,7 +41,8 @@ use Rattle.brk_batch_engine.proofs.Pushes.{moments_push}
 use Rattle.brk_batch_engine.proofs.Reading.{begins_front, begins_less}
 use Rattle.brk_import.proofs.Settled.{settled_push}
 
-module _ {S C : Type 0} (g : Ghosts S) (rests : RecoversOnlyLastCommit g) (form : Fields → ReadResult Command) (apart : (n : ℕ) (command : Command) → form (correct_end_record n) ≡ Ok command → ⊥) (gives : C → ℕ → C → Type 0)
+module _ {S C : Type 0} (g : Ghosts S) (rests : RecoversOnlyLastCommit g) (form : Fields → ReadResult Command)
+    (apart : (n : ℕ) (command : Command) → form (correct_end_record n) ≡ Ok command → ⊥) (gives : C → ℕ → C → Type 0)
     (text : Text) (one : ClockAndWriterChange C) (base : Base) where
   -- The rows that the first run decided, from the base before it to `after`.
   record FirstRunRows (after : Base) : Type 0 where
@@ -184,7 +185,8 @@ module _ {S C : Type 0} (g : Ghosts S) (rests : RecoversOnlyLastCommit g) (form 
 
   -- ---- the retry
 
-  module _ (after stood last : Base) (two : ClockAndWriterChange C) (count : ℕ) (c : BatchEndsWith form step_of_row gives (Some text) (environment_change_with_bases stood last two) model.CorrectEnd count) where
+  module _ (after stood last : Base) (two : ClockAndWriterChange C) (count : ℕ)
+      (c : BatchEndsWith form step_of_row gives (Some text) (environment_change_with_bases stood last two) model.CorrectEnd count) where
     -- if no row was decided, the rows are none
     none_settled : after ≡ base → FirstRunRows after
     none_settled same = record {

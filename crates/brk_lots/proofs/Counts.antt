@@ -51,7 +51,8 @@ lot_counts s t us h =
 pub lot_appended : (t n : ℕ) (us : List Share) (u : Share) → u.trade ≢ t → lot_quantity (us ++ replicate n u) t ≡ lot_quantity us t
 unfolding total_by
 lot_appended t n us u h =
-    ap net_share_count (filter-append (λ (v : Share). eqb v.trade t) us (replicate n u) ∙ ap (λ (vs : List Share). shares_opened_by_trade t us ++ vs) (none n) ∙ append-nil (shares_opened_by_trade t us)) where
+    ap net_share_count (filter-append (λ (v : Share). eqb v.trade t) us (replicate n u) ∙ ap (λ (vs : List Share). shares_opened_by_trade t us ++ vs) (none n)
+    ∙ append-nil (shares_opened_by_trade t us)) where
       none : (n : ℕ) → shares_opened_by_trade t (replicate n u) ≡ []
       none zero = refl
       none (suc n) = rw (ne_eqb u.trade t h) (none n)

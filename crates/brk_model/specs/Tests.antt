@@ -1,6 +1,6 @@
--- The checks of a well-formed command against the base; the refusal is that of the first check that
--- applies. The bounds of a commission band are checked here once more: no row that parses has a
--- lower bound above the upper one (`read_quantity_bounds` of Parse).
+-- The checks of a well-formed command against the base; the refusal equals that of the first check
+-- that applies. The bounds of a commission band are checked here once more: no row that parses has
+-- a lower bound above the upper one (`read_quantity_bounds` of Parse).
 use Rattle.std.specs.Prelude.{ℕ, ◌+◌, Bool, true, false, not, ◌&&◌, ◌==◌, nat_le, nat_lt, List, [], ◌∷◌, ◌++◌, length, filter, find, Option, option_map}
 use Rattle.std.specs.Prelude.{is_some, is_none, nat_abs, bytes_eq}
 use Rattle.std.specs.List.{list_any}

@@ -36,7 +36,8 @@ none-joined : (answers : List Answer) (answer : Answer) → refused_answer_count
 none-joined [] answer none h = none-with answer [] h none
 none-joined (a ∷ answers) answer none h = let k = none-first a answers none in none-with a (answers ++ answer ∷ []) k.0 (none-joined answers answer k.1 h)
 
-module _ (form : Fields → ReadResult Command) (name : Text) (base mid stood : Base) (moments : List ℕ) (front : List Fields) (answers : List Answer) (one : BatchRowsAreDecided form step_of_row name base moments front answers mid)
+module _ (form : Fields → ReadResult Command) (name : Text) (base mid stood : Base) (moments : List ℕ) (front : List Fields) (answers : List Answer)
+    (one : BatchRowsAreDecided form step_of_row name base moments front answers mid)
     (moment : ℕ) (answer : Answer) (row : Fields) (command : Command) (formed : form row ≡ Ok command)
     (booked : step_of_row mid moment command (record { batch = name; row = length front + 1 }) ≡ (answer, stood)) where
   -- the first rows and the one that was booked, as if it had been answered

@@ -29,6 +29,6 @@ pub enum TextUpdate {
     Executors(Vec<TradeRow>),
     /// Trades whose settlement texts are updated.
     CashTypes(Vec<SettlementText>),
-    /// Trades whose cash texts are updated. The name is that of their security.
+    /// Trades whose cash texts are updated. The name equals that of their security.
     CashNames(Name, Vec<CashText>),
 }

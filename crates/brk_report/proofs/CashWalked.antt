@@ -60,13 +60,15 @@ first_before xs ys a b Write h = (h.0, h.1, h.2 ++ ys, h.3, sym (append_assoc h.
 
 -- ---- the walk
 
-module _ {S V : Type 0} (g : Ghosts S) (old new : Held S) (list : Tables → List MoveRow) (takes : V → typed.MoveRow → V → Type 0) (stops : V → typed.MoveRow → LinesFault → V → Type 0) (before after : V)
+module _ {S V : Type 0} (g : Ghosts S) (old new : Held S) (list : Tables → List MoveRow) (takes : V → typed.MoveRow → V → Type 0)
+    (stops : V → typed.MoveRow → LinesFault → V → Type 0) (before after : V)
     (t : Tables) (clean : HasCleanDisk (state g new)) (holds : HoldsRows g old t) (result : Result (Unit {0}) (WalkError LinesFault))
     (walked : WalkPost g old new abstract_move_row list takes stops before after result)
     (first : V → ℕ) (moved : V → CashProgress) (contents : V → Option Text)
     (writes : (p : V) (x : typed.MoveRow) (q : V) → takes p x q → (first q ≡ first p) × (moved q ≡ progress_after_cash_row (nat_lt x.stamp (first p)) (moved p) (abstract_move_row x))
     × Appends (contents p) (contents q) (text_of_lines (lines_of_cash_row (nat_lt x.stamp (first p)) (moved p) (abstract_move_row x))))
-    (breaks : (p : V) (x : typed.MoveRow) (e : LinesFault) (q : V) → stops p x e q → FailsWithinFirstLines (lines_of_cash_row (nat_lt x.stamp (first p)) (moved p) (abstract_move_row x)) (contents p) (contents q) e) where
+    (breaks : (p : V) (x : typed.MoveRow) (e : LinesFault) (q : V) → stops p x e q
+    → FailsWithinFirstLines (lines_of_cash_row (nat_lt x.stamp (first p)) (moved p) (abstract_move_row x)) (contents p) (contents q) e) where
   taken : (p : V) (xs : List typed.MoveRow) (q : V) → FoldsTo takes p xs q
       → Appends (contents p) (contents q) (text_of_lines (lines_of_cash_rows (first p) (moved p) (map abstract_move_row xs)))
       × (moved q ≡ progress_after_cash_rows (first p) (moved p) (map abstract_move_row xs)) × (first q ≡ first p)

@@ -48,10 +48,12 @@ module _ {S X M V : Type 0} (g : Ghosts S) (old new : Held S) (of : X → M) (li
   known_end may (Cause cause) is e same = let h = rw is at (walked.fault) in subst IsMemoryStoreOrWriteFault (sym same) (may h.0 h.1 cause after h.2)
 
 module _ {S X M V : Type 0} (g : Ghosts S) (old new : Held S) (of : X → M) (list : Tables → List M) (takes : V → X → V → Type 0) (stops : V → X → LinesFault → V → Type 0) (before after : V)
-    (t : Tables) (clean : HasCleanDisk (state g new)) (holds : HoldsRows g old t) (result : Result (Unit {0}) (WalkError LinesFault)) (walked : WalkPost g old new of list takes stops before after result) where
+    (t : Tables) (clean : HasCleanDisk (state g new)) (holds : HoldsRows g old t) (result : Result (Unit {0}) (WalkError LinesFault))
+    (walked : WalkPost g old new of list takes stops before after result) where
   -- ---- lines
 
-  module _ (line : M → Text) (contents : V → Option Text) (count : V → ℕ) (writes : (p : V) (x : X) (q : V) → takes p x q → Appends (contents p) (contents q) (line_with_line_feed (line (of x))) × (count q ≡ count p + 1))
+  module _ (line : M → Text) (contents : V → Option Text) (count : V → ℕ)
+      (writes : (p : V) (x : X) (q : V) → takes p x q → Appends (contents p) (contents q) (line_with_line_feed (line (of x))) × (count q ≡ count p + 1))
       (breaks : (p : V) (x : X) (e : LinesFault) (q : V) → stops p x e q → FailsWithinLines (line (of x) ∷ []) (contents p) (contents q) e) where
     lines_taken : (p : V) (xs : List X) (q : V) → FoldsTo takes p xs q → Appends (contents p) (contents q) (text_of_lines (map line (map of xs))) × (count q ≡ count p + length (map of xs))
     lines_taken p [] q h = (subst (λ v. Appends (contents p) (contents v) []) h (appends_none (contents p)), omega (arith, ap count h))

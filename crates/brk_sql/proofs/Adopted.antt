@@ -106,7 +106,9 @@ table_apart (r ∷ rows) up = (each rows up.0, table_apart rows up.1)
 -- ---- the records
 
 module _ {X : Type 0} (table : Table) (encode : X → Row) (cmp : X → X → Ordering) (rows : List Row) (query : Query) (params : Row) (project : List Term) (order : List (Term × Key)) (read : List Row)
-    (p : Picks query params [] project order rows read) (unpaged : (rs : List Row) → page query params rs ≡ rs) (shows : (r : Row) → eval_all project (params ∷ r ∷ []) ≡ cells_in_column_order table r) (xs : List X) (decoded : map encode xs ≡ read) (rising : IsStrictlyAscending cmp xs) where
+    (p : Picks query params [] project order rows read) (unpaged : (rs : List Row) → page query params rs ≡ rs)
+    (shows : (r : Row) → eval_all project (params ∷ r ∷ []) ≡ cells_in_column_order table r) (xs : List X) (decoded : map encode xs ≡ read)
+    (rising : IsStrictlyAscending cmp xs) where
   picked_all : IsPermutation rows p.picked
   picked_all = subst (λ l. IsPermutation l p.picked) (filter_true rows) p.same
 
@@ -149,7 +151,8 @@ module _ {X : Type 0} (table : Table) (encode : X → Row) (cmp : X → X → Or
 
 -- ---- a table of a sound database, read by its key
 
-module _ {W T : Type 0} (desk : ProgramTables W T) (w : W) (total : IsTotalOrder (desk.order w)) (once : IsRowidKey (desk.shape w) (desk.encode w) (desk.order w) ⊎ IsUniqueKey (desk.shape w) (desk.encode w) (desk.order w))
+module _ {W T : Type 0} (desk : ProgramTables W T) (w : W) (total : IsTotalOrder (desk.order w))
+    (once : IsRowidKey (desk.shape w) (desk.encode w) (desk.order w) ⊎ IsUniqueKey (desk.shape w) (desk.encode w) (desk.order w))
     (db : Database) (sound : IsDatabase db) (at tree : ℕ) (h : IsTableAt db.schema (desk.shape w tree) at) (keyed : Keyed (db.trees tree)) (apart : Apart (db.trees tree)) where
   abbrev rows : List Row
   rows = db.trees tree

@@ -9,7 +9,8 @@ use Rattle.brk_sql.proofs.Inside.{step_read}
 use Rattle.brk_sql.proofs.Decode.{all_are, first_is}
 
 module _ {W T X Y V E : Type 0} (desk : ProgramTables W T) (encode : X → Row) (decode : Row → X) (back : (x : X) → decode (encode x) ≡ x) (model : Y → X)
-    (sql : List ℕ) (params : Row) (old new : State) (v : V) (rows_of : V → List Row) (given : List Row) (same : given ≡ rows_of v) (step : IsTransactionStep {V = V} {E = E} old new (Ok v) (λ v. SelectsRows sql params (rows_of v))) where
+    (sql : List ℕ) (params : Row) (old new : State) (v : V) (rows_of : V → List Row) (given : List Row) (same : given ≡ rows_of v)
+    (step : IsTransactionStep {V = V} {E = E} old new (Ok v) (λ v. SelectsRows sql params (rows_of v))) where
   -- all that is shown
   pub look_all : {G F : Type 0} (items : G → List Y) (out : Result G F) → IfOk out (λ all. map (λ y. encode (model y)) (items all) ≡ given)
       → (f : T → List X) → (Shown sql params old new (rows_of v) → TablesSatisfy desk (λ t. rows_of v ≡ map encode (f t)) old.now)

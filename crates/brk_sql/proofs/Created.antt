@@ -142,7 +142,9 @@ obeyed old new shape h sound = record {
 }
 
 -- the text defines this table, at tree 0, and makes it at the next one
-module _ (text : List ℕ) (shape : ℕ → Table) (defined : table_defined_by text ≡ Ok (shape 0)) (moved : (tree : ℕ) → record (shape 0) { tree = tree } ≡ shape tree) (own : same_name (shape 0).name (shape 0).name ≡ true) (still : has_no_writing_foreign_keys (shape 0) ≡ true) where
+module _ (text : List ℕ) (shape : ℕ → Table) (defined : table_defined_by text ≡ Ok (shape 0))
+    (moved : (tree : ℕ) → record (shape 0) { tree = tree } ≡ shape tree) (own : same_name (shape 0).name (shape 0).name ≡ true)
+    (still : has_no_writing_foreign_keys (shape 0) ≡ true) where
   makes_one : (schema after : Schema) (db trees : Trees) → CreatesTable schema text db after trees → Comes (record { schema = schema; trees = db }) (record { schema = after; trees = trees }) shape
   makes_one schema after db trees made =
       let same : made.table ≡ shape 0 = same_value (sym made.defined ∙ defined) in
@@ -205,10 +207,12 @@ makes_more text shape placed old mid new one table tables idle made =
       added_keys_write_nothing = joined has_no_writing_foreign_keys one.more _ one.added_keys_write_nothing (idle made.table made.defined);
     }
 
-module _ (text : List ℕ) (shape : ℕ → Table) (defined : table_defined_by text ≡ Ok (shape 0)) (moved : (tree : ℕ) → record (shape 0) { tree = tree } ≡ shape tree) (placed : (tree : ℕ) → (shape tree).tree ≡ tree)
+module _ (text : List ℕ) (shape : ℕ → Table) (defined : table_defined_by text ≡ Ok (shape 0))
+    (moved : (tree : ℕ) → record (shape 0) { tree = tree } ≡ shape tree) (placed : (tree : ℕ) → (shape tree).tree ≡ tree)
     (own : same_name (shape 0).name (shape 0).name ≡ true) (p : Parsed) (def : CreateTable) (is : first text ≡ Ok p)
     (statement : p.statement ≡ written.CreateTable def) (untimed : p.formats ≡ []) (whole : slice_range text p.start p.end ≡ text)
-    (table : define.table [] def ≡ Ok (shape 0)) (still : has_no_writing_foreign_keys (shape 0) ≡ true) (fits : (length (shape 0).computed == length (shape 0).stamps.places && not def.resolves) ≡ true) (fresh : def.if_missing ≡ false) where
+    (table : define.table [] def ≡ Ok (shape 0)) (still : has_no_writing_foreign_keys (shape 0) ≡ true)
+    (fits : (length (shape 0).computed == length (shape 0).stamps.places && not def.resolves) ≡ true) (fresh : def.if_missing ≡ false) where
   pub makes : (old new : State) (count : ℕ) → Executes text [] old new (Ok count) → CreatesTableOfShape old.now new.now shape
   unfolding ExecutesIn
   makes old new count h =

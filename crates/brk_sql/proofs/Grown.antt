@@ -67,7 +67,8 @@ module _ {W T : Type 0} (desk : ProgramTables W T) (t : T) where
       ]
       back w (inr fresh) = inr (all_left (λ k. k.tree ≢ q.to w) a.schema.tables p.grows.more (subst (AllByRecursion (λ k. k.tree ≢ q.to w)) p.grows.tables fresh))
 
-  module _ (In : W → Type 0) (tree : W → ℕ) (old new : Database) (h : HasSelectedTables desk In t tree old) (w : W) (is : (v : W) → (v ≡ w) ⊎ (v ≢ w)) (none : desk.list w t ≡ []) (m : CreatesTableOfShape old new (desk.shape w)) where
+  module _ (In : W → Type 0) (tree : W → ℕ) (old new : Database) (h : HasSelectedTables desk In t tree old) (w : W) (is : (v : W) → (v ≡ w) ⊎ (v ≢ w))
+      (none : desk.list w t ≡ []) (m : CreatesTableOfShape old new (desk.shape w)) where
     found_tree : (v : W) → In v → tree v ≢ m.tree
     found_tree v there = subst (λ n. n ≢ m.tree) (desk.placed v (tree v)) (all_at (λ t. t.tree ≢ m.tree) old.schema.tables (h.place v) (desk.shape v (tree v)) (h.is_table v there).found m.apart)
 

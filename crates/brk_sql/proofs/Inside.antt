@@ -136,7 +136,8 @@ bare_failure sql params old new e plain (inl (inl (inr h))) = kept_rolled old ne
 bare_failure sql params old new e plain (inl (inr h)) = let bare = plain h.0 h.1.is in kept_unchanged old new ((rw bare at h.2).3)
 bare_failure sql params old new e plain (inr h) = kept_unchanged old new h.5
 
-module _ {V E : Type 0} (sql : List ℕ) (params : Row) (old new : State) (rows_of : V → List Row) (plain : (c : Compiled) → understood old.now.schema sql ≡ Ok c → c.returning ≡ None) (survives : Survives old new (λ _. ⊥)) where
+module _ {V E : Type 0} (sql : List ℕ) (params : Row) (old new : State) (rows_of : V → List Row)
+    (plain : (c : Compiled) → understood old.now.schema sql ≡ Ok c → c.returning ≡ None) (survives : Survives old new (λ _. ⊥)) where
   -- the rows came
   pub look_ok : (v : V) → (HasCleanDisk new → Shown sql params old new (rows_of v)) → IsTransactionStep {V = V} {E = E} old new (Ok v) (λ v. SelectsRows sql params (rows_of v))
   look_ok v shown = record {

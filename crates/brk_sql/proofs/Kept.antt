@@ -106,7 +106,8 @@ module _ {X : Type 0} (table : Table) (encode : X → Row) (cmp : X → X → Or
 
   -- ---- SELECT .. WHERE .. ORDER BY .. LIMIT
 
-  module _ (xs : List X) (rows : List Row) (h : TreeHoldsRecords table encode cmp xs rows) (query : Query) (params : Row) (terms project : List Term) (order : List (Term × Key)) (read : List Row) (p : Picks query params terms project order rows read)
+  module _ (xs : List X) (rows : List Row) (h : TreeHoldsRecords table encode cmp xs rows) (query : Query) (params : Row) (terms project : List Term)
+      (order : List (Term × Key)) (read : List Row) (p : Picks query params terms project order rows read)
       (q : X → Bool) (same : (r : Row) (x : X) → cells_in_column_order table r ≡ encode x → passes params terms r ≡ q x)
       (show : X → Row) (shows : (r : Row) (x : X) → cells_in_column_order table r ≡ encode x → eval_all project (params ∷ r ∷ []) ≡ show x)
       (C : X → X → Ordering) (sorts : (a b : Row) (x y : X) → cells_in_column_order table a ≡ encode x → cells_in_column_order table b ≡ encode y → sorted_by params order a b ≡ C x y) where

@@ -62,7 +62,8 @@ module _ (text : List ℕ) (p : Parsed) (s : ast.Select) (is : first text ≡ Ok
 
 -- ---- the records that it shows
 
-module _ {W T : Type 0} (desk : ProgramTables W T) (w : W) (text : List ℕ) (params : Row) (p : Parsed) (terms project : List Term) (order : List (Term × Key)) (paging : Term × Term) (names : List (List ℕ))
+module _ {W T : Type 0} (desk : ProgramTables W T) (w : W) (text : List ℕ) (params : Row) (p : Parsed) (terms project : List Term) (order : List (Term × Key))
+    (paging : Term × Term) (names : List (List ℕ))
     (either : (schema : Schema) (at tree : ℕ) → IsTableAt schema (desk.shape w tree) at
     → (compiled schema text ≡ Ok (meant p [] (Select (record { lets = []; body = selection tree terms project order paging }) names))) ⊎ (compiled schema text ≡ Err Mismatch))
     (q : desk.Item w → Bool) (same : (tree : ℕ) (r : Row) (x : desk.Item w) → cells_in_column_order (desk.shape w tree) r ≡ desk.encode w x → passes params terms r ≡ q x)

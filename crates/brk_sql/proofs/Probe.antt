@@ -29,7 +29,8 @@ use Rattle.brk_sql.specs.Desk.{IsResultColumnCheckOutcome, IsCompilationOutcome}
 use Rattle.brk_sql.proofs.Inside.{kept_unchanged, kept_rolled, on_err}
 use Rattle.brk_sql.proofs.Meant.{deletes_or}
 
-module _ (text : List ℕ) (p : Parsed) (name : Name) (is : first text ≡ Ok p) (statement : p.statement ≡ written.Delete name None []) (untimed : p.formats ≡ []) (unlisted : compiled listing_schema text ≡ Err NoSuchTable) where
+module _ (text : List ℕ) (p : Parsed) (name : Name) (is : first text ≡ Ok p) (statement : p.statement ≡ written.Delete name None []) (untimed : p.formats ≡ [])
+    (unlisted : compiled listing_schema text ≡ Err NoSuchTable) where
   missing : (schema : Schema) → table_named schema name ≡ None → compiled schema text ≡ Err NoSuchTable
   unfolding compiled planned timed meaning returning shows command delete
   missing schema none = rw (is, statement, untimed, none)

@@ -58,7 +58,8 @@ unfolding is_among
 names_from name table at k done [] = sym (append-nil (map (λ o. o.name) done))
 names_from name table at k done (c ∷ cs) = names_from name table at (k + 1) (done ++ _ ∷ []) cs ∙ push (λ o. o.name) done _ (map (λ c. c.name) cs)
 
-module _ (text : List ℕ) (p : Parsed) (name : Name) (is : first text ≡ Ok p) (statement : p.statement ≡ written.Select (star name)) (untimed : p.formats ≡ []) (unlisted : compiled listing_schema text ≡ Err NoSuchTable)
+module _ (text : List ℕ) (p : Parsed) (name : Name) (is : first text ≡ Ok p) (statement : p.statement ≡ written.Select (star name)) (untimed : p.formats ≡ [])
+    (unlisted : compiled listing_schema text ≡ Err NoSuchTable)
     (schema : Schema) (at : ℕ) (table : Table) (named : table_named schema name ≡ Some at) (found : slice_get schema.tables at ≡ Some table) where
   abbrev all : List Output
   all = columns_from None table (bound_at name at) 0 [] table.columns

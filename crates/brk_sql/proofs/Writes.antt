@@ -69,35 +69,37 @@ pub record Place {W T : Type 0} (desk : ProgramTables W T) (w : W) : Type 0 wher
 
 -- ---- a record whose key came in is new
 
-module _ {X : Type 0} (table : Table) (encode : X → Row) (cmp : X → X → Ordering) (xs : List X) (rows : List Row) (h : TreeHoldsRecords table encode cmp xs rows) (new : Row) (x : X) (e : cells_in_column_order table new ≡ encode x) (free : is_taken rows new ≡ false) where
-  untaken : (rows : List Row) → is_taken rows new ≡ false → (r : Row) → Has rows r → has_same_rowid new r ≡ false
-  untaken [] free r there = absurd there
-  untaken (s ∷ rows) free r there = go (has_same_rowid s new) refl free there (λ off later. untaken rows off r later)
-    where
-      go : (b : Bool) → has_same_rowid s new ≡ b → (b || is_taken rows new) ≡ false → Has (s ∷ rows) r
-          → (is_taken rows new ≡ false → Has rows r → has_same_rowid new r ≡ false) → has_same_rowid new r ≡ false
-      go true k off there more = absurd (let f = off in cc)
-      go false k off (inl same) more = subst (λ z. has_same_rowid new z ≡ false) (sym same) (same_rowid_sym new s ∙ k)
-      go false k off (inr later) more = more off later
+module _ {X : Type 0} (table : Table) (encode : X → Row) (cmp : X → X → Ordering) (xs : List X) (rows : List Row)
+    (h : TreeHoldsRecords table encode cmp xs rows) (new : Row) (x : X) (e : cells_in_column_order table new ≡ encode x) (free : is_taken rows new ≡ false)
+  where
+    untaken : (rows : List Row) → is_taken rows new ≡ false → (r : Row) → Has rows r → has_same_rowid new r ≡ false
+    untaken [] free r there = absurd there
+    untaken (s ∷ rows) free r there = go (has_same_rowid s new) refl free there (λ off later. untaken rows off r later)
+      where
+        go : (b : Bool) → has_same_rowid s new ≡ b → (b || is_taken rows new) ≡ false → Has (s ∷ rows) r
+            → (is_taken rows new ≡ false → Has rows r → has_same_rowid new r ≡ false) → has_same_rowid new r ≡ false
+        go true k off there more = absurd (let f = off in cc)
+        go false k off (inl same) more = subst (λ z. has_same_rowid new z ≡ false) (sym same) (same_rowid_sym new s ∙ k)
+        go false k off (inr later) more = more off later
 
-  absent_rowid : ((r s : Row) (x y : X) → cells_in_column_order table r ≡ encode x → cells_in_column_order table s ≡ encode y
-      → is_eq (cmp x y) ≡ has_same_rowid r s) → AllByRecursion (λ y. is_eq (cmp x y) ≡ false) xs
-  absent_rowid tied =
-      all_from _ xs (λ y there.
-      let r = row_of table encode cmp xs rows h y there in
-      tied new r.0 x y e r.2 ∙ untaken rows free r.0 r.1)
+    absent_rowid : ((r s : Row) (x y : X) → cells_in_column_order table r ≡ encode x → cells_in_column_order table s ≡ encode y
+        → is_eq (cmp x y) ≡ has_same_rowid r s) → AllByRecursion (λ y. is_eq (cmp x y) ≡ false) xs
+    absent_rowid tied =
+        all_from _ xs (λ y there.
+        let r = row_of table encode cmp xs rows h y there in
+        tied new r.0 x y e r.2 ∙ untaken rows free r.0 r.1)
 
-  absent_unique : (order : _) (key : List ℕ) → ((r s : Row) (x y : X) → cells_in_column_order table r ≡ encode x → cells_in_column_order table s ≡ encode y → is_eq (cmp x y) ≡ agree order key r key s)
-      → ((r s : Row) → Has (put_row new rows) r → Has (put_row new rows) s → differ (rowid s) (rowid r) ≡ true → agree order key s key r ≡ false)
-      → IsTrue (is_int (rowid new)) → AllByRecursion (λ y. is_eq (cmp x y) ≡ false) xs
-  absent_unique order key tied once whole =
-      all_from _ xs (λ y there.
-      let r = row_of table encode cmp xs rows h y there in
-      let perm = put_is new rows free in
-      let other : differ (rowid new) (rowid r.0) ≡ true =
-      ap₂ differ (int_is (rowid new) whole) (int_is (rowid r.0) (all_has _ rows r.0 h.keyed r.1)) ∙ differ_ints (id_in (rowid new)) (id_in (rowid r.0))
-      ∙ ap not (ap is_eq (ap₂ value_cmp (sym (int_is (rowid new) whole)) (sym (int_is (rowid r.0) (all_has _ rows r.0 h.keyed r.1)))) ∙ untaken rows free r.0 r.1) in
-      tied new r.0 x y e r.2 ∙ once r.0 new (has_permuted _ (new ∷ rows) r.0 (IsPermutation-sym _ _ perm) (inr r.1)) (has_permuted _ (new ∷ rows) new (IsPermutation-sym _ _ perm) (inl refl)) other)
+    absent_unique : (order : _) (key : List ℕ) → ((r s : Row) (x y : X) → cells_in_column_order table r ≡ encode x → cells_in_column_order table s ≡ encode y → is_eq (cmp x y) ≡ agree order key r key s)
+        → ((r s : Row) → Has (put_row new rows) r → Has (put_row new rows) s → differ (rowid s) (rowid r) ≡ true → agree order key s key r ≡ false)
+        → IsTrue (is_int (rowid new)) → AllByRecursion (λ y. is_eq (cmp x y) ≡ false) xs
+    absent_unique order key tied once whole =
+        all_from _ xs (λ y there.
+        let r = row_of table encode cmp xs rows h y there in
+        let perm = put_is new rows free in
+        let other : differ (rowid new) (rowid r.0) ≡ true =
+        ap₂ differ (int_is (rowid new) whole) (int_is (rowid r.0) (all_has _ rows r.0 h.keyed r.1)) ∙ differ_ints (id_in (rowid new)) (id_in (rowid r.0))
+        ∙ ap not (ap is_eq (ap₂ value_cmp (sym (int_is (rowid new) whole)) (sym (int_is (rowid r.0) (all_has _ rows r.0 h.keyed r.1)))) ∙ untaken rows free r.0 r.1) in
+        tied new r.0 x y e r.2 ∙ once r.0 new (has_permuted _ (new ∷ rows) r.0 (IsPermutation-sym _ _ perm) (inr r.1)) (has_permuted _ (new ∷ rows) new (IsPermutation-sym _ _ perm) (inl refl)) other)
 
 module _ {W T : Type 0} (desk : ProgramTables W T) (w : W) (place : Place desk w) where
   abbrev shape : ℕ → Table
@@ -143,7 +145,8 @@ module _ {W T : Type 0} (desk : ProgramTables W T) (w : W) (place : Place desk w
 
   -- ---- a step on this table, and all that it sets off
 
-  module _ (t : T) (tree : W → ℕ) (old new : Database) (h : HasTables desk t tree old) (e : Edit) (is : e.table ≡ shape (tree w)) (writes : WritesOn old.schema Enforced old.trees e (Ok new.trees)) where
+  module _ (t : T) (tree : W → ℕ) (old new : Database) (h : HasTables desk t tree old) (e : Edit) (is : e.table ≡ shape (tree w))
+      (writes : WritesOn old.schema Enforced old.trees e (Ok new.trees)) where
     at_tree : e.table.tree ≡ tree w
     at_tree = ap (λ (k : Table). k.tree) is ∙ desk.placed w (tree w)
 

@@ -152,7 +152,8 @@ audited_third db (Some c) defined there h = subst (λ s. IsDatabaseAuditResultBy
 module _ {S : Type 0} (g : Ghosts S) (old first : Held S) (settled : IsTrue (state g old).is_open → (state g old).now ≡ (state g old).committed) where
   -- ---- rolled back, whatever was told: of a desk of the third schema it is an audit
 
-  module _ {V : Type 0} (mid end : Held S) (out : Result V Fault) (Q : V → State → State → Type 0) (step : IsTransactionStep (state g (with_transaction_open old)) (state g mid) out Q) (late : Survives (state g mid) (state g end) (λ _. ⊥))
+  module _ {V : Type 0} (mid end : Held S) (out : Result V Fault) (Q : V → State → State → Type 0)
+      (step : IsTransactionStep (state g (with_transaction_open old)) (state g mid) out Q) (late : Survives (state g mid) (state g end) (λ _. ⊥))
       (back : HasCleanDisk (state g end) → IsRolledBack (state g mid) (state g end)) where
     passed : Survives (state g old) (state g end) (λ _. ⊥)
     passed = through g old mid end settled out Q step late
@@ -160,7 +161,10 @@ module _ {S : Type 0} (g : Ghosts S) (old first : Held S) (settled : IsTrue (sta
     stayed : HasCleanDisk (state g end) → IsTrue (state g end).is_open → WasOpenAndIsUnchanged (state g old) (state g end)
     stayed = rolled_back g old mid end settled out Q (λ _. ⊥) step back late
 
-    module _ (result : Result (Unit {0}) Fault) (told : HasCleanDisk (state g end) → ConnectionTablesWithDeskNamesAreDeskTables g old → AuditAnswerSatisfies result (IsDatabaseAuditResult (state g old).now)) (opened : HasCleanDisk (state g end) → AuditAnswerSatisfies result (λ _. IsTrue (state g old).is_open)) where
+    module _ (result : Result (Unit {0}) Fault)
+        (told : HasCleanDisk (state g end) → ConnectionTablesWithDeskNamesAreDeskTables g old
+        → AuditAnswerSatisfies result (IsDatabaseAuditResult (state g old).now)) (opened : HasCleanDisk (state g end)
+        → AuditAnswerSatisfies result (λ _. IsTrue (state g old).is_open)) where
       as_audit : ConnectionTablesWithDeskNamesAreDeskTables g old → ConnectionHasThirdSchema g old → AuditPost g old end result
       as_audit defined third = record {
         answered = λ clean _.
@@ -270,7 +274,9 @@ module _ {S : Type 0} (g : Ghosts S) (old first : Held S) (settled : IsTrue (sta
           (λ _ l m. subst (λ d. UpgradesTables (abstract_schema schema) d (state g mid).now) l.1 m) step move)
           late back fault may
 
-      module _ (move : IsTransactionStep {V = Unit {0}} {E = Fault} (state g first) (state g mid) (Ok tt) (λ _ a b. UpgradesTables (abstract_schema schema) a.now b.now)) (end : Held S) (late : Survives (state g mid) (state g end) (λ db. db ≡ (state g mid).now.trees)) where
+      module _ (move : IsTransactionStep {V = Unit {0}} {E = Fault} (state g first) (state g mid) (Ok tt)
+          (λ _ a b. UpgradesTables (abstract_schema schema) a.now b.now)) (end : Held S)
+          (late : Survives (state g mid) (state g end) (λ db. db ≡ (state g mid).now.trees)) where
         made : IsTransactionStep {V = Unit {0}} {E = Fault} (state g (with_transaction_open old)) (state g mid) (Ok tt) (λ _ a b. HasPassingRowsAndUpgrades schema a.now b.now)
         made =
             step_then (state g (with_transaction_open old)) (state g first) (state g mid) told (Ok tt) ReturnsTrueAuditResult

@@ -45,7 +45,8 @@ module _ {S : Type 0} (g : Ghosts S) (old mid end : Held S) (settled : IsTrue (s
       let k = kept clean o in
       subst (HasDeskTables t) (sym k.now) (holds (clean_before (state g old) (state g end) P through clean) k.was_open)
 
-  module _ {V E : Type 0} (r : Result V E) (Q : V → State → State → Type 0) (step : IsTransactionStep (state g (with_transaction_open old)) (state g mid) r Q) (late : Survives (state g mid) (state g end) (λ _. ⊥)) where
+  module _ {V E : Type 0} (r : Result V E) (Q : V → State → State → Type 0) (step : IsTransactionStep (state g (with_transaction_open old)) (state g mid) r Q)
+      (late : Survives (state g mid) (state g end) (λ _. ⊥)) where
     pub through : Survives (state g old) (state g end) (λ _. ⊥)
     through = survives_then (state g old) (state g mid) (state g end) (λ _. ⊥) (λ _. ⊥) (λ _. ⊥) (λ _ db none. none) (λ _ db none. none)
         (survives_begin g old (state g mid) (λ _. ⊥) step.survives) late
@@ -90,7 +91,8 @@ read_is_over g old conn first mid end new {out} {P} same ended first_is settled 
 
 -- ---- a look before the changes, which shows that the store is open
 
-module _ {S L E F : Type 0} (g : Ghosts S) (old first mid : Held S) (seen : L) (P : L → State → State → Type 0) (look : IsTransactionStep {E = E} (state g (with_transaction_open old)) (state g first) (Ok seen) (λ l a b. IsTrue a.is_open × (b.now ≡ a.now) × P l a b))
+module _ {S L E F : Type 0} (g : Ghosts S) (old first mid : Held S) (seen : L) (P : L → State → State → Type 0)
+    (look : IsTransactionStep {E = E} (state g (with_transaction_open old)) (state g first) (Ok seen) (λ l a b. IsTrue a.is_open × (b.now ≡ a.now) × P l a b))
     (r : Result (Unit {0}) F) (after : Tables → Tables) (changes : IsTransactionStep (state g first) (state g mid) r (λ _ a b. ChangesTablesBy desk_tables after a.now b.now)) where
   pub after_look : IsTransactionStep (state g (with_transaction_open old)) (state g mid) r (λ _ a b. ChangesTablesBy desk_tables after a.now b.now)
   after_look =
@@ -121,7 +123,8 @@ failed_then {U} {V} {W} {E} {F} {G} a b c u result e fault P Q R is first next =
 -- ---- a transaction that is rolled back at a fault
 
 module _ {S V E : Type 0} (g : Ghosts S) (old mid end : Held S) (settled : IsTrue (state g old).is_open → (state g old).now ≡ (state g old).committed) (r : Result V E) (Q : V → State → State → Type 0)
-    (step : IsTransactionStep (state g (with_transaction_open old)) (state g mid) r Q) (late : Survives (state g mid) (state g end) (λ _. ⊥)) (back : HasCleanDisk (state g end) → IsRolledBack (state g mid) (state g end)) where
+    (step : IsTransactionStep (state g (with_transaction_open old)) (state g mid) r Q) (late : Survives (state g mid) (state g end) (λ _. ⊥))
+    (back : HasCleanDisk (state g end) → IsRolledBack (state g mid) (state g end)) where
   whole_call : Survives (state g old) (state g end) (λ _. ⊥)
   whole_call = through g old mid end settled r Q step late
 
@@ -172,7 +175,8 @@ module _ {S V E : Type 0} (g : Ghosts S) (old mid end : Held S) (settled : IsTru
 -- ---- committed, or not
 
 module _ {S : Type 0} (g : Ghosts S) (old mid end : Held S) (settled : IsTrue (state g old).is_open → (state g old).now ≡ (state g old).committed) (made : Database → Database → Type 0)
-    (step : IsTransactionStep {V = Unit {0}} {E = Fault} (state g (with_transaction_open old)) (state g mid) (Ok tt) (λ _ a b. made a.now b.now)) (late : Survives (state g mid) (state g end) (λ db. db ≡ (state g mid).now.trees)) where
+    (step : IsTransactionStep {V = Unit {0}} {E = Fault} (state g (with_transaction_open old)) (state g mid) (Ok tt) (λ _ a b. made a.now b.now))
+    (late : Survives (state g mid) (state g end) (λ db. db ≡ (state g mid).now.trees)) where
   pub whole : Survives (state g old) (state g end) (λ trees. (db : Database) × made (state g old).now db × (trees ≡ db.trees))
   whole = commits_crash g old mid end made step late
 
@@ -187,7 +191,9 @@ module _ {S : Type 0} (g : Ghosts S) (old mid end : Held S) (settled : IsTrue (s
       → IsTrue (state g end).is_open → WasOpenAndIsUnchanged (state g old) (state g end)
   kept_at e fails = rolled_back g old mid end settled {V = Unit {0}} {E = Fault} (Ok tt) (λ _ a b. made a.now b.now) _ step (back e fails) late
 
-  module _ (done : HasCleanDisk (state g end) → IsTrue (state g mid).in_transaction × Shows (state g mid) (state g end) (state g mid).now (state g mid).now false × KeepsCounts (state g mid) (state g end) × ((state g end).marks ≡ [])) where
+  module _ (done : HasCleanDisk (state g end) → IsTrue (state g mid).in_transaction
+      × Shows (state g mid) (state g end) (state g mid).now (state g mid).now false × KeepsCounts (state g mid) (state g end)
+      × ((state g end).marks ≡ [])) where
     pub all : HasCleanDisk (state g end) → IsTrue (state g old).is_open × IsTrue (state g end).is_open × made (state g old).now (state g end).now × ((state g end).committed ≡ (state g end).now)
     all clean = commits_all g old mid end made step late {F = Fault} (Ok tt) clean done
 

@@ -29,11 +29,14 @@ use Rattle.brk_tables_scan.proofs.Continued.{continues_six}
 use Rattle.brk_tables_scan.proofs.Four.{stays_then, shown_before}
 use Rattle.brk_tables_scan.proofs.Sheeted.{sheets, are_sheets}
 
-module _ (desk : Schema) (a b c d e f g : State) (n0 n1 n2 n3 n4 n5 n6 : Bool) (first : DeskAndCustomerSheets) (accounts : AccountAndSecuritySheets) (rates : ChargeAndRateSheets) (trades : TradeAndHoldingSheets) (last : SummaryAndSettlementSheets) (later : LaterSchemaSheets) where
+module _ (desk : Schema) (a b c d e f g : State) (n0 n1 n2 n3 n4 n5 n6 : Bool) (first : DeskAndCustomerSheets) (accounts : AccountAndSecuritySheets)
+    (rates : ChargeAndRateSheets) (trades : TradeAndHoldingSheets) (last : SummaryAndSettlementSheets) (later : LaterSchemaSheets) where
   abbrev all : Sheets
   all = sheets first accounts rates trades last later
 
-  module _ (in_first : ReadsDeskAndCustomerTables desk n0 n1 first a b) (in_accounts : ReadsAccountAndSecurityTables n1 n2 accounts b c) (in_rates : ReadsChargeAndRateTables n2 n3 rates c d) (in_trades : ReadsTradeAndHoldingTables n3 n4 trades d e) (in_last : ReadsSummaryAndSettlementTables n4 n5 last e f) (in_later : ReadsLaterSchemaTables desk n5 n6 later f g) where
+  module _ (in_first : ReadsDeskAndCustomerTables desk n0 n1 first a b) (in_accounts : ReadsAccountAndSecurityTables n1 n2 accounts b c)
+      (in_rates : ReadsChargeAndRateTables n2 n3 rates c d) (in_trades : ReadsTradeAndHoldingTables n3 n4 trades d e)
+      (in_last : ReadsSummaryAndSettlementTables n4 n5 last e f) (in_later : ReadsLaterSchemaTables desk n5 n6 later f g) where
     abbrev raw : RawSheets
     raw = record { first = in_first.raw; accounts = in_accounts.raw; rates = in_rates.raw; trades = in_trades.raw; last = in_last.raw; later = in_later.raw }
 

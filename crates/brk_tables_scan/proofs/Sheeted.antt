@@ -54,7 +54,10 @@ module _ (f : DeskAndCustomerSheets) (a : AccountAndSecuritySheets) (r : ChargeA
     rule = n.rule;
   }
 
-module _ (f : DeskAndCustomerSheets) (a : AccountAndSecuritySheets) (r : ChargeAndRateSheets) (t : TradeAndHoldingSheets) (l : SummaryAndSettlementSheets) (n : LaterSchemaSheets) (desk : Schema) (raw : RawSheets) (is_f : DecodesDeskAndCustomerTables desk f raw.first) (is_a : DecodesAccountAndSecurityTables a raw.accounts) (is_r : DecodesChargeAndRateTables r raw.rates) (is_t : DecodesTradeAndHoldingTables t raw.trades) (is_l : DecodesSummaryAndSettlementTables l raw.last) (is_n : DecodesLaterSchemaTables n raw.later) where
+module _ (f : DeskAndCustomerSheets) (a : AccountAndSecuritySheets) (r : ChargeAndRateSheets) (t : TradeAndHoldingSheets) (l : SummaryAndSettlementSheets)
+    (n : LaterSchemaSheets) (desk : Schema) (raw : RawSheets) (is_f : DecodesDeskAndCustomerTables desk f raw.first)
+    (is_a : DecodesAccountAndSecurityTables a raw.accounts) (is_r : DecodesChargeAndRateTables r raw.rates) (is_t : DecodesTradeAndHoldingTables t raw.trades)
+    (is_l : DecodesSummaryAndSettlementTables l raw.last) (is_n : DecodesLaterSchemaTables n raw.later) where
   each : (w : DeskTable) → map (encoded_row w) (rows_of_table_in_schema desk w (tables_with_whole_kept_rows is_f.kept.0 (sheets f a r t l n))) ≡ raw_rows_of_table raw w
   each TheDesk = is_f.desk
   each KeptRows = map_twice kept_cells abstract_kept_row is_f.kept.0 ∙ is_f.kept.1

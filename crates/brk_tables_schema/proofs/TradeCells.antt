@@ -14,7 +14,8 @@ use Rattle.brk_tables_schema.specs.Cells.{natural_as_value, flag_as_value, optio
 both : {X : Type 0} {a b : X} {xs ys : List X} → a ≡ b → xs ≡ ys → a ∷ xs ≡ b ∷ ys
 both e f = ap₂ (λ x xs. x ∷ xs) e f
 
-module _ (id : ℕ) (stamp : ℕ) (status : Status) (kind : TradeType) (is_cash : Bool) (symbol : List ℕ) (qty : ℕ) (bid : ℕ) (account : ℕ) (executor : List ℕ) (price : Option ℕ) (charge : ℕ) (commission : ℕ) (tax : ℕ) (is_lifo : Bool) where
+module _ (id : ℕ) (stamp : ℕ) (status : Status) (kind : TradeType) (is_cash : Bool) (symbol : List ℕ) (qty : ℕ) (bid : ℕ) (account : ℕ) (executor : List ℕ)
+    (price : Option ℕ) (charge : ℕ) (commission : ℕ) (tax : ℕ) (is_lifo : Bool) where
   abbrev pub trade : TradeRow
   trade = record {
     id = id;

@@ -21,7 +21,8 @@ use Rattle.brk_sql.proofs.Pick.{selection}
 pub still : (s : State) → IsTrue s.is_open → IsUnchanged s s
 still s unshut = (record { was_open = unshut; is_open = unshut; now_is = refl; committed_is = refl; mode = refl }, record { changes = refl; last_rowid = refl }, refl)
 
-module _ {W T : Type 0} (desk : ProgramTables W T) (w : W) (text : List ℕ) (params : Row) (p : Parsed) (terms project : List Term) (order : List (Term × Key)) (paging : Term × Term) (names : List (List ℕ))
+module _ {W T : Type 0} (desk : ProgramTables W T) (w : W) (text : List ℕ) (params : Row) (p : Parsed) (terms project : List Term) (order : List (Term × Key))
+    (paging : Term × Term) (names : List (List ℕ))
     (either : (schema : Schema) (at tree : ℕ) → IsTableAt schema (desk.shape w tree) at
     → (compiled schema text ≡ Ok (meant p [] (Select (record { lets = []; body = selection tree terms project order paging }) names))) ⊎ (compiled schema text ≡ Err Mismatch))
     (s : State) (rows : List Row) (begins : Begins text params s rows) (unshut : IsTrue s.is_open) where

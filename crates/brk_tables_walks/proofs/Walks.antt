@@ -26,10 +26,12 @@ module _ {X M : Type 0} (of : X → M) (cells : M → Row) (back : Row → M) (i
       ap (λ l. l ++ map back tail) (sym (map_back cells back is_back (map of xs)) ∙ ap (map back) (map_twice cells of xs))
       ∙ sym (map_parts back (map (λ x. cells (of x)) xs) tail) ∙ ap (map back) e ∙ map_back cells back is_back ms
 
-  module _ {S V E : Type 0} (g : Ghosts S) (old new : Held S) (list : Tables → List M) (takes : V → X → V → Type 0) (stops : V → X → E → V → Type 0) (before after : V) (result : Result (Unit {0}) (WalkError E))
+  module _ {S V E : Type 0} (g : Ghosts S) (old new : Held S) (list : Tables → List M) (takes : V → X → V → Type 0) (stops : V → X → E → V → Type 0)
+      (before after : V) (result : Result (Unit {0}) (WalkError E))
       (sql : List ℕ) (params : Row)
       (tells : (rows : List Row) → Shown sql params (state g old) (state g old) rows → TablesSatisfy desk_tables (λ t. rows ≡ map cells (list t)) (state g old).now)
-      (starts : (rows : List Row) → IsTrue (state g old).is_open → Begins sql params (state g old) rows → TablesSatisfy desk_tables (λ t. (tail : List Row) × (rows ++ tail ≡ map cells (list t))) (state g old).now) where
+      (starts : (rows : List Row) → IsTrue (state g old).is_open → Begins sql params (state g old) rows
+      → TablesSatisfy desk_tables (λ t. (tail : List Row) × (rows ++ tail ≡ map cells (list t))) (state g old).now) where
     are_first : (xs : List X) → (xs ≡ []) ⊎ (IsTrue (state g old).is_open × Begins sql params (state g old) (map (λ x. cells (of x)) xs)) → IsPrefixOfList (state g old) list (map of xs)
     are_first xs (inl none) = inl (ap (map of) none)
     are_first xs (inr h) = inr (h.0, λ t has. let it = starts _ h.0 h.1 t has.0 has.1 in (map back it.0, first_are xs it.0 (list t) it.1))

@@ -37,7 +37,7 @@ pub record AreOrderTermsInBase (base : Base) (o : Order) (terms : Terms) : Type 
   pub price : terms.price ≡ bid_price_of_order base o
   pub tax_status : terms.tax_status ≡ tax_status_in_accounts base.accounts o.account
   pub rates : terms.rates ≡ tax_rate_sum_of_customer base (customer_id_of_account base o.account)
-  -- The rate is that of the band that the model finds.
+  -- The rate equals that of the band that the model finds.
   pub rate : option_map (λ b. b.rate)
       (commission_band_for_quantity base (tier_of_account base o.account) (trade_type_of_order_type o.order_type) (exchange_of_security base o.symbol) o.qty)
       ≡ Some terms.rate

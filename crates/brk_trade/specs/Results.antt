@@ -185,8 +185,8 @@ pub record IsResultRefusalOfExistingTrade (found : ResultPlanFacts) (price : ℕ
     (refusal : Refusal) : Type 0 where
   -- If a check before the lots are read fails, its refusal is `refusal`, whatever the lots are.
   pub early : IfSome (first_refusal (checks_before_reading_lots found)) (λ cause. refusal ≡ cause)
-  -- `refusal` is that of the first check that fails, with the values of those shares of the lots
-  -- that the trade would close.
+  -- `refusal` equals that of the first check that fails, with the values of those shares of the
+  -- lots that the trade would close.
   pub late : (ls : List Lot) (stamp : ℕ) → AreLotsBeforeTrade given found ls
       → first_refusal
       (result_checks found price (closing_values_of_deal (deal_of_trade_row found.trade price stamp) (shares_of_lots ls)) (stamp_after last now))

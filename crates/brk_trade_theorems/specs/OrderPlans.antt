@@ -52,8 +52,8 @@ pub record EstimateFactsMatchTables (t : Tables) (order : Order) (found : OrderP
   pub charge : PassesFirstOrderChecks 3 found
       → CustomerOfAccountSatisfies t order.account (λ c.
       found.charge ≡ charge_of_type_and_tier t (trade_type_of_order_type order.order_type) c.tier)
-  -- The rate is that of the commission band that contains the quantity, by the customer's tier and
-  -- the security's exchange.
+  -- The rate equals that of the commission band that contains the quantity, by the customer's tier
+  -- and the security's exchange.
   pub rate : PassesFirstOrderChecks 4 found
       → CustomerOfAccountSatisfies t order.account (λ c. IfSome (security_row_with_symbol t order.symbol) (λ s.
       found.rate ≡ option_map (λ b. b.rate) (commission_band_of_quantity t c.tier (trade_type_of_order_type order.order_type) s.exchange order.qty)))

@@ -34,8 +34,8 @@ result_account_of_row r = record { broker = r.broker; tax_status = r.tax_status;
 -- checks that it names fails, since the fact is not read then. A clause about the customer, the
 -- account, the broker or the security is also vacuous if no such row exists.
 pub record ResultFactsMatchTables (t : Tables) (found : ResultPlanFacts) : Type 0 where
-  -- The rate is that of the commission band that contains the quantity, by the customer's tier and
-  -- the security's exchange.
+  -- The rate equals that of the commission band that contains the quantity, by the customer's tier
+  -- and the security's exchange.
   pub rate : PassesFirstResultChecks 1 found
       → CustomerOfAccountSatisfies t found.trade.account (λ c. IfSome (security_row_with_symbol t found.trade.symbol) (λ s.
       found.rate ≡ option_map (λ b. b.rate) (commission_band_of_quantity t c.tier found.trade.kind s.exchange found.trade.qty)))

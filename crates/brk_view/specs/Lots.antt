@@ -26,7 +26,7 @@ touched_lot_records None = []
 touched_lot_records (Some lots) = (decimal lots.trade ∷ []) ∷ map lot_change_record lots.changes.items
 
 -- The lot change that the HOLDING_HISTORY row `row` records, with the stamp of the trade that made
--- it. The stamp is that of the TRADE row in the tables `t`, or 0 if that trade does not exist.
+-- it. The stamp equals that of the TRADE row in the tables `t`, or 0 if that trade does not exist.
 abbrev pub stamped_lot_change : Tables → HoldingHistoryRow → LotTouch
 stamped_lot_change t row =
     record { change = record { lot = row.lot; trade = row.trade; before = row.before; after = row.after }; stamp = stamp_of_touching_trade t row }

@@ -51,7 +51,7 @@ pub fn trade_with_security(trade: TradeRow, security: Security) -> TradeStatus
 pub fn status(account: AccountStatus) -> View
     ensures records { records_of_view result ≡ party_names_record account ∷ map trade_status_record account.trades.items }
     ensures value { result ≡ views.Status account }
-    // If the names are those of the customer and the broker of an account that exists, and the
+    // If the names equal those of the customer and the broker of an account that exists, and the
     // trades are its last fifty with their securities, the view equals the specified view.
     ensures view { (t : Tables) (id : ℕ)
         → flat_map (customer_and_broker_names t) (filter (λ a. a.id == id) t.accounts) ≡ party_names_record account ∷ []

@@ -48,7 +48,7 @@ pub fn position(alloc: Global, accounts: Vec<AccountWorth>) -> Result<View, Faul
     ensures records { IfOk result (λ view. records_of_view view ≡ map account_worth_record (sort_by is_worth_before_by_market_value accounts.items)) }
     ensures value { IfOk result (λ view. (sorted : Vec AccountWorth)
         × (view ≡ views.Position sorted) × (sorted.items ≡ sort_by is_worth_before_by_market_value accounts.items)) }
-    // If the accounts, with their values, are those of the customers that pass a test, in the
+    // If the accounts, with their values, equal those of the customers that pass a test, in the
     // sequence of the table, the view equals the specified view.
     ensures view { IfOk result (λ view. (t : Tables) (test : records.Customer → Bool)
         → accounts.items ≡ map (worth_of_account t) (filter (λ a. list_any (λ c. test c && (c.id == a.customer)) t.customers) t.accounts)

@@ -2,7 +2,7 @@ use Rattle.std.proofs.Common.{rules}
 use Rattle.brk_orders.specs.Records.{abstract_order}
 use Rattle.brk_store.specs.Holds.{HoldsRows}
 use Rattle.brk_trade_theorems.specs.OrderPlans.{EstimateFactsMatchTables}
-use Rattle.brk_decisions.specs.Decisions.{IsEstimateOfModel}
+use Rattle.brk_decisions.specs.Estimates.{IsEstimateOfModel}
 use Rattle.brk_store.proofs.ReadResults.{decided_on, read_at}
 use Rattle.brk_decisions.proofs.Ordering.{estimate_decided}
 use Rattle.brk_decisions.proofs.estimate.decide_estimate.Goals as goal
