@@ -170,7 +170,7 @@ def test_lemmas(t, tests, shown, found_first):
     return out
 
 HEAD = '''-- Written by tools/tables.py: what {what} means.
-use Rattle.std.proofs.Common.{{◌≡◌, ◌⊎◌, ℕ, ◌-◌, pos, negsuc, List, [], ◌∷◌, codes, true, false, Option, None, Some, Ok, Err, refl, slice_get}}
+use Rattle.std.proofs.Common.{{◌≡◌, ◌⊎◌, ℕ, ◌-◌, pos, negsuc, List, [], ◌∷◌, ◌++◌, codes, true, false, Option, None, Some, Ok, Err, refl, slice_get}}
 use Rattle.sqlite_value.specs.declared.keys.Collation.TheVariants.{{Binary}}
 use Rattle.sqlite.specs.declared.types.Value.TheVariants.{{Null, Int, Text}}
 use Rattle.sqlite_sql.specs.declared.ops.BinaryOp.TheVariants.{{Compare, Is}}
@@ -218,8 +218,9 @@ def of_use(line, body):
     kept = [name for name in names[2].split(', ') if is_named(name.split(' as ')[-1], body)]
     return [f'{names[1]}{{{", ".join(kept)}}}'] if kept else []
 
-# a line that has at most so many characters has at most 200 when `rt fmt` has indented it
+# a line that has at most so many characters has at most 200 when `rt fmt` has indented it; a statement of more is joined of literals
 MOST_WRITTEN = 192
+LONGEST_LITERAL = 175
 
 # what stood in the files that were written, and when it was written
 BEFORE = {}
@@ -241,6 +242,13 @@ def save(path, text):
 def write(crate, name, what, table, body):
     save(f'crates/{crate}/proofs/{name}.antt', HEAD.format(what=what, table=table) + body)
 
+def codes_of(text):
+    """The codes of a text, as literals that are joined if a line of a proof cannot have the text"""
+    if len(text) <= LONGEST_LITERAL:
+        return f'codes "{text}"'
+    cut = text.rfind(' ', 0, LONGEST_LITERAL) + 1
+    return f'codes "{text[:cut]}"\n    ++ {codes_of(text[cut:])}'
+
 def insert(crate, name, t, values):
     """values: for each column a parameter's number, ('lit', n) or 'null'"""
     sql, cols, rowkey = TABLES[t]
@@ -251,7 +259,7 @@ def insert(crate, name, t, values):
     terms = [terms[0], 'lit Null'] + terms[1:] if rowkey else ['lit Null'] + terms
     write(crate, name, 'an INSERT', t, f'''
 abbrev pub statement : List ℕ
-statement = codes "{text}"
+statement = {codes_of(text)}
 
 abbrev pub terms : List Term
 terms = {lst(terms)}
@@ -273,7 +281,7 @@ def update(crate, name, t, sets, tests):
         project.append(f'col 0 {new[c] - 1}' if c in new else f'col 1 {i + 1}')
     write(crate, name, 'an UPDATE', t, f'''
 abbrev pub statement : List ℕ
-statement = codes "{text}"
+statement = {codes_of(text)}
 
 abbrev pub sets : List (Name × Expr)
 sets = {lst(f'({q(c)}, e.Parameter {n})' for c, n in sets)}
@@ -307,7 +315,7 @@ def delete(crate, name, t, tests):
     proof = f'rw ({", ".join(test_lemmas(t, tests, "[]", False))})' if tests else 'refl'
     write(crate, name, 'a DELETE', t, f'''
 abbrev pub statement : List ℕ
-statement = codes "{text}"
+statement = {codes_of(text)}
 
 abbrev pub test : Option Expr
 test = {f'Some ({test_expr(tests)})' if tests else 'None'}
@@ -400,7 +408,7 @@ is_read = (refl, refl, refl)
 """
     body = SELECT_HEAD + f'''
 abbrev pub statement : List ℕ
-statement = codes "{text}"
+statement = {codes_of(text)}
 
 abbrev pub source : Source
 source = roll-Source (record {{ is_left = false; origin = Table ({q(sql)}); alias = None; on = None; using = [] }})

@@ -89,7 +89,9 @@ module _ {X : Type 0} (table : Table) (encode : X → Row) (cmp : X → X → Or
         let r = row_of table encode cmp xs rows h y there in
         tied new r.0 x y e r.2 ∙ untaken rows free r.0 r.1)
 
-    absent_unique : (order : _) (key : List ℕ) → ((r s : Row) (x y : X) → cells_in_column_order table r ≡ encode x → cells_in_column_order table s ≡ encode y → is_eq (cmp x y) ≡ agree order key r key s)
+    absent_unique : (order : _) (key : List ℕ)
+        → ((r s : Row) (x y : X) → cells_in_column_order table r ≡ encode x → cells_in_column_order table s ≡ encode y
+        → is_eq (cmp x y) ≡ agree order key r key s)
         → ((r s : Row) → Has (put_row new rows) r → Has (put_row new rows) s → differ (rowid s) (rowid r) ≡ true → agree order key s key r ≡ false)
         → IsTrue (is_int (rowid new)) → AllByRecursion (λ y. is_eq (cmp x y) ≡ false) xs
     absent_unique order key tied once whole =

@@ -1,5 +1,5 @@
 -- Written by tools/tables.py: what a SELECT means.
-use Rattle.std.proofs.Common.{◌≡◌, ◌⊎◌, ℕ, ◌-◌, pos, negsuc, List, [], ◌∷◌, codes, true, false, None, Some, Ok, Err, refl, slice_get}
+use Rattle.std.proofs.Common.{◌≡◌, ◌⊎◌, ℕ, ◌-◌, pos, negsuc, List, [], ◌∷◌, ◌++◌, codes, true, false, None, Some, Ok, Err, refl, slice_get}
 use Rattle.sqlite_value.specs.declared.keys.Collation.TheVariants.{Binary}
 use Rattle.sqlite.specs.declared.types.Value.TheVariants.{Int}
 use Rattle.sqlite_sql.specs.declared.ops.BinaryOp.TheVariants.{Compare}
@@ -44,7 +44,8 @@ use Rattle.sqlite_resolve.specs.declared.compiled.Compiled.{Compiled}
 use Rattle.sqlite.specs.Listing.{understood}
 
 abbrev pub statement : List ℕ
-statement = codes "SELECT CR_C_TIER, CR_TT_ID, CR_EX_ID, CR_FROM_QTY, CR_TO_QTY, CR_RATE FROM COMMISSION_RATE WHERE CR_C_TIER = ?1 AND CR_TT_ID = ?2 AND CR_EX_ID = ?3 ORDER BY CR_C_TIER, CR_TT_ID, CR_EX_ID, CR_FROM_QTY"
+statement = codes "SELECT CR_C_TIER, CR_TT_ID, CR_EX_ID, CR_FROM_QTY, CR_TO_QTY, CR_RATE FROM COMMISSION_RATE WHERE CR_C_TIER = ?1 AND CR_TT_ID = ?2 AND CR_EX_ID = ?3 ORDER BY CR_C_TIER, "
+    ++ codes "CR_TT_ID, CR_EX_ID, CR_FROM_QTY"
 
 abbrev pub source : Source
 source = roll-Source (record { is_left = false; origin = Table (codes "COMMISSION_RATE"); alias = None; on = None; using = [] })

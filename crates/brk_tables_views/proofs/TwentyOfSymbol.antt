@@ -1,5 +1,5 @@
 -- Written by tools/tables.py: what a SELECT means.
-use Rattle.std.proofs.Common.{◌≡◌, ◌⊎◌, ℕ, ◌-◌, pos, List, [], ◌∷◌, codes, true, false, None, Some, Ok, Err, refl, slice_get}
+use Rattle.std.proofs.Common.{◌≡◌, ◌⊎◌, ℕ, ◌-◌, pos, List, [], ◌∷◌, ◌++◌, codes, true, false, None, Some, Ok, Err, refl, slice_get}
 use Rattle.sqlite_value.specs.declared.keys.Collation.TheVariants.{Binary}
 use Rattle.sqlite.specs.declared.types.Value.TheVariants.{Int}
 use Rattle.sqlite_sql.specs.declared.ops.BinaryOp.TheVariants.{Compare}
@@ -44,7 +44,8 @@ use Rattle.sqlite_resolve.specs.declared.compiled.Compiled.{Compiled}
 use Rattle.sqlite.specs.Listing.{understood}
 
 abbrev pub statement : List ℕ
-statement = codes "SELECT T_ID, T_DTS, T_ST_ID, T_TT_ID, T_IS_CASH, T_S_SYMB, T_QTY, T_BID_PRICE, T_CA_ID, T_EXEC_NAME, T_TRADE_PRICE, T_CHRG, T_COMM, T_TAX, T_LIFO FROM TRADE WHERE T_S_SYMB = ?1 AND T_DTS >= ?2 AND T_DTS <= ?3 ORDER BY T_DTS, T_ID LIMIT 20"
+statement = codes "SELECT T_ID, T_DTS, T_ST_ID, T_TT_ID, T_IS_CASH, T_S_SYMB, T_QTY, T_BID_PRICE, T_CA_ID, T_EXEC_NAME, T_TRADE_PRICE, T_CHRG, T_COMM, T_TAX, T_LIFO FROM TRADE WHERE T_S_SYMB = "
+    ++ codes "?1 AND T_DTS >= ?2 AND T_DTS <= ?3 ORDER BY T_DTS, T_ID LIMIT 20"
 
 abbrev pub source : Source
 source = roll-Source (record { is_left = false; origin = Table (codes "TRADE"); alias = None; on = None; using = [] })
