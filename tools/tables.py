@@ -985,8 +985,6 @@ STATEMENTS = {
         (select, 'SettlementByTrade', 'settlement', [('SE_T_ID', 1)], [('SE_T_ID', False)]),
         (update, 'SetExecutor', 'trade', [('T_EXEC_NAME', 1)], [('T_ID', 2)]),
         (update, 'SetCashType', 'settlement', [('SE_CASH_TYPE', 1)], [('SE_T_ID', 2)]),
-    ],
-    'brk_tables_cash': [
         (insert, 'AddMove', 'move', [1, 2, 3, 4, 5, 6]),
         (select, 'LastMove', 'move', [], [('CM_ID', True)], ('lit', 1)),
         (select, 'MoveByTrade', 'move', [('CM_T_ID', 1)], [('CM_ID', False)]),
@@ -1001,12 +999,10 @@ STATEMENTS = {
         (select, 'CashByTrade', 'cash', [], [('CT_T_ID', False)]),
         (select, 'AccountOfTrade', 'trade', [('T_ID', 1)], [('T_ID', False)], None, ['T_CA_ID']),
     ],
-    'brk_tables_walks': [
+    'brk_tables_views': [
         (select, 'CashBetween', 'move', [('CM_CA_ID', 1), ('CM_DTS', 2, 'Ge'), ('CM_DTS', 3, 'Le')], [('CM_DTS', False), ('CM_ID', False)]),
         (select, 'LotsBySymbol', 'holding', [('H_CA_ID', 1)], [('H_S_SYMB', False), ('H_DTS', False), ('H_T_ID', False)]),
         (select, 'CompletedByAge', 'trade', [('T_ST_ID', 1)], [('T_DTS', False), ('T_ID', False)]),
-    ],
-    'brk_tables_views': [
         (select, 'TwentyOfAccount', 'trade', [('T_CA_ID', 1), ('T_DTS', 2, 'Ge'), ('T_DTS', 3, 'Le')], [('T_DTS', False), ('T_ID', False)], ('lit', 20)),
         (select, 'TwentyOfSymbol', 'trade', [('T_S_SYMB', 1), ('T_DTS', 2, 'Ge'), ('T_DTS', 3, 'Le')], [('T_DTS', False), ('T_ID', False)], ('lit', 20)),
         (select, 'FirstSince', 'trade', [('T_CA_ID', 1), ('T_DTS', 2, 'Ge')], [('T_DTS', False), ('T_ID', False)], ('lit', 1)),

@@ -100,16 +100,22 @@ no_charge_tier f a b c h = text_left (Ok f ⊛ a ⊛ b) c (text_right (Ok f ⊛ 
 pub no_charge_amount : {A B C D : Type 0} (f : A → B → C → D) (a : ReadResult A) (b : ReadResult B) (c : ReadResult C) → c ≡ Err BadText → Ok f ⊛ a ⊛ b ⊛ c ≡ Err BadText
 no_charge_amount f a b c h = text_right (Ok f ⊛ a ⊛ b) c h
 
--- a band of whose fields the tier, the exchange or the rate is refused
-pub no_band_tier : {A B C D E F : Type 0} (f : A → B → C → D → E → F) (a : ReadResult A) (b : ReadResult B) (c : ReadResult C) (d : ReadResult D) (e : ReadResult E)
-    → a ≡ Err BadText → Ok f ⊛ a ⊛ b ⊛ c ⊛ d ⊛ e ≡ Err BadText
-no_band_tier f a b c d e h =
-    text_left (Ok f ⊛ a ⊛ b ⊛ c ⊛ d) e (text_left (Ok f ⊛ a ⊛ b ⊛ c) d (text_left (Ok f ⊛ a ⊛ b) c (text_left (Ok f ⊛ a) b (text_right (Ok f) a h))))
+-- one of five values is refused as text
+module _ {A B C D E F : Type 0} (f : A → B → C → D → E → F) (a : ReadResult A) (b : ReadResult B) (c : ReadResult C) (d : ReadResult D) (e : ReadResult E)
+  where
+    pub first_of_five_refused : a ≡ Err BadText → Ok f ⊛ a ⊛ b ⊛ c ⊛ d ⊛ e ≡ Err BadText
+    first_of_five_refused h =
+        text_left (Ok f ⊛ a ⊛ b ⊛ c ⊛ d) e (text_left (Ok f ⊛ a ⊛ b ⊛ c) d (text_left (Ok f ⊛ a ⊛ b) c (text_left (Ok f ⊛ a) b (text_right (Ok f) a h))))
 
-pub no_band_exchange : {A B C D E F : Type 0} (f : A → B → C → D → E → F) (a : ReadResult A) (b : ReadResult B) (c : ReadResult C) (d : ReadResult D) (e : ReadResult E)
-    → c ≡ Err BadText → Ok f ⊛ a ⊛ b ⊛ c ⊛ d ⊛ e ≡ Err BadText
-no_band_exchange f a b c d e h = text_left (Ok f ⊛ a ⊛ b ⊛ c ⊛ d) e (text_left (Ok f ⊛ a ⊛ b ⊛ c) d (text_right (Ok f ⊛ a ⊛ b) c h))
+    pub second_of_five_refused : b ≡ Err BadText → Ok f ⊛ a ⊛ b ⊛ c ⊛ d ⊛ e ≡ Err BadText
+    second_of_five_refused h =
+        text_left (Ok f ⊛ a ⊛ b ⊛ c ⊛ d) e (text_left (Ok f ⊛ a ⊛ b ⊛ c) d (text_left (Ok f ⊛ a ⊛ b) c (text_right (Ok f ⊛ a) b h)))
 
-pub no_band_rate : {A B C D E F : Type 0} (f : A → B → C → D → E → F) (a : ReadResult A) (b : ReadResult B) (c : ReadResult C) (d : ReadResult D) (e : ReadResult E)
-    → e ≡ Err BadText → Ok f ⊛ a ⊛ b ⊛ c ⊛ d ⊛ e ≡ Err BadText
-no_band_rate f a b c d e h = text_right (Ok f ⊛ a ⊛ b ⊛ c ⊛ d) e h
+    pub third_of_five_refused : c ≡ Err BadText → Ok f ⊛ a ⊛ b ⊛ c ⊛ d ⊛ e ≡ Err BadText
+    third_of_five_refused h = text_left (Ok f ⊛ a ⊛ b ⊛ c ⊛ d) e (text_left (Ok f ⊛ a ⊛ b ⊛ c) d (text_right (Ok f ⊛ a ⊛ b) c h))
+
+    pub fourth_of_five_refused : d ≡ Err BadText → Ok f ⊛ a ⊛ b ⊛ c ⊛ d ⊛ e ≡ Err BadText
+    fourth_of_five_refused h = text_left (Ok f ⊛ a ⊛ b ⊛ c ⊛ d) e (text_right (Ok f ⊛ a ⊛ b ⊛ c) d h)
+
+    pub fifth_of_five_refused : e ≡ Err BadText → Ok f ⊛ a ⊛ b ⊛ c ⊛ d ⊛ e ≡ Err BadText
+    fifth_of_five_refused h = text_right (Ok f ⊛ a ⊛ b ⊛ c ⊛ d) e h

@@ -15,7 +15,7 @@ use Rattle.brk_tables_schema.specs.Desk.{DeskTable, CashMoves, all_tables, desk_
 use Rattle.brk_tables_schema.specs.Made.{IsTableOfSchema, LacksOtherDeskTables}
 use Rattle.brk_tables_schema.proofs.Which.{all_listed, split}
 use Rattle.brk_tables_create.specs.Made.{tables_of_later_schemas}
-use Rattle.brk_tables_cash.specs.Upgrade.{SetsSchemaNumberToThree}
+use Rattle.brk_tables_trading.specs.Upgrade.{SetsSchemaNumberToThree}
 use Rattle.brk_tables_upgrade.specs.Upgrade.{AddsTablesOfLaterSchemas, PreservesTablesOutside, UpgradesTables, HasUpgradedTables, tables_with_cash_transactions_moved}
 use Rattle.brk_tables_upgrade.proofs.Numbered.{upgraded_is}
 use Rattle.brk_model.specs.Upgraded.{tables_with_merged_cash_rows, tables_upgraded_from_schema}

@@ -13,7 +13,7 @@ use Rattle.brk_changes.specs.Changes.{tables_with_cash_row}
 use Rattle.brk_sql.specs.Desk.{HasTables, TablesSatisfy, ChangesTablesBy}
 use Rattle.brk_sql.proofs.Strangers.{spares_then}
 use Rattle.brk_tables_schema.specs.Desk.{DeskTable, desk_tables}
-use Rattle.brk_tables_cash.specs.Upgrade.{tables_without_cash_transactions}
+use Rattle.brk_tables_trading.specs.Upgrade.{tables_without_cash_transactions}
 use Rattle.brk_tables_upgrade.specs.Upgrade.{cash_transactions_by_stamp, tables_with_cash_rows_numbered_from, tables_with_cash_transactions_moved, tables_with_numbered_cash_row}
 use Rattle.brk_tables_upgrade.proofs.Numbered.{one_more}
 

@@ -12,7 +12,7 @@ use Rattle.brk_changes.specs.Changes.{tables_with_cash_row}
 use Rattle.brk_sql.specs.Desk.{HasTables, HasSelectedTables, HasNoWritingForeignKeysAt}
 use Rattle.brk_tables_schema.specs.Desk.{DeskTable, desk_tables, desk_tables_of_schema}
 use Rattle.brk_tables_schema.specs.Made.{IsTableOfSchema, LacksOtherDeskTables}
-use Rattle.brk_tables_cash.specs.Upgrade.{tables_without_cash_transactions}
+use Rattle.brk_tables_trading.specs.Upgrade.{tables_without_cash_transactions}
 
 -- The rows of CASH_TRANSACTION, sorted by stamp, ascending. Rows with equal stamps are in the order
 -- of the table.

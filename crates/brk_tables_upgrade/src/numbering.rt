@@ -9,7 +9,7 @@ ghost use Rattle.brk_tables_upgrade.specs.Upgrade.{tables_with_cash_rows_numbere
 use crate::reading::account_id_of_trade;
 use brk_changes::{CashRow, MoveRow};
 use brk_money::{Fault, MoveId};
-use brk_tables_cash::add_cash_row;
+use brk_tables_trading::add_cash_row;
 use sqlite::{Alter, Transaction};
 
 // Inserts the cash row of a trade (a row of CASH_TRANSACTION) into CASH_MOVE under the number `id`,

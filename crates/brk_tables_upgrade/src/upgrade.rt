@@ -12,8 +12,8 @@ use crate::ordering::sort_cash_rows_by_stamp;
 use crate::reading::all_cash_transactions;
 use brk_changes::Schema;
 use brk_money::Fault;
-use brk_tables_cash::{remove_cash_transactions, set_schema_number_to_three};
 use brk_tables_create::create_tables_of_later_schemas;
+use brk_tables_trading::{remove_cash_transactions, set_schema_number_to_three};
 use sqlite::{Alter, Transaction};
 use std::alloc::Global;
 

@@ -10,3 +10,12 @@ pub mod CompletedOfHolding
 pub mod MomentReads
 pub mod ListReads
 pub mod IdReads
+pub mod Starts
+pub mod CashBetween
+pub mod LotsBySymbol
+pub mod CompletedByAge
+pub mod Walked
+pub mod Telling
+pub mod TellingCash
+pub mod TellingTrades
+pub mod Walks

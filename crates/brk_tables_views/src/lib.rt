@@ -1,23 +1,36 @@
-//! The SQL statements that only views execute, one function for each: trades of any status by
-//! stamp, the completed trades of a holding, lot changes, brokers by name, all requests, and the
-//! accounts of a broker.
+//! The SQL statements that views, statements and explanations execute, one function for each:
+//! trades of any status by stamp, the completed trades of a holding, lot changes,
+//! brokers by name, all requests, and the accounts of a broker, as lists; the lots of an account,
+//! cash rows by stamp, and completed trades, as walks over the rows of an open query, one at a time.
 //!
-//! Each function is called within an open transaction, and commits nothing. An error of the
-//! `sqlite` crate, also if this crate runs out of memory, and a malformed row are reported as the
-//! fault `Store`; the database is then unchanged or the transaction is rolled back. No clause
-//! states the effect of a call on the tables, or the value that it returns, outside a transaction
-//! or in a database without all tables of a desk.
+//! Each function that returns a list is called within an open transaction, and commits nothing. An
+//! error of the `sqlite` crate, also if this crate runs out of memory, and a malformed row are
+//! reported as the fault `Store`; the database is then unchanged or the transaction is rolled back.
+//! No clause states the effect of such a call on the tables, or the value that it returns, outside
+//! a transaction or in a database without all tables of a desk. The fault of a walk is `Store` also
+//! if a row is malformed or if the `sqlite` crate runs out of memory, and `Memory` if the decoding
+//! of a row does.
 #![tactic(auto)]
 
 pub mod brokers;
+pub mod cash;
 pub mod holdings;
 pub mod lot_changes;
+pub mod lots;
 pub mod moments;
+pub mod trades;
+pub mod visitor;
+pub mod walking;
 
 pub use brokers::{account_ids_of_broker, all_requests, brokers_with_name};
+pub use cash::walk_cash_rows_of_account;
 pub use holdings::completed_trade_ids_of_holding;
 pub use lot_changes::{lot_changes_by_trade, lot_changes_of_lot};
+pub use lots::walk_lots;
 pub use moments::{
     first_trade_of_account_from_stamp, first_twenty_trades_of_account,
     first_twenty_trades_of_symbol,
 };
+pub use trades::walk_completed_trades;
+pub use visitor::Visitor;
+pub use walking::{WalkError, walk_query_rows};

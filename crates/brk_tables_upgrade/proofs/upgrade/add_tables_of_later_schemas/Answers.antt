@@ -5,7 +5,7 @@ use Rattle.brk_sql.specs.Desk.{CreatesEachTable}
 use Rattle.brk_sql.proofs.Inside.{step_then}
 use Rattle.brk_tables_schema.specs.Desk.{table_definition_at_tree}
 use Rattle.brk_tables_create.specs.Made.{tables_of_later_schemas}
-use Rattle.brk_tables_cash.specs.Upgrade.{SetsSchemaNumberToThree}
+use Rattle.brk_tables_trading.specs.Upgrade.{SetsSchemaNumberToThree}
 use Rattle.brk_tables_upgrade.specs.Upgrade.{AddsTablesOfLaterSchemas}
 use Rattle.brk_tables_upgrade.proofs.LaterTables.{raised}
 use Rattle.brk_tables_upgrade.proofs.upgrade.add_tables_of_later_schemas.Goals as goal

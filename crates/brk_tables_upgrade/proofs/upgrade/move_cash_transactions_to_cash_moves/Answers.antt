@@ -9,7 +9,7 @@ use Rattle.brk_sql.specs.Desk.{ChangesTablesBy}
 use Rattle.brk_sql.specs.Model.{IsUnchangedAndSatisfies}
 use Rattle.brk_sql.proofs.Inside.{step_then}
 use Rattle.brk_tables_schema.specs.Desk.{desk_tables}
-use Rattle.brk_tables_cash.specs.Upgrade.{tables_without_cash_transactions}
+use Rattle.brk_tables_trading.specs.Upgrade.{tables_without_cash_transactions}
 use Rattle.brk_tables_upgrade.specs.Upgrade.{cash_transactions_by_stamp, tables_with_cash_rows_numbered_from, tables_with_cash_transactions_moved}
 use Rattle.brk_tables_upgrade.proofs.Sorting.{rows_in_order}
 use Rattle.brk_tables_upgrade.proofs.Turning.{all_added, all_moved}

@@ -1,9 +1,0 @@
-pub mod Starts
-pub mod CashBetween
-pub mod LotsBySymbol
-pub mod CompletedByAge
-pub mod Walked
-pub mod Telling
-pub mod TellingCash
-pub mod TellingTrades
-pub mod Walks
