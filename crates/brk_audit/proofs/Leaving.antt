@@ -22,7 +22,7 @@ use Rattle.brk_book_theorems.proofs.LotReading.{All-sort, all_pass}
 use Rattle.brk_book_theorems.proofs.Places.{filter-all, filter-append}
 use Rattle.brk_book_theorems.proofs.Same.{All-map, All-of, filter-none}
 use Rattle.brk_audit_theorems.proofs.Climbs.{In}
-use Rattle.brk_audit.specs.Positions.{AreLotsLeftByTrades, holding_row_in_position_of_trade, nothing, position, deal_of_completed_row, holding_rows_left_by_trades, is_same_position}
+use Rattle.brk_audit.specs.Positions.{AreLotsLeftByTrades, holding_row_in_position_of_trade, nothing, position, deal_of_completed_row, holding_rows_left_by_trades, has_same_position}
 use Rattle.brk_book_theorems.proofs.Orders.{sum_append, sum_both, sum_filter, sum_same, sum_sort}
 use Rattle.brk_audit.proofs.Places.{all_back, at_one, one_place, same_self}
 
@@ -49,13 +49,13 @@ at_it : (r : TradeRow) (h : HoldingRow) → IsAt r h → at_place r h ≡ true
 at_it r h e = and_from (h.account == r.account) (bytes_eq h.symbol r.symbol) (eq-eqb h.account r.account e.account) ((bytes_eq-Decides h.symbol r.symbol).1 e.symbol)
 
 -- a row is of two positions only where these are one
-two_places : (r s : TradeRow) (h : HoldingRow) → at_place r h ≡ true → at_place s h ≡ true → is_same_position r s ≡ true
+two_places : (r s : TradeRow) (h : HoldingRow) → at_place r h ≡ true → at_place s h ≡ true → has_same_position r s ≡ true
 two_places r s h e f =
     let k = is_at r h e in
     let l = is_at s h f in
     one_place r s (record { account = sym k.account ∙ l.account; symbol = sym k.symbol ∙ l.symbol })
 
-along : (r s : TradeRow) (h : HoldingRow) → is_same_position r s ≡ true → at_place s h ≡ true → at_place r h ≡ true
+along : (r s : TradeRow) (h : HoldingRow) → has_same_position r s ≡ true → at_place s h ≡ true → at_place r h ≡ true
 along r s h e f =
     let k = at_one r s e in
     let l = is_at s h f in
@@ -106,15 +106,15 @@ any_in {X = X} p (y ∷ ys) x (inr m) e = by_test (p y) refl (any_in p ys x m e)
     by_test false f h = rw f h
 
 -- a row is of the first position or of one behind it, and not of both
-parted : (r : TradeRow) (run later : List TradeRow) (h : HoldingRow) (v : ℕ) → AllByRecursion (λ s. is_same_position r s ≡ true) run → AllByRecursion (λ s. is_same_position r s ≡ false) later
+parted : (r : TradeRow) (run later : List TradeRow) (h : HoldingRow) (v : ℕ) → AllByRecursion (λ s. has_same_position r s ≡ true) run → AllByRecursion (λ s. has_same_position r s ≡ false) later
     → cond (at_any (r ∷ run ++ later) h) v 0 ≡ cond (at_place r h) v 0 + cond (at_any later h) v 0
 parted r run later h v same apart = by_test (at_place r h) refl
   where
-    none_later : at_place r h ≡ true → (s : TradeRow) → is_same_position r s ≡ false → (b : Bool) → at_place s h ≡ b → at_place s h ≡ false
+    none_later : at_place r h ≡ true → (s : TradeRow) → has_same_position r s ≡ false → (b : Bool) → at_place s h ≡ b → at_place s h ≡ false
     none_later e s n false f = f
-    none_later e s n true f = let k : is_same_position r s ≡ true = two_places r s h e f in absurd (cc)
+    none_later e s n true f = let k : has_same_position r s ≡ true = two_places r s h e f in absurd (cc)
 
-    none_run : at_place r h ≡ false → (s : TradeRow) → is_same_position r s ≡ true → (b : Bool) → at_place s h ≡ b → at_place s h ≡ false
+    none_run : at_place r h ≡ false → (s : TradeRow) → has_same_position r s ≡ true → (b : Bool) → at_place s h ≡ b → at_place s h ≡ false
     none_run e s n false f = f
     none_run e s n true f = let k : at_place r h ≡ true = along r s h n f in absurd (cc)
 
@@ -127,26 +127,26 @@ parted r run later h v same apart = by_test (at_place r h) refl
         rw (e, k) (omega arith)
 
 -- the deals of a position's trades, among others
-pub deals_among : (r x : TradeRow) (run later : List TradeRow) → AllByRecursion (λ s. is_same_position r s ≡ true) run → is_same_position r x ≡ false
-    → filter (is_same_position x) (r ∷ run ++ later) ≡ filter (is_same_position x) later
+pub deals_among : (r x : TradeRow) (run later : List TradeRow) → AllByRecursion (λ s. has_same_position r s ≡ true) run → has_same_position r x ≡ false
+    → filter (has_same_position x) (r ∷ run ++ later) ≡ filter (has_same_position x) later
 deals_among r x run later same n =
-    filter-append (is_same_position x) (r ∷ run) later
-    ∙ ap (λ (rs : List TradeRow). rs ++ filter (is_same_position x) later)
-    (filter-none (is_same_position x) (r ∷ run) (All-map (r ∷ run) (λ s e. other s e (is_same_position x s) refl) (same_self r, same)))
+    filter-append (has_same_position x) (r ∷ run) later
+    ∙ ap (λ (rs : List TradeRow). rs ++ filter (has_same_position x) later)
+    (filter-none (has_same_position x) (r ∷ run) (All-map (r ∷ run) (λ s e. other s e (has_same_position x s) refl) (same_self r, same)))
   where
-    other : (s : TradeRow) → is_same_position r s ≡ true → (b : Bool) → is_same_position x s ≡ b → is_same_position x s ≡ false
+    other : (s : TradeRow) → has_same_position r s ≡ true → (b : Bool) → has_same_position x s ≡ b → has_same_position x s ≡ false
     other s e false f = f
     other s e true f =
         let k = at_one r s e in
         let l = at_one x s f in
-        let m : is_same_position r x ≡ true = one_place r x (record { account = k.account ∙ sym l.account; symbol = k.symbol ∙ sym l.symbol }) in
+        let m : has_same_position r x ≡ true = one_place r x (record { account = k.account ∙ sym l.account; symbol = k.symbol ∙ sym l.symbol }) in
         absurd (cc)
 
-pub own_run : (r : TradeRow) (run later : List TradeRow) → AllByRecursion (λ s. is_same_position r s ≡ true) run
-    → AllByRecursion (λ s. is_same_position r s ≡ false) later → filter (is_same_position r) (r ∷ run ++ later) ≡ r ∷ run
+pub own_run : (r : TradeRow) (run later : List TradeRow) → AllByRecursion (λ s. has_same_position r s ≡ true) run
+    → AllByRecursion (λ s. has_same_position r s ≡ false) later → filter (has_same_position r) (r ∷ run ++ later) ≡ r ∷ run
 own_run r run later same apart =
-    filter-append (is_same_position r) (r ∷ run) later
-    ∙ (λ i. filter-all (is_same_position r) (r ∷ run) (same_self r, same) i ++ filter-none (is_same_position r) later apart i)
+    filter-append (has_same_position r) (r ∷ run) later
+    ∙ (λ i. filter-all (has_same_position r) (r ∷ run) (same_self r, same) i ++ filter-none (has_same_position r) later apart i)
     ∙ append_nil (r ∷ run)
   where
     append_nil : {X : Type 0} (xs : List X) → xs ++ [] ≡ xs
@@ -155,7 +155,7 @@ own_run r run later same apart =
 
 -- each position's deals are those of the base
 abbrev pub AreDealt : Base → List TradeRow → Type 0
-AreDealt base rs = AllByRecursion (λ r. map deal_of_completed_row (filter (is_same_position r) rs) ≡ deals_of_position (completed_trades base) r.account r.symbol) rs
+AreDealt base rs = AllByRecursion (λ r. map deal_of_completed_row (filter (has_same_position r) rs) ≡ deals_of_position (completed_trades base) r.account r.symbol) rs
 
 pub leave_sums : (base : Base) → BooksInvariant base → {rs : List TradeRow} {rows : List HoldingRow} → AreLotsLeftByTrades rs rows → AreDealt base rs
     → (f : HoldingRow → ℕ) → sum_by f rows ≡ sum_by f (filter (at_any rs) (sheets base).holdings)
@@ -165,7 +165,7 @@ leave_sums base books (position r run later rows same apart l) d f =
     let here : sum_by f (holding_rows_left_by_trades r (r ∷ run)) ≡ sum_by f (filter (at_place r) E) =
     ap (sum_by f) (rows_there base books r (r ∷ run) (ap (map deal_of_completed_row) (sym (own_run r run later same apart)) ∙ d.0)) ∙ sum_there base r f in
     let rest : AreDealt base later =
-    both later apart (all_back (λ s. map deal_of_completed_row (filter (is_same_position s) (r ∷ run ++ later)) ≡ deals_of_position (completed_trades base) s.account s.symbol) run later d.1) in
+    both later apart (all_back (λ s. map deal_of_completed_row (filter (has_same_position s) (r ∷ run ++ later)) ≡ deals_of_position (completed_trades base) s.account s.symbol) run later d.1) in
     let ih : sum_by f rows ≡ sum_by f (filter (at_any later) E) = leave_sums base books l rest f in
     sum_append f (holding_rows_left_by_trades r (r ∷ run)) rows ∙ (λ i. here i + ih i)
     ∙ (λ i. sum_filter f (at_place r) E i + sum_filter f (at_any later) E i)
@@ -173,9 +173,9 @@ leave_sums base books (position r run later rows same apart l) d f =
     ∙ sym (sum_same (λ h. cond (at_any (r ∷ run ++ later) h) (f h) 0) (λ h. cond (at_place r h) (f h) 0 + cond (at_any later h) (f h) 0) E (All-of E (λ h. parted r run later h (f h) same apart)))
     ∙ sym (sum_filter f (at_any (r ∷ run ++ later)) E)
   where
-    both : (ss : List TradeRow) → AllByRecursion (λ s. is_same_position r s ≡ false) ss
-        → AllByRecursion (λ s. map deal_of_completed_row (filter (is_same_position s) (r ∷ run ++ later))
+    both : (ss : List TradeRow) → AllByRecursion (λ s. has_same_position r s ≡ false) ss
+        → AllByRecursion (λ s. map deal_of_completed_row (filter (has_same_position s) (r ∷ run ++ later))
         ≡ deals_of_position (completed_trades base) s.account s.symbol) ss
-        → AllByRecursion (λ s. map deal_of_completed_row (filter (is_same_position s) later) ≡ deals_of_position (completed_trades base) s.account s.symbol) ss
+        → AllByRecursion (λ s. map deal_of_completed_row (filter (has_same_position s) later) ≡ deals_of_position (completed_trades base) s.account s.symbol) ss
     both [] a e = tt
     both (s ∷ ss) a e = (ap (map deal_of_completed_row) (sym (deals_among r s run later same a.0)) ∙ e.0, both ss a.1 e.1)

@@ -49,7 +49,7 @@ use Rattle.brk_model_theorems.specs.FormParts.{SatisfiesFormParts}
 use Rattle.brk_model_theorems.proofs.FormParts.{form_parts}
 use Rattle.brk_model_theorems.proofs.Conjunctions.{parts10}
 use Rattle.brk_audit_sums.specs.Completed.{completed_trade_rows, is_completed_row}
-use Rattle.brk_audit.specs.Positions.{AreLotsLeftByTrades, has_same_id_or_stamp, is_before_by_position, deal_of_completed_row, is_same_position}
+use Rattle.brk_audit.specs.Positions.{AreLotsLeftByTrades, has_same_id_or_stamp, is_before_by_position, deal_of_completed_row, has_same_position}
 use Rattle.brk_audit_sums.proofs.Completed.{completed_rows, done_moments, right_rows}
 use Rattle.brk_audit.proofs.Leaving.{any_in, at_any, at_place, leave_sums}
 use Rattle.brk_book_theorems.proofs.Orders.{Ascends, Rises, one_order, permuted, sum_filter, sum_map, sum_same, sum_sort}
@@ -174,11 +174,11 @@ deals_rise (t ∷ ts) o = (ahead ts o.0, deals_rise ts o.1)
     ahead [] h = tt
     ahead (u ∷ us) h = (h.0.1, ahead us h.1)
 
-rows_ascend : (p : TradeRow) (rs : List TradeRow) → AllByRecursion (λ r. is_same_position p r ≡ true) rs → Sorted is_before_by_position rs → Ascends (λ d. d.stamp) (map deal_of_completed_row rs)
+rows_ascend : (p : TradeRow) (rs : List TradeRow) → AllByRecursion (λ r. has_same_position p r ≡ true) rs → Sorted is_before_by_position rs → Ascends (λ d. d.stamp) (map deal_of_completed_row rs)
 rows_ascend p [] a s = tt
 rows_ascend p (r ∷ rs) a s = (ahead rs a.1 s.0, rows_ascend p rs a.1 s.1)
   where
-    ahead : (ss : List TradeRow) → AllByRecursion (λ u. is_same_position p u ≡ true) ss → NoneBefore is_before_by_position r ss
+    ahead : (ss : List TradeRow) → AllByRecursion (λ u. has_same_position p u ≡ true) ss → NoneBefore is_before_by_position r ss
         → AllByRecursion (λ (d : Deal). r.stamp ≤ d.stamp) (map deal_of_completed_row ss)
     ahead [] b n = tt
     ahead (u ∷ ss) b n =
@@ -196,14 +196,14 @@ texts_back s t = by_test (bytes_eq s t) (bytes_eq t s) refl refl
 
 -- the trades of a position among the completed rows, summed up
 sums_alike : (t : Tables) (r : TradeRow) (f : Deal → ℕ) (rs : List TradeRow) → AllByRecursion (λ u. last_status_stamp_of_trade (trade_of_row t u) ≡ u.stamp) rs
-    → sum_by f (map deal_of_completed_row (filter (is_same_position r) rs)) ≡ sum_by f (map deal_of_trade (trades_of_position (map (trade_of_row t) rs) r.account r.symbol))
+    → sum_by f (map deal_of_completed_row (filter (has_same_position r) rs)) ≡ sum_by f (map deal_of_trade (trades_of_position (map (trade_of_row t) rs) r.account r.symbol))
 sums_alike t r f rs h =
     let g : TradeRow → Trade = trade_of_row t in
     let ours : TradeRow → Bool = λ u. u.account == r.account in
     let named : TradeRow → Bool = λ u. bytes_eq u.symbol r.symbol in
-    sum_map f deal_of_completed_row (filter (is_same_position r) rs)
-    ∙ sum_filter (λ u. f (deal_of_completed_row u)) (is_same_position r) rs
-    ∙ sum_same (λ u. cond (is_same_position r u) (f (deal_of_completed_row u)) 0) (λ u. cond (ours u) (cond (named u) (f (deal_of_trade (g u))) 0) 0) rs (All-map rs (λ u m. one u m) h)
+    sum_map f deal_of_completed_row (filter (has_same_position r) rs)
+    ∙ sum_filter (λ u. f (deal_of_completed_row u)) (has_same_position r) rs
+    ∙ sum_same (λ u. cond (has_same_position r u) (f (deal_of_completed_row u)) 0) (λ u. cond (ours u) (cond (named u) (f (deal_of_trade (g u))) 0) 0) rs (All-map rs (λ u m. one u m) h)
     ∙ sym (sum_filter (λ u. cond (named u) (f (deal_of_trade (g u))) 0) ours rs)
     ∙ sym (sum_filter (λ u. f (deal_of_trade (g u))) named (filter ours rs))
     ∙ sym (sum_map (λ u. f (deal_of_trade u)) g (filter named (filter ours rs)))
@@ -217,7 +217,7 @@ sums_alike t r f rs h =
     parted false b v = refl
 
     one : (u : TradeRow) → last_status_stamp_of_trade (trade_of_row t u) ≡ u.stamp
-        → cond (is_same_position r u) (f (deal_of_completed_row u)) 0
+        → cond (has_same_position r u) (f (deal_of_completed_row u)) 0
         ≡ cond (u.account == r.account) (cond (bytes_eq u.symbol r.symbol) (f (deal_of_trade (trade_of_row t u))) 0) 0
     one u m =
         (λ i. cond (numbers_back r.account u.account i && texts_back r.symbol u.symbol i) (f (record (deal_of_completed_row u) { stamp = sym m i })) 0)
@@ -226,20 +226,20 @@ sums_alike t r f rs h =
 -- in sorted rows a position's deals are those of the base
 pub dealt : (t : Tables) → IsWellFormedBySomeSchema t → satisfies_status_condition t ≡ true → (rs : List TradeRow) → IsPermutation (completed_trade_rows t) rs
     → Sorted is_before_by_position rs → (r : TradeRow)
-    → map deal_of_completed_row (filter (is_same_position r) rs) ≡ deals_of_position (completed_trades (base_of_tables t)) r.account r.symbol
+    → map deal_of_completed_row (filter (has_same_position r) rs) ≡ deals_of_position (completed_trades (base_of_tables t)) r.account r.symbol
 dealt t f s rs p o r =
     let base : Base = base_of_tables t in
     let books : BooksInvariant base = adopted_books f.schema t f.form s in
     let P : List Trade = trades_of_position (completed_trades base) r.account r.symbol in
-    one_order (λ d. d.stamp) same_deal deals_decide (deals_of_position (completed_trades base) r.account r.symbol) (map deal_of_completed_row (filter (is_same_position r) rs))
+    one_order (λ d. d.stamp) same_deal deals_decide (deals_of_position (completed_trades base) r.account r.symbol) (map deal_of_completed_row (filter (has_same_position r) rs))
     (deals_rise (trades_held base r.account r.symbol) (held_in_order base r.account r.symbol books))
-    (rows_ascend r (filter (is_same_position r) rs) (all_pass (is_same_position r) rs) (sorted_filter is_before_by_position (is_same_position r) rs o))
+    (rows_ascend r (filter (has_same_position r) rs) (all_pass (has_same_position r) rs) (sorted_filter is_before_by_position (has_same_position r) rs o))
     (λ g.
-    sum_map g deal_of_completed_row (filter (is_same_position r) rs)
-    ∙ sum_filter (λ u. g (deal_of_completed_row u)) (is_same_position r) rs
-    ∙ permuted (completed_trade_rows t) rs p (λ u. cond (is_same_position r u) (g (deal_of_completed_row u)) 0)
-    ∙ sym (sum_filter (λ u. g (deal_of_completed_row u)) (is_same_position r) (completed_trade_rows t))
-    ∙ sym (sum_map g deal_of_completed_row (filter (is_same_position r) (completed_trade_rows t)))
+    sum_map g deal_of_completed_row (filter (has_same_position r) rs)
+    ∙ sum_filter (λ u. g (deal_of_completed_row u)) (has_same_position r) rs
+    ∙ permuted (completed_trade_rows t) rs p (λ u. cond (has_same_position r u) (g (deal_of_completed_row u)) 0)
+    ∙ sym (sum_filter (λ u. g (deal_of_completed_row u)) (has_same_position r) (completed_trade_rows t))
+    ∙ sym (sum_map g deal_of_completed_row (filter (has_same_position r) (completed_trade_rows t)))
     ∙ sums_alike t r g (completed_trade_rows t) (done_moments t s)
     ∙ ap (λ (ts : List Trade). sum_by g (map deal_of_trade (trades_of_position ts r.account r.symbol))) (sym (completed_rows t s))
     ∙ sum_map g deal_of_trade P

@@ -31,7 +31,7 @@ use Rattle.brk_audit_theorems.proofs.Climbs.{Climbs}
 use Rattle.brk_audit_theorems.proofs.Parts.{key_parts}
 use Rattle.brk_model_theorems.proofs.FormParts.{form_parts}
 use Rattle.brk_audit_sums.specs.Completed.{completed_trade_rows}
-use Rattle.brk_audit.specs.Positions.{AreLotChangesOfTrades, moves, is_before_by_position, deal_of_completed_row, is_same_position, untouched}
+use Rattle.brk_audit.specs.Positions.{AreLotChangesOfTrades, moves, is_before_by_position, deal_of_completed_row, has_same_position, untouched}
 use Rattle.brk_audit_sums.proofs.Completed.{completed_rows}
 use Rattle.brk_audit.proofs.Leaving.{AreDealt, deals_among, own_run}
 use Rattle.brk_audit.proofs.LotRows.{dealt}
@@ -126,19 +126,19 @@ trace_sums base books (moves r run later rows same apart l) d f =
     run_sums ds a f ∙ sum_map (λ d. sum_by f (filter has_quantity_change (lot_history_rows_per_deal d.trade [] ds))) deal_of_completed_row (r ∷ run)
     ∙ sum_same (λ s. sum_by f (filter has_quantity_change (lot_history_rows_per_deal s.id [] ds))) (own base f) (r ∷ run) (All-map (r ∷ run) (λ s p. one s p ds e) (same_self r, same)) in
     let rest : AreDealt base later =
-    both later apart (all_back (λ s. map deal_of_completed_row (filter (is_same_position s) (r ∷ run ++ later)) ≡ deals_of_position (completed_trades base) s.account s.symbol) run later d.1) in
+    both later apart (all_back (λ s. map deal_of_completed_row (filter (has_same_position s) (r ∷ run ++ later)) ≡ deals_of_position (completed_trades base) s.account s.symbol) run later d.1) in
     sum_append f (lot_changes_of_deals ds []) rows ∙ (λ i. here i + trace_sums base books l rest f i) ∙ sym (sum_append (own base f) (r ∷ run) later)
   where
-    one : (s : TradeRow) → is_same_position r s ≡ true → (ds : List Deal) → ds ≡ deals_of_position (completed_trades base) r.account r.symbol
+    one : (s : TradeRow) → has_same_position r s ≡ true → (ds : List Deal) → ds ≡ deals_of_position (completed_trades base) r.account r.symbol
         → sum_by f (filter has_quantity_change (lot_history_rows_per_deal s.id [] ds)) ≡ own base f s
     one s p ds e = let k = at_one r s p in
         ap (λ (es : List Deal). sum_by f (filter has_quantity_change (lot_history_rows_per_deal s.id [] es)))
         (e ∙ (λ i. deals_of_position (completed_trades base) (k.account i) (k.symbol i)))
 
-    both : (ss : List TradeRow) → AllByRecursion (λ s. is_same_position r s ≡ false) ss
-        → AllByRecursion (λ s. map deal_of_completed_row (filter (is_same_position s) (r ∷ run ++ later))
+    both : (ss : List TradeRow) → AllByRecursion (λ s. has_same_position r s ≡ false) ss
+        → AllByRecursion (λ s. map deal_of_completed_row (filter (has_same_position s) (r ∷ run ++ later))
         ≡ deals_of_position (completed_trades base) s.account s.symbol) ss
-        → AllByRecursion (λ s. map deal_of_completed_row (filter (is_same_position s) later) ≡ deals_of_position (completed_trades base) s.account s.symbol) ss
+        → AllByRecursion (λ s. map deal_of_completed_row (filter (has_same_position s) later) ≡ deals_of_position (completed_trades base) s.account s.symbol) ss
     both [] a e = tt
     both (s ∷ ss) a e = (ap (map deal_of_completed_row) (sym (deals_among r s run later same a.0)) ∙ e.0, both ss a.1 e.1)
 

@@ -17,7 +17,7 @@ use Rattle.brk_lots.specs.Deals.{AreDistinctAscendingDeals, IsLaterDealOfOtherTr
 use Rattle.brk_book_theorems.proofs.Order.{NoneBefore, Sorted, key_one_way, key_splits, key_total}
 use Rattle.brk_book_theorems.proofs.Same.{All-map}
 use Rattle.brk_audit_form.proofs.KeyOrders.{gt_lt, numbers_before, texts_before}
-use Rattle.brk_audit.specs.Positions.{FirstElementSatisfies, has_same_id_or_stamp, is_before_by_position, position_sort_key, deal_of_completed_row, is_same_position}
+use Rattle.brk_audit.specs.Positions.{FirstElementSatisfies, has_same_id_or_stamp, is_before_by_position, position_sort_key, deal_of_completed_row, has_same_position}
 
 -- ---- a comparison tells it
 
@@ -71,12 +71,12 @@ pub record AtOne (r s : TradeRow) : Type 0 where
   pub account : r.account ≡ s.account
   pub symbol : r.symbol ≡ s.symbol
 
-pub at_one : (r s : TradeRow) → is_same_position r s ≡ true → AtOne r s
+pub at_one : (r s : TradeRow) → has_same_position r s ≡ true → AtOne r s
 at_one r s e =
     let h = and_parts (r.account == s.account) (bytes_eq r.symbol s.symbol) e in
     record { account = eqb-true r.account s.account h.0; symbol = (bytes_eq-Decides r.symbol s.symbol).0 h.1 }
 
-pub one_place : (r s : TradeRow) → AtOne r s → is_same_position r s ≡ true
+pub one_place : (r s : TradeRow) → AtOne r s → has_same_position r s ≡ true
 one_place r s e = and_from (r.account == s.account) (bytes_eq r.symbol s.symbol) (eq-eqb r.account s.account e.account) ((bytes_eq-Decides r.symbol s.symbol).1 e.symbol)
 
 text_self : (s : List ℕ) → is_text_less s s ≡ false
@@ -161,21 +161,21 @@ distinct_drop same (suc n) (x ∷ xs) d = distinct_drop same n xs d.1
 
 -- those behind the trades of a position are of others
 pub others : (r : TradeRow) (run later : List TradeRow) → Sorted is_before_by_position (r ∷ run ++ later)
-    → FirstElementSatisfies (λ s. is_same_position r s ≡ false) later → AllByRecursion (λ s. is_same_position r s ≡ false) later
+    → FirstElementSatisfies (λ s. has_same_position r s ≡ false) later → AllByRecursion (λ s. has_same_position r s ≡ false) later
 others r run later s h = by_first later (all_back (λ y. is_before_by_position y r ≡ false) run later s.0) (sorted_back is_before_by_position run later s.1) h
   where
-    other : (y z : TradeRow) → is_before_by_position y r ≡ false → is_same_position r y ≡ false → is_before_by_position z y ≡ false → (b : Bool)
-        → is_same_position r z ≡ b → is_same_position r z ≡ false
+    other : (y z : TradeRow) → is_before_by_position y r ≡ false → has_same_position r y ≡ false → is_before_by_position z y ≡ false → (b : Bool)
+        → has_same_position r z ≡ b → has_same_position r z ≡ false
     other y z e n f false k = k
-    other y z e n f true k = let p : is_same_position r y ≡ true = one_place r y (between r y z (at_one r z k) e f) in absurd (cc)
+    other y z e n f true k = let p : has_same_position r y ≡ true = one_place r y (between r y z (at_one r z k) e f) in absurd (cc)
 
     by_first : (ys : List TradeRow) → AllByRecursion (λ y. is_before_by_position y r ≡ false) ys → Sorted is_before_by_position ys
-        → FirstElementSatisfies (λ s. is_same_position r s ≡ false) ys → AllByRecursion (λ s. is_same_position r s ≡ false) ys
+        → FirstElementSatisfies (λ s. has_same_position r s ≡ false) ys → AllByRecursion (λ s. has_same_position r s ≡ false) ys
     by_first [] a t h = tt
-    by_first (y ∷ ys) a t h = (h, All-map ys (λ z f. other y z a.0 h f (is_same_position r z) refl) t.0)
+    by_first (y ∷ ys) a t h = (h, All-map ys (λ z f. other y z a.0 h f (has_same_position r z) refl) t.0)
 
 -- the trades of a position are deals one after another
-follows : (p r s : TradeRow) → is_same_position p r ≡ true → is_same_position p s ≡ true → has_same_id_or_stamp r s ≡ false → is_before_by_position s r ≡ false
+follows : (p r s : TradeRow) → has_same_position p r ≡ true → has_same_position p s ≡ true → has_same_id_or_stamp r s ≡ false → is_before_by_position s r ≡ false
     → IsLaterDealOfOtherTrade (deal_of_completed_row r) (deal_of_completed_row s)
 follows p r s e f c b =
     let x = at_one p r e in
@@ -185,16 +185,16 @@ follows p r s e f c b =
     (eqb-false r.id s.id k.0, let n : r.stamp ≢ s.stamp = eqb-false r.stamp s.stamp k.1 in omega (arith, low, n))
 
 pub deals_follow : (p : TradeRow) (run : List TradeRow) → Sorted is_before_by_position run → IsDistinct has_same_id_or_stamp run
-    → AllByRecursion (λ s. is_same_position p s ≡ true) run → AreDistinctAscendingDeals (map deal_of_completed_row run)
+    → AllByRecursion (λ s. has_same_position p s ≡ true) run → AreDistinctAscendingDeals (map deal_of_completed_row run)
 unfolding IsDistinct
 deals_follow p [] s d a = tt
 deals_follow p (r ∷ run) s d a = (behind run s.0 d.0 a.1, deals_follow p run s.1 d.1 a.1)
   where
     behind : (ss : List TradeRow) → NoneBefore is_before_by_position r ss → AllByRecursion (λ t. has_same_id_or_stamp r t ≡ false) ss
-        → AllByRecursion (λ t. is_same_position p t ≡ true) ss
+        → AllByRecursion (λ t. has_same_position p t ≡ true) ss
         → AllByRecursion (IsLaterDealOfOtherTrade (deal_of_completed_row r)) (map deal_of_completed_row ss)
     behind [] h k l = tt
     behind (t ∷ ts) h k l = (follows p r t a.0 l.0 k.0 h.0, behind ts h.1 k.1 l.1)
 
-pub same_self : (r : TradeRow) → is_same_position r r ≡ true
+pub same_self : (r : TradeRow) → has_same_position r r ≡ true
 same_self r = one_place r r (record { account = refl; symbol = refl })

@@ -9,7 +9,7 @@ use Rattle.brk_lots.specs.Deals.{AreDistinctAscendingDeals}
 use Rattle.brk_model.specs.Tables.{TradeRow}
 use Rattle.brk_book_theorems.proofs.Order.{Sorted}
 use Rattle.brk_audit_theorems.proofs.Members.{map-map}
-use Rattle.brk_audit.specs.Positions.{FirstElementSatisfies, has_same_id_or_stamp, is_before_by_position, deal_of_completed_row, is_same_position}
+use Rattle.brk_audit.specs.Positions.{FirstElementSatisfies, has_same_id_or_stamp, is_before_by_position, deal_of_completed_row, has_same_position}
 use Rattle.brk_book_theorems.proofs.Orders.{sorted_by, sorted_map}
 use Rattle.brk_audit.proofs.Places.{deals_follow, distinct_drop, distinct_front, others, place_order, same_self, sorted_drop, sorted_front}
 
@@ -34,14 +34,14 @@ heads_mapped P f (x ∷ xs) h = h
 pub record Stretch (done : List (Bor code.TradeRow)) (b n : ℕ) (x : Bor code.TradeRow) : Type 0 where
   pub is : map seen (drop b done) ≡ seen x ∷ map seen (take n (drop (b + 1) done)) ++ map seen (drop (b + 1 + n) done)
   pub run : map seen (take (b + 1 + n - b) (drop b done)) ≡ seen x ∷ map seen (take n (drop (b + 1) done))
-  pub same : AllByRecursion (λ s. is_same_position (seen x) s ≡ true) (map seen (take n (drop (b + 1) done)))
+  pub same : AllByRecursion (λ s. has_same_position (seen x) s ≡ true) (map seen (take n (drop (b + 1) done)))
   pub deals : AreDistinctAscendingDeals (map deal_of_completed_row (seen x ∷ map seen (take n (drop (b + 1) done))))
-  pub behind : AllByRecursion (λ s. is_same_position (seen x) s ≡ false) (map seen (drop (b + 1 + n) done))
+  pub behind : AllByRecursion (λ s. has_same_position (seen x) s ≡ false) (map seen (drop (b + 1 + n) done))
 
 pub stretch : (done : List (Bor code.TradeRow)) (b n : ℕ) (x : Bor code.TradeRow) → b < length done → x ≡ get_or done b x
     → IsSortedBy (λ y z. is_before_by_position (seen y) (seen z)) done → IsDistinct has_same_id_or_stamp (map seen done)
-    → AllByRecursion (λ y. is_same_position (seen x) (seen y) ≡ true) (take n (take (length done - (b + 1)) (drop (b + 1) done)))
-    → FirstElementSatisfies (λ y. is_same_position (seen x) (seen y) ≡ false) (drop n (take (length done - (b + 1)) (drop (b + 1) done)))
+    → AllByRecursion (λ y. has_same_position (seen x) (seen y) ≡ true) (take n (take (length done - (b + 1)) (drop (b + 1) done)))
+    → FirstElementSatisfies (λ y. has_same_position (seen x) (seen y) ≡ false) (drop n (take (length done - (b + 1)) (drop (b + 1) done)))
     → Stretch done b n x
 stretch done b n x h e sorted apart same next =
     let rest = drop (b + 1) done in
@@ -61,11 +61,11 @@ stretch done b n x h e sorted apart same next =
     subst (IsDistinct has_same_id_or_stamp) (map_drop seen b done) (distinct_drop has_same_id_or_stamp b (map seen done) apart) in
     let s : Sorted is_before_by_position (seen x ∷ map seen (take n rest) ++ map seen (drop (b + 1 + n) done)) = subst (Sorted is_before_by_position) is ordered in
     let d : IsDistinct has_same_id_or_stamp (seen x ∷ map seen (take n rest) ++ map seen (drop (b + 1 + n) done)) = subst (IsDistinct has_same_id_or_stamp) is distinct in
-    let a : AllByRecursion (λ t. is_same_position (seen x) t ≡ true) (map seen (take n rest)) =
-    all_mapped (λ t. is_same_position (seen x) t ≡ true) seen (take n rest)
-    (subst (λ (ys : List (Bor code.TradeRow)). AllByRecursion (λ y. is_same_position (seen x) (seen y) ≡ true) (take n ys)) whole same) in
-    let heads : FirstElementSatisfies (λ y. is_same_position (seen x) (seen y) ≡ false) (drop (b + 1 + n) done) =
-    subst (λ (ys : List (Bor code.TradeRow)). FirstElementSatisfies (λ y. is_same_position (seen x) (seen y) ≡ false) ys) (ap (drop n) whole ∙ later) next
+    let a : AllByRecursion (λ t. has_same_position (seen x) t ≡ true) (map seen (take n rest)) =
+    all_mapped (λ t. has_same_position (seen x) t ≡ true) seen (take n rest)
+    (subst (λ (ys : List (Bor code.TradeRow)). AllByRecursion (λ y. has_same_position (seen x) (seen y) ≡ true) (take n ys)) whole same) in
+    let heads : FirstElementSatisfies (λ y. has_same_position (seen x) (seen y) ≡ false) (drop (b + 1 + n) done) =
+    subst (λ (ys : List (Bor code.TradeRow)). FirstElementSatisfies (λ y. has_same_position (seen x) (seen y) ≡ false) ys) (ap (drop n) whole ∙ later) next
     in
     record {
       is = is;
@@ -74,7 +74,7 @@ stretch done b n x h e sorted apart same next =
       deals = deals_follow (seen x) (seen x ∷ map seen (take n rest))
           (sorted_front is_before_by_position (seen x ∷ map seen (take n rest)) (map seen (drop (b + 1 + n) done)) s)
           (distinct_front has_same_id_or_stamp (seen x ∷ map seen (take n rest)) (map seen (drop (b + 1 + n) done)) d) (same_self (seen x), a);
-      behind = others (seen x) (map seen (take n rest)) (map seen (drop (b + 1 + n) done)) s (heads_mapped (λ t. is_same_position (seen x) t ≡ false) seen (drop (b + 1 + n) done) heads);
+      behind = others (seen x) (map seen (take n rest)) (map seen (drop (b + 1 + n) done)) s (heads_mapped (λ t. has_same_position (seen x) t ≡ false) seen (drop (b + 1 + n) done) heads);
     }
 
 -- their deals

@@ -14,8 +14,8 @@ deal_of_completed_row r =
     record { trade = r.id; side = side_of_trade_type r.kind; qty = r.qty; price = unwrap_or r.price 0; stamp = r.stamp; is_lifo = r.is_lifo }
 
 -- True if the two trades have the same account and symbol.
-abbrev pub is_same_position : TradeRow → TradeRow → Bool
-is_same_position r s = (r.account == s.account) && bytes_eq r.symbol s.symbol
+abbrev pub has_same_position : TradeRow → TradeRow → Bool
+has_same_position r s = (r.account == s.account) && bytes_eq r.symbol s.symbol
 
 -- The sort key of a trade: its account, its symbol, and its stamp.
 abbrev pub position_sort_key : TradeRow → List KeyPart
@@ -48,8 +48,8 @@ holding_rows_left_by_trades r run = map (holding_row_in_position_of_trade r) (lo
 -- lots.
 pub data AreLotsLeftByTrades : List TradeRow → List HoldingRow → Type 0 where
   nothing : AreLotsLeftByTrades [] []
-  position : (r : TradeRow) (run later : List TradeRow) (rows : List HoldingRow) → AllByRecursion (λ s. is_same_position r s ≡ true) run
-      → AllByRecursion (λ s. is_same_position r s ≡ false) later
+  position : (r : TradeRow) (run later : List TradeRow) (rows : List HoldingRow) → AllByRecursion (λ s. has_same_position r s ≡ true) run
+      → AllByRecursion (λ s. has_same_position r s ≡ false) later
       → AreLotsLeftByTrades later rows → AreLotsLeftByTrades (r ∷ run ++ later) (holding_rows_left_by_trades r (r ∷ run) ++ rows)
 
 -- The rows are the rows of HOLDING_HISTORY of the lot changes of the trades, position by position.
@@ -57,6 +57,6 @@ pub data AreLotsLeftByTrades : List TradeRow → List HoldingRow → Type 0 wher
 -- lots.
 pub data AreLotChangesOfTrades : List TradeRow → List HoldingHistoryRow → Type 0 where
   untouched : AreLotChangesOfTrades [] []
-  moves : (r : TradeRow) (run later : List TradeRow) (rows : List HoldingHistoryRow) → AllByRecursion (λ s. is_same_position r s ≡ true) run
-      → AllByRecursion (λ s. is_same_position r s ≡ false) later
+  moves : (r : TradeRow) (run later : List TradeRow) (rows : List HoldingHistoryRow) → AllByRecursion (λ s. has_same_position r s ≡ true) run
+      → AllByRecursion (λ s. has_same_position r s ≡ false) later
       → AreLotChangesOfTrades later rows → AreLotChangesOfTrades (r ∷ run ++ later) (lot_changes_of_deals (map deal_of_completed_row (r ∷ run)) [] ++ rows)

@@ -3,7 +3,7 @@ ghost use Rattle.std.specs.List.{AllByRecursion};
 ghost use Rattle.std.specs.List.Sorted.{IsSortedBy};
 ghost use Rattle.std.specs.Ordering.{is_lt};
 ghost use Rattle.brk_audit_sums.specs.Completed.{is_completed_row};
-ghost use Rattle.brk_audit.specs.Positions.{FirstElementSatisfies, is_before_by_position, deal_of_completed_row, is_same_position};
+ghost use Rattle.brk_audit.specs.Positions.{FirstElementSatisfies, is_before_by_position, deal_of_completed_row, has_same_position};
 ghost use Rattle.brk_changes.specs.Rows.{abstract_trade_row};
 ghost use Rattle.brk_lots.specs.Deals.{AreDistinctAscendingDeals};
 ghost use Rattle.brk_lots.specs.Lots.{abstract_deal, shares_of_lots};
@@ -73,7 +73,7 @@ pub(crate) fn completed_trades_by_position(
 
 // Returns true if the two trades have the same account and symbol.
 fn have_same_position(one: &TradeRow, other: &TradeRow) -> bool
-    ensures { result ≡ is_same_position (abstract_trade_row one.now) (abstract_trade_row other.now) }
+    ensures { result ≡ has_same_position (abstract_trade_row one.now) (abstract_trade_row other.now) }
 {
     one.account == other.account && one.symbol.as_str() == other.symbol.as_str()
 }
@@ -82,8 +82,8 @@ fn have_same_position(one: &TradeRow, other: &TradeRow) -> bool
 /// `trade`.
 pub(crate) fn leading_trade_count_of_position(trade: &TradeRow, done: &[&TradeRow]) -> usize
     ensures within { result ≤ length done.now }
-    ensures same { AllByRecursion (λ other. is_same_position (abstract_trade_row trade.now) (abstract_trade_row other.now) ≡ true) (take result done.now) }
-    ensures next { FirstElementSatisfies (λ other. is_same_position (abstract_trade_row trade.now) (abstract_trade_row other.now)
+    ensures same { AllByRecursion (λ other. has_same_position (abstract_trade_row trade.now) (abstract_trade_row other.now) ≡ true) (take result done.now) }
+    ensures next { FirstElementSatisfies (λ other. has_same_position (abstract_trade_row trade.now) (abstract_trade_row other.now)
         ≡ false) (drop result done.now) }
 {
     for (i, other) in done.iter().enumerate() {

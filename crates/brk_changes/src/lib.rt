@@ -2,7 +2,7 @@
 //! changes that a store applies in one transaction.
 #![tactic(auto)]
 
-pub mod broker_numbers;
+pub mod broker_totals;
 pub mod cash_row;
 pub mod cash_type;
 pub mod change;
@@ -20,7 +20,7 @@ pub mod trade_count;
 pub mod trade_row;
 
 pub use brk_money::Amount;
-pub use broker_numbers::BrokerTotals;
+pub use broker_totals::BrokerTotals;
 pub use cash_row::CashRow;
 pub use cash_type::CashType;
 pub use change::Change;

@@ -27,7 +27,8 @@ use Rattle.brk_plans.specs.declared.plan.Plan.{Plan}
 use Rattle.brk_sql.proofs.Inside.{clean_before}
 use Rattle.brk_plans.specs.Replies.{abstract_reply}
 use Rattle.brk_book_theorems.specs.Books.{BooksInvariant}
-use Rattle.brk_trade_theorems.specs.Plans.{DecidesCommand, PlanImplementsCommand}
+use Rattle.brk_trade_theorems.specs.Decisions.{DecidesCommand}
+use Rattle.brk_trade_theorems.specs.Plans.{PlanImplementsCommand}
 use Rattle.brk_book_theorems.specs.Steps.{base_after_command}
 use Rattle.brk_book_theorems.proofs.Keepers.{books_kept}
 use Rattle.brk_invariant_theorems.specs.InForm.{MeetsAuditFormats, IsWellFormedKey}

@@ -20,7 +20,7 @@ use Rattle.brk_book_theorems.specs.Books.{BooksInvariant}
 use Rattle.brk_trade_theorems.specs.TradePlans.{PlanCancelPrecondition}
 use Rattle.brk_trade_theorems.proofs.CancelPlanning.{cancel_plan_does, cancel_refused}
 use Rattle.brk_store.specs.Holds.{ReadPost}
-use Rattle.brk_trade_theorems.specs.Plans.{DecidesCommand}
+use Rattle.brk_trade_theorems.specs.Decisions.{DecidesCommand}
 use Rattle.brk_store.proofs.Sequences.{read_with}
 
 -- `last` is the last stamp of the tables, and `found` is the status of the trade with the id `id`,

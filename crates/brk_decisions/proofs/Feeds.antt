@@ -31,7 +31,7 @@ use Rattle.brk_trade_theorems.proofs.FeedPlanning.{feed_plan_does, feed_refused}
 use Rattle.brk_trade_theorems.proofs.Quotes.{quoted_before, not_listed, quote_read, read_quote}
 use Rattle.brk_trade_theorems.proofs.Waiting.{limit_buys, limit_sells, may, selected, stop_losses}
 use Rattle.brk_book_theorems.proofs.Tested.{not_not}
-use Rattle.brk_trade_theorems.specs.Plans.{DecidesCommand}
+use Rattle.brk_trade_theorems.specs.Decisions.{DecidesCommand}
 
 -- `quote` has the last trade of the tick's symbol and the requests that a price of the ticks `all`
 -- may trigger. It is `None` if the symbol has no last trade.

@@ -22,7 +22,7 @@ use Rattle.brk_book_theorems.specs.Books.{BooksInvariant}
 use Rattle.brk_trade_theorems.specs.MovePlans.{MovementFactsMatchTables, PlanMovementPrecondition}
 use Rattle.brk_trade_theorems.proofs.MovePlanning.{move_plan_does, move_refused}
 use Rattle.brk_store.specs.Holds.{ReadPost}
-use Rattle.brk_trade_theorems.specs.Plans.{DecidesCommand}
+use Rattle.brk_trade_theorems.specs.Decisions.{DecidesCommand}
 use Rattle.brk_store.proofs.Sequences.{read_with}
 
 -- `balance` is the balance of the account with the id `account`, or `None` if the account does not

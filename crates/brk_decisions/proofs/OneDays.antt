@@ -17,7 +17,7 @@ use Rattle.brk_book_theorems.specs.Books.{BooksInvariant}
 use Rattle.brk_trade_theorems.specs.MovePlans.{PlanSettlementDayPrecondition}
 use Rattle.brk_trade_theorems.proofs.MovePlanning.{one_day_plan_does, one_day_refused}
 use Rattle.brk_store.specs.Holds.{ReadPost}
-use Rattle.brk_trade_theorems.specs.Plans.{DecidesCommand}
+use Rattle.brk_trade_theorems.specs.Decisions.{DecidesCommand}
 use Rattle.brk_store.proofs.Sequences.{read_with}
 
 -- `last` is the last stamp of the tables, and `rule` is the settlement day, or `None` if none is

@@ -24,7 +24,7 @@ use Rattle.brk_trade_theorems.specs.OrderPlans.{OrderLotsSatisfy, EstimateFactsM
 use Rattle.brk_trade_theorems.proofs.OrderDoing.{estimate_answered, estimate_refused, estimate_told, order_refused, plan_order_does}
 use Rattle.brk_store.specs.Holds.{ReadPost}
 use Rattle.brk_decisions.specs.Estimates.{IsEstimateOfModel}
-use Rattle.brk_trade_theorems.specs.Plans.{DecidesCommand}
+use Rattle.brk_trade_theorems.specs.Decisions.{DecidesCommand}
 use Rattle.brk_store.proofs.Sequences.{read_with}
 
 -- ---- what is known after the reads

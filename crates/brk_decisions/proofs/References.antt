@@ -16,7 +16,8 @@ use Rattle.brk_plans.specs.declared.reference.ReferenceFacts.{ReferenceFacts}
 use Rattle.brk_plans.specs.declared.reference.Reference.{Reference}
 use Rattle.brk_book_theorems.specs.Books.{BooksInvariant}
 use Rattle.brk_plans.specs.Commands.{command_adding_record}
-use Rattle.brk_trade_theorems.specs.Plans.{DecidesCommand, PlanReferencePrecondition as IsLookedUp}
+use Rattle.brk_trade_theorems.specs.Decisions.{DecidesCommand}
+use Rattle.brk_trade_theorems.specs.Plans.{PlanReferencePrecondition as IsLookedUp}
 use Rattle.brk_trade_theorems.specs.Found.{ReferenceFactsMatchTables}
 use Rattle.brk_trade_theorems.proofs.Planning.{plan_does, refusal_does}
 use Rattle.brk_store.specs.Holds.{ReadPost}

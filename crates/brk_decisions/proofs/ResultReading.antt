@@ -9,7 +9,7 @@ use Rattle.brk_ref.specs.declared.account.AccountRow as ref
 use Rattle.brk_ref.specs.declared.customer.Customer as customer
 use Rattle.brk_ref.specs.Records.{abstract_account_row}
 use Rattle.brk_changes.specs.Rows.{abstract_summary_row, abstract_trade_row}
-use Rattle.brk_changes.specs.declared.broker_numbers.BrokerTotals.{BrokerTotals}
+use Rattle.brk_changes.specs.declared.broker_totals.BrokerTotals.{BrokerTotals}
 use Rattle.brk_trade.specs.declared.result_found.ResultPlanFacts.{ResultPlanFacts}
 use Rattle.brk_changes.specs.declared.summary_row.SummaryRow as summary
 use Rattle.brk_changes.specs.declared.trade_row.TradeRow.{TradeRow}

@@ -10,7 +10,7 @@ use Rattle.brk_ref.specs.Records.{abstract_account_row, abstract_security_row}
 use Rattle.brk_ref.specs.declared.account.AccountRow as ref
 use Rattle.brk_ref.specs.declared.security.Security.{Security}
 use Rattle.brk_changes.specs.Rows.{abstract_trade_row}
-use Rattle.brk_changes.specs.declared.broker_numbers.BrokerTotals.{BrokerTotals}
+use Rattle.brk_changes.specs.declared.broker_totals.BrokerTotals.{BrokerTotals}
 use Rattle.brk_trade.specs.declared.result_found.ResultPlanFacts.{ResultPlanFacts}
 use Rattle.brk_changes.specs.declared.trade_row.TradeRow.{TradeRow}
 use Rattle.brk_book_theorems.specs.Reads.{customer_tax_rate_sum}

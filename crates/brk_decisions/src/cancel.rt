@@ -1,7 +1,7 @@
 //! Decisions on cancels of trades.
 
 ghost use Rattle.std.specs.Prelude.{◌≡◌, IfErr, option_map};
-ghost use Rattle.brk_trade_theorems.specs.Plans.{DecidesCommand};
+ghost use Rattle.brk_trade_theorems.specs.Decisions.{DecidesCommand};
 ghost use Rattle.brk_model.specs.Commands.{CancelTrade};
 ghost use Rattle.brk_model.specs.Joins.{trade_row_with_id};
 ghost use Rattle.brk_model.specs.Run.{IsCallFault};

@@ -3,7 +3,7 @@
 ghost use Rattle.std.specs.Prelude.{◌≡◌, IfErr, IfSome, option_map};
 ghost use Rattle.brk_trade_theorems.specs.TradePlans.{AreQuotesOfTicks, IsQuoteOfTick};
 ghost use Rattle.brk_book_theorems.specs.TradeReads.{last_trade_row_of_symbol};
-ghost use Rattle.brk_trade_theorems.specs.Plans.{DecidesCommand};
+ghost use Rattle.brk_trade_theorems.specs.Decisions.{DecidesCommand};
 ghost use Rattle.brk_model.specs.Commands.{FeedTicks};
 ghost use Rattle.brk_model.specs.Run.{IsCallFault};
 ghost use Rattle.brk_orders.specs.Records.{abstract_ticks};

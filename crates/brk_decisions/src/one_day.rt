@@ -1,7 +1,7 @@
 //! Decisions on the settlement day.
 
 ghost use Rattle.std.specs.Prelude.{IfErr};
-ghost use Rattle.brk_trade_theorems.specs.Plans.{DecidesCommand};
+ghost use Rattle.brk_trade_theorems.specs.Decisions.{DecidesCommand};
 ghost use Rattle.brk_model.specs.Commands.{SetOneDay};
 ghost use Rattle.brk_model.specs.Run.{IsCallFault};
 ghost use Rattle.brk_store.specs.Holds.{ReadPost};

@@ -1,7 +1,7 @@
 //! Decisions on orders.
 
 ghost use Rattle.std.specs.Prelude.{◌≡◌, ◌+◌, ◌++◌, ◌∷◌, [], false, Some, IfErr, IfOk, OnErr, MatchResult};
-ghost use Rattle.brk_trade_theorems.specs.Plans.{DecidesCommand};
+ghost use Rattle.brk_trade_theorems.specs.Decisions.{DecidesCommand};
 ghost use Rattle.brk_decisions.specs.LotReads.{AreLotsBeforeReads};
 ghost use Rattle.brk_lots.specs.Against.{is_trade_closing_lots};
 ghost use Rattle.brk_model.specs.Commands.{PlaceOrder};

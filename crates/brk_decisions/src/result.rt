@@ -3,7 +3,7 @@
 ghost use Rattle.std.specs.Prelude.{◌≡◌, ◌+◌, Some, IfErr, IfOk, MatchResult};
 ghost use Rattle.sqlite.specs.Held.{state};
 ghost use Rattle.sqlite.specs.State.{HasCleanDisk};
-ghost use Rattle.brk_trade_theorems.specs.Plans.{DecidesCommand};
+ghost use Rattle.brk_trade_theorems.specs.Decisions.{DecidesCommand};
 ghost use Rattle.brk_decisions.specs.LotReads.{AreLotsBeforeReads};
 ghost use Rattle.brk_decisions.specs.ResultFactReads.{AreLotsOfTradedPosition};
 ghost use Rattle.brk_model.specs.Commands.{CompleteTrade};

@@ -3,9 +3,9 @@
 
 pub mod amounts;
 pub mod facts;
-pub mod moments;
 pub mod pieces;
 pub mod starts;
+pub mod timestamps;
 
 pub use amounts::{
     add_amounts, cents_within_limits, subtract_amounts, value_of_shares_at_price,

@@ -7,8 +7,8 @@ ghost use Rattle.brk_model.specs.Rows.{nonnegative_cents_text};
 ghost use Rattle.brk_model.specs.Statement.{left_aligned_text, right_aligned_text};
 ghost use Rattle.brk_money.specs.declared.fault.Fault.TheVariants.{Memory};
 
-use crate::moments::put_timestamp;
 use crate::pieces::{put_cents_column, put_integer_column, put_number_column, put_spaced_text};
+use crate::timestamps::put_timestamp;
 use brk_money::{Fault, Id, Price, Stamp, Wide};
 use brk_report_lines::append_left_aligned;
 use std::alloc::Global;

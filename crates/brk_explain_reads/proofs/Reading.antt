@@ -4,24 +4,10 @@ use Rattle.sqlite_trees.specs.declared.store.Store.{Ghosts}
 use Rattle.sqlite.specs.Held.{Held}
 use Rattle.brk_model.specs.Tables.{Tables}
 use Rattle.brk_store.specs.Holds.{ReadPost}
-use Rattle.brk_store.specs.ReadSequences.{IsUnchangedByReads, disk_was_clean_before_reads, joined_reads_change_nothing, single_read_changes_nothing}
+use Rattle.brk_store.specs.ReadSequences.{IsUnchangedByReads, joined_reads_change_nothing, single_read_changes_nothing}
 use Rattle.brk_store.proofs.Retelling.{read_after}
 
 module _ {S : Type 0} (g : Ghosts S) (old mid end : Held S) where
-  -- two reads are a read of both
-  pub read_both : {V W X E F H : Type 0} (v : V) (w : W) (x : X) (P : V → Tables → Type 0) (Q : W → Tables → Type 0) (R : X → Tables → Type 0)
-      → ((t : Tables) → P v t → Q w t → R x t) → ReadPost {E = E} g old mid (Ok v) P → ReadPost {E = F} g mid end (Ok w) Q → ReadPost {E = H} g old end (Ok x) R
-  read_both {V} {W} {X} {E} {F} v w x P Q R tell first second =
-      let out : Result W F = Ok w in
-      let on = read_after g old mid end v out P Q first second in
-      record {
-        answered = λ clean t holds. tell t (first.answered (disk_was_clean_before_reads mid end (single_read_changes_nothing mid end out Q second) clean) t holds) (on.answered clean t holds);
-        was_open = on.was_open;
-        same_rows = on.same_rows;
-        unchanged_if_open = on.unchanged_if_open;
-        survives = on.survives;
-      }
-
   -- where what comes after two reads fails, they changed nothing
   pub read_failed : {V W X E F H : Type 0} (v : V) (r : Result W F) (e : H) (P : V → Tables → Type 0) (Q : W → Tables → Type 0) (R : X → Tables → Type 0)
       → ReadPost {E = E} g old mid (Ok v) P → ReadPost g mid end r Q → ReadPost {E = H} g old end (Err e) R
@@ -30,16 +16,6 @@ module _ {S : Type 0} (g : Ghosts S) (old mid end : Held S) where
       record { answered = λ clean. tt; was_open = λ clean. tt; same_rows = on.same_rows; unchanged_if_open = on.unchanged_if_open; survives = on.survives }
 
 module _ {S : Type 0} (g : Ghosts S) where
-  -- a call that fails after reads, which changed nothing
-  pub failed_after : (old end : Held S) {X H : Type 0} (e : H) (R : X → Tables → Type 0) → IsUnchangedByReads g old end → ReadPost {E = H} g old end (Err e) R
-  failed_after old end e R whole = record {
-    answered = λ clean. tt;
-    was_open = λ clean. tt;
-    same_rows = whole.same_rows;
-    unchanged_if_open = whole.unchanged_if_open;
-    survives = whole.survives;
-  }
-
   -- two reads change nothing
   pub both_change_nothing : (old mid end : Held S) {V W E F : Type 0} (v : Result V E) (w : Result W F) (P : V → Tables → Type 0) (Q : W → Tables → Type 0)
       → ReadPost g old mid v P → ReadPost g mid end w Q

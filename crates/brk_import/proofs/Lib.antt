@@ -1,4 +1,4 @@
 pub mod Called
-pub mod Settled
+pub mod Decided
 pub mod Under
 pub mod SentAgain

@@ -12,30 +12,29 @@
 #![tactic(auto)]
 
 pub mod balances;
-pub mod broker_numbers;
+pub mod broker_totals;
 pub mod history;
 pub mod holdings;
 pub mod last_trades;
-pub mod looking;
 pub mod lots;
 pub mod moves;
 pub mod requests;
 pub mod rule;
 pub mod settlements;
 pub mod summaries;
+pub mod trade_lists;
 pub mod trades;
 pub mod updates;
 pub mod upgrade;
 
 pub use balances::set_account_balance;
-pub use broker_numbers::set_broker_totals;
+pub use broker_totals::set_broker_totals;
 pub use history::add_trade_history_row;
 pub use holdings::{
     holding_summaries_of_account, holding_summary_by_account_and_symbol, page_of_lots_newest_first,
     page_of_lots_oldest_first,
 };
 pub use last_trades::{last_trade_by_symbol, set_last_trade};
-pub use looking::{history_of_trade, last_fifty_trades_of_account, last_ten_trades_of_account};
 pub use lots::{add_lot, add_lot_change, remove_lot, set_lot_quantity};
 pub use moves::{
     add_cash_row, cash_row_by_trade, cash_row_with_greatest_number, has_maximum_movements,
@@ -47,6 +46,7 @@ pub use requests::{
 pub use rule::{set_settlement_day, settlement_day};
 pub use settlements::add_settlement;
 pub use summaries::{add_holding_summary, remove_holding_summary, set_holding_summary_quantity};
+pub use trade_lists::{history_of_trade, last_fifty_trades_of_account, last_ten_trades_of_account};
 pub use trades::{
     add_trade, complete_trade, greatest_trade_id, set_trade_status, submitted_trades, trade_by_id,
 };

@@ -17,8 +17,8 @@ pub mod cash;
 pub mod holdings;
 pub mod lot_changes;
 pub mod lots;
-pub mod moments;
 pub mod trades;
+pub mod trades_by_stamp;
 pub mod visitor;
 pub mod walking;
 
@@ -27,10 +27,10 @@ pub use cash::walk_cash_rows_of_account;
 pub use holdings::completed_trade_ids_of_holding;
 pub use lot_changes::{lot_changes_by_trade, lot_changes_of_lot};
 pub use lots::walk_lots;
-pub use moments::{
+pub use trades::walk_completed_trades;
+pub use trades_by_stamp::{
     first_trade_of_account_from_stamp, first_twenty_trades_of_account,
     first_twenty_trades_of_symbol,
 };
-pub use trades::walk_completed_trades;
 pub use visitor::Visitor;
 pub use walking::{WalkError, walk_query_rows};

@@ -1,6 +1,7 @@
 pub mod Found
 pub mod TradeTests
 pub mod Plans
+pub mod Decisions
 pub mod TradePlans
 pub mod ImplementedPlans
 pub mod MovePlans

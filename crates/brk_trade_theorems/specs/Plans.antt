@@ -1,13 +1,11 @@
 -- Correct plans: the row changes of a plan lead from the tables before the command to those after
--- it. And the specification of a decision on a command.
-use Rattle.std.specs.Prelude.{◌≡◌, ◌≤◌, ℕ, Option, Result, Ok, Err, MatchResult}
+-- it.
+use Rattle.std.specs.Prelude.{◌≡◌, ◌≤◌, ℕ, Option, Ok}
 use Rattle.brk_money.specs.Moments.{greatest_stamp}
-use Rattle.brk_money.specs.declared.refusal.Refusal.{Refusal}
 use Rattle.brk_model.specs.Base.{Base}
 use Rattle.brk_model.specs.Sheets.{sheets}
 use Rattle.brk_model.specs.Commands.{Command}
 use Rattle.brk_model.specs.Step.{step}
-use Rattle.brk_model.specs.Tables.{Tables}
 use Rattle.brk_changes.specs.Changes.{tables_after_changes}
 use Rattle.brk_plans.specs.declared.plan.Plan.{Plan}
 use Rattle.brk_plans.specs.declared.reference.ReferenceFacts.{ReferenceFacts}
@@ -33,12 +31,3 @@ pub record PlanImplementsCommand (base : Base) (now : ℕ) (command : Command) (
   pub steps : step base now command ≡ Ok (abstract_reply plan.reply, base_after_command base now command)
   pub rows : sheets (base_after_command base now command) ≡ tables_after_changes plan.changes.items (sheets base)
   pub books_after : BooksInvariant (base_after_command base now command)
-
--- `planned` is the decision of the model on `command` at the clock reading `now`, in milliseconds
--- since 1970-01-01 UTC, for every base that satisfies the books invariant and has the tables `t`: a
--- plan has the effect of the model's step (`PlanImplementsCommand`), and a refusal is the refusal
--- of this step. Vacuous if no such base has the tables `t`.
-abbrev pub DecidesCommand : ℕ → Command → Result Plan Refusal → Tables → Type 0
-DecidesCommand now command planned t =
-    (base : Base) → BooksInvariant base → t ≡ sheets base
-    → MatchResult planned (PlanImplementsCommand base now command) (λ refusal. step base now command ≡ Err refusal)

@@ -15,7 +15,8 @@ use Rattle.brk_plans.specs.Update.{IsUpdatePlan, update_checks}
 use Rattle.brk_plans.specs.declared.corrected.TextUpdate.{TextUpdate}
 use Rattle.brk_plans.specs.declared.plan.Plan.{Plan}
 use Rattle.brk_book_theorems.specs.Books.{BooksInvariant}
-use Rattle.brk_trade_theorems.specs.Plans.{DecidesCommand, PlanImplementsCommand}
+use Rattle.brk_trade_theorems.specs.Decisions.{DecidesCommand}
+use Rattle.brk_trade_theorems.specs.Plans.{PlanImplementsCommand}
 use Rattle.brk_update_theorems.specs.Corrections.{UpdateFactsMatchTables, PlanUpdatePrecondition}
 use Rattle.brk_update_theorems.proofs.Correcting.{update_does, update_refused}
 

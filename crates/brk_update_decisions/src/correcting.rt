@@ -1,7 +1,7 @@
 //! Decisions on text updates.
 
 ghost use Rattle.std.specs.Prelude.{IfErr};
-ghost use Rattle.brk_trade_theorems.specs.Plans.{DecidesCommand};
+ghost use Rattle.brk_trade_theorems.specs.Decisions.{DecidesCommand};
 ghost use Rattle.brk_model.specs.Run.{IsCallFault};
 ghost use Rattle.brk_orders.specs.Records.{text_update_command};
 ghost use Rattle.brk_store.specs.Holds.{ReadPost};

@@ -1,7 +1,7 @@
 use Rattle.brk_model.specs.Commands.{FeedTicks}
 use Rattle.brk_orders.specs.Records.{abstract_ticks}
 use Rattle.brk_plans.specs.Feed.{states_of_quotes}
-use Rattle.brk_trade_theorems.specs.Plans.{DecidesCommand}
+use Rattle.brk_trade_theorems.specs.Decisions.{DecidesCommand}
 use Rattle.brk_store.proofs.ReadResults.{decided}
 use Rattle.brk_decisions.proofs.Feeds.{QuotesAndLastStampMatch, feed_decided}
 use Rattle.brk_decisions.proofs.feed.decide_feed.Goals as goal

@@ -1,5 +1,5 @@
 use Rattle.brk_orders.specs.Records.{movement_command}
-use Rattle.brk_trade_theorems.specs.Plans.{DecidesCommand}
+use Rattle.brk_trade_theorems.specs.Decisions.{DecidesCommand}
 use Rattle.brk_store.proofs.ReadResults.{decided}
 use Rattle.brk_decisions.proofs.Moves.{MovementFactsAndLastStampMatch, last_and_found, move_decided}
 use Rattle.std.proofs.lemmas.Result.{err_from_is_err_and}

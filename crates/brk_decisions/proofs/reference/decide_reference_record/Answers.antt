@@ -1,5 +1,5 @@
 use Rattle.brk_plans.specs.Commands.{command_adding_record}
-use Rattle.brk_trade_theorems.specs.Plans.{DecidesCommand}
+use Rattle.brk_trade_theorems.specs.Decisions.{DecidesCommand}
 use Rattle.brk_store.proofs.ReadResults.{decided}
 use Rattle.brk_decisions.proofs.References.{ReferenceFactsAndLastStampMatch, last_and_found, reference_decided}
 use Rattle.std.proofs.lemmas.Result.{err_from_is_err_and}

@@ -1,6 +1,6 @@
 use Rattle.brk_model.specs.Commands.{CompleteTrade}
 use Rattle.brk_store.specs.Holds.{HoldsRows}
-use Rattle.brk_trade_theorems.specs.Plans.{DecidesCommand}
+use Rattle.brk_trade_theorems.specs.Decisions.{DecidesCommand}
 use Rattle.brk_store.proofs.ReadResults.{decided_on}
 use Rattle.brk_decisions.proofs.Resulting.{ResultFactsAndLastStampMatch, last_and_found, result_decided}
 use Rattle.std.proofs.lemmas.Result.{err_from_is_err_and}

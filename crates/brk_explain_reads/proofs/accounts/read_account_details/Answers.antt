@@ -7,7 +7,8 @@ use Rattle.brk_store.proofs.Retelling.{retold}
 use Rattle.brk_explain_model.specs.AccountLines.{priced_holdings_of_account}
 use Rattle.brk_explain_rows.specs.Details.{AreDetailsOfAccount, abstract_priced_holding}
 use Rattle.brk_explain_rows.specs.declared.account_details.AccountDetails.{AccountDetails}
-use Rattle.brk_explain_reads.proofs.Reading.{read_both, both_change_nothing, failed_after}
+use Rattle.brk_store.proofs.Sequences.{read_with, none_read}
+use Rattle.brk_explain_reads.proofs.Reading.{both_change_nothing}
 use Rattle.std.proofs.lemmas.Result.{err_from_is_err_and}
 use Rattle.brk_explain_reads.proofs.accounts.read_account_details.Goals as goal
 
@@ -26,7 +27,7 @@ returns-clause-read g c =
     let row = c.in-Some.row in
     let held = c.in_ok-held.held in
     let details : AccountDetails = record { account = row; held = held } in
-    read_both g.S.Store c.args.store.now c.account.new.self c.read_priced_holdings.new.store {H = Fault} (Some row) held (Some details)
+    read_with g.S.Store c.args.store.now c.account.new.self c.read_priced_holdings.new.store {H = Fault} (Some row) held (Some details)
     (IsRowOf c.args.account) (λ held (t : Tables). map abstract_priced_holding held.items ≡ priced_holdings_of_account t c.args.account) (AreDetailsOfAccount c.args.account)
     (λ t e k. (sym e, k))
     (rw c.in-Some.is at c.in_ok-row.ensures.read) c.in_ok-held.ensures.read
@@ -37,4 +38,4 @@ returns-in_err-held-clause-read g c =
     let mid = c.account.new.self in
     let end = c.read_priced_holdings.new.store in
     let p = err_from_is_err_and c.from_residual-in_err-held.result c.from_residual-in_err-held.ensures.1 in
-    rw p.1 (failed_after g.S.Store old end p.0 _ (both_change_nothing g.S.Store old mid end _ _ _ _ c.in_ok-row.ensures.read c.in_err-held.ensures.read))
+    rw p.1 (none_read g.S.Store old end p.0 _ (both_change_nothing g.S.Store old mid end _ _ _ _ c.in_ok-row.ensures.read c.in_err-held.ensures.read))

@@ -8,7 +8,8 @@ use Rattle.brk_explain_model.specs.AccountLines.{priced_holding, priced_holdings
 use Rattle.brk_explain_rows.specs.Details.{abstract_priced_holding}
 use Rattle.brk_explain_rows.specs.declared.account_details.PricedHolding.{PricedHolding}
 use Rattle.brk_explain_reads.proofs.Each.{all_made, map_map, none_made, popped}
-use Rattle.brk_explain_reads.proofs.Reading.{read_both, both_change_nothing, failed_after}
+use Rattle.brk_store.proofs.Sequences.{read_with, none_read}
+use Rattle.brk_explain_reads.proofs.Reading.{both_change_nothing}
 use Rattle.std.proofs.lemmas.Result.{err_from_is_err_and}
 use Rattle.brk_explain_reads.proofs.accounts.read_priced_holdings.Goals as goal
 
@@ -34,7 +35,7 @@ loop-summary-preserved g c =
     let all = c.loop-summary.held.items in
     let one = c.in_ok-one.one in
     rw c.in_ok-push.ensures.items
-    (read_both g.S.Store c.args.store.now c.loop-summary.store c.read_priced_holding.new.store {H = Fault} tt one tt
+    (read_with g.S.Store c.args.store.now c.loop-summary.store c.read_priced_holding.new.store {H = Fault} tt one tt
     (λ _. AreHeld c.args.account before all)
     (λ held (t : Tables). abstract_priced_holding held ≡ priced_holding t (abstract_summary_row summary))
     (λ _. AreHeld c.args.account rest (all ++ one ∷ []))
@@ -59,7 +60,7 @@ returns-in_err-one-clause-read g c =
     let end = c.read_priced_holding.new.store in
     let left = λ (_ : Unit {0}). AreHeld c.args.account c.loop-summary.rest.items c.loop-summary.held.items in
     let p = err_from_is_err_and c.from_residual-in_err-one.result c.from_residual-in_err-one.ensures.1 in
-    rw p.1 (failed_after g.S.Store old end p.0 _ (both_change_nothing g.S.Store old mid end _ _ left _ c.loop-summary.invariant c.in_err-one.ensures.read))
+    rw p.1 (none_read g.S.Store old end p.0 _ (both_change_nothing g.S.Store old mid end _ _ left _ c.loop-summary.invariant c.in_err-one.ensures.read))
 
 pub returns-in_err-push-clause-read : goal.returns-in_err-push-clause-read
 returns-in_err-push-clause-read g c =
@@ -68,4 +69,4 @@ returns-in_err-push-clause-read g c =
     let end = c.read_priced_holding.new.store in
     let left = λ (_ : Unit {0}). AreHeld c.args.account c.loop-summary.rest.items c.loop-summary.held.items in
     let p = err_from_is_err_and c.from_residual-in_err-push.result c.from_residual-in_err-push.ensures.1 in
-    rw p.1 (failed_after g.S.Store old end p.0 _ (both_change_nothing g.S.Store old mid end _ _ left _ c.loop-summary.invariant c.in_ok-one.ensures.read))
+    rw p.1 (none_read g.S.Store old end p.0 _ (both_change_nothing g.S.Store old mid end _ _ left _ c.loop-summary.invariant c.in_ok-one.ensures.read))

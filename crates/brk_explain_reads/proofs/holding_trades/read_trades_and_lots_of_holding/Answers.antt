@@ -15,7 +15,8 @@ use Rattle.brk_explain_rows.specs.declared.holding_details.LotDetails.{LotDetail
 use Rattle.brk_explain_reads.specs.HoldingParts.{AreTradesAndLotsOfHolding, IsTradeWithLot, lot_opened_by_trade}
 use Rattle.brk_explain_reads.proofs.ById.{done_known, flat_one, held_ids, lots_known}
 use Rattle.brk_explain_reads.proofs.Each.{first_more, map_map, one_more}
-use Rattle.brk_explain_reads.proofs.Reading.{read_both, both_change_nothing, failed_after}
+use Rattle.brk_store.proofs.Sequences.{read_with, none_read}
+use Rattle.brk_explain_reads.proofs.Reading.{both_change_nothing}
 use Rattle.brk_explain_reads.proofs.TermParts.{one_by_one}
 use Rattle.std.proofs.lemmas.Result.{err_from_is_err_and}
 use Rattle.brk_explain_reads.proofs.holding_trades.read_trades_and_lots_of_holding.Goals as goal
@@ -46,7 +47,7 @@ loop-id-preserved g c =
     let lots = c.loop-id.held.lots.items in
     let one = c.in_ok-one.one in
     rw c.in_ok-push_trade_and_lot.ensures.done
-    (read_both g.S.Store c.args.store.now c.loop-id.store c.read_trade_and_lot.new.store {H = Fault} tt one tt
+    (read_with g.S.Store c.args.store.now c.loop-id.store c.read_trade_and_lot.new.store {H = Fault} tt one tt
     (λ _. FirstTrades c.args.account c.args.symbol.now ids done lots i)
     (λ one (t : Tables). IsTradeWithLot t id one)
     (λ _. FirstTrades c.args.account c.args.symbol.now ids (done ++ one.trade ∷ []) c.push_trade_and_lot.new.held.lots.items (i + 1))
@@ -82,7 +83,7 @@ returns-in_err-one-clause-read g c =
     let mid = c.loop-id.store in
     let end = c.read_trade_and_lot.new.store in
     let p = err_from_is_err_and c.from_residual-in_err-one.result c.from_residual-in_err-one.ensures.1 in
-    rw p.1 (failed_after g.S.Store old end p.0 _ (both_change_nothing g.S.Store old mid end _ _ _ _ c.loop-id.invariant c.in_err-one.ensures.read))
+    rw p.1 (none_read g.S.Store old end p.0 _ (both_change_nothing g.S.Store old mid end _ _ _ _ c.loop-id.invariant c.in_err-one.ensures.read))
 
 pub returns-in_err-push_trade_and_lot-clause-read : goal.returns-in_err-push_trade_and_lot-clause-read
 returns-in_err-push_trade_and_lot-clause-read g c =
@@ -90,4 +91,4 @@ returns-in_err-push_trade_and_lot-clause-read g c =
     let mid = c.loop-id.store in
     let end = c.read_trade_and_lot.new.store in
     let p = err_from_is_err_and c.from_residual-in_err-push_trade_and_lot.result c.from_residual-in_err-push_trade_and_lot.ensures.1 in
-    rw p.1 (failed_after g.S.Store old end p.0 _ (both_change_nothing g.S.Store old mid end _ _ _ _ c.loop-id.invariant c.in_ok-one.ensures.read))
+    rw p.1 (none_read g.S.Store old end p.0 _ (both_change_nothing g.S.Store old mid end _ _ _ _ c.loop-id.invariant c.in_ok-one.ensures.read))

@@ -13,7 +13,8 @@ use Rattle.brk_store.proofs.Retelling.{retold}
 use Rattle.brk_explain_rows.specs.Details.{AreDetailsOfHolding}
 use Rattle.brk_explain_rows.specs.declared.holding_details.HoldingDetails.{HoldingDetails}
 use Rattle.brk_explain_reads.specs.HoldingParts.{AreTradesAndLotsOfHolding, AreQuantityAndPrice}
-use Rattle.brk_explain_reads.proofs.Reading.{read_both, read_failed, both_change_nothing, failed_after}
+use Rattle.brk_store.proofs.Sequences.{read_with, none_read}
+use Rattle.brk_explain_reads.proofs.Reading.{read_failed, both_change_nothing}
 use Rattle.brk_store.specs.ReadSequences.{joined_reads_change_nothing, single_read_changes_nothing}
 use Rattle.brk_explain_reads.proofs.holdings.read_holding_details.Goals as goal
 
@@ -37,7 +38,7 @@ returns-in_default-clause-read g c =
 pub returns-in_default-2-clause-read : goal.returns-in_default-2-clause-read
 returns-in_default-2-clause-read g c =
     let row = c.in-Some.row in
-    read_both g.S.Store c.args.store.now c.account.new.self c.security.new.self {W = Option security.Security} {X = Result HoldingDetails Refusal} {H = Fault} (Some row) None (Err NoSecurity)
+    read_with g.S.Store c.args.store.now c.account.new.self c.security.new.self {W = Option security.Security} {X = Result HoldingDetails Refusal} {H = Fault} (Some row) None (Err NoSecurity)
     (IsRowOf c.args.account) (IsSecurityOf c.args.symbol.now) (AreDetailsOfHolding c.args.account c.args.symbol.now)
     (λ t a s. inr (abstract_account_row row, sym a, sym s, refl))
     (rw c.in-Some.is at c.in_ok-row.ensures.read) (rw c.in_default-2.is at c.in_ok-security.ensures.read)
@@ -51,16 +52,16 @@ returns-clause-read g c =
     let security = c.in-Some-2.security in
     let held = c.in_ok-held.held in
     let now = c.in_ok-now.now in
-    read_both g.S.Store old c.read_trades_and_lots_of_holding.new.store c.read_quantity_and_price.new.store {H = Fault} held now (Ok c.holding_details_of_parts.result)
+    read_with g.S.Store old c.read_trades_and_lots_of_holding.new.store c.read_quantity_and_price.new.store {H = Fault} held now (Ok c.holding_details_of_parts.result)
     (λ held (t : Tables). AreParties account symbol row security t × AreTradesAndLotsOfHolding t account symbol held)
     (λ now (t : Tables). AreQuantityAndPrice t account symbol now)
     (AreDetailsOfHolding account symbol)
     (λ t k e. subst (λ (s : HoldingDetails). AreDetailsOfHolding account symbol (Ok s) t) (sym c.holding_details_of_parts.ensures) (sym k.0.0, sym k.0.1, k.1.0, k.1.1, e.0, e.1))
-    (read_both g.S.Store old c.security.new.self c.read_trades_and_lots_of_holding.new.store {H = Fault} (Some security) held held
+    (read_with g.S.Store old c.security.new.self c.read_trades_and_lots_of_holding.new.store {H = Fault} (Some security) held held
     (λ o (t : Tables). AreParties account symbol row security t) (λ held (t : Tables). AreTradesAndLotsOfHolding t account symbol held)
     (λ held (t : Tables). AreParties account symbol row security t × AreTradesAndLotsOfHolding t account symbol held)
     (λ t p k. (p, k))
-    (read_both g.S.Store old c.account.new.self c.security.new.self {H = Fault} (Some row) (Some security) (Some security)
+    (read_with g.S.Store old c.account.new.self c.security.new.self {H = Fault} (Some row) (Some security) (Some security)
     (IsRowOf account) (IsSecurityOf symbol) (λ o (t : Tables). AreParties account symbol row security t)
     (λ t a s. (a, s))
     (rw c.in-Some.is at c.in_ok-row.ensures.read) (rw c.in-Some-2.is at c.in_ok-security.ensures.read))
@@ -81,11 +82,11 @@ returns-in_err-now-clause-read g c =
     (λ held (t : Tables). AreParties account symbol row security t × AreTradesAndLotsOfHolding t account symbol held)
     (λ now (t : Tables). AreQuantityAndPrice t account symbol now)
     (AreDetailsOfHolding account symbol)
-    (read_both g.S.Store old c.security.new.self c.read_trades_and_lots_of_holding.new.store {H = Fault} (Some security) held held
+    (read_with g.S.Store old c.security.new.self c.read_trades_and_lots_of_holding.new.store {H = Fault} (Some security) held held
     (λ o (t : Tables). AreParties account symbol row security t) (λ held (t : Tables). AreTradesAndLotsOfHolding t account symbol held)
     (λ held (t : Tables). AreParties account symbol row security t × AreTradesAndLotsOfHolding t account symbol held)
     (λ t p k. (p, k))
-    (read_both g.S.Store old c.account.new.self c.security.new.self {H = Fault} (Some row) (Some security) (Some security)
+    (read_with g.S.Store old c.account.new.self c.security.new.self {H = Fault} (Some row) (Some security) (Some security)
     (IsRowOf account) (IsSecurityOf symbol) (λ o (t : Tables). AreParties account symbol row security t)
     (λ t a s. (a, s))
     (rw c.in-Some.is at c.in_ok-row.ensures.read) (rw c.in-Some-2.is at c.in_ok-security.ensures.read))
@@ -98,7 +99,7 @@ returns-in_err-security-clause-read g c =
     let mid = c.account.new.self in
     let end = c.security.new.self in
     let p = err_from_is_err_and c.from_residual-in_err-security.result c.from_residual-in_err-security.ensures.1 in
-    rw p.1 (failed_after g.S.Store old end p.0 _ (both_change_nothing g.S.Store old mid end _ _ _ _ c.in_ok-row.ensures.read c.in_err-security.ensures.read))
+    rw p.1 (none_read g.S.Store old end p.0 _ (both_change_nothing g.S.Store old mid end _ _ _ _ c.in_ok-row.ensures.read c.in_err-security.ensures.read))
 
 pub returns-in_err-held-clause-read : goal.returns-in_err-held-clause-read
 returns-in_err-held-clause-read g c =
@@ -108,6 +109,6 @@ returns-in_err-held-clause-read g c =
     let end = c.read_trades_and_lots_of_holding.new.store in
     let p = err_from_is_err_and c.from_residual-in_err-held.result c.from_residual-in_err-held.ensures.1 in
     rw p.1
-    (failed_after g.S.Store old end p.0 _
+    (none_read g.S.Store old end p.0 _
     (joined_reads_change_nothing old late end (both_change_nothing g.S.Store old mid late _ _ _ _ c.in_ok-row.ensures.read c.in_ok-security.ensures.read)
     (single_read_changes_nothing late end _ _ c.in_err-held.ensures.read)))

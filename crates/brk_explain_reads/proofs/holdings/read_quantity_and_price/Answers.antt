@@ -7,7 +7,8 @@ use Rattle.brk_model.specs.Joins.{last_price_in_tables}
 use Rattle.brk_model.specs.Tables.{SummaryRow, Tables}
 use Rattle.brk_explain_reads.specs.HoldingParts.{AreQuantityAndPrice}
 use Rattle.brk_explain_reads.specs.declared.holdings.QuantityAndPrice.{QuantityAndPrice}
-use Rattle.brk_explain_reads.proofs.Reading.{read_both, both_change_nothing, failed_after}
+use Rattle.brk_store.proofs.Sequences.{read_with, none_read}
+use Rattle.brk_explain_reads.proofs.Reading.{both_change_nothing}
 use Rattle.std.proofs.lemmas.Result.{err_from_is_err_and}
 use Rattle.brk_explain_reads.proofs.holdings.read_quantity_and_price.Goals as goal
 
@@ -18,7 +19,7 @@ returns-clause-read g c =
     let made = c.quantity_and_price.ensures in
     let qty = c.quantity_of_summary_or_zero.result in
     let same : to_z w64 (of_z w64 qty) ≡ qty = search rules in
-    read_both g.S.Store c.args.store.now c.summary_of_position.new.self c.require_last_price.new.store {H = Fault} c.in_ok-summary.summary c.in_ok-price.price c.quantity_and_price.result
+    read_with g.S.Store c.args.store.now c.summary_of_position.new.self c.require_last_price.new.store {H = Fault} c.in_ok-summary.summary c.in_ok-price.price c.quantity_and_price.result
     (λ o (t : Tables). option_map abstract_summary_row o ≡ find (λ (r : SummaryRow). (r.account == account) && bytes_eq r.symbol symbol) t.summaries)
     (λ price (t : Tables). price ≡ last_price_in_tables t symbol)
     (λ held (t : Tables). AreQuantityAndPrice t account symbol held)
@@ -34,4 +35,4 @@ returns-in_err-price-clause-read g c =
     let mid = c.summary_of_position.new.self in
     let end = c.require_last_price.new.store in
     let p = err_from_is_err_and c.from_residual-in_err-price.result c.from_residual-in_err-price.ensures.1 in
-    rw p.1 (failed_after g.S.Store old end p.0 _ (both_change_nothing g.S.Store old mid end _ _ _ _ c.in_ok-summary.ensures.read c.in_err-price.ensures.read))
+    rw p.1 (none_read g.S.Store old end p.0 _ (both_change_nothing g.S.Store old mid end _ _ _ _ c.in_ok-summary.ensures.read c.in_err-price.ensures.read))

@@ -12,7 +12,8 @@ use Rattle.brk_explain_reads.specs.HoldingParts.{AreLotChangesByTradeId}
 use Rattle.brk_explain_reads.specs.declared.lot_changes.OpeningAndLaterChanges.{OpeningAndLaterChanges}
 use Rattle.brk_explain_reads.proofs.Changes.{steps_known}
 use Rattle.brk_explain_reads.proofs.Each.{one_more}
-use Rattle.brk_explain_reads.proofs.Reading.{read_both, both_change_nothing, failed_after}
+use Rattle.brk_store.proofs.Sequences.{read_with, none_read}
+use Rattle.brk_explain_reads.proofs.Reading.{both_change_nothing}
 use Rattle.std.proofs.lemmas.Result.{err_from_is_err_and}
 use Rattle.brk_explain_reads.proofs.lot_changes.read_lot_changes_by_trade_id.Goals as goal
 
@@ -40,7 +41,7 @@ loop-change-preserved g c =
     let before = c.loop-change.later_changes.items in
     let priced_change = c.in_ok-priced_change.priced_change in
     rw c.in_ok-push.ensures.items
-    (read_both g.S.Store c.args.store.now c.loop-change.store c.read_priced_lot_change.new.store {H = Fault} tt priced_change tt
+    (read_with g.S.Store c.args.store.now c.loop-change.store c.read_priced_lot_change.new.store {H = Fault} tt priced_change tt
     (λ _. FirstChanges c.args.lot changes later before i)
     (λ priced_change (t : Tables). abstract_priced_lot_change priced_change ≡ recorded_lot_change t (rows.abstract_lot_change_row change))
     (λ _. FirstChanges c.args.lot changes later (before ++ priced_change ∷ []) (i + 1))
@@ -74,7 +75,7 @@ returns-in_err-priced_change-clause-read g c =
     let mid = c.loop-change.store in
     let end = c.read_priced_lot_change.new.store in
     let p = err_from_is_err_and c.from_residual-in_err-priced_change.result c.from_residual-in_err-priced_change.ensures.1 in
-    rw p.1 (failed_after g.S.Store old end p.0 _ (both_change_nothing g.S.Store old mid end _ _ _ _ c.loop-change.invariant c.in_err-priced_change.ensures.read))
+    rw p.1 (none_read g.S.Store old end p.0 _ (both_change_nothing g.S.Store old mid end _ _ _ _ c.loop-change.invariant c.in_err-priced_change.ensures.read))
 
 pub returns-in_err-push-clause-read : goal.returns-in_err-push-clause-read
 returns-in_err-push-clause-read g c =
@@ -82,4 +83,4 @@ returns-in_err-push-clause-read g c =
     let mid = c.loop-change.store in
     let end = c.read_priced_lot_change.new.store in
     let p = err_from_is_err_and c.from_residual-in_err-push.result c.from_residual-in_err-push.ensures.1 in
-    rw p.1 (failed_after g.S.Store old end p.0 _ (both_change_nothing g.S.Store old mid end _ _ _ _ c.loop-change.invariant c.in_ok-priced_change.ensures.read))
+    rw p.1 (none_read g.S.Store old end p.0 _ (both_change_nothing g.S.Store old mid end _ _ _ _ c.loop-change.invariant c.in_ok-priced_change.ensures.read))

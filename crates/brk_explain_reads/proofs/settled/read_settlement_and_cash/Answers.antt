@@ -7,7 +7,8 @@ use Rattle.brk_model.specs.Tables.{SettlementRow, Tables}
 use Rattle.brk_explain_model.specs.Trades.{zero_settlement_row}
 use Rattle.brk_explain_reads.specs.Found.{IsSettlementAndCashOfTrade}
 use Rattle.brk_explain_reads.specs.declared.settled.SettlementAndCash.{SettlementAndCash}
-use Rattle.brk_explain_reads.proofs.Reading.{read_both, both_change_nothing, failed_after}
+use Rattle.brk_store.proofs.Sequences.{read_with, none_read}
+use Rattle.brk_explain_reads.proofs.Reading.{both_change_nothing}
 use Rattle.std.proofs.lemmas.Result.{err_from_is_err_and}
 use Rattle.brk_store.specs.ReadSequences.{joined_reads_change_nothing, single_read_changes_nothing}
 use Rattle.brk_explain_reads.proofs.settled.read_settlement_and_cash.Goals as goal
@@ -20,13 +21,13 @@ returns-clause-read g c =
     let cash = c.in_ok-cash.cash in
     let rule = c.in_ok-rule.rule in
     let settled : SettlementAndCash = record { settlement = settlement; cash = cash; rule = rule } in
-    read_both g.S.Store old c.cash_row.new.self c.settlement_day.new.self {H = Fault} cash rule settled
+    read_with g.S.Store old c.cash_row.new.self c.settlement_day.new.self {H = Fault} cash rule settled
     (λ cash (t : Tables). (find (λ (s : SettlementRow). s.trade == trade) t.settlements ≡ Some (abstract_settlement_row settlement))
     × (option_map abstract_move_row cash ≡ find (is_cash_row_of_trade trade) t.moves))
     (λ rule (t : Tables). rule ≡ t.rule)
     (λ settled (t : Tables). IsSettlementAndCashOfTrade t trade settled)
     (λ t k e. (sym (ap (λ o. unwrap_or o zero_settlement_row) k.0), k.1, e))
-    (read_both g.S.Store old c.read_existing_settlement.new.store c.cash_row.new.self {H = Fault} settlement cash cash
+    (read_with g.S.Store old c.read_existing_settlement.new.store c.cash_row.new.self {H = Fault} settlement cash cash
     (λ settlement (t : Tables). find (λ (s : SettlementRow). s.trade == trade) t.settlements ≡ Some (abstract_settlement_row settlement))
     (λ cash (t : Tables). option_map abstract_move_row cash ≡ find (is_cash_row_of_trade trade) t.moves)
     (λ cash (t : Tables). (find (λ (s : SettlementRow). s.trade == trade) t.settlements ≡ Some (abstract_settlement_row settlement))
@@ -40,7 +41,7 @@ returns-in_err-cash-clause-read g c =
     let mid = c.read_existing_settlement.new.store in
     let end = c.cash_row.new.self in
     let p = err_from_is_err_and c.from_residual-in_err-cash.result c.from_residual-in_err-cash.ensures.1 in
-    rw p.1 (failed_after g.S.Store old end p.0 _ (both_change_nothing g.S.Store old mid end _ _ _ _ c.in_ok-settlement.ensures.read c.in_err-cash.ensures.read))
+    rw p.1 (none_read g.S.Store old end p.0 _ (both_change_nothing g.S.Store old mid end _ _ _ _ c.in_ok-settlement.ensures.read c.in_err-cash.ensures.read))
 
 pub returns-in_err-rule-clause-read : goal.returns-in_err-rule-clause-read
 returns-in_err-rule-clause-read g c =
@@ -50,6 +51,6 @@ returns-in_err-rule-clause-read g c =
     let end = c.settlement_day.new.self in
     let p = err_from_is_err_and c.from_residual-in_err-rule.result c.from_residual-in_err-rule.ensures.1 in
     rw p.1
-    (failed_after g.S.Store old end p.0 _
+    (none_read g.S.Store old end p.0 _
     (joined_reads_change_nothing old late end (both_change_nothing g.S.Store old mid late _ _ _ _ c.in_ok-settlement.ensures.read c.in_ok-cash.ensures.read)
     (single_read_changes_nothing late end _ _ c.in_err-rule.ensures.read)))

@@ -9,7 +9,8 @@ use Rattle.brk_ref.specs.declared.tax.Tax.{Tax}
 use Rattle.brk_store.proofs.Retelling.{retold}
 use Rattle.brk_explain_model.specs.Trades.{tax_rates_of_customer}
 use Rattle.brk_explain_reads.proofs.Each.{map_map, one_more}
-use Rattle.brk_explain_reads.proofs.Reading.{read_both, both_change_nothing, failed_after}
+use Rattle.brk_store.proofs.Sequences.{read_with, none_read}
+use Rattle.brk_explain_reads.proofs.Reading.{both_change_nothing}
 use Rattle.brk_explain_reads.proofs.TermParts.{one_by_one}
 use Rattle.std.proofs.lemmas.Result.{err_from_is_err_and}
 use Rattle.brk_explain_reads.proofs.terms.read_tax_rates_of_customer.Goals as goal
@@ -40,7 +41,7 @@ loop-row-preserved g c =
     let before = c.loop-row.rates.items in
     let rate = c.in_ok-rate.rate in
     rw c.in_ok-push.ensures.items
-    (read_both g.S.Store c.args.store.now c.loop-row.store c.read_existing_tax.new.store {H = Fault} tt rate tt
+    (read_with g.S.Store c.args.store.now c.loop-row.store c.read_existing_tax.new.store {H = Fault} tt rate tt
     (λ _. FirstRates c.args.customer rows before i)
     (λ rate (t : Tables). rate_of t (abstract_customer_tax row) ≡ Some (abstract_tax_rate rate))
     (λ _. FirstRates c.args.customer rows (before ++ rate ∷ []) (i + 1))
@@ -66,7 +67,7 @@ returns-in_err-rate-clause-read g c =
     let mid = c.loop-row.store in
     let end = c.read_existing_tax.new.store in
     let p = err_from_is_err_and c.from_residual-in_err-rate.result c.from_residual-in_err-rate.ensures.1 in
-    rw p.1 (failed_after g.S.Store old end p.0 _ (both_change_nothing g.S.Store old mid end _ _ _ _ c.loop-row.invariant c.in_err-rate.ensures.read))
+    rw p.1 (none_read g.S.Store old end p.0 _ (both_change_nothing g.S.Store old mid end _ _ _ _ c.loop-row.invariant c.in_err-rate.ensures.read))
 
 pub returns-in_err-push-clause-read : goal.returns-in_err-push-clause-read
 returns-in_err-push-clause-read g c =
@@ -74,4 +75,4 @@ returns-in_err-push-clause-read g c =
     let mid = c.loop-row.store in
     let end = c.read_existing_tax.new.store in
     let p = err_from_is_err_and c.from_residual-in_err-push.result c.from_residual-in_err-push.ensures.1 in
-    rw p.1 (failed_after g.S.Store old end p.0 _ (both_change_nothing g.S.Store old mid end _ _ _ _ c.loop-row.invariant c.in_ok-rate.ensures.read))
+    rw p.1 (none_read g.S.Store old end p.0 _ (both_change_nothing g.S.Store old mid end _ _ _ _ c.loop-row.invariant c.in_ok-rate.ensures.read))

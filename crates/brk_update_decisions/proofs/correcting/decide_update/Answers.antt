@@ -2,7 +2,7 @@ use Rattle.std.proofs.Common.{◌≡◌}
 use Rattle.brk_money.specs.declared.fault.Fault.{Fault}
 use Rattle.brk_model.specs.Tables.{Tables}
 use Rattle.brk_orders.specs.Records.{text_update_command}
-use Rattle.brk_trade_theorems.specs.Plans.{DecidesCommand}
+use Rattle.brk_trade_theorems.specs.Decisions.{DecidesCommand}
 use Rattle.brk_store.proofs.ReadResults.{decided}
 use Rattle.brk_store.proofs.Sequences.{none_read, read_with_reads}
 use Rattle.brk_update_theorems.specs.Corrections.{UpdateFactsMatchTables}

@@ -2,7 +2,7 @@ use Rattle.std.proofs.Common.{◌≡◌, ◌==◌, Some, None, Option, find, opt
 use Rattle.brk_model.specs.Tables.{BrokerRow, Tables}
 use Rattle.brk_ref.specs.declared.broker.BrokerRow as broker
 use Rattle.brk_ref.specs.Records.{abstract_broker_row}
-use Rattle.brk_changes.specs.declared.broker_numbers.BrokerTotals.{BrokerTotals}
+use Rattle.brk_changes.specs.declared.broker_totals.BrokerTotals.{BrokerTotals}
 use Rattle.brk_store.specs.Numbers.{AreBrokerTotals}
 use Rattle.brk_store.proofs.Retelling.{retold}
 use Rattle.brk_store.proofs.store.Store.broker_totals.Goals as goal

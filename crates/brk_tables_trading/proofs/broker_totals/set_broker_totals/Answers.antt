@@ -3,7 +3,7 @@ use Rattle.std.proofs.lemmas.Int.{to_z-of_z}
 use Rattle.sqlite.specs.Held.{state}
 use Rattle.brk_sql.proofs.Inside.{step_weaker}
 use Rattle.brk_tables_trading.proofs.HoldingWrites.{sets_broker_numbers}
-use Rattle.brk_tables_trading.proofs.broker_numbers.set_broker_totals.Goals as goal
+use Rattle.brk_tables_trading.proofs.broker_totals.set_broker_totals.Goals as goal
 
 pub returns-clause-step : goal.returns-clause-step
 returns-clause-step g c =

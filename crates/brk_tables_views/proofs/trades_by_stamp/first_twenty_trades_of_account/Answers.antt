@@ -11,7 +11,7 @@ use Rattle.brk_tables_views.proofs.MomentReads.{tells_twenty_of_account}
 use Rattle.brk_tables_schema.proofs.TradingBack.{trade_back, trade_is_back}
 use Rattle.brk_tables_views.proofs.TwentyOfAccount
 use Rattle.brk_tables_views.proofs.TwentyOfAccount.{plain}
-use Rattle.brk_tables_views.proofs.moments.first_twenty_trades_of_account.Goals as goal
+use Rattle.brk_tables_views.proofs.trades_by_stamp.first_twenty_trades_of_account.Goals as goal
 
 pub select_rows-requires : goal.select_rows-requires
 select_rows-requires g c = record { no_returning_clause = plain }

@@ -9,7 +9,7 @@ use Rattle.brk_tables_schema.proofs.TradingBack.{history_back, history_is_back}
 use Rattle.brk_tables_trading.proofs.HistoryOf
 use Rattle.brk_tables_trading.proofs.HistoryOf.{plain}
 use Rattle.brk_tables_trading.proofs.LookingReads.{tells_history}
-use Rattle.brk_tables_trading.proofs.looking.history_of_trade.Goals as goal
+use Rattle.brk_tables_trading.proofs.trade_lists.history_of_trade.Goals as goal
 
 pub select_rows-requires : goal.select_rows-requires
 select_rows-requires g c = record { no_returning_clause = plain }
