@@ -41,7 +41,7 @@ begins_at rem text records reader h = begins_of text records reader.state (sourc
 -- the rows that were decided, with their answers
 abbrev pub stopped_of : {S X C R : Type 0} (form : Fields → ReadResult X) (step : RowStep S X) (gives : C → ℕ → C → Type 0) (rem : R → Option Text)
     (start : BatchStartWithBase S C R) (now : BatchPositionWithBase S C R) (later : C) (new : Option Text) (text : Option Text) → HasDecidedRows form step gives rem start now
-    → IsReaderAfterRecords rem text (batch_header start.name ∷ []) start.reader → BatchProgress form step gives text (change_from_start start now later new) now.decided
+    → IsReaderAfterRecords rem text (batch_header start.name ∷ []) start.reader → BatchProgress form step gives text (change_from_start start now later new) now.settled
 stopped_of form step gives rem start now later new text p h = record {
   name = start.name;
   rows = p.rows;
@@ -50,15 +50,15 @@ stopped_of form step gives rem start now later new text p h = record {
   moments = p.moments;
   mid = now.later;
   taken = p.taken;
-  decided = p.decided;
+  settled = p.settled;
   begins = begins_front text (batch_header start.name ∷ p.rows) (now.row ∷ []) (begins_at rem text _ now.reader (p.stands text h));
   next = λ some. (now.row, begins_at rem text _ now.reader (p.stands text h));
-  counted = sym p.size ∙ sym p.decided.each;
+  counted = sym p.size ∙ sym p.settled.each;
 }
 
 -- the record that was read is the right end record
 ends_right : {S X C R : Type 0} (form : Fields → ReadResult X) (step : RowStep S X) (gives : C → ℕ → C → Type 0) (rem : R → Option Text)
-    (start : BatchStartWithBase S C R) (now : BatchPositionWithBase S C R) (text : Option Text) (p : HasDecidedRows form step gives rem start now) → now.row ≡ correct_end_record now.decided
+    (start : BatchStartWithBase S C R) (now : BatchPositionWithBase S C R) (text : Option Text) (p : HasDecidedRows form step gives rem start now) → now.row ≡ correct_end_record now.settled
     → IsReaderAfterRecords rem text (batch_header start.name ∷ []) start.reader → BeginsWithWholeBatch text start.name p.rows
 ends_right form step gives rem start now text p right h =
     let e : now.row ≡ correct_end_record (length p.rows) = right ∙ ap correct_end_record (sym p.size) in
@@ -67,7 +67,7 @@ ends_right form step gives rem start now text p right h =
 -- the batch ended with its right end record
 pub ended_well : {S X C R : Type 0} (form : Fields → ReadResult X) (step : RowStep S X) (gives : C → ℕ → C → Type 0) (rem : R → Option Text)
     (start : BatchStartWithBase S C R) (now : BatchPositionWithBase S C R) (mid new : Option Text) (text : Option Text) (p : HasDecidedRows form step gives rem start now)
-    → Appends start.old mid (answer_lines_from 1 p.answers) → now.row ≡ correct_end_record now.decided → Appends mid new (end_line_with_counts now.counts)
+    → Appends start.old mid (answer_lines_from 1 p.answers) → now.row ≡ correct_end_record now.settled → Appends mid new (end_line_with_counts now.counts)
     → IsReaderAfterRecords rem text (batch_header start.name ∷ []) start.reader → IsBatchResult form step gives text (change_from_start start now now.later new) (Ok now.counts)
 ended_well form step gives rem start now mid new text p wrote right last h = (
   record {
@@ -79,7 +79,7 @@ ended_well form step gives rem start now mid new text p wrote right last h = (
       rows = p.rows;
       answers = p.answers;
       told = p.answers;
-      decided = p.decided;
+      settled = p.settled;
       ends = (ends_right form step gives rem start now text p right h, refl, refl);
       counted = ap (λ (c : Counts). c.ok + c.again + c.no) p.counts ∙ counts_whole p.answers;
     };
@@ -91,8 +91,8 @@ ended_well form step gives rem start now mid new text p wrote right last h = (
 -- the end record is wrong, or was not answered
 pub end_failed : {S X C R : Type 0} (form : Fields → ReadResult X) (step : RowStep S X) (gives : C → ℕ → C → Type 0) (rem : R → Option Text)
     (start : BatchStartWithBase S C R) (now : BatchPositionWithBase S C R) (mid new : Option Text) (text : Option Text) (p : HasDecidedRows form step gives rem start now) (kind : FaultKind)
-    → Appends start.old mid (answer_lines_from 1 p.answers) → IsEndRecord now.row → EndRecordFailsWith mid new now.row now.decided now.counts kind
-    → IsReaderAfterRecords rem text (batch_header start.name ∷ []) start.reader → BatchFailsWith form step gives text (change_from_start start now now.later new) now.decided kind
+    → Appends start.old mid (answer_lines_from 1 p.answers) → IsEndRecord now.row → EndRecordFailsWith mid new now.row now.settled now.counts kind
+    → IsReaderAfterRecords rem text (batch_header start.name ∷ []) start.reader → BatchFailsWith form step gives text (change_from_start start now now.later new) now.settled kind
 end_failed form step gives rem start now mid new text p kinds.BadEnd wrote ends part h = record {
   moments = p.moments;
   lines = answer_lines_from 1 p.answers;
@@ -102,9 +102,9 @@ end_failed form step gives rem start now mid new text p kinds.BadEnd wrote ends 
     rows = p.rows;
     answers = p.answers;
     told = p.answers;
-    decided = p.decided;
+    settled = p.settled;
     ends = ((now.row, ends, (λ e. part.0 (e ∙ ap correct_end_record p.size)), begins_at rem text _ now.reader (p.stands text h)), refl, refl);
-    counted = sym p.size ∙ sym p.decided.each;
+    counted = sym p.size ∙ sym p.settled.each;
   };
   written = rw append-nil at (Appends-trans _ _ _ _ _ wrote part.1);
 }
@@ -123,7 +123,7 @@ end_failed form step gives rem start now mid new text p kinds.NoEnd wrote ends p
 pub read_failed : {S X C R : Type 0} (form : Fields → ReadResult X) (step : RowStep S X) (gives : C → ℕ → C → Type 0) (rem : R → Option Text)
     (start : BatchStartWithBase S C R) (now : BatchPositionWithBase S C R) (new : Option Text) (text : Option Text) (p : HasDecidedRows form step gives rem start now) (kind : FaultKind)
     → Appends start.old new (answer_lines_from 1 p.answers) → (kind ≡ kinds.Read) ⊎ (kind ≡ kinds.Desk Memory)
-    → IsReaderAfterRecords rem text (batch_header start.name ∷ []) start.reader → BatchFailsWith form step gives text (change_from_start start now now.later new) now.decided kind
+    → IsReaderAfterRecords rem text (batch_header start.name ∷ []) start.reader → BatchFailsWith form step gives text (change_from_start start now now.later new) now.settled kind
 read_failed form step gives rem start now new text p kind wrote (inl e) h =
     rw e (inr (stopped_of form step gives rem start now now.later new text p h, refl, refl, wrote))
 read_failed form step gives rem start now new text p kind wrote (inr e) h =
@@ -155,7 +155,7 @@ header_failed form step gives text base clock old kinds.BadEnd h = absurd h
 pub answer_failed : {S X C R : Type 0} (form : Fields → ReadResult X) (step : RowStep S X) (gives : C → ℕ → C → Type 0) (rem : R → Option Text)
     (start : BatchStartWithBase S C R) (now : BatchPositionWithBase S C R) (later : C) (new : Option Text) (text : Option Text) (p : HasDecidedRows form step gives rem start now) (f : Fault)
     → Appends start.old new (answer_lines_from 1 p.answers) → ReadsClockAtMostOnce gives now.later later → IsCallFault f
-    → IsReaderAfterRecords rem text (batch_header start.name ∷ []) start.reader → BatchFailsWith form step gives text (change_from_start start now later new) now.decided (kinds.Desk f)
+    → IsReaderAfterRecords rem text (batch_header start.name ∷ []) start.reader → BatchFailsWith form step gives text (change_from_start start now later new) now.settled (kinds.Desk f)
 answer_failed form step gives rem start now later new text p f wrote asked may h =
     inr (inl (stopped_of form step gives rem start now later new text p h, asked, may, refl, wrote))
 
@@ -174,7 +174,7 @@ abbrev pub failed_row : {S X C R : Type 0} (form : Fields → ReadResult X) (ste
     (moment : ℕ) (command : X) → form now.row ≡ Ok command → gives now.later moment later → IsCallFault f → Appends start.old new (answer_lines_from 1 p.answers)
     → ((text : Option Text) (before : List Fields) → IsReaderAfterRecords rem text before now.reader → IsReaderAfterRecords rem text (before ++ (next ∷ [])) reader)
     → IsReaderAfterRecords rem text (batch_header start.name ∷ []) start.reader
-    → DeskFaultEndsBatchAtNextRow form step gives text (change_from_start start now later new) (record { rows = now.decided; kind = kinds.Desk f })
+    → DeskFaultEndsBatchAtNextRow form step gives text (change_from_start start now later new) (record { rows = now.settled; kind = kinds.Desk f })
 failed_row form step gives rem start now later new text p next reader f moment command formed given may wrote found h = record {
   cause = f;
   kind = refl;
@@ -196,11 +196,11 @@ pub answer_left : {D S X C R : Type 0} (meets_disk_assumption : D → Type 0) (r
     (form : Fields → ReadResult X) (step : RowStep S X) (gives : C → ℕ → C → Type 0) (rem : R → Option Text)
     (start : BatchStartWithBase S C R) (now : BatchPositionWithBase S C R) (later : C) (new : Option Text) (text : Option Text)
     (p : HasDecidedRows form step gives rem start now) (next : Fields) (reader : Reader R) (f : Fault) (desk last : D)
-    → RowFailsWith meets_disk_assumption represents crash_exposes_only acts step gives (form now.row) start.name (now.decided + 1) f desk last now.later later
+    → RowFailsWith meets_disk_assumption represents crash_exposes_only acts step gives (form now.row) start.name (now.settled + 1) f desk last now.later later
     → IsCallFault f → Appends start.old new (answer_lines_from 1 p.answers)
     → ((text : Option Text) (before : List Fields) → IsReaderAfterRecords rem text before now.reader → IsReaderAfterRecords rem text (before ++ (next ∷ [])) reader)
     → IsReaderAfterRecords rem text (batch_header start.name ∷ []) start.reader → meets_disk_assumption last → represents desk now.after → crash_exposes_only desk now.after now.after
-    → BoundsBatchCrashStates form step gives crash_exposes_only text (change_from_start start now later new) last (Err (record { rows = now.decided; kind = kinds.Desk f }))
+    → BoundsBatchCrashStates form step gives crash_exposes_only text (change_from_start start now later new) last (Err (record { rows = now.settled; kind = kinds.Desk f }))
 answer_left meets_disk_assumption represents crash_exposes_only acts form step gives rem start now later new text p next reader f desk last (inl same) may wrote found h good stood alone =
     inl (subst (λ d. crash_exposes_only d now.after now.after) (sym same.0) alone)
 answer_left meets_disk_assumption represents crash_exposes_only acts form step gives rem start now later new text p next reader f desk last (inr way) may wrote found h good stood alone = inr (record {
@@ -212,10 +212,10 @@ answer_left meets_disk_assumption represents crash_exposes_only acts form step g
 pub tell_failed : {S X C R : Type 0} (form : Fields → ReadResult X) (step : RowStep S X) (gives : C → ℕ → C → Type 0) (rem : R → Option Text)
     (start : BatchStartWithBase S C R) (now : BatchPositionWithBase S C R) (mid new : Option Text) (text : Option Text) (p : HasDecidedRows form step gives rem start now)
     (front : List Answer) (answer : Answer) (kind : FaultKind)
-    → p.answers ≡ front ++ (answer ∷ []) → Appends start.old mid (answer_lines_from 1 front) → LineWriteFailsWith mid new (answer_line now.decided answer) kind
-    → IsReaderAfterRecords rem text (batch_header start.name ∷ []) start.reader → BatchFailsWith form step gives text (change_from_start start now now.later new) now.decided kind
+    → p.answers ≡ front ++ (answer ∷ []) → Appends start.old mid (answer_lines_from 1 front) → LineWriteFailsWith mid new (answer_line now.settled answer) kind
+    → IsReaderAfterRecords rem text (batch_header start.name ∷ []) start.reader → BatchFailsWith form step gives text (change_from_start start now now.later new) now.settled kind
 tell_failed form step gives rem start now mid new text p front answer kinds.Write split wrote part h =
-    let many : now.decided ≡ length p.answers = sym p.size ∙ sym p.decided.each in (
+    let many : now.settled ≡ length p.answers = sym p.size ∙ sym p.settled.each in (
       stopped_of form step gives rem start now now.later new text p h,
       refl,
       inl (inl refl, (front, answer, part.0, split, Appends-trans _ _ _ _ _ wrote (rw many at part.1))),
@@ -236,7 +236,7 @@ tell_failed form step gives rem start now mid new text p front answer kinds.BadE
 -- the rows that were decided, with the refusal of the row that has no record after it
 abbrev pub cut_stopped : {S X C R : Type 0} (form : Fields → ReadResult X) (step : RowStep S X) (gives : C → ℕ → C → Type 0) (rem : R → Option Text)
     (start : BatchStartWithBase S C R) (now : BatchPositionWithBase S C R) (new : Option Text) (text : Option Text) → HasDecidedRows form step gives rem start now
-    → IsReaderAfterRecords rem text (batch_header start.name ∷ []) start.reader → BatchProgress form step gives text (change_from_start start now now.later new) (now.decided + 1)
+    → IsReaderAfterRecords rem text (batch_header start.name ∷ []) start.reader → BatchProgress form step gives text (change_from_start start now now.later new) (now.settled + 1)
 cut_stopped form step gives rem start now new text p h = record {
   name = start.name;
   rows = p.rows;
@@ -245,20 +245,20 @@ cut_stopped form step gives rem start now new text p h = record {
   moments = p.moments;
   mid = now.later;
   taken = p.taken;
-  decided = p.decided;
+  settled = p.settled;
   begins = begins_front text (batch_header start.name ∷ p.rows) (now.row ∷ []) (begins_at rem text _ now.reader (p.stands text h));
   next = λ some. (now.row, begins_at rem text _ now.reader (p.stands text h));
-  counted = ap (λ (n : ℕ). n + 1) (sym p.size ∙ sym p.decided.each) ∙ sym (length-append p.answers (Refused BadText ∷ []));
+  counted = ap (λ (n : ℕ). n + 1) (sym p.size ∙ sym p.settled.each) ∙ sym (length-append p.answers (Refused BadText ∷ []));
 }
 
 -- the row has no record after it
 pub row_cut_off : {S X C R : Type 0} (form : Fields → ReadResult X) (step : RowStep S X) (gives : C → ℕ → C → Type 0) (rem : R → Option Text)
     (start : BatchStartWithBase S C R) (now : BatchPositionWithBase S C R) (mid new : Option Text) (text : Option Text) (p : HasDecidedRows form step gives rem start now) (kind : FaultKind)
-    → Appends start.old mid (answer_lines_from 1 p.answers) → ¬ (IsEndRecord now.row) → LastRowEndsBatchWith mid new (answer_line (now.decided + 1) (Refused BadText)) kind
+    → Appends start.old mid (answer_lines_from 1 p.answers) → ¬ (IsEndRecord now.row) → LastRowEndsBatchWith mid new (answer_line (now.settled + 1) (Refused BadText)) kind
     → ((text : Option Text) (before : List Fields) → IsReaderAfterRecords rem text before now.reader → HasExactlyRecords text before)
-    → IsReaderAfterRecords rem text (batch_header start.name ∷ []) start.reader → BatchFailsWith form step gives text (change_from_start start now now.later new) (now.decided + 1) kind
+    → IsReaderAfterRecords rem text (batch_header start.name ∷ []) start.reader → BatchFailsWith form step gives text (change_from_start start now now.later new) (now.settled + 1) kind
 row_cut_off form step gives rem start now mid new text p kinds.NoEnd wrote other part all h =
-    let place : now.decided + 1 ≡ 1 + length p.answers = omega (arith, p.size, p.decided.each) in
+    let place : now.settled + 1 ≡ 1 + length p.answers = omega (arith, p.size, p.settled.each) in
     record {
       moments = p.moments;
       lines = answer_lines_from 1 (p.answers ++ (Refused BadText ∷ []));
@@ -268,14 +268,14 @@ row_cut_off form step gives rem start now mid new text p kinds.NoEnd wrote other
         rows = p.rows;
         answers = p.answers;
         told = p.answers ++ (Refused BadText ∷ []);
-        decided = p.decided;
+        settled = p.settled;
         ends = (inr (now.row, other, all text _ (p.stands text h), refl), refl);
         counted = (cut_stopped form step gives rem start now new text p h).counted;
       };
       written = rw (lines_push 1 p.answers (Refused BadText)) (Appends-trans _ _ _ _ _ wrote (rw place at part));
     }
 row_cut_off form step gives rem start now mid new text p kinds.Write wrote other part all h =
-    let place : now.decided + 1 ≡ length (p.answers ++ (Refused BadText ∷ [])) = (cut_stopped form step gives rem start now new text p h).counted in (
+    let place : now.settled + 1 ≡ length (p.answers ++ (Refused BadText ∷ [])) = (cut_stopped form step gives rem start now new text p h).counted in (
       cut_stopped form step gives rem start now new text p h,
       refl,
       inl (inr (inr (now.row, other, all text _ (p.stands text h), refl)), (p.answers, Refused BadText, part.0, refl, Appends-trans _ _ _ _ _ wrote (rw place at part.1))),
@@ -305,7 +305,7 @@ no_rows form step gives text name base clock old named all = record {
     rows = [];
     answers = [];
     told = [];
-    decided = record {
+    settled = record {
       named = named;
       rows_only = tt;
       answered = refl;
@@ -319,7 +319,7 @@ no_rows form step gives text name base clock old named all = record {
 
 -- the loop ran out of turns
 pub turns_over : {S X C R : Type 0} (form : Fields → ReadResult X) (step : RowStep S X) (gives : C → ℕ → C → Type 0) (rem : R → Option Text)
-    (start : BatchStartWithBase S C R) (now : BatchPositionWithBase S C R) (new : Option Text) (text : Option Text) (count : ℕ) → count ≡ now.decided
+    (start : BatchStartWithBase S C R) (now : BatchPositionWithBase S C R) (new : Option Text) (text : Option Text) (count : ℕ) → count ≡ now.settled
     → (p : HasDecidedRows form step gives rem start now) → Appends start.old new (answer_lines_from 1 p.answers)
     → IsReaderAfterRecords rem text (batch_header start.name ∷ []) start.reader → BatchFailsWith form step gives text (change_from_start start now now.later new) count (kinds.Desk Memory)
 turns_over form step gives rem start now new text count e p wrote h = rw e (read_failed form step gives rem start now new text p (kinds.Desk Memory) wrote (inr refl) h)

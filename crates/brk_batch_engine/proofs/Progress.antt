@@ -33,7 +33,7 @@ pub record BatchStartWithBase (S C R : Type 0) : Type 0 where
 -- A position in a batch: the number of decided rows, their counts, the record after them, the base,
 -- the clock and the reader.
 pub record BatchPositionWithBase (S C R : Type 0) : Type 0 where
-  pub decided : ℕ
+  pub settled : ℕ
   pub counts : Counts
   pub row : Fields
   pub after : S
@@ -51,8 +51,8 @@ pub record HasDecidedRows {S X C R : Type 0} (form : Fields → ReadResult X) (s
   pub answers : List Answer
   pub moments : List ℕ
   pub taken : ClockReturnsInOrder gives start.clock moments now.later
-  pub decided : BatchRowsAreDecided form step start.name start.base moments rows answers now.after
-  pub size : length rows ≡ now.decided
+  pub settled : BatchRowsAreDecided form step start.name start.base moments rows answers now.after
+  pub size : length rows ≡ now.settled
   pub counts : now.counts ≡ counts_of_answers answers
   pub stands : (text : Option Text) → IsReaderAfterRecords rem text (batch_header start.name ∷ []) start.reader
       → IsReaderAfterRecords rem text (batch_header start.name ∷ (rows ++ (now.row ∷ []))) now.reader

@@ -40,7 +40,7 @@ pub record BatchStart (C R : Type 0) : Type 0 where
 -- A position in a batch: the number of decided rows, their counts, the record after them, the clock
 -- and the reader.
 pub record BatchPosition (C R : Type 0) : Type 0 where
-  pub decided : ℕ
+  pub settled : ℕ
   pub counts : Counts
   pub row : Fields
   pub later : C
@@ -57,7 +57,7 @@ pub record HasReachedPosition {D S X C R : Type 0} (meets_disk_assumption : D �
   pub rows_only : AllByRecursion (λ row. ¬ (IsEndRecord row)) rows
   pub answered : RowsHaveAnswers meets_disk_assumption represents acts form step gives head.name first head.clock rows answers desk place.later
   pub each : length answers ≡ length rows
-  pub size : length rows ≡ place.decided
+  pub size : length rows ≡ place.settled
   pub counts : place.counts ≡ counts_of_answers answers
   pub read : (text : Option Text) → IsReaderAfterRecords rem text (batch_header head.name ∷ []) head.reader
       → IsReaderAfterRecords rem text (batch_header head.name ∷ (rows ++ (place.row ∷ []))) place.reader
@@ -68,7 +68,7 @@ pub reached_start : {D S X C R : Type 0} (meets_disk_assumption : D → Type 0) 
     (rem : R → Option Text) (first : D) (head : BatchStart C R) (row : Fields) (reader : Reader R) → IsBatchName head.name
     → ((text : Option Text) (before : List Fields) → IsReaderAfterRecords rem text before head.reader → IsReaderAfterRecords rem text (before ++ (row ∷ [])) reader)
     → (r : HasReachedPosition meets_disk_assumption represents acts form step gives rem first head first
-    (record { decided = 0; counts = record { ok = 0; again = 0; no = 0 }; row = row; later = head.clock; reader = reader })) × (r.answers ≡ [])
+    (record { settled = 0; counts = record { ok = 0; again = 0; no = 0 }; row = row; later = head.clock; reader = reader })) × (r.answers ≡ [])
 reached_start meets_disk_assumption represents acts form step gives rem first head row reader named found = (
   record {
     rows = [];
@@ -95,7 +95,7 @@ reached_start meets_disk_assumption represents acts form step gives rem first he
 
 -- The position after one more row.
 abbrev pub position_after_row : {C R : Type 0} → BatchPosition C R → Counts → Fields → C → Reader R → BatchPosition C R
-position_after_row place counts row later reader = record { decided = place.decided + 1; counts = counts; row = row; later = later; reader = reader }
+position_after_row place counts row later reader = record { settled = place.settled + 1; counts = counts; row = row; later = later; reader = reader }
 
 -- one row more was answered, after the record after it had been read
 pub reached_more : {D S X C R : Type 0} (meets_disk_assumption : D → Type 0) (represents : Bool → D → S → Type 0) (acts : RowCallRelation D X)
@@ -103,11 +103,11 @@ pub reached_more : {D S X C R : Type 0} (meets_disk_assumption : D → Type 0) (
     (rem : R → Option Text) (first : D) (head : BatchStart C R) (mid : D) (place : BatchPosition C R) (answer : Answer) (counts : Counts) (row : Fields) (desk : D) (later : C) (reader : Reader R)
     → (r : HasReachedPosition meets_disk_assumption represents acts form step gives rem first head mid place) → ¬ (IsEndRecord place.row)
     → counts ≡ counts_with_answer place.counts answer → (meets_disk_assumption desk → meets_disk_assumption mid)
-    → RowHasAnswer meets_disk_assumption represents acts step gives (form place.row) head.name (place.decided + 1) answer mid desk place.later later
+    → RowHasAnswer meets_disk_assumption represents acts step gives (form place.row) head.name (place.settled + 1) answer mid desk place.later later
     → ((text : Option Text) (before : List Fields) → IsReaderAfterRecords rem text before place.reader → IsReaderAfterRecords rem text (before ++ (row ∷ [])) reader)
     → (q : HasReachedPosition meets_disk_assumption represents acts form step gives rem first head desk (position_after_row place counts row later reader)) × (q.answers ≡ r.answers ++ (answer ∷ []))
 reached_more meets_disk_assumption represents acts form step gives rem first head mid place answer counts row desk later reader r other more earlier given found =
-    let number : place.decided + 1 ≡ 1 + length r.rows = omega (arith, r.size) in (
+    let number : place.settled + 1 ≡ 1 + length r.rows = omega (arith, r.size) in (
       record {
         rows = r.rows ++ (place.row ∷ []);
         answers = r.answers ++ (answer ∷ []);
@@ -129,7 +129,7 @@ start_with_base head base = record { name = head.name; base = base; clock = head
 
 -- The position in a batch with the base that the desk represents there.
 abbrev pub position_with_base : {S C R : Type 0} → BatchPosition C R → S → BatchPositionWithBase S C R
-position_with_base place after = record { decided = place.decided; counts = place.counts; row = place.row; after = after; later = place.later; reader = place.reader }
+position_with_base place after = record { settled = place.settled; counts = place.counts; row = place.row; after = after; later = place.later; reader = place.reader }
 
 -- the progress of a batch by some steps, over some base
 abbrev pub progress_of : {D S T X C R : Type 0} (meets_disk_assumption : D → Type 0) (represents : Bool → D → S → Type 0) (acts : RowCallRelation D X)
@@ -143,7 +143,7 @@ progress_of meets_disk_assumption represents acts form step gives rem first head
   answers = r.answers;
   moments = r.answered.moments;
   taken = r.answered.taken;
-  decided = record {
+  settled = record {
     named = r.named;
     rows_only = r.rows_only;
     answered = answered-of form other head.name base after r.answered.moments r.rows r.answers
@@ -194,15 +194,15 @@ pub tells_failed : {D S X C R : Type 0} (meets_disk_assumption : D → Type 0) (
     (rem : R → Option Text) (first : D) (head : BatchStart C R) (desk : D) (place : BatchPosition C R)
     (r : HasReachedPosition meets_disk_assumption represents acts form step gives rem first head desk place)
     (text : Option Text) (new : Option Text) (later : C) (last : D) (next : Fields) (reader : Reader R) (f : Fault) (moment : ℕ) (command : X)
-    → form place.row ≡ Ok command → gives place.later moment later → acts desk moment (command, record { batch = head.name; row = place.decided + 1 }) (Failed f) last
+    → form place.row ≡ Ok command → gives place.later moment later → acts desk moment (command, record { batch = head.name; row = place.settled + 1 }) (Failed f) last
     → IsCallFault f → Appends head.old new (answer_lines_from 1 r.answers)
     → ((text : Option Text) (before : List Fields) → IsReaderAfterRecords rem text before place.reader → IsReaderAfterRecords rem text (before ++ (next ∷ [])) reader)
     → IsReaderAfterRecords rem text (batch_header head.name ∷ []) head.reader
-    → ChangesOnlyByRowCalls acts form gives text first last (record { clock = head.clock; later = later; old = head.old; new = new }) (Err (record { rows = place.decided; kind = kinds.Desk f }))
+    → ChangesOnlyByRowCalls acts form gives text first last (record { clock = head.clock; later = later; old = head.old; new = new }) (Err (record { rows = place.settled; kind = kinds.Desk f }))
 tells_failed {D = D} {X = X} meets_disk_assumption represents acts form step gives rem first head desk place r text new later last next reader f moment command formed given acted may wrote found h =
     let calls = calls_of_rows head.name r.answered.moments (well_formed_rows_from form 1 r.rows) in
     let each : length r.answered.replies ≡ length calls = r.answered.replied ∙ sym (calls_length head.name r.answered.moments (well_formed_rows_from form 1 r.rows) r.answered.one_each) in
-    let under : ℕ × (X × Key) = (moment, (command, record { batch = head.name; row = place.decided + 1 })) in
+    let under : ℕ × (X × Key) = (moment, (command, record { batch = head.name; row = place.settled + 1 })) in
     let taken : ClockReturnsInOrder gives head.clock (r.answered.moments ++ (moment ∷ [])) later = moments_push gives head.clock place.later later r.answered.moments moment r.answered.taken given in
     let are : map (λ (c : ℕ × (X × Key)). c.0) (map desk_call_of_row_call calls ++ (under ∷ [])) ≡ r.answered.moments ++ (moment ∷ []) =
     map-append (λ (c : ℕ × (X × Key)). c.0) (map desk_call_of_row_call calls) (under ∷ [])
@@ -231,17 +231,17 @@ pub tells_fault : {D S X C R : Type 0} (meets_disk_assumption : D → Type 0) (r
     (gives : C → ℕ → C → Type 0) (rem : R → Option Text) (first : D) (head : BatchStart C R) (desk : D) (place : BatchPosition C R)
     (r : HasReachedPosition meets_disk_assumption (RepresentsDurably represents crash_exposes_only) acts form step gives rem first head desk place)
     (text : Option Text) (new : Option Text) (later : C) (last : D) (next : Fields) (reader : Reader R) (f : Fault)
-    → RowFailsWith meets_disk_assumption represents crash_exposes_only acts step gives (form place.row) head.name (place.decided + 1) f desk last place.later later
+    → RowFailsWith meets_disk_assumption represents crash_exposes_only acts step gives (form place.row) head.name (place.settled + 1) f desk last place.later later
     → IsCallFault f → Appends head.old new (answer_lines_from 1 r.answers)
     → ((text : Option Text) (before : List Fields) → IsReaderAfterRecords rem text before place.reader → IsReaderAfterRecords rem text (before ++ (next ∷ [])) reader)
     → IsReaderAfterRecords rem text (batch_header head.name ∷ []) head.reader
     → ((T : Type 0) (other : RowStep T X) (base after : T) → CallsHaveAnswers other base (calls_of_rows head.name r.answered.moments (well_formed_rows_from form 1 r.rows)) r.answered.replies after
     → IsBatchResult form other gives text (record { base = base; after = after; clock = head.clock; later = later; old = head.old; new = new })
-    (Err (record { rows = place.decided; kind = kinds.Desk f })))
-    → ChangesOnlyByRowCalls acts form gives text first last (record { clock = head.clock; later = later; old = head.old; new = new }) (Err (record { rows = place.decided; kind = kinds.Desk f }))
+    (Err (record { rows = place.settled; kind = kinds.Desk f })))
+    → ChangesOnlyByRowCalls acts form gives text first last (record { clock = head.clock; later = later; old = head.old; new = new }) (Err (record { rows = place.settled; kind = kinds.Desk f }))
 tells_fault meets_disk_assumption represents crash_exposes_only acts form step gives rem first head desk place r text new later last next reader f (inl same) may wrote found h so =
     rw (same.0, same.1) (tells_all meets_disk_assumption (RepresentsDurably represents crash_exposes_only) acts form step gives rem first head desk place r text
-    head.old new (Err (record { rows = place.decided; kind = kinds.Desk f })) same.2 (rw same.1 at so))
+    head.old new (Err (record { rows = place.settled; kind = kinds.Desk f })) same.2 (rw same.1 at so))
 tells_fault meets_disk_assumption represents crash_exposes_only acts form step gives rem first head desk place r text new later last next reader f (inr way) may wrote found h so =
     tells_failed meets_disk_assumption (RepresentsDurably represents crash_exposes_only) acts form step gives rem first head desk place r text new later last
     next reader f way.0 way.1 way.2 way.3 way.4 may wrote found h

@@ -51,7 +51,7 @@ module _ {D S X C R : Type 0} (meets_disk_assumption : D → Type 0) (represents
     decided other base after turns = progress_of meets_disk_assumption (RepresentsDurably represents crash_exposes_only) acts form step gives rem first head desk place r other base after turns
 
     -- the end record is correct, and the end line was written
-    pub end_line_written : (new text : Option Text) → place.row ≡ correct_end_record place.decided → Appends mid new (end_line_with_counts place.counts)
+    pub end_line_written : (new text : Option Text) → place.row ≡ correct_end_record place.settled → Appends mid new (end_line_with_counts place.counts)
         → IsReaderAfterRecords rem text (batch_header head.name ∷ []) head.reader
         → BatchPost meets_disk_assumption represents crash_exposes_only acts form step gives text first desk
         (record { clock = head.clock; later = place.later; old = head.old; new = new }) (Ok place.counts)
@@ -60,17 +60,17 @@ module _ {D S X C R : Type 0} (meets_disk_assumption : D → Type 0) (represents
         ended_well form other gives rem (start_with_base head base) (position_with_base place after) mid new text (decided other base after turns) wrote right last h)
 
     -- the end record is wrong, or the end line was not written
-    pub end_record_failed : (new text : Option Text) (fault : BatchFault) → fault.rows ≡ place.decided → IsEndRecord place.row
-        → EndRecordFailsWith mid new place.row place.decided place.counts fault.kind → IsReaderAfterRecords rem text (batch_header head.name ∷ []) head.reader
+    pub end_record_failed : (new text : Option Text) (fault : BatchFault) → fault.rows ≡ place.settled → IsEndRecord place.row
+        → EndRecordFailsWith mid new place.row place.settled place.counts fault.kind → IsReaderAfterRecords rem text (batch_header head.name ∷ []) head.reader
         → BatchPost meets_disk_assumption represents crash_exposes_only acts form step gives text first desk (record { clock = head.clock; later = place.later; old = head.old; new = new }) (Err fault)
     end_record_failed new text fault rows ends part h =
         comes_answered meets_disk_assumption represents crash_exposes_only acts form step gives rem first head desk place r text head.old new (Err fault)
-        (end_memory mid new place.row place.decided place.counts fault.kind part)
+        (end_memory mid new place.row place.settled place.counts fault.kind part)
         (λ T other base after turns.
         rw rows (end_failed form other gives rem (start_with_base head base) (position_with_base place after) mid new text (decided other base after turns) fault.kind wrote ends part h))
 
     -- as many rows are decided as the loop has turns
-    pub no_turn_left : (text : Option Text) (count : ℕ) → count ≡ place.decided → IsReaderAfterRecords rem text (batch_header head.name ∷ []) head.reader
+    pub no_turn_left : (text : Option Text) (count : ℕ) → count ≡ place.settled → IsReaderAfterRecords rem text (batch_header head.name ∷ []) head.reader
         → BatchPost meets_disk_assumption represents crash_exposes_only acts form step gives text first desk
         (record { clock = head.clock; later = place.later; old = head.old; new = mid }) (Err (record { rows = count; kind = kinds.Desk Memory }))
     no_turn_left text count all h =
@@ -79,20 +79,20 @@ module _ {D S X C R : Type 0} (meets_disk_assumption : D → Type 0) (represents
         turns_over form other gives rem (start_with_base head base) (position_with_base place after) mid text count all (decided other base after turns) wrote h)
 
     -- no record after the row was read
-    pub next_record_ended : (new : Option Text) (fault : BatchFault) (text : Option Text) → ¬ (IsEndRecord place.row) → NextReadEndsBatchWith rem place.reader place.decided mid new fault
+    pub next_record_ended : (new : Option Text) (fault : BatchFault) (text : Option Text) → ¬ (IsEndRecord place.row) → NextReadEndsBatchWith rem place.reader place.settled mid new fault
         → IsReaderAfterRecords rem text (batch_header head.name ∷ []) head.reader
         → BatchPost meets_disk_assumption represents crash_exposes_only acts form step gives text first desk (record { clock = head.clock; later = place.later; old = head.old; new = new }) (Err fault)
     next_record_ended new fault text row_only (inl failed) h =
         rw (failed.1, failed.3)
         (comes_answered meets_disk_assumption represents crash_exposes_only acts form step gives rem first head desk place r text head.old mid
-        (Err (record { rows = place.decided; kind = failed.0 }))
+        (Err (record { rows = place.settled; kind = failed.0 }))
         (read_memory failed.0 failed.2) (λ T other base after turns.
         read_failed form other gives rem (start_with_base head base) (position_with_base place after) mid text
         (decided other base after turns) failed.0 wrote failed.2 h))
     next_record_ended new fault text row_only (inr cut) h =
         rw cut.1 (comes_answered meets_disk_assumption represents crash_exposes_only acts form step gives rem first head desk place r text head.old new
-        (Err (record { rows = place.decided + 1; kind = cut.0 }))
-        (cut_memory mid new (answer_line (place.decided + 1) (Refused BadText)) cut.0 cut.3) (λ T other base after turns.
+        (Err (record { rows = place.settled + 1; kind = cut.0 }))
+        (cut_memory mid new (answer_line (place.settled + 1) (Refused BadText)) cut.0 cut.3) (λ T other base after turns.
         row_cut_off form other gives rem (start_with_base head base) (position_with_base place after) mid new text
         (decided other base after turns) cut.0 wrote row_only cut.3 cut.2 h))
 
@@ -100,7 +100,7 @@ module _ {D S X C R : Type 0} (meets_disk_assumption : D → Type 0) (represents
         (read : ReadsOneRecord rem place.reader reader next) where
       -- the row is decided: the batch is at the next position, and all lines were written
       pub row_decided : (counts : Counts)
-          → RowIsDecidedAndWritten meets_disk_assumption represents crash_exposes_only acts step gives (form place.row) head.name place.decided desk last
+          → RowIsDecidedAndWritten meets_disk_assumption represents crash_exposes_only acts step gives (form place.row) head.name place.settled desk last
           (record { clock = place.later; later = later; old = mid; new = new }) place.counts counts
           → (q : HasReachedPosition meets_disk_assumption (RepresentsDurably represents crash_exposes_only) acts form step gives rem first head last
           (position_after_row place counts next later reader))
@@ -108,21 +108,21 @@ module _ {D S X C R : Type 0} (meets_disk_assumption : D → Type 0) (represents
       row_decided counts row =
           let more = reached_more meets_disk_assumption (RepresentsDurably represents crash_exposes_only) acts form step gives rem first head desk place
           row.answer counts next last later reader r row_only row.counted earlier row.given read in
-          (more.0, told_more head.old mid new r.answers more.0.answers row.answer (place.decided + 1) wrote row.written (omega (arith, r.size, r.each)) more.1)
+          (more.0, told_more head.old mid new r.answers more.0.answers row.answer (place.settled + 1) wrote row.written (omega (arith, r.size, r.each)) more.1)
 
       -- the row, or its line, ended the batch
       pub row_ended : (fault : BatchFault) (text : Option Text)
-          → RowEndsBatchWith meets_disk_assumption represents crash_exposes_only acts step gives (form place.row) head.name place.decided desk last
+          → RowEndsBatchWith meets_disk_assumption represents crash_exposes_only acts step gives (form place.row) head.name place.settled desk last
           (record { clock = place.later; later = later; old = mid; new = new }) fault
           → IsReaderAfterRecords rem text (batch_header head.name ∷ []) head.reader
           → BatchPost meets_disk_assumption represents crash_exposes_only acts form step gives text first last (record { clock = head.clock; later = later; old = head.old; new = new }) (Err fault)
       row_ended fault text (inl row) h =
-          let asked = failed_asked meets_disk_assumption represents crash_exposes_only acts step gives (form place.row) head.name (place.decided + 1) row.cause
+          let asked = failed_asked meets_disk_assumption represents crash_exposes_only acts step gives (form place.row) head.name (place.settled + 1) row.cause
           desk last place.later later row.failed in
           rw (row.is, row.unwritten)
           (comes meets_disk_assumption represents crash_exposes_only acts form step gives rem first head desk place r last text
           (record { clock = head.clock; later = later; old = head.old; new = mid })
-          (Err (record { rows = place.decided; kind = kinds.Desk row.cause })) earlier row.represented (λ T other base after turns.
+          (Err (record { rows = place.settled; kind = kinds.Desk row.cause })) earlier row.represented (λ T other base after turns.
           answer_failed form other gives rem (start_with_base head base) (position_with_base place after) later mid text
           (decided other base after turns) row.cause wrote asked row.may_fail h)
           (tells_fault meets_disk_assumption represents crash_exposes_only acts form step gives rem first head desk place r text mid later last next reader
@@ -139,8 +139,8 @@ module _ {D S X C R : Type 0} (meets_disk_assumption : D → Type 0) (represents
           row.answer counts next last later reader r row_only refl earlier row.given read in
           let at : BatchPosition C R = position_after_row place counts next later reader in
           rw row.is (comes_answered meets_disk_assumption represents crash_exposes_only acts form step gives rem first head last at more.0 text head.old new
-          (Err (record { rows = place.decided + 1; kind = row.kind }))
-          (part_memory mid new (answer_line (place.decided + 1) row.answer) row.kind row.part) (λ T other base after turns.
+          (Err (record { rows = place.settled + 1; kind = row.kind }))
+          (part_memory mid new (answer_line (place.settled + 1) row.answer) row.kind row.part) (λ T other base after turns.
           tell_failed form other gives rem (start_with_base head base) (position_with_base at after) mid new text
           (progress_of meets_disk_assumption (RepresentsDurably represents crash_exposes_only) acts form step gives rem first head last at more.0 other base
           after turns) r.answers row.answer row.kind more.1 wrote row.part h))

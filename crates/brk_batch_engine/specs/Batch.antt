@@ -68,7 +68,7 @@ pub record BatchProgress {S X C : Type 0} (form : Fields → ReadResult X) (step
   pub taken : ClockReturnsInOrder gives span.clock moments mid
   -- From the base before, the rows have these answers in the model, at these timestamps, and the
   -- base after them is the base after the batch.
-  pub decided : model.BatchRowsAreDecided form step name span.base moments rows answers span.after
+  pub settled : model.BatchRowsAreDecided form step name span.base moments rows answers span.after
   pub begins : BeginsWithRecords text (batch_header name ∷ rows)
   -- If there are rows, one more record follows them.
   pub next : HasRecordAfterRows text name rows

@@ -2,7 +2,7 @@
 -- and executing it with its line.
 --
 -- Parameters: those of specs/Answers.antt; `rem reader`, the bytes that the source of a reader
--- still has; `decided`, the number of decided rows; `outside`, the clock and the writer's content
+-- still has; `settled`, the number of decided rows; `outside`, the clock and the writer's content
 -- before and after the step; `old` and `new`, the writer's content where only this changes.
 use Rattle.std.specs.Prelude.{◌≡◌, ◌+◌, ◌⊎◌, ◌∷◌, ◌++◌, [], ℕ, List, Option}
 use Rattle.std.specs.Io.KnownBytes.{Appends}
@@ -54,26 +54,26 @@ FirstReadEndsBatchWith rem reader fault =
     ((fault ≡ record { rows = 0; kind = kinds.NoEnd }) × HasNoRecordLeft rem reader)
     ⊎ ((kind : FaultKind) × (fault ≡ record { rows = 0; kind = kind }) × IsReadFault kind)
 
--- The batch ended with `fault` at the read of the record after the row `decided + 1`. Either the
+-- The batch ended with `fault` at the read of the record after the row `settled + 1`. Either the
 -- fault is one of reading (`IsReadFault`), the row is not decided, and nothing was written; or no
 -- record is left, the row is decided and refused with `BadText`, and its line was written or
 -- writing it failed (`LastRowEndsBatchWith`).
 abbrev pub NextReadEndsBatchWith : {R : Type 0} → (R → Option Text) → Reader R → ℕ → Option Text → Option Text → BatchFault → Type 0
-NextReadEndsBatchWith rem reader decided old new fault =
-    ((kind : FaultKind) × (fault ≡ record { rows = decided; kind = kind }) × IsReadFault kind × (new ≡ old))
-    ⊎ ((kind : FaultKind) × (fault ≡ record { rows = decided + 1; kind = kind }) × HasNoRecordLeft rem reader
-    × LastRowEndsBatchWith old new (answer_line (decided + 1) (Refused BadText)) kind)
+NextReadEndsBatchWith rem reader settled old new fault =
+    ((kind : FaultKind) × (fault ≡ record { rows = settled; kind = kind }) × IsReadFault kind × (new ≡ old))
+    ⊎ ((kind : FaultKind) × (fault ≡ record { rows = settled + 1; kind = kind }) × HasNoRecordLeft rem reader
+    × LastRowEndsBatchWith old new (answer_line (settled + 1) (Refused BadText)) kind)
 
 -- The row is decided and its line was written: the row has an answer, the line of the answer was
 -- appended to the writer's content, and the counts `more` are `counts` with this answer added. The
 -- clause on the line is vacuous if the writer's content before is unknown.
 pub record RowIsDecidedAndWritten {D S X C : Type 0} (meets_disk_assumption : D → Type 0) (represents : D → S → Type 0)
     (crash_exposes_only : D → S → S → Type 0) (acts : RowCallRelation D X) (step : RowStep S X) (gives : C → ℕ → C → Type 0)
-    (read : ReadResult X) (batch : Text) (decided : ℕ) (first last : D) (outside : ClockAndWriterChange C) (counts more : Counts) : Type 0 where
+    (read : ReadResult X) (batch : Text) (settled : ℕ) (first last : D) (outside : ClockAndWriterChange C) (counts more : Counts) : Type 0 where
   pub answer : Answer
-  pub given : RowHasAnswer meets_disk_assumption (RepresentsDurably represents crash_exposes_only) acts step gives read batch (decided + 1)
+  pub given : RowHasAnswer meets_disk_assumption (RepresentsDurably represents crash_exposes_only) acts step gives read batch (settled + 1)
       answer first last outside.clock outside.later
-  pub written : Appends outside.old outside.new (answer_line (decided + 1) answer)
+  pub written : Appends outside.old outside.new (answer_line (settled + 1) answer)
   pub counted : more ≡ counts_with_answer counts answer
 
 -- The row was not decided, and the batch ended with `fault`, a fault of the desk, `Memory` or
@@ -81,10 +81,10 @@ pub record RowIsDecidedAndWritten {D S X C : Type 0} (meets_disk_assumption : D 
 -- before, and nothing was written.
 pub record RowIsNotDecided {D S X C : Type 0} (meets_disk_assumption : D → Type 0) (represents : D → S → Type 0)
     (crash_exposes_only : D → S → S → Type 0) (acts : RowCallRelation D X) (step : RowStep S X) (gives : C → ℕ → C → Type 0)
-    (read : ReadResult X) (batch : Text) (decided : ℕ) (first last : D) (outside : ClockAndWriterChange C) (fault : BatchFault) : Type 0 where
+    (read : ReadResult X) (batch : Text) (settled : ℕ) (first last : D) (outside : ClockAndWriterChange C) (fault : BatchFault) : Type 0 where
   pub cause : Fault
-  pub is : fault ≡ record { rows = decided; kind = kinds.Desk cause }
-  pub failed : RowFailsWith meets_disk_assumption represents crash_exposes_only acts step gives read batch (decided + 1)
+  pub is : fault ≡ record { rows = settled; kind = kinds.Desk cause }
+  pub failed : RowFailsWith meets_disk_assumption represents crash_exposes_only acts step gives read batch (settled + 1)
       cause first last outside.clock outside.later
   pub may_fail : IsCallFault cause
   pub represented : PreservesRepresentedBases meets_disk_assumption represents first last
@@ -94,18 +94,18 @@ pub record RowIsNotDecided {D S X C : Type 0} (meets_disk_assumption : D → Typ
 -- batch ended with `fault`: a prefix of the line was written, perhaps all of it, or nothing.
 pub record RowLineWriteFails {D S X C : Type 0} (meets_disk_assumption : D → Type 0) (represents : D → S → Type 0)
     (crash_exposes_only : D → S → S → Type 0) (acts : RowCallRelation D X) (step : RowStep S X) (gives : C → ℕ → C → Type 0)
-    (read : ReadResult X) (batch : Text) (decided : ℕ) (first last : D) (outside : ClockAndWriterChange C) (fault : BatchFault) : Type 0 where
+    (read : ReadResult X) (batch : Text) (settled : ℕ) (first last : D) (outside : ClockAndWriterChange C) (fault : BatchFault) : Type 0 where
   pub answer : Answer
-  pub given : RowHasAnswer meets_disk_assumption (RepresentsDurably represents crash_exposes_only) acts step gives read batch (decided + 1)
+  pub given : RowHasAnswer meets_disk_assumption (RepresentsDurably represents crash_exposes_only) acts step gives read batch (settled + 1)
       answer first last outside.clock outside.later
   pub kind : FaultKind
-  pub is : fault ≡ record { rows = decided + 1; kind = kind }
-  pub part : LineWriteFailsWith outside.old outside.new (answer_line (decided + 1) answer) kind
+  pub is : fault ≡ record { rows = settled + 1; kind = kind }
+  pub part : LineWriteFailsWith outside.old outside.new (answer_line (settled + 1) answer) kind
 
 -- The batch ended with `fault` at the row after the decided rows: the row was not decided, or it
 -- was decided and writing its line failed.
 abbrev pub RowEndsBatchWith : {D S X C : Type 0} → (D → Type 0) → (D → S → Type 0) → (D → S → S → Type 0) → RowCallRelation D X → RowStep S X
     → (C → ℕ → C → Type 0) → ReadResult X → Text → ℕ → D → D → ClockAndWriterChange C → BatchFault → Type 0
-RowEndsBatchWith meets_disk_assumption represents crash_exposes_only acts step gives read batch decided first last outside fault =
-    RowIsNotDecided meets_disk_assumption represents crash_exposes_only acts step gives read batch decided first last outside fault
-    ⊎ RowLineWriteFails meets_disk_assumption represents crash_exposes_only acts step gives read batch decided first last outside fault
+RowEndsBatchWith meets_disk_assumption represents crash_exposes_only acts step gives read batch settled first last outside fault =
+    RowIsNotDecided meets_disk_assumption represents crash_exposes_only acts step gives read batch settled first last outside fault
+    ⊎ RowLineWriteFails meets_disk_assumption represents crash_exposes_only acts step gives read batch settled first last outside fault

@@ -159,8 +159,8 @@ fn read_record_after_header<R: Read>(
     Ok(())
 }
 
-// Reads the record after row `decided + 1` into `after`, and writes nothing. If no record is left,
-// writes the line that refuses this row with `BadText`. `decided` must be less than 67,108,864.
+// Reads the record after row `settled + 1` into `after`, and writes nothing. If no record is left,
+// writes the line that refuses this row with `BadText`. `settled` must be less than 67,108,864.
 //
 // Fails with `Read` or `Desk(Memory)`, and nothing written, if the record could not be read; the
 // row is then not decided. If no record is left, fails with `NoEnd` after the line, with `Write`
@@ -170,26 +170,26 @@ fn read_record_after_row<R: Read, W: Write, D: Rows>(
     alloc: Global,
     records: &mut Reader<R>,
     writer: &mut W,
-    decided: u64,
+    settled: u64,
     after: &mut ByteRecord,
 ) -> Result<(), BatchFault>
     requires setup { IsBatchReader records.old }
-    requires decided { decided < 67108864 }
+    requires settled { settled < 67108864 }
     ensures setup { OnOk result (IsBatchReader records.new) }
     ensures read { OnOk result (ReadsOneRecord R.remaining records.old records.new (fields_of after.new)) }
     ensures unwritten { OnOk result (W.contents writer.new ≡ W.contents writer.old) }
-    ensures err { IfErr result (NextReadEndsBatchWith R.remaining records.old decided (W.contents writer.old) (W.contents writer.new)) }
+    ensures err { IfErr result (NextReadEndsBatchWith R.remaining records.old settled (W.contents writer.old) (W.contents writer.new)) }
 {
     let has_next = match read_record(records, after) {
         Ok(found) => found,
         Err(kind) => {
             return Err(BatchFault {
-                rows: decided,
+                rows: settled,
                 kind,
             });
         }
     };
-    let n = decided + 1;
+    let n = settled + 1;
     if !has_next {
         let kind = write_refusal_of_last_row::<W, D>(alloc, writer, n);
         return Err(BatchFault { rows: n, kind });
@@ -197,8 +197,8 @@ fn read_record_after_row<R: Read, W: Write, D: Rows>(
     Ok(())
 }
 
-// Executes row `decided + 1` of the batch `name` on the desk, and writes its line. Returns the
-// counts with its answer added. `decided` must be less than 67,108,864 and equal the sum of the
+// Executes row `settled + 1` of the batch `name` on the desk, and writes its line. Returns the
+// counts with its answer added. `settled` must be less than 67,108,864 and equal the sum of the
 // counts.
 //
 // Fails with `Desk(Memory)` or `Desk(Store)`, and nothing written, if the row is not decided; the
@@ -211,26 +211,26 @@ fn execute_row_and_write_line<W: Write, C: Clock, D: Rows>(
     writer: &mut W,
     clock: &mut C,
     desk: &mut D::Desk,
-    decided: u64,
+    settled: u64,
     counts: Counts,
     row: &ByteRecord,
 ) -> Result<Counts, BatchFault>
-    requires decided { decided < 67108864 }
-    requires counted { counts.ok + counts.again + counts.no ≡ decided }
+    requires settled { settled < 67108864 }
+    requires counted { counts.ok + counts.again + counts.no ≡ settled }
     ensures disk_was_clean { D.meets_disk_assumption desk.new → D.meets_disk_assumption desk.old }
     ensures ok { IfOk result (RowIsDecidedAndWritten D.meets_disk_assumption D.represents D.crash_exposes_only D.acts D.step C.gives
-        (D.form (fields_of row.now)) name.now decided desk.old desk.new
+        (D.form (fields_of row.now)) name.now settled desk.old desk.new
         (record { clock = clock.old; later = clock.new; old = W.contents writer.old; new = W.contents writer.new }) counts) }
     ensures err { IfErr result (RowEndsBatchWith D.meets_disk_assumption D.represents D.crash_exposes_only D.acts D.step C.gives
-        (D.form (fields_of row.now)) name.now decided desk.old desk.new
+        (D.form (fields_of row.now)) name.now settled desk.old desk.new
         (record { clock = clock.old; later = clock.new; old = W.contents writer.old; new = W.contents writer.new })) }
 {
-    let n = decided + 1;
+    let n = settled + 1;
     let told = match execute_row::<C, D>(alloc, desk, clock, name, n, row) {
         Ok(told) => told,
         Err(fault) => {
             return Err(BatchFault {
-                rows: decided,
+                rows: settled,
                 kind: FaultKind::Desk(fault),
             });
         }
@@ -271,14 +271,14 @@ fn execute_rows_and_write_lines<R: Read, W: Write, C: Clock, D: Rows>(
     let mut row = ByteRecord::new(alloc);
     let mut after = ByteRecord::new(alloc);
     read_record_after_header(records, &mut row)?;
-    for decided in 0..MAXIMUM_INPUT_BYTES {
+    for settled in 0..MAXIMUM_INPUT_BYTES {
         if begins_with_end_field(&row) {
-            check_end_record_and_write_end_line(alloc, writer, &row, decided, counts)?;
+            check_end_record_and_write_end_line(alloc, writer, &row, settled, counts)?;
             return Ok(counts);
         }
-        read_record_after_row::<R, W, D>(alloc, records, writer, decided, &mut after)?;
+        read_record_after_row::<R, W, D>(alloc, records, writer, settled, &mut after)?;
         counts = execute_row_and_write_line::<W, C, D>(
-            alloc, name, writer, clock, desk, decided, counts, &row,
+            alloc, name, writer, clock, desk, settled, counts, &row,
         )?;
         mem::swap(&mut row, &mut after);
     }

@@ -1,4 +1,4 @@
 pub mod Called
-pub mod Decided
+pub mod Settled
 pub mod Under
 pub mod SentAgain

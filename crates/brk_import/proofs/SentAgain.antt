@@ -39,7 +39,7 @@ use Rattle.brk_io.specs.declared.batch_fault.FaultKind.TheVariants as kinds
 use Rattle.brk_batch_engine.specs.declared.counts.Counts.{Counts}
 use Rattle.brk_batch_engine.proofs.Pushes.{moments_push}
 use Rattle.brk_batch_engine.proofs.Reading.{begins_front, begins_less}
-use Rattle.brk_import.proofs.Decided.{decided_push}
+use Rattle.brk_import.proofs.Settled.{settled_push}
 
 module _ {S C : Type 0} (g : Ghosts S) (rests : RecoversOnlyLastCommit g) (form : Fields → ReadResult Command)
     (apart : (n : ℕ) (command : Command) → form (correct_end_record n) ≡ Ok command → ⊥) (gives : C → ℕ → C → Type 0)
@@ -52,7 +52,7 @@ module _ {S C : Type 0} (g : Ghosts S) (rests : RecoversOnlyLastCommit g) (form 
     pub moments : List ℕ
     pub mid : C
     pub taken : ClockReturnsInOrder gives one.clock moments mid
-    pub decided : BatchRowsAreDecided form step_of_row name base moments rows answers after
+    pub settled : BatchRowsAreDecided form step_of_row name base moments rows answers after
     pub begins : BeginsWithRecords (Some text) (batch_header name ∷ rows)
 
   -- The row after the decided rows was committed: `stood` is the base after its command, executed
@@ -98,7 +98,7 @@ module _ {S C : Type 0} (g : Ghosts S) (rests : RecoversOnlyLastCommit g) (form 
     moments = c.moments;
     mid = one.later;
     taken = c.taken;
-    decided = c.answered.decided;
+    settled = c.answered.settled;
     begins = ending_begins ending c.answered.name c.answered.rows c.answered.answers c.answered.told c.lines c.answered.ends;
   }
 
@@ -110,7 +110,7 @@ module _ {S C : Type 0} (g : Ghosts S) (rests : RecoversOnlyLastCommit g) (form 
     moments = s.moments;
     mid = s.mid;
     taken = s.taken;
-    decided = s.decided;
+    settled = s.settled;
     begins = s.begins;
   }
 
@@ -142,7 +142,7 @@ module _ {S C : Type 0} (g : Ghosts S) (rests : RecoversOnlyLastCommit g) (form 
     given = w.failed.given;
     booked =
         ap (λ (n : ℕ). (step_of_row after w.failed.moment w.failed.command (record { batch = w.failed.stopped.name; row = n + 1 })).1)
-        (sym (w.failed.stopped.counted ∙ ap (λ (l : List Answer). length l) w.failed.told ∙ w.failed.stopped.decided.each));
+        (sym (w.failed.stopped.counted ∙ ap (λ (l : List Answer). length l) w.failed.told ∙ w.failed.stopped.settled.each));
   }
 
   module _ (left : Held S) (trees : Trees) (may : (state g left).may_leave trees) (after : Base) (keeps : Represents g left after) (first : DecidesRowsOrNone after) where
@@ -188,16 +188,16 @@ module _ {S C : Type 0} (g : Ghosts S) (rests : RecoversOnlyLastCommit g) (form 
   module _ (after stood last : Base) (two : ClockAndWriterChange C) (count : ℕ)
       (c : BatchEndsWith form step_of_row gives (Some text) (environment_change_with_bases stood last two) model.CorrectEnd count) where
     -- if no row was decided, the rows are none
-    none_decided : after ≡ base → FirstRunRows after
-    none_decided same = record {
+    none_settled : after ≡ base → FirstRunRows after
+    none_settled same = record {
       name = c.answered.name;
       rows = [];
       answers = [];
       moments = [];
       mid = one.clock;
       taken = refl;
-      decided = record {
-        named = c.answered.decided.named;
+      settled = record {
+        named = c.answered.settled.named;
         rows_only = tt;
         answered =
             answered-of form step_of_row c.answered.name base after [] [] [] (record { replies = []; one_each = refl; run = same; all = refl });
@@ -207,7 +207,7 @@ module _ {S C : Type 0} (g : Ghosts S) (rests : RecoversOnlyLastCommit g) (form 
     }
 
     part_of : DecidesRowsOrNone after → FirstRunRows after
-    part_of (inl same) = none_decided same
+    part_of (inl same) = none_settled same
     part_of (inr part) = part
 
     wrote : Appends two.old two.new (answer_lines_from 1 c.answered.answers ++ batch_end_line c.answered.answers)
@@ -217,7 +217,7 @@ module _ {S C : Type 0} (g : Ghosts S) (rests : RecoversOnlyLastCommit g) (form 
       second : BatchRowsAreDecided form step_of_row p.name stood c.moments (p.rows ++ more) c.answered.answers last
       second =
           subst (λ (rs : List Fields). BatchRowsAreDecided form step_of_row p.name stood c.moments rs c.answered.answers last) rows_are
-          (subst (λ (n : Text). BatchRowsAreDecided form step_of_row n stood c.moments c.answered.rows c.answered.answers last) (sym named) c.answered.decided)
+          (subst (λ (n : Text). BatchRowsAreDecided form step_of_row n stood c.moments c.answered.rows c.answered.answers last) (sym named) c.answered.settled)
 
       named_again : (moments : List ℕ) (answers : List Answer) → IsCompletedByRetry form p.name base moments c.moments (p.rows ++ more) answers c.answered.answers last
           → IsCompletedByRetry form c.answered.name base moments c.moments c.answered.rows answers c.answered.answers last
@@ -240,12 +240,12 @@ module _ {S C : Type 0} (g : Ghosts S) (rests : RecoversOnlyLastCommit g) (form 
       asked = c.taken;
       written = wrote;
       completed = λ none. inl (named_again p on.1.0 on.0 on.1.1 p.moments p.answers
-          (completed form p.name base after last p.moments c.moments p.rows on.1.0 p.answers c.answered.answers none p.decided
+          (completed form p.name base after last p.moments c.moments p.rows on.1.0 p.answers c.answered.answers none p.settled
           (subst (λ (b : Base). BatchRowsAreDecided form step_of_row p.name b c.moments (p.rows ++ on.1.0) c.answered.answers last) same (second p on.1.0 on.0 on.1.1))));
     }
       where
         on : (p.name ≡ c.answered.name) × ((back : List Fields) × (c.answered.rows ≡ p.rows ++ back))
-        on = rows-go-on text p.name c.answered.name p.rows c.answered.rows p.decided.rows_only p.begins c.answered.ends.0
+        on = rows-go-on text p.name c.answered.name p.rows c.answered.rows p.settled.rows_only p.begins c.answered.ends.0
 
     -- a row was committed and not answered
     from_under : CommittedUnansweredRow after stood → RetryCompletesBatch form gives (Some text) base last one two
@@ -263,7 +263,7 @@ module _ {S C : Type 0} (g : Ghosts S) (rests : RecoversOnlyLastCommit g) (form 
       written = wrote;
       completed = λ none.
           elim (booked-completed form p.name base after stood last p.moments c.moments p.rows (u.row ∷ on.1.0) p.answers c.answered.answers u.moment answer none
-          p.decided next (second p (u.row ∷ on.1.0) on.0 on.1.1)) [
+          p.settled next (second p (u.row ∷ on.1.0) on.0 on.1.1)) [
             | inl k ↦ inl (named_again p (u.row ∷ on.1.0) on.0 on.1.1 p.moments p.answers k)
             | inr k ↦ inr (u.moment, answer, u.given, named_again p (u.row ∷ on.1.0) on.0 on.1.1 (p.moments ++ u.moment ∷ []) (p.answers ++ answer ∷ []) k)
           ];
@@ -273,7 +273,7 @@ module _ {S C : Type 0} (g : Ghosts S) (rests : RecoversOnlyLastCommit g) (form 
         p = u.part
 
         on : (p.name ≡ c.answered.name) × ((rest : List Fields) × (c.answered.rows ≡ p.rows ++ u.row ∷ rest))
-        on = next-goes-on text p.name c.answered.name p.rows c.answered.rows u.row p.decided.rows_only u.begins c.answered.ends.0 (λ n e. apart n u.command (ap form (sym e) ∙ u.formed))
+        on = next-goes-on text p.name c.answered.name p.rows c.answered.rows u.row p.settled.rows_only u.begins c.answered.ends.0 (λ n e. apart n u.command (ap form (sym e) ∙ u.formed))
 
         answer : Answer
         answer = (step_of_row after u.moment u.command (record { batch = p.name; row = length p.rows + 1 })).0
@@ -306,7 +306,7 @@ module _ {S C : Type 0} (g : Ghosts S) (rests : RecoversOnlyLastCommit g) (form 
       retry_answers = c.answered.answers;
       others = c.moments;
       asked = c.taken;
-      second = c.answered.decided;
+      second = c.answered.settled;
       retry_calls = late;
       written = wrote;
       run = one-run base stood last (calls_of_rows c.answered.name moments (well_formed_rows_from form 1 front))
@@ -320,31 +320,31 @@ module _ {S C : Type 0} (g : Ghosts S) (rests : RecoversOnlyLastCommit g) (form 
         early = calls-of-decided first
 
         late : RowsAreAnsweredByCalls form step_of_row c.answered.name stood c.moments c.answered.rows c.answered.answers last
-        late = calls-of-decided c.answered.decided
+        late = calls-of-decided c.answered.settled
 
     one_from_part : stood ≡ after → FirstRunRows after → RunAndRetryEqualOneRun form gives (Some text) base last one two
     one_from_part same p =
         one_run_of p.rows on.1.0 p.moments p.mid p.answers p.taken on.1.1
         (subst (λ (n : Text). BatchRowsAreDecided form step_of_row n base p.moments p.rows p.answers stood) on.0
-        (subst (λ (b : Base). BatchRowsAreDecided form step_of_row p.name base p.moments p.rows p.answers b) (sym same) p.decided))
+        (subst (λ (b : Base). BatchRowsAreDecided form step_of_row p.name base p.moments p.rows p.answers b) (sym same) p.settled))
       where
         on : (p.name ≡ c.answered.name) × ((back : List Fields) × (c.answered.rows ≡ p.rows ++ back))
-        on = rows-go-on text p.name c.answered.name p.rows c.answered.rows p.decided.rows_only p.begins c.answered.ends.0
+        on = rows-go-on text p.name c.answered.name p.rows c.answered.rows p.settled.rows_only p.begins c.answered.ends.0
 
     one_from_under : CommittedUnansweredRow after stood → RunAndRetryEqualOneRun form gives (Some text) base last one two
     one_from_under u =
         one_run_of (p.rows ++ u.row ∷ []) on.1.0 (p.moments ++ u.moment ∷ []) one.later (p.answers ++ answer ∷ [])
         (moments_push gives one.clock p.mid one.later p.moments u.moment p.taken u.given) split
         (subst (λ (n : Text). BatchRowsAreDecided form step_of_row n base (p.moments ++ u.moment ∷ []) (p.rows ++ u.row ∷ []) (p.answers ++ answer ∷ []) stood) on.0
-        (decided_push form step_of_row p.name base after stood p.moments p.rows p.answers p.decided u.row u.command u.formed u.moment answer
+        (settled_push form step_of_row p.name base after stood p.moments p.rows p.answers p.settled u.row u.command u.formed u.moment answer
         acted
-        (All-front (λ row. ¬ (IsEndRecord row)) (p.rows ++ u.row ∷ []) on.1.0 (subst (λ (rs : List Fields). AllByRecursion (λ row. ¬ (IsEndRecord row)) rs) split c.answered.decided.rows_only))))
+        (All-front (λ row. ¬ (IsEndRecord row)) (p.rows ++ u.row ∷ []) on.1.0 (subst (λ (rs : List Fields). AllByRecursion (λ row. ¬ (IsEndRecord row)) rs) split c.answered.settled.rows_only))))
       where
         p : FirstRunRows after
         p = u.part
 
         on : (p.name ≡ c.answered.name) × ((rest : List Fields) × (c.answered.rows ≡ p.rows ++ u.row ∷ rest))
-        on = next-goes-on text p.name c.answered.name p.rows c.answered.rows u.row p.decided.rows_only u.begins c.answered.ends.0 (λ n e. apart n u.command (ap form (sym e) ∙ u.formed))
+        on = next-goes-on text p.name c.answered.name p.rows c.answered.rows u.row p.settled.rows_only u.begins c.answered.ends.0 (λ n e. apart n u.command (ap form (sym e) ∙ u.formed))
 
         answer : Answer
         answer = (step_of_row after u.moment u.command (record { batch = p.name; row = length p.rows + 1 })).0

@@ -104,12 +104,12 @@ none-woven form n (row ∷ rows) replies l h = one (form row) n (well_formed_row
         let k = none-first reply (more replies) h in (k.0, each replies (omega (l, arith)) k.1)
     one (Err refusal) n rest more replies each l h = let k = none-first (Refused refusal) (more replies) h in absurd (cc)
 
--- the rows of a batch decided again
-pub decided-again : (form : Fields → ReadResult Command) (name : Text) (moments others : List ℕ) (rows : List Fields) (answers told : List Answer)
+-- the rows of a batch settled again
+pub settled-again : (form : Fields → ReadResult Command) (name : Text) (moments others : List ℕ) (rows : List Fields) (answers told : List Answer)
     (base after later last : Base) → refused_answer_count answers ≡ 0
     → BatchRowsAreDecided form step_of_row name base moments rows answers after → Grows after later → BatchRowsAreDecided form step_of_row name later others rows told last
     → (told ≡ map answer_to_retry answers) × (last ≡ later)
-decided-again form name moments others rows answers told base after later last none first g second =
+settled-again form name moments others rows answers told base after later last none first g second =
     (two.all ∙ ap (answers_interleaved_with_refusals form rows) again.0 ∙ woven-again form rows one.replies ∙ ap (map answer_to_retry) (sym one.all), again.1)
   where
     one : RowsAreAnsweredByCalls form step_of_row name base moments rows answers after
@@ -242,21 +242,21 @@ no-header input name rest named e (inr begins) = begins.2 name named (first-same
 by_kind : (form : Fields → ReadResult Command) (base later : Base) (moments others : List ℕ) (input : Text) (answers : List Answer) (first second : BatchResult Base)
     (one : IsResultOfTextWithHeader form step_of_row base moments (Some (input_text input)) first) → one.answers ≡ answers → refused_answer_count answers ≡ 0 → HasRecords input one.name one.rows
     → Grows first.base later → IsResultOfBatch form step_of_row later others input second → second ≡ result_of_complete_batch {B = Base} (map answer_to_retry answers, later)
-by_kind form base later moments others input answers first second one these none has g (inr two) = absurd (no-header input one.name _ one.decided.named has.1 two.headless)
+by_kind form base later moments others input answers first second one these none has g (inr two) = absurd (no-header input one.name _ one.settled.named has.1 two.headless)
 by_kind form base later moments others input answers first second one these none has g (inl two) =
     by_parts second (map answer_to_retry answers) later (k.4 ∙ ap (λ a. answer_lines_from 1 a ++ batch_end_line a) same) again.1 k.0 (two.counted ∙ ap length (k.3 ∙ same))
   where
     k : (second.ending ≡ CorrectEnd) × (one.name ≡ two.name) × (one.rows ≡ two.rows) × (two.told ≡ two.answers) × (second.text ≡ answer_lines_from 1 two.answers ++ batch_end_line two.answers)
-    k = by_ending input one.name two.name one.rows two.rows two.answers two.told second.ending second.text one.decided.rows_only two.decided.rows_only has two.ends
+    k = by_ending input one.name two.name one.rows two.rows two.answers two.told second.ending second.text one.settled.rows_only two.settled.rows_only has two.ends
 
     named : BatchRowsAreDecided form step_of_row one.name later others two.rows two.answers second.base
-    named = subst (λ n. BatchRowsAreDecided form step_of_row n later others two.rows two.answers second.base) (sym k.1) two.decided
+    named = subst (λ n. BatchRowsAreDecided form step_of_row n later others two.rows two.answers second.base) (sym k.1) two.settled
 
-    decided : BatchRowsAreDecided form step_of_row one.name later others one.rows two.answers second.base
-    decided = subst (λ rs. BatchRowsAreDecided form step_of_row one.name later others rs two.answers second.base) (sym k.2) named
+    settled : BatchRowsAreDecided form step_of_row one.name later others one.rows two.answers second.base
+    settled = subst (λ rs. BatchRowsAreDecided form step_of_row one.name later others rs two.answers second.base) (sym k.2) named
 
     again : (two.answers ≡ map answer_to_retry one.answers) × (second.base ≡ later)
-    again = decided-again form one.name moments others one.rows one.answers two.answers base first.base later second.base (ap refused_answer_count these ∙ none) one.decided g decided
+    again = settled-again form one.name moments others one.rows one.answers two.answers base first.base later second.base (ap refused_answer_count these ∙ none) one.settled g settled
 
     same : two.answers ≡ map answer_to_retry answers
     same = again.0 ∙ ap (map answer_to_retry) these

@@ -162,7 +162,7 @@ right_says n (word ∷ count ∷ []) h = at (bytes_eq count (decimal n)) refl
 
 -- ---- the batch
 
--- rows that are none of them an end record, decided
+-- rows that are none of them an end record, settled
 pub settles : {B C : Type 0} (form : Fields → ReadResult C) (step : RowStep B C) (name : Text) (base : B) (moments : List ℕ) (rows : List Fields)
     → IsBatchName name → AllByRecursion (λ row. ¬ (IsEndRecord row)) rows → length rows ≤ length moments
     → BatchRowsAreDecided form step name base (take (length (well_formed_rows_from form 1 rows)) moments) rows
@@ -203,7 +203,7 @@ ends_with {B = B} form step name base moments text rows last more named only end
         rows = rows;
         answers = run.0;
         told = run.0;
-        decided = settles form step name base moments rows named only h;
+        settled = settles form step name base moments rows named only h;
         ends = ((more, all ∙ ap (λ l. batch_header name ∷ (rows ++ l ∷ more)) k ∙ ap (λ rs. batch_header name ∷ rs) (append-assoc rows (correct_end_record (length rows) ∷ []) more)), refl, refl);
         counted = refl;
       }),
@@ -215,7 +215,7 @@ ends_with {B = B} form step name base moments text rows last more named only end
         rows = rows;
         answers = run.0;
         told = run.0;
-        decided = settles form step name base moments rows named only h;
+        settled = settles form step name base moments rows named only h;
         ends = ((last, end, k, (more, all ∙ ap (λ rs. batch_header name ∷ rs) (append-assoc rows (last ∷ []) more))), refl, refl);
         counted = refl;
       }),
@@ -245,7 +245,7 @@ cuts_off form step name base moments text [] named only all h = (
     rows = [];
     answers = (answers_and_base_of_rows form step name base moments []).0;
     told = [];
-    decided = settles form step name base moments [] named only h;
+    settled = settles form step name base moments [] named only h;
     ends = (inl (refl, all, refl), refl);
     counted = refl;
   }),
@@ -257,7 +257,7 @@ cuts_off {B = B} form step name base moments text (row ∷ rows) named only all 
     rows = front;
     answers = run.0;
     told = run.0 ++ Refused BadText ∷ [];
-    decided = settles form step name base moments front named (All-front P front (end.0 ∷ []) only') enough;
+    settled = settles form step name base moments front named (All-front P front (end.0 ∷ []) only') enough;
     ends = (inr (end.0, (All-back P front (end.0 ∷ []) only').0, all ∙ ap (λ rs. batch_header name ∷ rs) end.1, refl), refl);
     counted = refl;
   }),

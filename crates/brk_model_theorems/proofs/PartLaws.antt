@@ -13,7 +13,7 @@ use Rattle.brk_model.specs.Batch.{BatchRowsAreDecided, BatchResult, IsResultOfTe
 use Rattle.brk_model.specs.Input.{BeginsWithRecords, IsEndRecord, correct_end_record, batch_header, input_text}
 use Rattle.brk_model.specs.Lines.{refused_answer_count, is_refused_answer}
 use Rattle.brk_model_theorems.specs.Laws.{SomeRunLeadsTo, IsCompleteBatchWithoutRefusals, answer_to_retry}
-use Rattle.brk_model_theorems.proofs.AgainLaws.{HasRecords, by_first, first-same, length-turned, name-same, none-first, others-same, right_end, decided-again}
+use Rattle.brk_model_theorems.proofs.AgainLaws.{HasRecords, by_first, first-same, length-turned, name-same, none-first, others-same, right_end, settled-again}
 use Rattle.brk_model_theorems.proofs.BatchLaws.{All-front, length-calls, length-woven}
 use Rattle.brk_model_theorems.proofs.KeptLaws.{Grows, grows-on, run-grows}
 use Rattle.brk_model_theorems.proofs.RowLaws.{answered-of, calls-of-decided}
@@ -116,7 +116,7 @@ record Parted (form : Fields → ReadResult Command) (name : Text) (base : Base)
   pub replies : List Answer
   pub moments_are : moments ≡ early ++ late
   pub answers_are : answers ≡ first ++ rest
-  pub decided : BatchRowsAreDecided form step_of_row name base early front first mid
+  pub settled : BatchRowsAreDecided form step_of_row name base early front first mid
   pub one_each : length late ≡ length (well_formed_rows_from form (1 + length front) more)
   pub run : CallsHaveAnswers step_of_row mid (calls_of_rows name late (well_formed_rows_from form (1 + length front) more)) replies after
   pub all : rest ≡ answers_interleaved_with_refusals form more replies
@@ -136,7 +136,7 @@ parted form name base moments front more answers after s = record {
   replies = t.rest;
   moments_are = p.are;
   answers_are = c.all ∙ ap (answers_interleaved_with_refusals form (front ++ more)) t.are ∙ woven-joined form 1 front more t.first t.rest firsts;
-  decided = record {
+  settled = record {
     named = s.named;
     rows_only = All-front (λ row. ¬ (IsEndRecord row)) front more s.rows_only;
     answered = answered-of form step_of_row name base t.mid p.front front (answers_interleaved_with_refusals form front t.first)
@@ -224,7 +224,7 @@ joined form name base mid after early late front more first replies s only lates
     told : first ++ answers_interleaved_with_refusals form more replies ≡ answers_interleaved_with_refusals form (front ++ more) (c.replies ++ replies)
     told = ap (λ l. l ++ answers_interleaved_with_refusals form more replies) c.all ∙ sym (woven-joined form 1 front more c.replies replies firsts)
 
--- ---- a part decided again
+-- ---- a part settled again
 
 pub none-with : (x : Answer) (xs : List Answer) → is_refused_answer x ≡ false → refused_answer_count xs ≡ 0 → refused_answer_count (x ∷ xs) ≡ 0
 none-with x xs h k = sum_by-cons (λ a. cond (is_refused_answer a) 1 0) x xs ∙ (λ i. cond (h i) 1 0 + k i)
@@ -233,7 +233,7 @@ none-front : (xs ys : List Answer) → refused_answer_count (xs ++ ys) ≡ 0 →
 none-front [] ys h = refl
 none-front (x ∷ xs) ys h = let k = none-first x (xs ++ ys) h in none-with x xs k.0 (none-front xs ys k.1)
 
--- the first rows of those that were decided before
+-- the first rows of those that were settled before
 pub part-again : (form : Fields → ReadResult Command) (name : Text) (base after later last : Base) (moments others : List ℕ) (front more : List Fields) (answers told : List Answer)
     → refused_answer_count answers ≡ 0 → BatchRowsAreDecided form step_of_row name base moments (front ++ more) answers after → Grows after later
     → BatchRowsAreDecided form step_of_row name later others front told last
@@ -243,31 +243,31 @@ part-again form name base after later last moments others front more answers tol
     let grown : Grows p.mid later =
     grows-on p.mid after later
     (run-grows _ _ p.mid after (rows-run p.mid (calls_of_rows name p.late (well_formed_rows_from form (1 + length front) more)) p.replies after p.run)) g in
-    let again = decided-again form name p.early others front p.first told base p.mid later last (none-front p.first p.rest (ap refused_answer_count (sym p.answers_are) ∙ none)) p.decided grown two in
+    let again = settled-again form name p.early others front p.first told base p.mid later last (none-front p.first p.rest (ap refused_answer_count (sym p.answers_are) ∙ none)) p.settled grown two in
     let same : take (length front) answers ≡ p.first =
-    ap (λ (n : ℕ). take n answers) (sym p.decided.each) ∙ ap (take (length p.first)) p.answers_are ∙ take-front p.first p.rest in
+    ap (λ (n : ℕ). take n answers) (sym p.settled.each) ∙ ap (take (length p.first)) p.answers_are ∙ take-front p.first p.rest in
     (again.0 ∙ ap (map answer_to_retry) (sym same), again.1)
 
--- rows of which the first ones were decided before
+-- rows of which the first ones were settled before
 pub completed-by : (form : Fields → ReadResult Command) (name : Text) (base mid last : Base) (moments others : List ℕ) (front more : List Fields) (answers told : List Answer)
     → refused_answer_count answers ≡ 0 → BatchRowsAreDecided form step_of_row name base moments front answers mid → BatchRowsAreDecided form step_of_row name mid others (front ++ more) told last
     → (take (length front) told ≡ map answer_to_retry answers)
     × BatchRowsAreDecided form step_of_row name base (moments ++ drop (length moments) others) (front ++ more) (answers ++ drop (length front) told) last
 completed-by form name base mid last moments others front more answers told none one two =
-    (ap (λ (n : ℕ). take n told) (sym p.decided.each) ∙ ap (take (length p.first)) p.answers_are ∙ take-front p.first p.rest ∙ again.0, whole)
+    (ap (λ (n : ℕ). take n told) (sym p.settled.each) ∙ ap (take (length p.first)) p.answers_are ∙ take-front p.first p.rest ∙ again.0, whole)
   where
     p : Parted form name mid others front more told last
     p = parted form name mid others front more told last two
 
     again : (p.first ≡ map answer_to_retry answers) × (p.mid ≡ mid)
-    again = decided-again form name moments p.early front answers p.first base mid mid p.mid none one ([], sym (append-nil mid.kept)) p.decided
+    again = settled-again form name moments p.early front answers p.first base mid mid p.mid none one ([], sym (append-nil mid.kept)) p.settled
 
     lates : drop (length moments) others ≡ p.late
     lates =
-        ap (λ (n : ℕ). drop n others) ((calls-of-decided one).one_each ∙ sym (calls-of-decided p.decided).one_each) ∙ ap (drop (length p.early)) p.moments_are ∙ drop-front p.early p.late
+        ap (λ (n : ℕ). drop n others) ((calls-of-decided one).one_each ∙ sym (calls-of-decided p.settled).one_each) ∙ ap (drop (length p.early)) p.moments_are ∙ drop-front p.early p.late
 
     rests : drop (length front) told ≡ answers_interleaved_with_refusals form more p.replies
-    rests = ap (λ (n : ℕ). drop n told) (sym p.decided.each) ∙ ap (drop (length p.first)) p.answers_are ∙ drop-front p.first p.rest ∙ p.all
+    rests = ap (λ (n : ℕ). drop n told) (sym p.settled.each) ∙ ap (drop (length p.first)) p.answers_are ∙ drop-front p.first p.rest ∙ p.all
 
     both : BatchRowsAreDecided form step_of_row name base (moments ++ p.late) (front ++ more) (answers ++ answers_interleaved_with_refusals form more p.replies) last
     both =
@@ -281,7 +281,7 @@ completed-by form name base mid last moments others front more answers told none
 
 -- ---- the rows of a text
 
--- the rows before the first end record begin with those that were decided
+-- the rows before the first end record begin with those that were settled
 pub prefix : (rows others rest : List Fields) (end : Fields) (more : List Fields) → AllByRecursion (λ row. ¬ (IsEndRecord row)) rows → IsEndRecord end → rows ++ rest ≡ others ++ end ∷ more
     → (back : List Fields) × (others ≡ rows ++ back)
 prefix [] others rest end more only h e = (others, refl)
@@ -290,7 +290,7 @@ prefix (row ∷ rows) (other ∷ others) rest end more only h e =
     let p = prefix rows others rest end more only.1 h (others-same row other (rows ++ rest) (others ++ end ∷ more) e) in
     (p.0, (λ i. sym (first-same row other (rows ++ rest) (others ++ end ∷ more) e) i ∷ p.1 i))
 
--- whatever rows of a batch that went through are decided again change nothing
+-- whatever rows of a batch that went through are settled again change nothing
 pub rows-again : (form : Fields → ReadResult Command) (base later last : Base) (moments others : List ℕ) (input : Text) (answers told : List Answer)
     (first : BatchResult Base) (name : Text) (rows : List Fields)
     → IsCompleteBatchWithoutRefusals form base moments input answers first → SomeRunLeadsTo first.base later → BeginsWithRecords (Some (input_text input)) (batch_header name ∷ rows)
@@ -315,12 +315,12 @@ rows-again form base later last moments others input answers told first name row
         (others-same (batch_header name) (batch_header one.name) (rows ++ begins.0) (one.rows ++ correct_end_record (length one.rows) ∷ has.0) same)
 
     named : BatchRowsAreDecided form step_of_row name base moments one.rows one.answers first.base
-    named = subst (λ n. BatchRowsAreDecided form step_of_row n base moments one.rows one.answers first.base) names one.decided
+    named = subst (λ n. BatchRowsAreDecided form step_of_row n base moments one.rows one.answers first.base) names one.settled
 
-    decided : BatchRowsAreDecided form step_of_row name base moments (rows ++ back.0) one.answers first.base
-    decided = subst (λ rs. BatchRowsAreDecided form step_of_row name base moments rs one.answers first.base) back.1 named
+    settled : BatchRowsAreDecided form step_of_row name base moments (rows ++ back.0) one.answers first.base
+    settled = subst (λ rs. BatchRowsAreDecided form step_of_row name base moments rs one.answers first.base) back.1 named
 
     again : (told ≡ map answer_to_retry (take (length rows) one.answers)) × (last ≡ later)
     again =
-        part-again form name base first.base later last moments others rows back.0 one.answers told (ap refused_answer_count went.these ∙ went.none_refused) decided
+        part-again form name base first.base later last moments others rows back.0 one.answers told (ap refused_answer_count went.these ∙ went.none_refused) settled
         (run-grows leads.0 leads.1 first.base later leads.2) two

@@ -29,7 +29,7 @@ completed form name base mid last moments others front more answers told none on
     let c = completed-by form name base mid last moments others front more answers told none one two in
     record {
       again = ap (λ (n : ℕ). take n told) one.each ∙ c.0;
-      decided = subst (λ (n : ℕ). BatchRowsAreDecided form step_of_row name base (moments ++ drop (length moments) others) (front ++ more) (answers ++ drop n told) last) (sym one.each) c.1;
+      settled = subst (λ (n : ℕ). BatchRowsAreDecided form step_of_row name base (moments ++ drop (length moments) others) (front ++ more) (answers ++ drop n told) last) (sym one.each) c.1;
     }
 
 none-joined : (answers : List Answer) (answer : Answer) → refused_answer_count answers ≡ 0 → is_refused_answer answer ≡ false → refused_answer_count (answers ++ answer ∷ []) ≡ 0
@@ -115,7 +115,7 @@ stopped-completed form name base mid stood last moments others front more answer
 
 -- ---- the rows of the text
 
--- the rows that were decided, and those that follow up to the end
+-- the rows that were settled, and those that follow up to the end
 pub rows-go-on : (text name other : Text) (rows others : List Fields) → AllByRecursion (λ row. ¬ (IsEndRecord row)) rows → BeginsWithRecords (Some text) (batch_header name ∷ rows)
     → BeginsWithRecords (Some text) (batch_header other ∷ (others ++ correct_end_record (length others) ∷ [])) → (name ≡ other) × ((back : List Fields) × (others ≡ rows ++ back))
 rows-go-on text name other rows others only begins whole = (

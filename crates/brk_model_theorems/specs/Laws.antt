@@ -199,4 +199,4 @@ IsBaseAfterInterruption form name mid front more stood =
 pub record IsCompletedByRetry (form : Fields → ReadResult Command) (name : Text) (base : Base) (earlier later : List ℕ) (rows : List Fields)
     (answers told : List Answer) (last : Base) : Type 0 where
   pub again : take (length answers) told ≡ map answer_to_retry answers
-  pub decided : BatchRowsAreDecided form step_of_row name base (earlier ++ drop (length earlier) later) rows (answers ++ drop (length answers) told) last
+  pub settled : BatchRowsAreDecided form step_of_row name base (earlier ++ drop (length earlier) later) rows (answers ++ drop (length answers) told) last

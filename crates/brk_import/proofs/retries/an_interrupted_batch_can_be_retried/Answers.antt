@@ -6,4 +6,4 @@ use Rattle.brk_import.proofs.retries.an_interrupted_batch_can_be_retried.Goals a
 
 pub returns : goal.returns
 returns g c = λ input base first left conn store last one two ended taken counts.
-    sent_again g.S.Store g.met.S.Store.decided (parse_by_first_field row_parsers) end-apart g.C.Clock.gives (input_text input) one base first left conn store last two ended taken counts
+    sent_again g.S.Store g.met.S.Store.settled (parse_by_first_field row_parsers) end-apart g.C.Clock.gives (input_text input) one base first left conn store last two ended taken counts

@@ -1,4 +1,4 @@
--- One more row of a batch that is decided.
+-- One more row of a batch that is settled.
 use Rattle.std.proofs.Common.{◌≡◌, ◌∙◌, ℕ, ◌+◌, List, [], ◌∷◌, ◌++◌, length, refl, arith, sym, ap}
 use Rattle.std.specs.Prelude.{Ok}
 use Rattle.std.specs.List.{AllByRecursion}
@@ -44,8 +44,8 @@ module _ {S X : Type 0} (form : Fields → ReadResult X) (step : RowStep S X) (n
   wove : answers_interleaved_with_refusals form (rows ++ row ∷ []) (asked.replies ++ answer ∷ []) ≡ answers_interleaved_with_refusals form rows asked.replies ++ answer ∷ []
   wove = rw formed at (woven_push form 1 rows row asked.replies (answer ∷ []) replied)
 
-  pub decided_push : AllByRecursion (λ r. ¬ (IsEndRecord r)) (rows ++ row ∷ []) → BatchRowsAreDecided form step name base (moments ++ moment ∷ []) (rows ++ row ∷ []) (answers ++ answer ∷ []) after
-  decided_push only = record {
+  pub settled_push : AllByRecursion (λ r. ¬ (IsEndRecord r)) (rows ++ row ∷ []) → BatchRowsAreDecided form step name base (moments ++ moment ∷ []) (rows ++ row ∷ []) (answers ++ answer ∷ []) after
+  settled_push only = record {
     named = h.named;
     rows_only = only;
     answered = answered-of form step name base after (moments ++ moment ∷ []) (rows ++ row ∷ []) (answers ++ answer ∷ []) (record {
