@@ -1,7 +1,7 @@
 #!/usr/bin/env python3
 """Joins the transcripts of cases/ and of cases/files/ into the input of brk_cases and into the output that is wanted of it, which are the same
-bytes. It stops if a test of brk_tests_unit or brk_tests is named by no command `test` of cases/tests.txt, which would never run it. Run it at the
-top of the repository after a change of a transcript; .ci/run runs it, and asks that nothing changed.
+bytes. It stops if a test is named by no command `test` of cases/tests.txt, which would never run it. Run it at the top of the repository after a
+change of a transcript; .ci/run runs it, and asks that nothing changed.
 
     tools/cases.py
 """
@@ -11,14 +11,16 @@ import re
 import sys
 
 PROGRAM, FOLDERS = 'crates/brk_cases', ('cases', 'cases/files')
-TESTS, LIST = ('crates/brk_tests_unit', 'crates/brk_tests'), 'cases/tests.txt'
+# where the tests are listed by their names, and the transcript that runs them
+TESTS = [f'crates/{file}' for file in ('brk_tests_unit/src/lib.rt', 'brk_tests/src/lib.rt', 'brk_replay/src/tests.rt')]
+LIST = 'cases/tests.txt'
 
 
 def tests_that_never_run():
-    """The tests of the crates of tests that no command of the list runs."""
+    """The tests that no command of the list runs."""
     named = set(re.findall(r'^test (\w+)$', pathlib.Path(LIST).read_text(encoding='utf-8'), re.M))
-    libraries = (pathlib.Path(crate, 'src/lib.rt').read_text(encoding='utf-8') for crate in TESTS)
-    return [name for text in libraries for name in re.findall(r'^ +"(\w+)" =>', text, re.M) if name not in named]
+    listed = (pathlib.Path(file).read_text(encoding='utf-8') for file in TESTS)
+    return [name for text in listed for name in re.findall(r'^ +"(\w+)" =>', text, re.M) if name not in named]
 
 
 def joined(folder):

@@ -8,6 +8,7 @@ mod failed;
 mod files;
 mod records;
 mod replay;
+mod sockets;
 mod table_list;
 mod tests;
 

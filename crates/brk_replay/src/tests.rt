@@ -2,22 +2,27 @@
 
 use crate::failed::OutOfMemory;
 use crate::replay::append_output_line;
+use crate::sockets::socket_streams_share_one_desk;
 use std::process::Termination;
 use std::test::Fail;
 
-// Runs the test `name` of `brk_tests_unit` or, if that has none of this name, of `brk_tests`.
-// Returns the result of the test, which is its failure if it fails, or `None` if neither has a test
+// Runs the test `name`: the test over sockets, or a test of `brk_tests_unit` or of `brk_tests`.
+// Returns the result of the test, which is its failure if it fails, or `None` if there is no test
 // of this name.
 fn run_test(rt: &HostRuntime, name: &str) -> Option<Result<(), Fail>> {
-    match brk_tests_unit::run_test(rt, name) {
-        None => brk_tests::run_test(rt, name),
-        tested => tested,
+    match name {
+        "socket_streams_share_one_desk" => Some(socket_streams_share_one_desk(rt)),
+        _ => match brk_tests_unit::run_test(rt, name) {
+            None => brk_tests::run_test(rt.alloc(), name),
+            tested => tested,
+        },
     }
 }
 
-/// Runs the test `name` of `brk_tests_unit` or of `brk_tests`. Appends the output line `ok` if the
-/// test succeeds, and `! no such test` if no test has this name. If the test fails, writes its
-/// failure to standard error and appends `failed`. Fails only if memory runs out.
+/// Runs the test `name`: the test over sockets, or a test of `brk_tests_unit` or of `brk_tests`.
+/// Appends the output line `ok` if the test succeeds, and `! no such test` if no test has this
+/// name. If the test fails, writes its failure to standard error and appends `failed`. Fails only
+/// if memory runs out.
 pub fn execute_test_command(
     rt: &HostRuntime,
     out: &mut String,

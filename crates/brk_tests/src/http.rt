@@ -1,6 +1,4 @@
-//! Tests of streams of HTTP requests: on a desk in memory, byte for byte, and over sockets of this
-//! machine.
+//! Tests of streams of HTTP requests on a desk in memory, byte for byte.
 
 pub mod cuts;
-pub mod listening;
 pub mod streams;

@@ -1,7 +1,7 @@
 //! Tests of a desk that no transcript of `cases/` can show: readers, writers and disks that fail,
-//! crashes, files, sockets, streams in pieces, runs of calls, walks, and the number of rows that a
-//! sale reads. The command `test` of a transcript runs one of them. A test fails if what it checks
-//! is not so, and also if a desk for it cannot be set up or memory runs out.
+//! crashes, files, streams in pieces, runs of calls, walks, and the number of rows that a sale
+//! reads. The command `test` of a transcript runs one of them. A test fails if what it checks is
+//! not so, and also if a desk for it cannot be set up or memory runs out.
 #![tactic(auto)]
 
 mod cuts;
@@ -17,12 +17,13 @@ mod statements;
 mod tables;
 mod worked;
 
+pub use desks::{Still, expect, new_desk, open_in_memory};
+use std::alloc::Global;
 use std::test::Fail;
 
 /// Runs the test `name`, which is the name of its function. Returns `None` if no test has this
 /// name, and otherwise the result of the test.
-pub fn run_test(rt: &HostRuntime, name: &str) -> Option<Result<(), Fail>> {
-    let alloc = rt.alloc();
+pub fn run_test(alloc: Global, name: &str) -> Option<Result<(), Fail>> {
     let tested = match name {
         "batch_readers_failing_at_each_byte" => cuts::batch_readers_failing_at_each_byte(alloc),
         "batch_writers_failing_at_each_byte" => cuts::batch_writers_failing_at_each_byte(alloc),
@@ -47,7 +48,6 @@ pub fn run_test(rt: &HostRuntime, name: &str) -> Option<Result<(), Fail>> {
         "stream_writers_failing_at_each_byte" => http::cuts::stream_writers_failing_at_each_byte(
             alloc,
         ),
-        "socket_streams_share_one_desk" => http::listening::socket_streams_share_one_desk(rt),
         "streams_in_pieces_get_the_same_replies" =>
             http::streams::streams_in_pieces_get_the_same_replies(alloc),
         "a_head_has_at_most_16_384_bytes" => http::streams::a_head_has_at_most_16_384_bytes(alloc),

@@ -1,8 +1,8 @@
-//! Tests of streams over sockets of this machine, in one process.
+//! The test of streams over sockets of this machine, in one process.
 
-use crate::desks::{Still, expect, new_desk, open_in_memory};
 use brk_http::{ListenFault, serve_on};
 use brk_import::brk_desk::Desk;
+use brk_tests::{Still, expect, new_desk, open_in_memory};
 use sqlite::{Alter, Connection};
 use std::alloc::Global;
 use std::io;
