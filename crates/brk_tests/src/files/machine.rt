@@ -3,7 +3,7 @@
 
 use crate::files::jobs::{Ended, Job, Observation, Task, perform_job};
 use crate::worked::SET;
-use sqlite::{Connection, Files, Options};
+use sqlite::{Connection, FileStore, Files, Options};
 use sqlite_disk::{Crash, Disk, Fuse, Memory};
 use std::alloc::{AllocError, Global};
 use std::test::Fail;
@@ -75,29 +75,44 @@ impl Held {
     }
 }
 
+// Opens the database in these files. Returns the files if a sync of one of them has failed, or if
+// the database cannot be opened.
+fn open_database<D: Disk + Drop>(
+    alloc: Global,
+    files: Files<D>,
+    options: Options,
+) -> Result<Connection<FileStore<D>>, Files<D>> {
+    if !files.may_be_used() {
+        return Err(files);
+    }
+    match Connection::open_files(alloc, files, options) {
+        Ok(conn) => Ok(conn),
+        Err((_, left)) => Err(left.into_files()),
+    }
+}
+
+// Closes the database of the connection, as far as possible. Returns its files.
+fn close_database<D: Disk + Drop>(conn: Connection<FileStore<D>>) -> Files<D> {
+    match conn.close_files() {
+        Ok(files) => files,
+        Err((_, store)) => store.close(),
+    }
+}
+
 // Opens these files, performs a job with the input `input` on the database in them, and closes
 // them, as far as possible. Records the observation of the job in `seen`, and returns the files.
 // Performs nothing if a sync of a file has failed or the database cannot be opened.
-//
-// It is the only function of these tests that names a database over files: the proof of each
-// function that does takes some twenty seconds.
-fn perform_job_in_files(
+fn perform_job_in_files<D: Disk + Drop>(
     alloc: Global,
-    files: Files<Fuse<Memory>>,
+    files: Files<D>,
     options: Options,
     job: Job,
     input: &[u8],
     seen: &mut Observation,
-) -> Files<Fuse<Memory>> {
-    if !files.log.may_be_used() || !files.db.may_be_used() {
-        return files;
-    }
-    match Connection::open_files(alloc, files, options) {
-        Ok(conn) => match perform_job(alloc, conn, job, input, seen).close_files() {
-            Ok(files) => files,
-            Err((_, store)) => store.close(),
-        },
-        Err((_, left)) => left.into_files(),
+) -> Files<D> {
+    match open_database(alloc, files, options) {
+        Ok(conn) => close_database(perform_job(alloc, conn, job, input, seen)),
+        Err(files) => files,
     }
 }
 
