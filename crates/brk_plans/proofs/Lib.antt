@@ -1,5 +1,4 @@
 pub mod Refusals
 pub mod Volumes
 pub mod Replacing
-pub mod Pushes
-pub mod Faults
+pub mod Copies

@@ -1,13 +1,11 @@
-use Rattle.std.proofs.Common.{refl, ◌≡◌, true, false, sym, ap, ◌∙◌, rules}
+use Rattle.std.proofs.Common.{◌≡◌, true, false, sym, ap, ◌∙◌, rules}
 use Rattle.std.specs.Prelude.{None, Some, is_none}
 use Rattle.std.specs.List.{list_any}
-use Rattle.std.proofs.lemmas.Result.{err_from_is_err_and}
 use Rattle.brk_money.specs.Moments.{stamp_after}
 use Rattle.brk_plans.specs.Feed.{states_of_quotes, has_no_state_of_symbol}
 use Rattle.brk_plans.specs.Reference.{later_stamp_check}
 use Rattle.brk_plans.proofs.Refusals.{volume_refused, clock_refused}
 use Rattle.brk_plans.proofs.Volumes.{at_any_stamp}
-use Rattle.brk_plans.proofs.Faults.{same_fault}
 use Rattle.brk_plans.proofs.feed.plan_feed.Goals as goal
 use Rattle.brk_plans.proofs.feed.plan_feed.Goals.{in-Some, in-None}
 
@@ -27,17 +25,3 @@ returns-in_default-moved-clause-planned c = λ stamp.
     let known : list_any (has_no_state_of_symbol quotes) c.ticks-ticks.result.now ≡ false = search rules in
     let ended : stamp_after c.args.last c.args.now ≡ None = elim c.match-moved.branch [ in-Some w ↦ search rules | in-None w ↦ search rules ] in
     rw (← c.ticks-ticks.ensures) (clock_refused _ _ (is_none (stamp_after c.args.last c.args.now)) known none (ap is_none ended))
-
-pub returns-in_err-taken-clause-planned : goal.returns-in_err-taken-clause-planned
-returns-in_err-taken-clause-planned c = let p = err_from_is_err_and c.from_residual.result c.from_residual.ensures.1 in rw p.1 tt
-
-pub returns-in_err-taken-clause-fault : goal.returns-in_err-taken-clause-fault
-returns-in_err-taken-clause-fault c =
-    let p = err_from_is_err_and c.from_residual.result c.from_residual.ensures.1 in
-    rw (p.1, p.2) (same_fault _ _ c.in_err-taken.ensures.fault)
-
-pub returns-in_err-push-clause-planned : goal.returns-in_err-push-clause-planned
-returns-in_err-push-clause-planned c = let p = err_from_is_err_and c.from_residual-in_err-push.result c.from_residual-in_err-push.ensures.1 in rw p.1 tt
-
-pub returns-in_err-push-clause-fault : goal.returns-in_err-push-clause-fault
-returns-in_err-push-clause-fault c = let p = err_from_is_err_and c.from_residual-in_err-push.result c.from_residual-in_err-push.ensures.1 in rw (p.1, p.2) refl
