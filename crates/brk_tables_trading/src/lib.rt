@@ -1,7 +1,7 @@
-//! The SQL statements on trades and on the rows that follow from them, one function for each. They
-//! cover history, requests, last trades, lots and their changes, summaries, settlements, cash rows,
-//! balances, broker totals and text updates, the settlement day, and the statements that upgrade an
-//! older file.
+//! The SQL statements on trades and on the rows that follow from them, on cash rows and on the
+//! settlement day, one function for each; and two statements of the upgrade of an older file. Those
+//! on trades cover history, requests, last trades, lots and their changes, summaries, settlements,
+//! balances, broker totals and text updates.
 //!
 //! Each function is called within an open transaction, and commits nothing. An error of the
 //! `sqlite` crate, also if this crate runs out of memory, and a malformed row are reported as the
