@@ -1,6 +1,6 @@
 #!/usr/bin/env python3
 """Joins the transcripts of cases/ and of cases/files/ into the input of brk_cases and into the output that is wanted of it, which are the same
-bytes. It stops if a test is named by no command `test` of cases/tests.txt, which would never run it. Run it at the top of the repository after a
+bytes. It stops if no command `test` of cases/tests.txt names a test, since that test would never run. Run it at the top of the repository after a
 change of a transcript; .ci/run runs it, and asks that nothing changed.
 
     tools/cases.py

@@ -2,7 +2,7 @@
 """Breaks the lines of proofs that have more than 200 characters, at a blank with few open brackets, before an operator or after `=`, `in` or `;`
 if there is one. It moves blanks and line ends alone, so a proof is the same text to the prover. Run it at the top of the repository after proofs
 were written, and then `rt fmt` in the crates that it changed, which indents what it broke; tools/tables.py does both for the proofs that it writes.
-It leaves a line without such a blank.
+It leaves a comment, and a line without such a blank.
 
     tools/long_lines.py CRATE..         prints the file and the length of each line that it leaves"""
 import glob

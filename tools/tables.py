@@ -218,7 +218,7 @@ def of_use(line, body):
     kept = [name for name in names[2].split(', ') if is_named(name.split(' as ')[-1], body)]
     return [f'{names[1]}{{{", ".join(kept)}}}'] if kept else []
 
-# a line that has at most so many characters has at most 200 when `rt fmt` has indented it; a statement of more is joined of literals
+# a line that has at most so many characters has at most 200 when `rt fmt` has indented it; a longer statement is written as joined literals
 MOST_WRITTEN = 192
 LONGEST_LITERAL = 175
 
@@ -243,7 +243,7 @@ def write(crate, name, what, table, body):
     save(f'crates/{crate}/proofs/{name}.antt', HEAD.format(what=what, table=table) + body)
 
 def codes_of(text):
-    """The codes of a text, as literals that are joined if a line of a proof cannot have the text"""
+    """The codes of a text, as joined literals if the text is too long for one line of a proof"""
     if len(text) <= LONGEST_LITERAL:
         return f'codes "{text}"'
     cut = text.rfind(' ', 0, LONGEST_LITERAL) + 1

@@ -103,8 +103,8 @@ pub fn close_with_amounts<L: LotSource>(
         ≤ L.asked source.old
         + length (touches_of_existing_lots (record { trade = trade; side = side; qty = qty; price = price; stamp = stamp; is_lifo = lifo }) (shares_of_lots ls))
         + 1 }
-    // At `Ok` the source counted no fault. A fault equals that of a call of the source, unchanged,
-    // or `Memory`.
+    // At `Ok` the source counted no fault. A fault is `Memory`, or one with which a call of the
+    // source failed, and which left the source as it is.
     ensures faulted { IfOk result (λ closed. L.faulted source.new ≡ L.faulted source.old) }
     ensures fault { IfErr result (λ fault. (fault ≡ Fault.Memory) ⊎ ((before : L) × L.fails before fault source.new)) }
     ensures remaining { (ls : List Lot) → AreLotsOfFaithfulSource (L.reads_faithfully source.new) (L.remaining source.old) ls
@@ -159,8 +159,8 @@ pub fn close<L: LotSource>(
         ≤ L.asked source.old
         + length (touches_of_existing_lots (record { trade = trade; side = side; qty = qty; price = price; stamp = stamp; is_lifo = lifo }) (shares_of_lots ls))
         + 1 }
-    // At `Ok` the source counted no fault. A fault equals that of a call of the source, unchanged,
-    // or `Memory`.
+    // At `Ok` the source counted no fault. A fault is `Memory`, or one with which a call of the
+    // source failed, and which left the source as it is.
     ensures faulted { IfOk result (λ closing. L.faulted source.new ≡ L.faulted source.old) }
     ensures fault { IfErr result (λ fault. (fault ≡ Fault.Memory) ⊎ ((before : L) × L.fails before fault source.new)) }
     ensures remaining { (ls : List Lot) → AreLotsOfFaithfulSource (L.reads_faithfully source.new) (L.remaining source.old) ls

@@ -70,7 +70,8 @@ pub fn estimate_closing_values<L: LotSource>(
         ≤ L.asked source.old
         + length (touches_of_existing_lots (record { trade = trade; side = side; qty = qty; price = price; stamp = stamp; is_lifo = lifo }) (shares_of_lots ls))
         + 1 }
-    // At `Ok` the source counted no fault. A fault equals that of a call of the source, unchanged.
+    // At `Ok` the source counted no fault. A fault is one with which a call of the source failed,
+    // and which left the source as it is.
     ensures faulted { IfOk result (λ values. L.faulted source.new ≡ L.faulted source.old) }
     ensures fault { IfErr result (λ fault. (before : L) × L.fails before fault source.new) }
     ensures remaining { (ls : List Lot) → AreLotsOfFaithfulSource (L.reads_faithfully source.new) (L.remaining source.old) ls

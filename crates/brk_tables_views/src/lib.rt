@@ -1,13 +1,14 @@
-//! The SQL statements that views, statements and explanations execute, one function for each:
-//! trades of any status by stamp, the completed trades of a holding, lot changes,
-//! brokers by name, all requests, and the accounts of a broker, as lists; the lots of an account,
-//! cash rows by stamp, and completed trades, as walks over the rows of an open query, one at a time.
+//! The SQL statements that only views, explanations and statements of accounts execute, one
+//! function for each: trades of any status by stamp, the completed trades of a holding, lot
+//! changes, brokers by name, all requests, and the accounts of a broker; and walks over the lots of
+//! an account, cash rows by stamp, and completed trades, which take the rows of an open query one
+//! at a time.
 //!
-//! Each function that returns a list is called within an open transaction, and commits nothing. An
-//! error of the `sqlite` crate, also if this crate runs out of memory, and a malformed row are
-//! reported as the fault `Store`; the database is then unchanged or the transaction is rolled back.
-//! No clause states the effect of such a call on the tables, or the value that it returns, outside
-//! a transaction or in a database without all tables of a desk. The fault of a walk is `Store` also
+//! Each function but a walk is called within an open transaction, and commits nothing. An error of
+//! the `sqlite` crate, also if this crate runs out of memory, and a malformed row are reported as
+//! the fault `Store`; the database is then unchanged or the transaction is rolled back. No clause
+//! states the effect of such a call on the tables, or the value that it returns, outside a
+//! transaction or in a database without all tables of a desk. The fault of a walk is `Store` also
 //! if a row is malformed or if the `sqlite` crate runs out of memory, and `Memory` if the decoding
 //! of a row does.
 #![tactic(auto)]

@@ -92,7 +92,7 @@ fn values_of_shares_to_close<L: LotSource>(source: &mut L, terms: &Terms) -> Res
         (AreLotsOfFaithfulSource (L.reads_faithfully source.new) (L.remaining source.old)) (L.asked source.old) (L.asked source.new) }
     ensures reads_no_lot { is_trade_closing_lots terms.now.side terms.now.held ≡ false → source.new ≡ source.old }
 
-    // At `Ok` the source counted no fault; a fault equals that of a call of the source.
+    // At `Ok` the source counted no fault; a fault is one with which a call of the source failed.
     ensures faulted { IfOk result (λ values. L.faulted source.new ≡ L.faulted source.old) }
     ensures fault { IfErr result (λ fault. (before : L) × L.fails before fault source.new) }
 
@@ -131,7 +131,7 @@ pub fn estimate_order<L: LotSource>(source: &mut L, terms: &Terms) -> Result<Est
     ensures asked { OrderReadsAtMostOneLotMore terms.now
         (AreLotsOfFaithfulSource (L.reads_faithfully source.new) (L.remaining source.old)) (L.asked source.old) (L.asked source.new) }
     ensures reads_no_lot { is_trade_closing_lots terms.now.side terms.now.held ≡ false → source.new ≡ source.old }
-    // At `Ok` the source counted no fault; a fault equals that of a call of the source.
+    // At `Ok` the source counted no fault; a fault is one with which a call of the source failed.
     ensures faulted { IfOk result (λ estimate. L.faulted source.new ≡ L.faulted source.old) }
     ensures fault { IfErr result (λ fault. (before : L) × L.fails before fault source.new) }
     ensures rest { (ls : List Lot) → AreLotsOfFaithfulSource (L.reads_faithfully source.new) (L.remaining source.old) ls
