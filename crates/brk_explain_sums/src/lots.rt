@@ -171,7 +171,8 @@ fn count_of_changes(changes: &[PricedLotChange]) -> u64
     changes.len() as u64
 }
 
-/// Returns the number of the later changes of all lots. Fails with `Store` if the number overflows.
+/// Returns the number of the changes of all lots by trades after those that opened them. Fails with
+/// `Store` if the number overflows.
 pub(crate) fn count_of_lot_changes(lots: &[LotDetails]) -> Result<u64, Fault>
     ensures count { IfOk result (λ count. count ≡ holdings.count_of_lot_changes (map abstract_lot_details lots.now)) }
     ensures fault { IfErr result IsCallFault }

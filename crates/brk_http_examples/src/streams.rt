@@ -5,7 +5,8 @@ ghost use Rattle.std.specs.Prelude.{◌∷◌, [], codes};
 ghost use Rattle.brk_http_examples.specs.Streams.{HasRepliesInSetting, get_request, closing_request, post_request, expected_reply_bytes};
 
 /// Shows the replies to a row with a key, to its retry under this key, which returns the stored
-/// reply, and to the row without a key, which is refused with 15.
+/// reply, and to the row without a key, which is refused with `Exists` (15), since the first row
+/// has added the broker.
 pub fn row_is_accepted_once_per_key()
     ensures { HasRepliesInSetting
         (post_request (codes "/rows/H/1") (codes "[\"broker\",\"2\",\"Cy\"]")
