@@ -568,7 +568,7 @@ abbrev pub {t}_cells : {row} → Row
 def desk():
     both = lambda f: '\n'.join(f(d) for d in DATA)
     out = f"""-- Written by tools/tables.py: the tables of a desk, and the list of rows that each holds.
-use Rattle.std.specs.Prelude.{{◌≡◌, ℕ, Bool, true, List, [], ◌∷◌, Option, Some, None, map, filter, refl}}
+use Rattle.std.specs.Prelude.{{◌≡◌, ℕ, Bool, true, List, [], ◌∷◌, Option, Some, None, map, filter, not, refl}}
 use Rattle.std.specs.declared.cmp.Ordering.{{Ordering}}
 use Rattle.sqlite_value.specs.Order.{{Row}}
 use Rattle.sqlite_schema.specs.declared.schema.Table.{{Table}}
@@ -668,6 +668,10 @@ abbrev pub all_tables : List DeskTable
 abbrev pub tables_in_schema : Schema → List DeskTable
 tables_in_schema schema = filter (schema_has_table schema) all_tables
 
+-- The list of the tables of a desk that the schema `schema` does not have and later schemas add.
+abbrev pub tables_of_later_schemas : Schema → List DeskTable
+tables_of_later_schemas schema = filter (λ w. not (schema_has_table schema w)) all_tables
+
 -- The SQL name of the table `w`, in ASCII.
 abbrev pub table_name : DeskTable → List ℕ
 table_name w = (table_definition_at_tree w 0).name
@@ -734,7 +738,7 @@ use Rattle.brk_model.specs.Tables.{{tables_without_rows}}
 use Rattle.brk_tables_schema.specs.Shapes.{{{', '.join(d[0] + '_table' for d in DATA)}}}
 use Rattle.brk_tables_schema.specs.Desk.{{DeskTable, {', '.join(d[2] for d in DATA)}, table_definition_at_tree, all_tables}}
 use Rattle.brk_tables_schema.proofs.Wide.{{Wide, wide, wide_list}}
-use Rattle.brk_tables_create.specs.Texts.{{create_table_text}}
+use Rattle.brk_tables_schema.specs.Texts.{{create_table_text}}
 
 -- The tables without rows, DESK included.
 abbrev pub bare : Wide
@@ -773,8 +777,8 @@ def texts():
     out = f"""-- Written by tools/tables.py: the tables as the code names them, and their SQL texts.
 use Rattle.std.specs.Prelude.{{ℕ, List, ◌++◌, codes}}
 use Rattle.brk_tables_schema.specs.Desk.{{DeskTable, {', '.join(d[2] for d in DATA)}, table_name}}
-use Rattle.brk_tables_create.specs.declared.table.Table.{{Table}}
-use Rattle.brk_tables_create.specs.declared.table.Table.TheVariants as table
+use Rattle.brk_tables_schema.specs.declared.table.Table.{{Table}}
+use Rattle.brk_tables_schema.specs.declared.table.Table.TheVariants as table
 
 -- The table of the specification that a value of the code's type `Table` represents.
 abbrev pub specified_table : Table → DeskTable
@@ -789,7 +793,7 @@ abbrev pub create_table_text : DeskTable → List ℕ
 abbrev pub existence_probe_text : DeskTable → List ℕ
 existence_probe_text w = codes "DELETE FROM " ++ table_name w
 """
-    save('crates/brk_tables_create/specs/Texts.antt', out)
+    save('crates/brk_tables_schema/specs/Texts.antt', out)
     probe = 'Returns the text of the statement that deletes all rows of the table. A look-up by name\n    /// compiles it, without executing it, to test whether a table of this name exists.'
     def function(name, what, contract, text):
         return f"""
@@ -805,7 +809,7 @@ existence_probe_text w = codes "DELETE FROM " ++ table_name w
     out = f"""//! Written by tools/tables.py: the tables of a desk, and their SQL texts.
 
 ghost use Rattle.std.specs.Prelude.{{◌≡◌}};
-ghost use Rattle.brk_tables_create.specs.Texts.{{create_table_text, existence_probe_text, specified_table}};
+ghost use Rattle.brk_tables_schema.specs.Texts.{{create_table_text, existence_probe_text, specified_table}};
 
 /// A table of a desk.
 #[derive(Clone, Copy)]
@@ -820,7 +824,7 @@ impl Table {{{function('create_table_text', 'Returns the CREATE TABLE statement 
 /// {what[0].upper()}{what[1:]}.
 pub const {name.upper()}: [Table; {len(tables)}] = [{', '.join(f'Table::{d[2]}' for d in tables)}];
 """
-    save('crates/brk_tables_create/src/table.rt', out)
+    save('crates/brk_tables_schema/src/table.rt', out)
 
 def probing():
     out = f"""-- Written by tools/tables.py: what preparing a statement on a table shows of it.
@@ -832,8 +836,8 @@ use Rattle.brk_sql.specs.Desk.{{IsCompilationOutcome}}
 use Rattle.brk_sql.proofs.Probe.{{probed}}
 use Rattle.brk_sql.proofs.Texts.{{read}}
 use Rattle.brk_tables_schema.specs.Desk.{{DeskTable, {', '.join(d[2] for d in DATA)}}}
-use Rattle.brk_tables_create.specs.Present.{{has_table_named}}
-use Rattle.brk_tables_create.specs.Texts.{{existence_probe_text}}
+use Rattle.brk_tables_scan.specs.Present.{{has_table_named}}
+use Rattle.brk_tables_schema.specs.Texts.{{existence_probe_text}}
 """
     for d in DATA:
         out += f"""
@@ -848,7 +852,7 @@ unfolding everything listing_schema
 pub probed_of : (w : DeskTable) (schema : Schema) (has : Bool) → IsCompilationOutcome (existence_probe_text w) has schema → has ≡ has_table_named schema w
 {chr(10).join(f'probed_of {d[2]} = {d[0]}_probed' for d in DATA)}
 """
-    save(f'{MAKING}/Probing.antt', out)
+    save('crates/brk_tables_scan/proofs/Probing.antt', out)
 
 def by_schema():
     """The tables of each schema, and those that the later ones add: a name, what they are, and they"""
@@ -985,6 +989,8 @@ STATEMENTS = {
         (select, 'SettlementByTrade', 'settlement', [('SE_T_ID', 1)], [('SE_T_ID', False)]),
         (update, 'SetExecutor', 'trade', [('T_EXEC_NAME', 1)], [('T_ID', 2)]),
         (update, 'SetCashType', 'settlement', [('SE_CASH_TYPE', 1)], [('SE_T_ID', 2)]),
+    ],
+    'brk_tables_cash': [
         (insert, 'AddMove', 'move', [1, 2, 3, 4, 5, 6]),
         (select, 'LastMove', 'move', [], [('CM_ID', True)], ('lit', 1)),
         (select, 'MoveByTrade', 'move', [('CM_T_ID', 1)], [('CM_ID', False)]),
@@ -994,8 +1000,6 @@ STATEMENTS = {
         (insert, 'AddRule', 'rule', [1, 2]),
         (select, 'RuleRows', 'rule', [], [('SR_ID', False)]),
         (update, 'SetSchema', 'desk_row', [('D_SCHEMA', 1)], [('D_ID', 2)]),
-    ],
-    'brk_tables_upgrade': [
         (select, 'CashByTrade', 'cash', [], [('CT_T_ID', False)]),
         (select, 'AccountOfTrade', 'trade', [('T_ID', 1)], [('T_ID', False)], None, ['T_CA_ID']),
     ],

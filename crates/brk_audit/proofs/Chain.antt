@@ -1,6 +1,7 @@
 -- What the conditions before give to those after.
 use Rattle.brk_money.specs.declared.fault.Condition.TheVariants.{Form, Status}
-use Rattle.std.proofs.Common.{◌≡◌, true}
+use Rattle.std.proofs.Common.{◌≡◌, Bool, true, false, sym, ◌∙◌}
+use Rattle.std.specs.Prelude.{◌↔◌, IsTrue}
 use Rattle.brk_model.specs.Form.{satisfies_form_condition}
 use Rattle.brk_model.specs.Audit.{ConditionHolds}
 use Rattle.brk_model.specs.Schemas.{Schema}
@@ -19,3 +20,11 @@ statuses_held schema s h = h
 pub form_told : (schema : Schema) (s : Sheets) → ConditionHolds schema Form (abstract_sheets s) → satisfies_form_condition schema (abstract_sheets s) ≡ true
 unfolding ConditionHolds
 form_told schema s h = h
+
+-- a check that is true tells that its condition holds
+pub holds : {b : Bool} {P : Type 0} → IsTrue b ↔ P → b ≡ true → P
+holds law e = law.0 e
+
+-- a check that is false tells that its condition does not hold
+pub fails : {b : Bool} {P : Type 0} → IsTrue b ↔ P → b ≡ false → P → ⊥
+fails law e p = let same : false ≡ true = sym e ∙ law.1 p in absurd (cc)

@@ -8,6 +8,7 @@ pub mod LotRows
 pub mod MoveRows
 pub mod Moves
 pub mod Places
+pub mod Pushed
 pub mod SettlingHolds
 pub mod StatusLaw
 pub mod Statuses

@@ -9,3 +9,4 @@ pub mod CustomerSums
 pub mod Numbered
 pub mod OwnTaxIds
 pub mod OwnRows
+pub mod Joined

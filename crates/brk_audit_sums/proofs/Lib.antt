@@ -3,6 +3,7 @@ pub mod Checked
 pub mod Completed
 pub mod Finding
 pub mod Maps
+pub mod Passed
 pub mod Postings
 pub mod Settling
 pub mod SumRows

@@ -1,3 +1,4 @@
+pub mod OneMore
 pub mod BodyLemmas
 pub mod PieceLemmas
 pub mod ReplyLemmas

@@ -218,7 +218,7 @@ pub record SumAuditInvariant (accounts : List Account) (done : List Trade) (move
 -- days and the settlement day are within the calendar. The accounts and the tax rates of customers,
 -- the number and the amounts of movements, and the summaries, balances, commission totals and
 -- settlement amounts are within their limits. Each part depends only on the fields of the base that
--- it names.
+-- it names, and the part on trades also on those that `BaseTradeAuditInvariant` names.
 pub record AuditInvariant (base : Base) : Type 0 where
   pub keyed : StoredReplyAuditInvariant base.kept
   pub open keyed use *

@@ -78,8 +78,9 @@ days_to_settlement rule day = if option_map_or (λ first. nat_le first day) rule
 abbrev pub due_day_of_completion_stamp : SettleRule → ℕ → ℕ
 due_day_of_completion_stamp rule stamp = day_of stamp + days_to_settlement rule (day_of stamp)
 
--- The day on which the completed trade `t` settles by the settlement day in `rule`, in days since
--- 1970-01-01 (SE_CASH_DUE_DATE, Trade-Result).
+-- The day on which the completed trade `t` settles, in days since 1970-01-01 (SE_CASH_DUE_DATE,
+-- Trade-Result): one day after its completion if it was completed on or after the settlement day in
+-- `rule`, otherwise two.
 abbrev pub due_day : SettleRule → Trade → ℕ
 due_day rule t = due_day_of_completion_stamp rule (last_status_stamp_of_trade t)
 

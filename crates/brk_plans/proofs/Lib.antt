@@ -1,3 +1,4 @@
 pub mod Refusals
 pub mod Volumes
 pub mod Replacing
+pub mod Copies

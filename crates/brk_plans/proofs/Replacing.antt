@@ -1,6 +1,6 @@
 -- A text that is cut at the first occurrence of a part: what is replaced before the cut and after
 -- it.
-use Rattle.std.proofs.Common.{◌≡◌, ℕ, zero, suc, ◌+◌, ◌<◌, ◌≤◌, ◌||◌, Bool, true, false, refl, sym, subst, ap, ◌∙◌, length, [], ◌∷◌, ◌++◌, append_assoc, take, drop, arith}
+use Rattle.std.proofs.Common.{◌≡◌, ℕ, zero, suc, ◌<◌, ◌≤◌, ◌||◌, Bool, true, false, refl, sym, subst, ap, ◌∙◌, length, [], ◌∷◌, ◌++◌, append_assoc, take, drop, arith}
 use Rattle.std.specs.Prelude.{nat_eq, None, Some, MatchBool}
 use Rattle.std.specs.List.{starts_with}
 use Rattle.std.specs.Str.Pattern.{FindsText, HasMatch, LacksTextAt}

@@ -42,7 +42,7 @@ use Rattle.brk_model.specs.Tables.{Tables, tables_without_rows}
 use Rattle.brk_sql.specs.Desk.{HasTables, PreservesAllTables, PreservesUnrelatedTables}
 use Rattle.brk_tables_schema.specs.Desk.{DeskTable, desk_tables}
 use Rattle.brk_tables_schema.specs.Made.{HasDeskTables}
-use Rattle.brk_tables_create.specs.Present.{has_table_of_desk}
+use Rattle.brk_tables_scan.specs.Present.{has_table_of_desk}
 
 -- The current database of `store` contains all tables of a desk in schema 3, with exactly the rows
 -- `t`. Vacuous if the disk assumption fails (`HasCleanDisk`), or once the store is closed.

@@ -31,7 +31,7 @@ impl<S: Alter> Store<S> {
         ensures fault { OnErr result (result ≡ Err fault.Store) }
     {
         let mut tx = begin_transaction(&mut self.conn);
-        brk_tables_trading::settlement_day(&mut tx)
+        brk_tables_cash::settlement_day(&mut tx)
     }
 
     /// Returns the cash row of a trade, or `None` if it has none. If the database is still open, it
@@ -41,7 +41,7 @@ impl<S: Alter> Store<S> {
         ensures fault { OnErr result (result ≡ Err fault.Store) }
     {
         let mut tx = begin_transaction(&mut self.conn);
-        brk_tables_trading::cash_row_by_trade(&mut tx, trade)
+        brk_tables_cash::cash_row_by_trade(&mut tx, trade)
     }
 
     // Returns the cash row with the greatest number (CM_ID), or `None` if there is no cash row. If
@@ -51,7 +51,7 @@ impl<S: Alter> Store<S> {
         ensures fault { OnErr result (result ≡ Err fault.Store) }
     {
         let mut tx = begin_transaction(&mut self.conn);
-        brk_tables_trading::cash_row_with_greatest_number(&mut tx)
+        brk_tables_cash::cash_row_with_greatest_number(&mut tx)
     }
 
     // Returns true if there are at least `GREATEST_MOVEMENT_COUNT` deposits and withdrawals, which
@@ -62,7 +62,7 @@ impl<S: Alter> Store<S> {
         ensures fault { OnErr result (result ≡ Err fault.Store) }
     {
         let mut tx = begin_transaction(&mut self.conn);
-        brk_tables_trading::has_maximum_movements(&mut tx)
+        brk_tables_cash::has_maximum_movements(&mut tx)
     }
 
     /// Returns the number of the next cash row: one more than the greatest number, or 1 if there is

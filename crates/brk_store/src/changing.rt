@@ -12,7 +12,7 @@ ghost use Rattle.brk_store.specs.Holds.{ApplyPost, CreatePost};
 
 use brk_changes::Change;
 use brk_money::{Condition, Fault};
-use brk_tables_create::Table;
+use brk_tables_schema::Table;
 use brk_tables_schema::calls::statement_compiles;
 use sqlite::{Alter, Connection, Transaction};
 
@@ -67,7 +67,7 @@ fn apply_change<S: Alter>(tx: &mut Transaction<'_, S>, change: &Change) -> Resul
             tx, *account, symbol,
         ),
         Change::AddSettlement(settlement) => brk_tables_trading::add_settlement(tx, settlement),
-        Change::AddMove(posted) => brk_tables_trading::add_cash_row(tx, posted),
+        Change::AddMove(posted) => brk_tables_cash::add_cash_row(tx, posted),
         Change::SetBalance { account, balance } => brk_tables_trading::set_account_balance(
             tx, *account, *balance,
         ),
@@ -84,12 +84,12 @@ fn apply_change<S: Alter>(tx: &mut Transaction<'_, S>, change: &Change) -> Resul
         Change::SetCashType { trade, cash_type } => brk_tables_trading::set_cash_type(
             tx, *trade, *cash_type,
         ),
-        Change::SetCashName { trade, name } => brk_tables_trading::set_cash_row_name(
+        Change::SetCashName { trade, name } => brk_tables_cash::set_cash_row_name(
             tx,
             *trade,
             name.as_str(),
         ),
-        Change::SetSettlementDay(day) => brk_tables_trading::set_settlement_day(tx, *day),
+        Change::SetSettlementDay(day) => brk_tables_cash::set_settlement_day(tx, *day),
         Change::AddStoredReply(kept) => brk_tables_schema::add_kept_row(tx, kept),
         Change::SetLastStamp(stamp) => brk_tables_schema::set_last_stamp(tx, *stamp),
     }
@@ -162,7 +162,7 @@ pub(crate) fn create_tables_in_transaction<S: Alter>(conn: &mut Connection<S>) -
     // is in its committed state.
     let _is_autocommit = conn.is_autocommit();
     let mut tx = conn.transaction();
-    if brk_tables_create::has_some_desk_table(&mut tx)? {
+    if brk_tables_scan::has_some_desk_table(&mut tx)? {
         return Err(Fault::Damaged(Condition::NotEmpty));
     }
     brk_tables_create::create_third_schema_tables(&mut tx)?;

@@ -15,7 +15,7 @@ use Rattle.brk_tables_schema.specs.Desk.{DeskTable, TheDesk, KeptRows, Brokers, 
 use Rattle.brk_tables_schema.specs.Desk.{TaxRates, CustomerTaxes, Trades, TradeHistory, Requests, Holdings, Summaries, HoldingHistory, Settlements, CashRows}
 use Rattle.brk_tables_schema.specs.Desk.{CashMoves, SettleRules, table_definition_at_tree, all_tables}
 use Rattle.brk_tables_schema.proofs.Wide.{Wide, wide, wide_list}
-use Rattle.brk_tables_create.specs.Texts.{create_table_text}
+use Rattle.brk_tables_schema.specs.Texts.{create_table_text}
 
 -- The tables without rows, DESK included.
 abbrev pub bare : Wide

@@ -1,22 +1,10 @@
 -- Tables that are made one after another.
-use Rattle.std.proofs.Common.{◌≡◌, ℕ, zero, suc, ◌+◌, ◌<◌, List, [], ◌∷◌, map, take, length, get_or, Ok, refl, arith, add-one, inl}
-use Rattle.std.proofs.Math.Nat.{le_refl}
+use Rattle.std.proofs.Common.{◌≡◌, ℕ, zero, suc, ◌+◌, ◌<◌, List, [], ◌∷◌, map, take, length, get_or, refl, arith, add-one}
 use Rattle.sqlite.specs.Effect.{Database}
-use Rattle.sqlite.specs.State.{State}
-use Rattle.brk_money.specs.declared.fault.Fault.{Fault}
 use Rattle.brk_sql.specs.Desk.{CreatesTableOfShape, CreatesEachTable}
-use Rattle.brk_sql.specs.Model.{IsTransactionStep}
 use Rattle.brk_tables_schema.specs.Desk.{table_definition_at_tree}
-use Rattle.brk_tables_create.specs.Texts.{specified_table}
-use Rattle.brk_tables_create.specs.declared.table.Table.{Table}
-
--- nothing was done
-pub nothing_done : (s : State) (made : State → State → Type 0) → made s s → IsTransactionStep {V = Unit {0}} {E = Fault} s s (Ok tt) (λ _ a b. made a b)
-nothing_done s made is = record {
-  commits_nothing = λ clean. record { was_open = λ o. o; committed = λ _. refl };
-  relates_states = λ clean on. (on, is);
-  survives = record { clean = le_refl _; shield = λ h. h; counts = le_refl _; limit = refl; closes = λ clean o. inl o; crash = λ clean db h. inl h };
-}
+use Rattle.brk_tables_schema.specs.Texts.{specified_table}
+use Rattle.brk_tables_schema.specs.declared.table.Table.{Table}
 
 abbrev pub each : List Table → Database → Database → Type 0
 each tables = CreatesEachTable (map (λ table. table_definition_at_tree (specified_table table)) tables)

@@ -1,15 +1,9 @@
 -- The creation of a desk's tables.
-use Rattle.std.specs.Prelude.{ℕ, List, filter, not, codes}
+use Rattle.std.specs.Prelude.{ℕ, List, codes}
 use Rattle.sqlite.specs.Effect.{Database}
-use Rattle.brk_model.specs.Schemas.{Schema}
 use Rattle.brk_model.specs.Tables.{tables_without_rows}
 use Rattle.brk_sql.specs.Desk.{PreservesAllTables}
-use Rattle.brk_tables_schema.specs.Desk.{DeskTable, all_tables, schema_has_table}
 use Rattle.brk_tables_schema.specs.Made.{HasDeskTables}
-
--- The list of the tables of a desk that the schema `schema` does not have and later schemas add.
-abbrev pub tables_of_later_schemas : Schema → List DeskTable
-tables_of_later_schemas schema = filter (λ w. not (schema_has_table schema w)) all_tables
 
 -- The database `new` contains the tables of a desk in schema 3, without rows, except for the one
 -- row of DESK, and all tables of `old` with their rows.

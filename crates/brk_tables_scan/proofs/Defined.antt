@@ -19,7 +19,7 @@ use Rattle.brk_tables_schema.specs.Cells.{optional_natural_as_value, natural_as_
 use Rattle.brk_tables_schema.specs.Desk.{DeskTable, TheDesk, all_tables, schema_has_table, table_name, table_definition_has_tree, table_definition_at_tree, tables_in_schema}
 use Rattle.brk_tables_schema.specs.Made.{HasDeskTablesInSchema, IsTableOfSchema}
 use Rattle.brk_tables_schema.specs.Shapes.{desk_row_table}
-use Rattle.brk_tables_create.specs.Made.{tables_of_later_schemas}
+use Rattle.brk_tables_schema.specs.Desk.{tables_of_later_schemas}
 use Rattle.brk_tables_scan.specs.Schemas.{DatabaseHasSchema, HasTableWithNames, TablesWithSchemaNamesAreDeskTables, HasDistinctRowids, IsOneDeskRowOfSchema, table_and_column_names}
 use Rattle.brk_tables_scan.proofs.Listed.{names_alike}
 

@@ -20,8 +20,8 @@ use Rattle.brk_changes.specs.declared.schema.Schema as known
 use Rattle.brk_changes.specs.declared.schema.Schema.TheVariants.{First, Second, Third}
 use Rattle.brk_changes.specs.Schemas.{abstract_schema}
 use Rattle.brk_tables_schema.specs.Desk.{DeskTable, all_tables, table_name, table_definition_at_tree, tables_in_schema}
-use Rattle.brk_tables_create.specs.Made.{tables_of_later_schemas}
-use Rattle.brk_tables_create.specs.Present.{has_exact_table_names, has_table_named}
+use Rattle.brk_tables_schema.specs.Desk.{tables_of_later_schemas}
+use Rattle.brk_tables_scan.specs.Present.{has_exact_table_names, has_table_named}
 use Rattle.brk_tables_scan.specs.Headings.{IsHeadingCheckOutcome, heading_of_borrowed_texts, heading_of_table, select_all_text}
 use Rattle.brk_tables_scan.specs.Schemas.{HasTableWithNames, HasTablesOfSchema, LacksTablesOfLaterSchemas, table_and_column_names}
 use Rattle.brk_tables_scan.proofs.Stars.{columns_told}

@@ -39,3 +39,5 @@ pub mod Shown
 pub mod Stars
 pub mod There
 pub mod Whole
+pub mod Looking
+pub mod Probing

@@ -17,7 +17,7 @@ use Rattle.brk_changes.specs.Schemas.{abstract_schema}
 use Rattle.brk_tables_schema.specs.Desk.{DeskTable, all_tables, encoded_row, schema_has_table, rows_of_table_in_schema, table_definition_at_tree, tables_in_schema, table_name}
 use Rattle.brk_tables_schema.specs.Made.{HasDeskTablesInSchema, IsTableOfSchema}
 use Rattle.brk_tables_schema.proofs.Which.{all_listed}
-use Rattle.brk_tables_create.specs.Made.{tables_of_later_schemas}
+use Rattle.brk_tables_schema.specs.Desk.{tables_of_later_schemas}
 use Rattle.brk_tables_scan.specs.Schemas.{DatabaseHasSchema, HasTableWithNames, TablesWithSchemaNamesAreDeskTables, HasDeskDefinitions, table_and_column_names}
 use Rattle.brk_tables_scan.specs.Whole.{ShowsRowsIfInSchema}
 use Rattle.brk_tables_scan.specs.Raw.{RawSheets, raw_rows_of_table}

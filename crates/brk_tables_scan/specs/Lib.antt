@@ -4,3 +4,4 @@ pub mod KeptKeys
 pub mod Whole
 pub mod Raw
 pub mod Decoded
+pub mod Present

@@ -20,7 +20,7 @@ use Rattle.brk_tables_schema.specs.Cells.{natural_as_value}
 use Rattle.brk_tables_schema.specs.Shapes.{desk_row_table}
 use Rattle.brk_tables_schema.specs.Desk.{DeskTable, table_name, table_definition_at_tree, tables_in_schema}
 use Rattle.brk_tables_schema.specs.Made.{IsTableOfSchema}
-use Rattle.brk_tables_create.specs.Made.{tables_of_later_schemas}
+use Rattle.brk_tables_schema.specs.Desk.{tables_of_later_schemas}
 
 -- The SQL name of a table and the names of its columns, in order.
 pub record TableAndColumnNames : Type 0 where

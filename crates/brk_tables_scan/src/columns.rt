@@ -9,9 +9,9 @@ ghost use Rattle.brk_tables_schema.specs.Desk.{tables_in_schema};
 ghost use Rattle.brk_tables_scan.specs.Schemas.{HasTablesOfSchema, LacksTablesOfLaterSchemas};
 
 use crate::column_names::COLUMNS_OF_ALL_TABLES;
+use crate::presence::has_exact_tables_by_name;
 use brk_changes::Schema;
 use brk_money::Fault;
-use brk_tables_create::has_exact_tables_by_name;
 use brk_tables_schema::calls::statement_has_columns;
 use sqlite::{Alter, Transaction};
 

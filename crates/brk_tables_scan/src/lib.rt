@@ -11,9 +11,11 @@ pub mod all_tables;
 mod column_names;
 pub mod columns;
 mod decoder;
+pub mod presence;
 pub mod rows;
 pub mod schema;
 pub mod sheets;
 
+pub use presence::has_some_desk_table;
 pub use schema::database_has_schema;
 pub use sheets::read_sheets;

@@ -15,3 +15,4 @@ pub mod Steps
 pub mod Keeping
 pub mod TradeCells
 pub mod Compared
+pub mod NoStep

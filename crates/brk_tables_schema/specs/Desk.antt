@@ -1,5 +1,5 @@
 -- Written by tools/tables.py: the tables of a desk, and the list of rows that each holds.
-use Rattle.std.specs.Prelude.{◌≡◌, ℕ, Bool, true, List, [], ◌∷◌, Option, Some, None, map, filter, refl}
+use Rattle.std.specs.Prelude.{◌≡◌, ℕ, Bool, true, List, [], ◌∷◌, Option, Some, None, map, filter, not, refl}
 use Rattle.std.specs.declared.cmp.Ordering.{Ordering}
 use Rattle.sqlite_value.specs.Order.{Row}
 use Rattle.sqlite_schema.specs.declared.schema.Table.{Table}
@@ -257,6 +257,10 @@ all_tables =
 -- The list of the tables that the schema `schema` has.
 abbrev pub tables_in_schema : Schema → List DeskTable
 tables_in_schema schema = filter (schema_has_table schema) all_tables
+
+-- The list of the tables of a desk that the schema `schema` does not have and later schemas add.
+abbrev pub tables_of_later_schemas : Schema → List DeskTable
+tables_of_later_schemas schema = filter (λ w. not (schema_has_table schema w)) all_tables
 
 -- The SQL name of the table `w`, in ASCII.
 abbrev pub table_name : DeskTable → List ℕ

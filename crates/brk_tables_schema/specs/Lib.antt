@@ -5,3 +5,4 @@ pub mod Formed
 pub mod Desk
 pub mod Made
 pub mod Statements
+pub mod Texts

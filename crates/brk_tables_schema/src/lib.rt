@@ -13,9 +13,11 @@ pub mod kept;
 pub mod record;
 mod reference_records;
 pub mod rule_row;
+pub mod table;
 mod trading_records;
 pub mod values;
 
 pub use decode_error::DecodeError;
 pub use desk_row::{last_stamp, set_last_stamp};
 pub use kept::{add_kept_row, kept_row_by_key};
+pub use table::Table;

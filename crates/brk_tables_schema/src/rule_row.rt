@@ -11,8 +11,9 @@ use crate::decode_error::DecodeError;
 use brk_money::Day;
 use sqlite::Row;
 
-// Decodes the settlement day, in days since 1970-01-01, from a row of SETTLE_RULE. Fails with
-// `Form`, only if the row is malformed or has another id than 1, or with `Memory`.
+// Decodes the settlement day, the first day whose completed trades settle after one day, in days
+// since 1970-01-01, from a row of SETTLE_RULE. Fails with `Form`, only if the row is malformed or
+// has another id than 1, or with `Memory`.
 fn settlement_day_in_rule_row(row: &Row) -> Result<Day, DecodeError>
     ensures value { IfOk result (λ day. map rule_cells (rule_rows (Some day)) ≡ row.now ∷ []) }
     ensures form { result ≡ Err Formless → passes_all_cell_checks rule_column_cell_checks row.now ≡ false }

@@ -42,15 +42,3 @@ pub mod SetExecutor
 pub mod SetCashType
 pub mod UpdateReads
 pub mod UpdateWrites
-pub mod CashPlaces
-pub mod AddMove
-pub mod LastMove
-pub mod MoveByTrade
-pub mod MovementBehind
-pub mod SetCashName
-pub mod RemoveCashRows
-pub mod AddRule
-pub mod RuleRows
-pub mod SetSchema
-pub mod CashWrites
-pub mod CashReads

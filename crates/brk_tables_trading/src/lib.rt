@@ -1,7 +1,6 @@
-//! The SQL statements on trades and on the rows that follow from them, on cash rows and on the
-//! settlement day, one function for each; and two statements of the upgrade of an older file. Those
-//! on trades cover history, requests, last trades, lots and their changes, summaries, settlements,
-//! balances, broker totals and text updates.
+//! The SQL statements on trades and on the rows that follow from them, one function for each. They
+//! cover history, requests, last trades, lots and their changes, summaries, settlements, balances,
+//! broker totals and text updates.
 //!
 //! Each function is called within an open transaction, and commits nothing. An error of the
 //! `sqlite` crate, also if this crate runs out of memory, and a malformed row are reported as the
@@ -17,15 +16,12 @@ pub mod history;
 pub mod holdings;
 pub mod last_trades;
 pub mod lots;
-pub mod moves;
 pub mod requests;
-pub mod rule;
 pub mod settlements;
 pub mod summaries;
 pub mod trade_lists;
 pub mod trades;
 pub mod updates;
-pub mod upgrade;
 
 pub use balances::set_account_balance;
 pub use broker_totals::set_broker_totals;
@@ -36,14 +32,9 @@ pub use holdings::{
 };
 pub use last_trades::{last_trade_by_symbol, set_last_trade};
 pub use lots::{add_lot, add_lot_change, remove_lot, set_lot_quantity};
-pub use moves::{
-    add_cash_row, cash_row_by_trade, cash_row_with_greatest_number, has_maximum_movements,
-    set_cash_row_name,
-};
 pub use requests::{
     add_request, remove_request, requests_with_bid_at_least, requests_with_bid_at_most,
 };
-pub use rule::{set_settlement_day, settlement_day};
 pub use settlements::add_settlement;
 pub use summaries::{add_holding_summary, remove_holding_summary, set_holding_summary_quantity};
 pub use trade_lists::{history_of_trade, last_fifty_trades_of_account, last_ten_trades_of_account};
@@ -54,4 +45,3 @@ pub use updates::{
     first_twenty_completed_cash_trades_of_symbol, first_twenty_completed_trades_of_account,
     set_cash_type, set_executor, settlement_by_trade,
 };
-pub use upgrade::{remove_cash_transactions, set_schema_number_to_three};

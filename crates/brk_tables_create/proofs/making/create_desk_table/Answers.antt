@@ -2,7 +2,7 @@ use Rattle.std.proofs.Common.{[], subst}
 use Rattle.sqlite.specs.Held.{state}
 use Rattle.brk_sql.specs.Model.{ExecutesStatement}
 use Rattle.brk_sql.proofs.Inside.{step_weaker}
-use Rattle.brk_tables_create.specs.Texts.{specified_table}
+use Rattle.brk_tables_schema.specs.Texts.{specified_table}
 use Rattle.brk_tables_create.proofs.Makes.{makes_of}
 use Rattle.brk_tables_create.proofs.making.create_desk_table.Goals as goal
 

@@ -6,10 +6,11 @@ use Rattle.brk_sql.specs.Desk.{CreatesTableOfShape}
 use Rattle.brk_sql.specs.Model.{IsTransactionStep}
 use Rattle.brk_sql.proofs.Inside.{step_then}
 use Rattle.brk_tables_schema.specs.Desk.{table_definition_at_tree}
-use Rattle.brk_tables_create.specs.Texts.{specified_table}
-use Rattle.brk_tables_create.specs.declared.table.Table.{Table}
-use Rattle.brk_tables_create.specs.declared.table.Table.TheVariants.{TheDesk}
-use Rattle.brk_tables_create.proofs.Running.{each, made_at, nothing_done}
+use Rattle.brk_tables_schema.specs.Texts.{specified_table}
+use Rattle.brk_tables_schema.specs.declared.table.Table.{Table}
+use Rattle.brk_tables_schema.specs.declared.table.Table.TheVariants.{TheDesk}
+use Rattle.brk_tables_schema.proofs.NoStep.{nothing_done}
+use Rattle.brk_tables_create.proofs.Running.{each, made_at}
 use Rattle.brk_tables_create.proofs.making.create_each_table.Goals as goal
 
 pub loop-table-init : goal.loop-table-init

@@ -5,7 +5,7 @@ use Rattle.sqlite.specs.State.{State}
 use Rattle.brk_changes.specs.Schemas.{abstract_schema}
 use Rattle.brk_sql.proofs.Inside.{step_then, step_read}
 use Rattle.brk_tables_schema.specs.Desk.{tables_in_schema}
-use Rattle.brk_tables_create.specs.Present.{has_exact_table_names}
+use Rattle.brk_tables_scan.specs.Present.{has_exact_table_names}
 use Rattle.brk_tables_scan.specs.Headings.{IsHeadingCheckOutcome, heading_of_table}
 use Rattle.brk_tables_scan.specs.Schemas.{HasTablesOfSchema, LacksTablesOfLaterSchemas}
 use Rattle.brk_tables_scan.proofs.Headed.{columns_tell, none_there}

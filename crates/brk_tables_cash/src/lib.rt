@@ -1,0 +1,26 @@
+//! The SQL statements on cash rows and on the settlement day, one function for each, and the upgrade
+//! of the tables of an older schema to schema 3, which numbers the cash rows.
+//!
+//! Each function is called within an open transaction, and commits nothing. An error of the
+//! `sqlite` crate, also if this crate runs out of memory, and a malformed row are reported as the
+//! fault `Store`; the database is then unchanged or the transaction is rolled back, or after an
+//! upgrade a part of its changes is made in the transaction. A write changes the table that its
+//! comment names, and another table only if a foreign key of that other table changes or deletes
+//! rows. No clause states the effect of a call on the tables, or the value that it returns, outside
+//! a transaction or in a database without all tables of a desk.
+#![tactic(auto)]
+
+pub mod moves;
+pub mod numbering;
+pub mod ordering;
+pub mod reading;
+pub mod rule;
+pub mod upgrade;
+pub mod upgrade_statements;
+
+pub use moves::{
+    add_cash_row, cash_row_by_trade, cash_row_with_greatest_number, has_maximum_movements,
+    set_cash_row_name,
+};
+pub use rule::{set_settlement_day, settlement_day};
+pub use upgrade::upgrade_tables;

@@ -1,0 +1,142 @@
+//! Look-ups of a desk's tables by name. A table of this name may have any columns.
+
+ghost use Rattle.std.specs.Prelude.{◌≡◌, ◌&&◌, Err, OnErr, IsTrue, not};
+ghost use Rattle.std.specs.List.{list_all, list_any};
+ghost use Rattle.brk_money.specs.declared.fault.Fault.TheVariants.{Store};
+ghost use Rattle.brk_changes.specs.Schemas.{abstract_schema};
+ghost use Rattle.brk_sql.specs.Model.{IsConnectionStep};
+ghost use Rattle.brk_tables_scan.specs.Present.{has_table_of_desk, has_exact_table_names, has_table_named};
+ghost use Rattle.brk_tables_schema.specs.Texts.{specified_table};
+
+use brk_changes::Schema;
+use brk_money::Fault;
+use brk_tables_schema::calls::statement_compiles;
+use brk_tables_schema::table::{
+    ADDED_AFTER_FIRST, ADDED_AFTER_SECOND, TABLES_OF_FIRST_SCHEMA, TABLES_OF_SECOND_SCHEMA,
+    TABLES_OF_THIRD_SCHEMA, Table,
+};
+use sqlite::{Alter, Transaction};
+
+// Returns true if a table with the name of `table` exists. If the function returns a value, the
+// database was open and is unchanged. Fails with `Store` only, also if the statement of the look-up
+// does not compile for another reason than that no table has this name.
+fn table_exists<S: Alter>(tx: &mut Transaction<'_, S>, table: Table) -> Result<bool, Fault>
+    ensures same_reference { tx.new.conn.ghost_name ≡ tx.old.conn.ghost_name }
+    ensures step { IsConnectionStep S.Store tx.old tx.new result (λ has a b. IsTrue a.is_open × (b.now ≡ a.now)
+        × (has ≡ has_table_named a.now.schema (specified_table table))) }
+    ensures fault { OnErr result (result ≡ Err Store) }
+{
+    statement_compiles(tx, table.existence_probe_text())
+}
+
+// Returns true if a table with the name of one of `tables` exists. If the function returns a value,
+// the database is unchanged. Fails with `Store` only (`table_exists`).
+fn has_any_of_tables<S: Alter>(tx: &mut Transaction<'_, S>, tables: &[Table]) -> Result<bool, Fault>
+    ensures same_reference { tx.new.conn.ghost_name ≡ tx.old.conn.ghost_name }
+    ensures step { IsConnectionStep S.Store tx.old tx.new result (λ has a b. (b.now ≡ a.now)
+        × (has ≡ list_any (λ table. has_table_named a.now.schema (specified_table table)) tables.now)) }
+    ensures fault { OnErr result (result ≡ Err Store) }
+{
+    for table in tables {
+        if table_exists(tx, *table)? {
+            return Ok(true);
+        }
+    }
+    Ok(false)
+}
+
+// Returns true if, for each of `tables`, a table with its name exists. If the function returns a
+// value, the database is unchanged. Fails with `Store` only (`table_exists`).
+fn has_each_of_tables<S: Alter>(
+    tx: &mut Transaction<'_, S>,
+    tables: &[Table],
+) -> Result<bool, Fault>
+    ensures same_reference { tx.new.conn.ghost_name ≡ tx.old.conn.ghost_name }
+    ensures step { IsConnectionStep S.Store tx.old tx.new result (λ has a b. (b.now ≡ a.now)
+        × (has ≡ list_all (λ table. has_table_named a.now.schema (specified_table table)) tables.now)) }
+    ensures fault { OnErr result (result ≡ Err Store) }
+{
+    for table in tables {
+        if !table_exists(tx, *table)? {
+            return Ok(false);
+        }
+    }
+    Ok(true)
+}
+
+/// Returns true if the database has a table with the name of some table of a desk. If the function
+/// returns a value, the database is unchanged. Fails with `Store` only, also if the statement of a
+/// look-up does not compile for another reason than that no table has the name.
+pub fn has_some_desk_table<S: Alter>(tx: &mut Transaction<'_, S>) -> Result<bool, Fault>
+    ensures same_reference { tx.new.conn.ghost_name ≡ tx.old.conn.ghost_name }
+    ensures step { IsConnectionStep S.Store tx.old tx.new result (λ has a b. (b.now ≡ a.now) × (has ≡ has_table_of_desk a.now.schema)) }
+    ensures fault { OnErr result (result ≡ Err Store) }
+{
+    has_any_of_tables(tx, &TABLES_OF_THIRD_SCHEMA)
+}
+
+// Returns true if a table with the name of each table of `present` exists, and none with the name
+// of a table of `absent`. If the function returns a value, the database is unchanged. Fails with
+// `Store` only (`table_exists`).
+fn has_present_and_no_absent_tables<S: Alter>(
+    tx: &mut Transaction<'_, S>,
+    present: &[Table],
+    absent: &[Table],
+) -> Result<bool, Fault>
+    ensures same_reference { tx.new.conn.ghost_name ≡ tx.old.conn.ghost_name }
+    ensures step { IsConnectionStep S.Store tx.old tx.new result (λ has a b. (b.now ≡ a.now)
+        × (has
+        ≡ (list_all (λ table. has_table_named a.now.schema (specified_table table)) present.now
+        && not (list_any (λ table. has_table_named a.now.schema (specified_table table)) absent.now)))) }
+    ensures fault { OnErr result (result ≡ Err Store) }
+{
+    if !has_each_of_tables(tx, present)? {
+        return Ok(false);
+    }
+    Ok(!has_any_of_tables(tx, absent)?)
+}
+
+// Returns true if a table with the name of each table of `schema` exists, and none with the name of
+// a table that a later schema adds. If the function returns a value, the database is unchanged.
+// Fails with `Store` only (`table_exists`).
+fn has_exactly_tables_of_schema<S: Alter>(
+    tx: &mut Transaction<'_, S>,
+    schema: Schema,
+) -> Result<bool, Fault>
+    ensures same_reference { tx.new.conn.ghost_name ≡ tx.old.conn.ghost_name }
+    ensures step { IsConnectionStep S.Store tx.old tx.new result (λ has a b. (b.now ≡ a.now)
+        × (has ≡ has_exact_table_names (abstract_schema schema) a.now.schema)) }
+    ensures fault { OnErr result (result ≡ Err Store) }
+{
+    match schema {
+        Schema::First => has_present_and_no_absent_tables(
+            tx,
+            &TABLES_OF_FIRST_SCHEMA,
+            &ADDED_AFTER_FIRST,
+        ),
+        Schema::Second => has_present_and_no_absent_tables(
+            tx,
+            &TABLES_OF_SECOND_SCHEMA,
+            &ADDED_AFTER_SECOND,
+        ),
+        Schema::Third => has_present_and_no_absent_tables(tx, &TABLES_OF_THIRD_SCHEMA, &[]),
+    }
+}
+
+/// Returns true if a table with the name of each table of `schema` exists, and none with the name
+/// of a table that a later schema adds. If the function returns a value, the database was open and
+/// is unchanged. Fails with `Store` only, also if the statement of a look-up does not compile for
+/// another reason than that no table has the name.
+pub fn has_exact_tables_by_name<S: Alter>(
+    tx: &mut Transaction<'_, S>,
+    schema: Schema,
+) -> Result<bool, Fault>
+    ensures same_reference { tx.new.conn.ghost_name ≡ tx.old.conn.ghost_name }
+    ensures step { IsConnectionStep S.Store tx.old tx.new result (λ has a b. IsTrue a.is_open × (b.now ≡ a.now)
+        × (has ≡ has_exact_table_names (abstract_schema schema) a.now.schema)) }
+    ensures fault { OnErr result (result ≡ Err Store) }
+{
+    // The value is not needed: the look-up succeeds only if the database is open.
+    let _there = table_exists(tx, Table::TheDesk)?;
+    has_exactly_tables_of_schema(tx, schema)
+}
