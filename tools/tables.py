@@ -540,7 +540,8 @@ pub record DeskRow : Type 0 where
   pub schema : ℕ
   pub last : Option ℕ
 
--- A row of SETTLE_RULE: its id (SR_ID), and the settlement day in days since 1970-01-01 (SR_DAY).
+-- A row of SETTLE_RULE: its id (SR_ID), and the settlement day, the first day whose completions
+-- settle after one day, in days since 1970-01-01 (SR_DAY).
 pub record RuleRow : Type 0 where
   pub id : ℕ
   pub day : ℕ
@@ -594,7 +595,8 @@ desk_rows schema last = record {{ id = 1; schema = schema.number; last = last }}
 abbrev pub desk_key : DeskRow → List KeyPart
 desk_key r = number r.id ∷ []
 
--- The rows of SETTLE_RULE: one row with the id 1 and the settlement day, or no row if none is set.
+-- The rows of SETTLE_RULE: one row with the id 1 and the settlement day (the first day whose
+-- completions settle after one day), or no row if this day is not set.
 abbrev pub rule_rows : Option ℕ → List RuleRow
 rule_rows None = []
 rule_rows (Some day) = record {{ id = 1; day = day }} ∷ []
@@ -603,8 +605,8 @@ rule_rows (Some day) = record {{ id = 1; day = day }} ∷ []
 abbrev pub rule_key : RuleRow → List KeyPart
 rule_key r = number r.id ∷ []
 
--- True if the schema `schema` has the table: CASH_MOVE and SETTLE_RULE as the schema states, every
--- other table always.
+-- True if the schema `schema` has the table. For CASH_MOVE and SETTLE_RULE a field of `schema`
+-- decides; every schema has all other tables.
 abbrev pub schema_has_table : Schema → DeskTable → Bool
 {chr(10).join(f'schema_has_table schema {d[2]} = schema.{LATER[d[0]]}' for d in DATA if d[0] in LATER)}
 schema_has_table schema w = true
@@ -1220,7 +1222,7 @@ def read_group(word, field, tables):
     reads = ''.join(f'    let {sheet_field(d)} = {reading(d)};\n' for d in tables)
     fields = ''.join(f'        {sheet_field(d)},\n' for d in tables)
     returned = {'DeskAndCustomer': 'Returns the last stamp in DESK, the keys of the rows of KEPT, and the decoded rows of BROKER and CUSTOMER, each list sorted by key.',
-                'LaterSchema': 'Returns the decoded rows of CASH_MOVE, sorted by key, and the settlement day in SETTLE_RULE, or none of a table that `schema` lacks.'}
+                'LaterSchema': 'Returns the decoded rows of CASH_MOVE, sorted by key, and the first day of one-day settlement in SETTLE_RULE, or none of a table that `schema` lacks.'}
     shown = returned.get(word, f'Returns the decoded rows of {named(tables)}, each list sorted by key.')
     counted = {'DeskAndCustomer': ', or DESK not exactly one row with the number of `schema`,', 'LaterSchema': ', or SETTLE_RULE two rows or more,'}.get(word, ',')
     what = 'value' if by_schema else 'rows'
@@ -1312,7 +1314,7 @@ pub record {word}Rows : Type 0 where
 def raw_spec():
     """What the reads of all tables show"""
     out = f"""-- The raw rows of all tables, as the reads return them: SQL values that are not yet decoded. In the
--- code only the rows of one table are in memory at a time.
+-- code only the raw rows of one table are in memory at a time.
 use Rattle.std.specs.Prelude.{{◌≡◌, List, IsTrue}}
 use Rattle.sqlite_value.specs.Order.{{Row}}
 use Rattle.sqlite.specs.State.{{State}}
@@ -1432,23 +1434,24 @@ abbrev pub are_raw_sheets_well_formed : Schema → RawSheets → Bool
 {folded('are_raw_sheets_well_formed desk raw =', [f'are_{words_of(word)}_rows_well_formed {desk(word)}raw.{field}' for word, field, _ in GROUPS], '&&')}
 
 -- The raw rows of each table are, in order, the encodings of the typed rows `sheets`. Of KEPT,
--- `sheets` has the keys alone: its raw rows are, in order, the encodings of `whole`, typed rows with
--- these keys and any texts. The row of DESK has the number of the schema `desk`.
+-- `sheets` has the keys alone: the raw rows of KEPT are, in order, the encodings of `whole`, typed
+-- rows with these keys and any texts. The row of DESK has the number of the schema `desk`.
 pub record DecodesSheets (desk : Schema) (sheets : Sheets) (raw : RawSheets) : Type 0 where
   pub whole : List typed.Kept
   pub keys : keys_of_kept_rows whole ≡ map abstract_key sheets.kept.items
   pub encoded : (w : DeskTable) → map (encoded_row w) (rows_of_table_in_schema desk w (tables_with_whole_kept_rows whole sheets)) ≡ raw_rows_of_table raw w
 
 -- A step of a decoding of raw rows, with a flag that is `old` before the step and `new` after it.
--- If `new` is true, `old` is true and `Decodes` holds, which states that the step decodes its rows.
--- If `new` is false, `old` is false or `are_well_formed` is false, which is true if the raw rows of
--- this step are well-formed.
+-- `Decodes` states that the step decodes its rows; `are_well_formed` is true if these are
+-- well-formed. If `new` is true, `old` is true and `Decodes` holds. If `new` is false, `old` or
+-- `are_well_formed` is false.
 pub record ContinuesDecoding (old new are_well_formed : Bool) (Decodes : Type 0) : Type 0 where
   -- If the flag is true after the step, it was true before it.
   pub before : new ≡ true → old ≡ true
   -- If the flag is true after the step, the step decodes its rows.
   pub value : new ≡ true → Decodes
-  -- If the flag is false after the step, it was false before it, or a row of the step is malformed.
+  -- If the flag is false after the step, it was false before it, or the rows of the step are not
+  -- well-formed.
   pub form : new ≡ false → (old ≡ false) ⊎ (are_well_formed ≡ false)
 {''.join(reads_group(word, field, tables) for word, field, _, tables in groups())}
 -- The reads return all rows of each table of the schema `desk`, and none of other tables

@@ -5,7 +5,7 @@ use std::alloc::AllocError;
 #[derive(Drop)]
 pub enum Job {
     /// Executes a batch from standard input on the desk in the file at `db`, or on a new desk in
-    /// memory. The timestamps of its commands are `at`, or readings of the machine's clock.
+    /// memory. Each clock reading is `at`, or a reading of the machine's clock if `at` is `None`.
     Batch {
         db: Option<String>,
         at: Option<Stamp>,
@@ -37,8 +37,8 @@ pub enum Job {
         words: Vec<String>,
     },
     /// Serves the given number of streams of HTTP requests, in sequence, at a port of this machine,
-    /// on the desk in the file at `db` or on a new desk in memory. The timestamps of commands are
-    /// `at`, or readings of the machine's clock.
+    /// on the desk in the file at `db` or on a new desk in memory. Each clock reading is `at`, or a
+    /// reading of the machine's clock if `at` is `None`.
     Serve {
         port: u16,
         db: Option<String>,
@@ -50,7 +50,7 @@ pub enum Job {
 /// The reason why the arguments request no job.
 #[derive(Drop)]
 pub enum UsageFault {
-    /// The arguments are wrong; the text has the reason.
+    /// The arguments are wrong; the text is the error text, which may be empty.
     Words(String),
     /// Help or the version was requested; the text is what is printed.
     Help(String),

@@ -40,7 +40,7 @@ fn timestamp_argument<'a>(alloc: Global) -> Arg<'a> {
 }
 
 // Returns a required argument for a day, with this name and this help text. The parser accepts any
-// text; `parse_day_argument` checks it later.
+// text; `parse_day_argument` checks it after the parsing.
 fn day_argument<'a>(alloc: Global, name: &'static str, help: &'static str) -> Arg<'a> {
     Arg::new(alloc, name)
         .long(name)
@@ -191,8 +191,8 @@ fn add_subcommand<'a>(
 }
 
 // Returns the command `brk` with its version and without subcommands. Its arguments must name one
-// of the subcommands that are added to it later; without arguments, parsing fails with the help of
-// `brk` as the error text. Fails only if memory runs out.
+// of the subcommands that `command_with_subcommands` adds; without arguments, parsing fails with
+// the help of `brk` as the error text. Fails only if memory runs out.
 fn program_command<'a>(alloc: Global) -> Result<Command<'a>, AllocError> {
     Command::new(alloc, "brk")
         .version(VERSION)

@@ -24,8 +24,8 @@ use std::alloc::Global;
 use std::collections::BTreeMap;
 
 // Returns true if the row of CASH_TRANSACTION has the id and the stamp of the completed trade, and
-// its settlement amount at the tax status `tax_status`. A missing price counts as 0. The name of
-// the row is not compared.
+// the trade's settlement amount at the tax status `tax_status`. A missing price counts as 0. The
+// name of the row is not compared.
 fn is_cash_transaction_of_trade(cash: &CashRow, trade: &TradeRow, tax_status: TaxStatus) -> bool
     ensures { IsTrue result
         ↔ ((cash.now.trade ≡ trade.now.id) × (cash.now.stamp ≡ trade.now.stamp)
@@ -135,8 +135,8 @@ fn posted_figures_of_move_rows(
 }
 
 // Returns true if the figures of a row of CASH_MOVE are the account, the id and the stamp of the
-// completed trade, and its settlement amount at the tax status `tax_status`. A missing price counts
-// as 0.
+// completed trade, and the trade's settlement amount at the tax status `tax_status`. A missing
+// price counts as 0.
 fn has_figures_of_trade(row: CashMoveFigures, trade: &TradeRow, tax_status: TaxStatus) -> bool
     ensures { IsTrue result
         ↔ ((row.account ≡ trade.now.account) × (row.trade ≡ trade.now.id) × (row.stamp ≡ trade.now.stamp)

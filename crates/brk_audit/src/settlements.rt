@@ -20,8 +20,8 @@ use brk_money::{Day, Fault, Stamp, TaxStatus, day_of};
 use std::alloc::Global;
 use std::collections::BTreeMap;
 
-// Returns true if `day` is the due day of a trade that is completed at `stamp`, by the settlement
-// day `rule` if one is set.
+// Returns true if `day` is the due day of a trade that is completed at `stamp`, where `rule` is the
+// first day of one-day settlement, if it is set.
 fn is_due_day_of_completion(day: Day, rule: Option<Day>, stamp: Stamp) -> bool
     ensures { IsTrue result ↔ (day ≡ due_day_of_completion_stamp rule stamp) }
 {
@@ -29,9 +29,9 @@ fn is_due_day_of_completion(day: Day, rule: Option<Day>, stamp: Stamp) -> bool
     day.get() == completed.get() + i32::from(days_to_settlement(rule, completed))
 }
 
-// Returns true if the settlement has the id of the completed trade, its due day by the settlement
-// day `rule`, and its settlement amount at the tax status `tax_status`. A missing price counts as
-// 0. The settlement text is not compared.
+// Returns true if the settlement has the completed trade's id, the trade's due day, and the trade's
+// settlement amount at the tax status `tax_status`, where `rule` is the first day of one-day
+// settlement, if it is set. A missing price counts as 0. The settlement text is not compared.
 fn settlement_matches_trade(
     settlement: &SettlementRow,
     trade: &TradeRow,
@@ -105,8 +105,8 @@ fn settlements_match_trades(
 }
 
 /// Returns true if the rows, which must satisfy `Form` and `Status`, satisfy the condition
-/// `Settlement`: SETTLEMENT has exactly one row for each completed trade, with its due day and its
-/// settlement amount, and no other row. Fails with `Memory` only.
+/// `Settlement`: SETTLEMENT has exactly one row for each completed trade, with the trade's due day
+/// and settlement amount, and no other row. Fails with `Memory` only.
 pub(crate) fn settlement_condition_holds(alloc: Global, sheets: &Sheets) -> Result<bool, Fault>
     requires form { HasWellFormedRows sheets.now }
     requires status { HasValidStatuses sheets.now }

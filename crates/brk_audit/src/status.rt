@@ -127,8 +127,7 @@ fn all_histories_are_valid(trades: &[TradeRow], history: &[HistoryRow]) -> bool
 }
 
 // Inserts the stamp of the row into `seen` if the row is a completion. Returns false if it is one
-// and the set already contained the stamp, otherwise true. Fails with `Memory` only; the set is
-// then unchanged.
+// and the set already contained the stamp, otherwise true. Fails with `Memory` only.
 fn insert_completion_stamp(seen: &mut BTreeSet<u64>, row: &HistoryRow) -> Result<bool, Fault>
     ensures new { IfOk result (λ new. new ≡ not (is_same_trade_status row.now.status Completed && contains nat_cmp seen.old row.now.stamp)) }
     ensures seen { OnOk result ((q : ℕ)
@@ -143,8 +142,7 @@ fn insert_completion_stamp(seen: &mut BTreeSet<u64>, row: &HistoryRow) -> Result
 }
 
 // Inserts the stamp of the row into `seen` if the row is a deposit or a withdrawal. Returns false
-// if it is one and the set already contained the stamp, otherwise true. Fails with `Memory` only;
-// the set is then unchanged.
+// if it is one and the set already contained the stamp, otherwise true. Fails with `Memory` only.
 fn insert_movement_stamp(seen: &mut BTreeSet<u64>, row: &MoveRow) -> Result<bool, Fault>
     ensures new { IfOk result (λ new. new ≡ not (is_none row.now.trade && contains nat_cmp seen.old row.now.stamp)) }
     ensures seen { OnOk result ((q : ℕ) → contains nat_cmp seen.new q ≡ contains nat_cmp seen.old q || (is_none row.now.trade && (row.now.stamp == q))) }

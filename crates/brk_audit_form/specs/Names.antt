@@ -6,7 +6,7 @@ use Rattle.brk_model.specs.Tables.{Tables, TradeRow}
 use Rattle.brk_model.specs.Joins.{security_row_with_symbol}
 use Rattle.brk_model.specs.Results.{cash_row_name_from_parts}
 
--- The name of the security with the symbol, or the empty text if the security does not exist.
+-- The name of the first security with the symbol, or the empty text if there is no such security.
 abbrev pub security_name_or_empty : Tables → Text → Text
 security_name_or_empty t symbol = option_map_or (λ s. s.name) (security_row_with_symbol t symbol) []
 

@@ -18,8 +18,7 @@ use std::collections::BTreeMap;
 const MOST_ACCOUNTS: u128 = 10;
 
 // Adds `more` to the sum of the customer in the map; a customer that the map does not contain has
-// the sum 0. The sum must be below 2^128 - 2^32. Fails with `Memory` only; the map is then
-// unchanged.
+// the sum 0. The sum must be below 2^128 - 2^32. Fails with `Memory` only.
 fn add_to_customer_sum(sums: &mut BTreeMap<u64, u128>, customer: Id, more: u32) -> Result<(), Fault>
     requires room { sum_at_customer_id sums.old customer + 2 ^ 32 < 2 ^ 128 }
     ensures more { OnOk result ((q : ℕ) → sum_at_customer_id sums.new q ≡ sum_at_customer_id sums.old q + cond (customer == q) more 0) }

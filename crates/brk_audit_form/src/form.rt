@@ -31,7 +31,8 @@ fn is_valid_last_stamp(last: Option<Stamp>) -> bool
     }
 }
 
-// Returns true if no settlement day is set, or if it is at most the greatest day, 9999-12-31.
+// Returns true if no first day of one-day settlement is set, or if it is at most the greatest day,
+// 9999-12-31.
 fn is_valid_settlement_day(rule: Option<Day>) -> bool
     ensures { result ≡ is_settlement_day_in_calendar rule }
 {
@@ -42,7 +43,7 @@ fn is_valid_settlement_day(rule: Option<Day>) -> bool
 }
 
 // Returns true if the rows have no part that the schema lacks: no rows of CASH_MOVE in a schema
-// without this table, and no settlement day in a schema without SETTLE_RULE.
+// without this table, and no first day of one-day settlement in a schema without SETTLE_RULE.
 fn has_no_rows_of_later_schemas(schema: Schema, sheets: &Sheets) -> bool
     ensures { result ≡ has_rows_only_in_tables_of_schema (abstract_schema schema) (abstract_sheets sheets.now) }
 {
@@ -52,8 +53,8 @@ fn has_no_rows_of_later_schemas(schema: Schema, sheets: &Sheets) -> bool
 
 // Returns true if the rows pass those checks of the condition `Form` that do not allocate: of keys,
 // of the columns and the references of all rows except those of CASH_TRANSACTION and CASH_MOVE, of
-// bands, of the ids of trades, of the number of movements, of the last stamp, of the settlement
-// day, and of the tables that the schema lacks.
+// bands, of the ids of trades, of the number of movements, of the last stamp, of the first day of
+// one-day settlement, and of the tables that the schema lacks.
 fn passes_checks_without_allocation(schema: Schema, sheets: &Sheets) -> bool
     ensures { result ≡ passes_nonallocating_form_checks (abstract_schema schema) sheets.now }
 {
@@ -77,8 +78,9 @@ fn passes_checks_without_allocation(schema: Schema, sheets: &Sheets) -> bool
 /// sorted by key without a repeated key. Also, bands are disjoint, and trades are numbered from 1
 /// without a gap. No two customers have the same tax id, and each has at most 10 accounts and tax
 /// rates that sum to at most the greatest tax rate. No two rows of CASH_MOVE have the same trade,
-/// and at most `Id::GREATEST` rows of CASH_MOVE have no trade. The last stamp and the settlement
-/// day, if they are set, are within the calendar, and tables that the schema lacks are empty.
+/// and at most `Id::GREATEST` rows of CASH_MOVE have no trade. The last stamp and the first day of
+/// one-day settlement, if they are set, are within the calendar, and tables that the schema lacks
+/// are empty.
 ///
 /// Fails with `Memory` only.
 pub fn form_condition_holds(alloc: Global, schema: Schema, sheets: &Sheets) -> Result<bool, Fault>

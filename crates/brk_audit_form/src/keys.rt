@@ -11,6 +11,7 @@ use std::cmp::Ordering;
 
 /// A row of a table with a sort key.
 pub(crate) trait Keyed {
+    /// The sort key of a row.
     ghost key: { Self → List KeyPart };
 
     /// Returns the order of the key of the row and the key of `other`.

@@ -13,7 +13,7 @@ use std::alloc::Global;
 use std::collections::BTreeSet;
 
 // Inserts the trade of a cash row into `seen`, if the row has one. Returns false if the set already
-// contained the trade, otherwise true. Fails with `Memory` only; the set is then unchanged.
+// contained the trade, otherwise true. Fails with `Memory` only.
 fn insert_cash_row_trade(seen: &mut BTreeSet<u64>, trade: Option<Id>) -> Result<bool, Fault>
     ensures new { IfOk result (λ new. new ≡ not (option_map_or (λ id. contains nat_cmp seen.old id) trade false)) }
     ensures seen { OnOk result ((q : ℕ) → contains nat_cmp seen.new q ≡ contains nat_cmp seen.old q || option_map_or (λ id. id == q) trade false) }

@@ -10,6 +10,7 @@ use brk_changes::{Schema, Sheets};
 
 /// A row of a table whose columns the condition `Form` checks.
 pub(crate) trait Formed {
+    /// True if a row passes the checks of its table in `Form`, by the schema and the tables.
     ghost form: { schemas.Schema → Tables → Self → Bool };
 
     /// Returns true if the row passes the check `form` of its table, by the limits of the schema

@@ -31,8 +31,9 @@ fn row_has_price_exactly_if_completed(sheets: &Sheets, row: &TradeRow) -> bool
     }
 }
 
-// Returns true if the due day of a completion at `stamp`, by the settlement day `rule`, is at most
-// the greatest day. Returns true for any status but `Completed`.
+// Returns true if the due day of a completion at `stamp` is at most the greatest day, where `rule`
+// is the first day of one-day settlement, if it is set. Returns true for any other status than
+// `Completed`.
 fn is_due_day_within_calendar(rule: Option<Day>, status: Status, stamp: Stamp) -> bool
     ensures { result ≡ form.is_due_within_calendar rule status stamp }
 {

@@ -12,11 +12,12 @@ use Rattle.brk_model.specs.Joins.{account_row_with_id}
 use Rattle.brk_model.specs.Tables.{Tables, CashRow, MoveRow, RequestRow, SettlementRow, TradeRow}
 use Rattle.brk_audit_sums.specs.Completed.{is_completed_row}
 
--- The broker of the account in the tables, or 0 if the account does not exist.
+-- The broker in the first row of the account in the tables, or 0 if the account does not exist.
 abbrev pub account_broker_or_zero : Tables → ℕ → ℕ
 account_broker_or_zero t account = option_map_or (λ a. a.broker) (account_row_with_id t account) 0
 
--- The tax status of the account in the tables, or `Untaxed` if the account does not exist.
+-- The tax status in the first row of the account in the tables, or `Untaxed` if the account does
+-- not exist.
 abbrev pub account_tax_status_or_untaxed : Tables → ℕ → TaxStatus
 account_tax_status_or_untaxed t account = option_map_or (λ a. a.tax_status) (account_row_with_id t account) Untaxed
 
@@ -43,8 +44,9 @@ pub record SettlementFigures : Type 0 where
 abbrev pub settlement_figures_of_row : SettlementRow → SettlementFigures
 settlement_figures_of_row s = record { trade = s.trade; due_day = s.due_day; amount = s.amount }
 
--- The trade, the due day and the amount of the settlement of the completed trade `r`, by the
--- settlement day `rule`, where `statuses` returns the tax status of an account.
+-- The trade, the due day and the amount of the settlement of the completed trade `r`, where `rule`
+-- is the first day of one-day settlement, if it is set, and `statuses` returns the tax status of an
+-- account.
 abbrev pub settlement_figures_of_trade : SettleRule → (ℕ → TaxStatus) → TradeRow → SettlementFigures
 settlement_figures_of_trade rule statuses r =
     record { trade = r.id; due_day = due_day_of_completion_stamp rule r.stamp; amount = settlement_amount_at_tax_status (statuses r.account) r }

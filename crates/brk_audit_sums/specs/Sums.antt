@@ -16,8 +16,8 @@ sum_over_broker_trades t amount broker = total_by amount (filter (λ r. is_compl
 abbrev pub sum_over_account_cash_trades : Tables → (TradeRow → ℤ) → ℕ → ℤ
 sum_over_account_cash_trades t amount account = total_by amount (filter (λ r. is_completed_cash_trade r && (r.account == account)) t.trades)
 
--- The amount as a posting at the broker of the trade's account, where `brokers` gives the broker of
--- an account, or `None` if the trade is not completed.
+-- The amount as a posting at the broker of the trade's account, where `brokers` returns the broker
+-- of an account, or `None` if the trade is not completed.
 abbrev pub broker_posting_of_row : (ℕ → ℕ) → TradeRow → ℤ → Option (KeyedAmount ℕ)
 broker_posting_of_row brokers r amount = if is_completed_row r then Some (record { key = brokers r.account; amount = amount }) else None
 

@@ -1,4 +1,4 @@
-//! The terms of accounts that decide on trades.
+//! The terms of accounts, by id: the broker, and the tax status that determines withheld tax.
 
 ghost use Rattle.std.specs.Prelude.{◌≡◌, ℕ, ◌==◌, IfErr, IfOk, find, option_map};
 ghost use Rattle.std.specs.Ordering.{nat_cmp};

@@ -9,7 +9,7 @@ use brk_money::Fault;
 use std::alloc::Global;
 use std::collections::BTreeMap;
 
-/// An amount, and the key to whose sum it is added.
+/// A posting: an amount, and the key to whose sum it is added.
 #[derive(Drop)]
 pub struct KeyedAmount<K> {
     pub key: K,
@@ -28,7 +28,7 @@ fn sum_plus_amount(sum: i128, amount: i64) -> i128
 
 // Adds the amount of the posting to the sum at its key in the map; a key that the map does not
 // contain has the sum 0. The absolute value of the sum must be below 2^127 - 2^63. No absolute
-// value of a sum grows by more than 2^63. Fails with `Memory` only; the map is then unchanged.
+// value of a sum grows by more than 2^63. Fails with `Memory` only.
 fn add_posting<K: Ord + Copy>(
     tally: &mut BTreeMap<K, i128>,
     posting: &KeyedAmount<K>,

@@ -1,5 +1,6 @@
 -- Valid histories: statuses and movements of a base in ascending order of their stamps, valid
--- status sequences, and no stray texts.
+-- status sequences, settlement texts only of completed trades, and cash texts only of completed
+-- cash trades. Also the base with its reference records and stored replies sorted by key.
 use Rattle.std.specs.Prelude.{◌≡◌, ◌&&◌, true, false, List, [], ◌∷◌, map}
 use Rattle.std.specs.List.{AllByRecursion}
 use Rattle.brk_model.specs.Records.{Account, Broker, Security, Trade}
@@ -45,7 +46,7 @@ abbrev pub security_symbol_key : Security → List KeyPart
 security_symbol_key s = word s.symbol ∷ []
 
 -- The base with its reference records and stored replies sorted by key. Its trades, its movements,
--- its last stamp and its settlement day are unchanged.
+-- its last stamp and its first day of one-day settlement are unchanged.
 abbrev pub base_sorted_by_keys : Base → Base
 base_sorted_by_keys b = record b {
   brokers = rows_sorted_by_key broker_id_key b.brokers;

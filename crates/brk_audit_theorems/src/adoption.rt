@@ -1,5 +1,6 @@
-//! Theorems: rows that pass every condition are the tables of a base that satisfies the books
-//! invariant, and conversely if they are well-formed and have valid histories.
+//! Theorems: rows that pass every condition of an audit are the tables of a base that satisfies the
+//! books invariant. The tables of a base that satisfies the books invariant and has valid histories
+//! pass every condition of schema 3 if they satisfy its condition `Form`.
 
 ghost use Rattle.std.specs.Prelude.{◌≡◌, IsTrue};
 ghost use Rattle.brk_model.specs.Base.{Base};

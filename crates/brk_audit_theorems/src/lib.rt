@@ -1,6 +1,7 @@
 //! Theorems about audits and adopted files: rows that pass every condition are the tables of a base
-//! that satisfies the books invariant. The well-formed tables of such a base with valid histories
-//! pass every condition. Proof-only: there is no code to call.
+//! that satisfies the books invariant. If a base satisfies this invariant and has valid histories,
+//! and its tables satisfy the condition `Form` of schema 3, they pass every condition of schema 3.
+//! Proof-only: there is no code to call.
 #![tactic(auto)]
 
 pub mod adoption;

@@ -2,7 +2,7 @@
 --
 -- Parameters that the traits `Rows` and `Clock` declare: `meets_disk_assumption desk`, the disk
 -- assumption; `represents desk base`, the desk represents `base`;
--- `crash_exposes_only desk base other`, a crash exposes only one of these two bases;
+-- `crash_exposes_only desk base other`, a crash exposes one of these two bases and no other;
 -- `acts old now call outcome new`, a call turns the desk `old` into `new`; `form`, the parser of a
 -- row; `step`, the model's step for a row; `gives clock moment later`, a reading of the clock.
 use Rattle.std.specs.Prelude.{◌≡◌, ◌⊎◌, ℕ, Bool, true, false, Ok, Err}
@@ -18,7 +18,8 @@ use Rattle.brk_batch_engine.specs.Script.{RowCallRelation}
 
 -- The call with `command` under `key` at the clock reading `now` refines `step`: for every base
 -- that the desk represented before, `step` from this base has this answer, and the desk represents
--- the base after it. Vacuous if the disk assumption (`meets_disk_assumption`) fails after the call.
+-- the base after this step. Vacuous if the disk assumption (`meets_disk_assumption`) fails after
+-- the call.
 abbrev pub CallRefinesStep : {D S X : Type 0} → (D → Type 0) → (D → S → Type 0) → RowStep S X → D → D → ℕ → X → Key → Answer → Type 0
 CallRefinesStep {S = S} meets_disk_assumption represents step old new now command key answer =
     meets_disk_assumption new → (base : S) → represents old base → (after : S) × represents new after × (step base now command key ≡ (answer, after))
@@ -43,7 +44,8 @@ IsFailedCallCrashSafe {S = S} meets_disk_assumption represents crash_exposes_onl
 -- Row `n` of `batch` has the answer `answer`, and the desk changed from `old` to `new`, the clock
 -- from `clock` to `later`. A malformed row is refused with its refusal, and desk and clock are
 -- unchanged. A well-formed row reads the clock once and is one call of the desk, under the key of
--- the row, which refines `step`, both for `represents false` and for `represents true`.
+-- the row, which refines `step` for both values of the Boolean argument of `represents`
+-- (`RepresentsDurably`).
 abbrev pub RowHasAnswer : {D S X C : Type 0} → (D → Type 0) → (Bool → D → S → Type 0) → RowCallRelation D X → RowStep S X → (C → ℕ → C → Type 0) → ReadResult X
     → Text → ℕ → Answer → D → D → C → C → Type 0
 RowHasAnswer meets_disk_assumption represents acts step gives (Err refusal) batch n answer old new clock later =

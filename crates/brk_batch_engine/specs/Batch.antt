@@ -2,11 +2,12 @@
 --
 -- Parameters that the traits `Rows` and `Clock` declare: `meets_disk_assumption desk`, the disk
 -- assumption; `represents desk base`, the desk represents `base`;
--- `crash_exposes_only desk base other`, a crash exposes only one of these two bases;
+-- `crash_exposes_only desk base other`, a crash exposes one of these two bases and no other;
 -- `acts old now call outcome new`, a call turns the desk `old` into `new`; `form`, the parser of a
 -- row; `step`, the model's step for a row; `gives clock moment later`, a reading of the clock.
 -- `text` is the text of the batch, or `None` if it is unknown; `span` and `outside` are the desk's
--- base, the clock and the writer's content before and after the batch.
+-- base, the clock and the writer's content before and after the batch. A condition that bytes were
+-- written (`Appends`) is vacuous if the writer's content before is unknown.
 use Rattle.std.specs.Prelude.{◌≡◌, ◌+◌, ◌<◌, ◌⊎◌, ◌∷◌, ◌++◌, [], IfErr, List, ℕ, Option, Result, Ok, Err, take, length, map}
 use Rattle.std.specs.Io.KnownBytes.{Appends}
 use Rattle.brk_money.specs.Spelling.{Text}
@@ -174,8 +175,9 @@ DeskFaultIsMemory kinds.Read = Unit {0}
 DeskFaultIsMemory kinds.Write = Unit {0}
 
 -- Every call of `script` has an answer. A desk of the model that returns these answers, and records
--- its calls (`recording_step`), receives exactly these calls from the batch, with these lines and
--- this result. If the result is a fault of the desk, the fault is `Memory`.
+-- its calls (`recording_step`), receives exactly the calls of `script` from the batch, and the
+-- lines and the result follow from the answers. If the result is a fault of the desk, the fault is
+-- `Memory`.
 abbrev pub BatchMatchesAnsweredScript : {X C : Type 0} → (Fields → ReadResult X) → (C → ℕ → C → Type 0) → Option Text → RowCallScript X → ClockAndWriterChange C
     → Result Counts BatchFault → Type 0
 BatchMatchesAnsweredScript form gives text script outside result =
@@ -215,7 +217,7 @@ ChangesOnlyByRowCalls {X = X} acts form gives text first last outside result =
 
 -- The batch refines the model: for every base that the desk represented before, the lines and the
 -- result follow from the answers of `step` from this base, and the desk represents the base after
--- it. Vacuous if the disk assumption (`meets_disk_assumption`) fails after the batch.
+-- the decided rows. Vacuous if the disk assumption (`meets_disk_assumption`) fails after the batch.
 abbrev pub BatchRefinesModel : {D S X C : Type 0} → (D → Type 0) → (D → S → Type 0) → (Fields → ReadResult X) → RowStep S X → (C → ℕ → C → Type 0) → Option Text
     → D → D → ClockAndWriterChange C → Result Counts BatchFault → Type 0
 BatchRefinesModel {S = S} meets_disk_assumption represents form step gives text first last outside result =
@@ -239,10 +241,10 @@ BoundsBatchCrashStates form step gives crash_exposes_only text span last (Err fa
     crash_exposes_only last span.after span.after ⊎ CrashMayCommitFailedRow form step gives crash_exposes_only text span last fault
 
 -- Crash safety of a batch: for every base that the desk represented before, if a crash before the
--- batch exposed only this base, the batch is answered as by `step`, and the desk represents the
--- base after the decided rows. A crash then exposes only the base after the decided rows, or after
--- a fault also the base after the row whose call failed. Vacuous if the disk assumption
--- (`meets_disk_assumption`) fails after the batch.
+-- batch exposed only this base, the lines and the result follow from the answers of `step` from
+-- this base, and the desk represents the base after the decided rows. A crash then exposes only the
+-- base after the decided rows, or after a fault also the base after the row whose call failed.
+-- Vacuous if the disk assumption (`meets_disk_assumption`) fails after the batch.
 abbrev pub IsBatchCrashSafe : {D S X C : Type 0} → (D → Type 0) → (D → S → Type 0) → (D → S → S → Type 0) → (Fields → ReadResult X) → RowStep S X
     → (C → ℕ → C → Type 0) → Option Text → D → D → ClockAndWriterChange C → Result Counts BatchFault → Type 0
 IsBatchCrashSafe {S = S} meets_disk_assumption represents crash_exposes_only form step gives text first last outside result =

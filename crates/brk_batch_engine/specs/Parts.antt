@@ -1,4 +1,7 @@
--- The output of a single step of a batch that failed, for each fault.
+-- The output of one failed step of a batch, for each fault.
+--
+-- Parameters: `old` and `new`, the writer's content before and after the step. A condition that
+-- bytes were written (`Appends`) is vacuous if `old` is `None`: the content is unknown.
 use Rattle.std.specs.Prelude.{◌≡◌, [], ℕ, Option, take}
 use Rattle.std.specs.Io.KnownBytes.{Appends}
 use Rattle.brk_money.specs.Spelling.{Text}
@@ -45,9 +48,9 @@ LastRowEndsBatchWith old new text kinds.Read = ⊥
 LastRowEndsBatchWith old new text kinds.BadHeader = ⊥
 LastRowEndsBatchWith old new text kinds.BadEnd = ⊥
 
--- Reading the header of the text failed with this fault. `BadHeader`: the text has no header.
--- `Desk`: the fault is `Memory`. `Read`: nothing is specified of the text. No other fault is
--- possible.
+-- Reading the header of the text failed with this fault. `BadHeader`: the text has no header, which
+-- is vacuous if the text is unknown. `Desk`: the fault is `Memory`. `Read`: nothing is specified of
+-- the text. No other fault is possible.
 abbrev pub HeaderReadFailsWith : Option Text → FaultKind → Type 0
 HeaderReadFailsWith text kinds.BadHeader = HasNoHeader text
 HeaderReadFailsWith text kinds.Read = Unit {0}

@@ -78,7 +78,7 @@ pub record RowIsDecidedAndWritten {D S X C : Type 0} (meets_disk_assumption : D 
 
 -- The row was not decided, and the batch ended with `fault`, a fault of the desk, `Memory` or
 -- `Store`: the row failed (`RowFailsWith`), the desk represents the bases that it represented
--- before, and nothing was written.
+-- before, unless the disk assumption fails (`PreservesRepresentedBases`), and nothing was written.
 pub record RowIsNotDecided {D S X C : Type 0} (meets_disk_assumption : D → Type 0) (represents : D → S → Type 0)
     (crash_exposes_only : D → S → S → Type 0) (acts : RowCallRelation D X) (step : RowStep S X) (gives : C → ℕ → C → Type 0)
     (read : ReadResult X) (batch : Text) (settled : ℕ) (first last : D) (outside : ClockAndWriterChange C) (fault : BatchFault) : Type 0 where

@@ -33,8 +33,8 @@ fn row_key(batch: &BatchName, n: u64) -> Result<Key, Fault>
 /// malformed one does neither and is refused.
 ///
 /// Fails with `Memory` or `Store`; the clock was then read at most once, for the call that failed.
-/// The desk then represents every base that it represented before, but a crash may expose the row
-/// as committed.
+/// Under the disk assumption the desk then represents every base that it represented before, but a
+/// crash may expose the row as committed.
 pub fn execute_row<C: Clock, D: Rows>(
     alloc: Global,
     desk: &mut D::Desk,

@@ -201,10 +201,10 @@ fn read_record_after_row<R: Read, W: Write, D: Rows>(
 // counts with its answer added. `settled` must be less than 67,108,864 and equal the sum of the
 // counts.
 //
-// Fails with `Desk(Memory)` or `Desk(Store)`, and nothing written, if the row is not decided; the
-// desk then represents every base that it represented before, but a crash may expose the row as
-// committed. If the row is decided, fails with `Write` after a prefix of its line, perhaps all of
-// it, or with `Desk(Memory)` and nothing written.
+// Fails with `Desk(Memory)` or `Desk(Store)`, and nothing written, if the row is not decided; under
+// the disk assumption the desk then represents every base that it represented before, but a crash
+// may expose the row as committed. If the row is decided, fails with `Write` after a prefix of its
+// line, perhaps all of it, or with `Desk(Memory)` and nothing written.
 fn execute_row_and_write_line<W: Write, C: Clock, D: Rows>(
     alloc: Global,
     name: &BatchName,

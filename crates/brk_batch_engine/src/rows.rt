@@ -39,7 +39,7 @@ pub trait Rows {
     /// Holds if the desk represents this base.
     ghost represents: { Self.Desk → Base → Type 0 };
 
-    /// Holds if a crash exposes only one of these two bases.
+    /// Holds if a crash exposes one of these two bases and no other.
     ghost crash_exposes_only: { Self.Desk → Base → Base → Type 0 };
 
     /// Holds if a call at this timestamp, with a command under its key, may turn the first desk
@@ -66,8 +66,8 @@ pub trait Rows {
 
     /// Executes a command under its key at the clock reading `now`, and returns its answer.
     ///
-    /// Fails with `Memory` or `Store`. The desk then represents every base that it represented
-    /// before, but a crash may expose the command as committed.
+    /// Fails with `Memory` or `Store`. Under the disk assumption the desk then represents every
+    /// base that it represented before, but a crash may expose the command as committed.
     fn call(
         desk: &mut Self::Desk,
         alloc: Global,

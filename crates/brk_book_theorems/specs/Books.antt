@@ -91,7 +91,7 @@ HasDistinctMovementStamps done (m ∷ ms) =
 pub record MovementBooksInvariant (all_accounts : List Account) (last : Option ℕ) (done : List Trade) (all_movements : List Movement) : Type 0 where
   -- The account of each movement exists.
   pub holders : AllByRecursion (MovementAccountExists all_accounts) all_movements
-  -- None has a stamp after the last stamp, so the next cash row is the last one.
+  -- No movement has a stamp after the last stamp, so the cash row of the next command is the last.
   pub early : AllByRecursion (MovementStampIsAtMostLastStamp last) all_movements
   -- No movement shares its stamp with another movement or a completion, so the order of the cash
   -- rows is unique.
@@ -131,18 +131,20 @@ pub record AccountBooksInvariant (all_brokers : List Broker) (all_customers : Li
   -- The broker and the customer of each account exist.
   pub brokers : AllByRecursion (AccountBrokerExists all_brokers) all_accounts
   pub customers : AllByRecursion (AccountCustomerExists all_customers) all_accounts
-  -- No two accounts have one id, so each summary belongs to one account.
+  -- No two accounts have the same id, so each summary belongs to one account.
   pub owners : HasDistinctAccountIds all_accounts
-  -- An account has at most one permission for a tax id, so only this one decides on its executor.
+  -- An account has at most one permission for a tax id, so no other permission of the account
+  -- decides on an executor with this tax id.
   pub permissions : HasDistinctPermissions all_permissions
 
 -- The part of the books invariant that concerns securities and bands: no two securities have the
 -- same symbol, volumes are within the limit, the lower bound of each band is at most its upper
 -- bound, and no two bands overlap (`bands_overlap`).
 pub record SecurityBooksInvariant (all_securities : List Security) (all_bands : List Band) : Type 0 where
-  -- No two securities have one symbol, so a tick changes one last trade.
+  -- No two securities have the same symbol, so a tick changes at most one row of LAST_TRADE.
   pub symbols : HasDistinctSymbols all_securities
-  -- The volume of each is within the limit, so a feed is checked by the symbols of its ticks.
+  -- The volume of each security is within the limit, so a feed can exceed the limit only for the
+  -- symbols of its ticks.
   pub volumes : AllByRecursion HasVolumeWithinLimit all_securities
   -- The lower bound of each band is at most its upper bound.
   pub bands : AllByRecursion HasOrderedBounds all_bands
@@ -158,7 +160,7 @@ pub record TradeBooksInvariant (all_accounts : List Account) (all_securities : L
   pub securities : AllByRecursion (TradeSecurityExists all_securities) all_trades
   -- Trades are numbered from 1, in the order of their acceptance, so the next number is new.
   pub numbered : TradesAreNumberedFrom 1 all_trades
-  -- A pending trade has one status change in its history, so the next one is new.
+  -- A pending trade has one status change in its history, so its next status is new there.
   pub ways : AllByRecursion HasOneStatusChangeIfPending all_trades
   -- A submitted trade was never completed, so its completion is new in its history.
   pub completions : AllByRecursion HasNoCompletionIfSubmitted all_trades
@@ -170,7 +172,7 @@ pub record CompletionBooksInvariant (last : Option ℕ) (done : List Trade) : Ty
   -- No trade was completed after the last stamp, so the next completion is the last of its
   -- position.
   pub early : AllByRecursion (TradeStampIsAtMostLastStamp last) done
-  -- No two trades were completed at one stamp, so the order of a position's lots is unique.
+  -- No two trades were completed at the same stamp, so the order of a position's lots is unique.
   pub moments : HasDistinctLastStatusStamps done
   -- The last stamp, if there is one, is within the range of stamps.
   pub clock : IfSome last (λ last. last ≤ greatest_stamp)

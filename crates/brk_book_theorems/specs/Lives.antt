@@ -12,8 +12,8 @@ use Rattle.brk_lots.specs.HistoryRows.{touch_of_row}
 abbrev pub lot_changes_by_stamp : Tables → ℕ → List HoldingHistoryRow
 lot_changes_by_stamp t lot = sort_by (λ a b. nat_lt (stamp_of_touching_trade t a) (stamp_of_touching_trade t b)) (filter (λ h. h.lot == lot) t.holding_history)
 
--- The quantity of the lot `lot` in HOLDING, in shares, below 0 if it was sold short; 0 if the lot
--- has no row there.
+-- The quantity in the first row of HOLDING of the lot `lot`, in shares, below 0 if the lot was sold
+-- short; 0 if the lot has no row there.
 abbrev pub remaining_lot_quantity : Tables → ℕ → ℤ
 remaining_lot_quantity t lot = option_map_or (λ h. h.qty) (find (λ h. h.trade == lot) t.holdings) (pos 0)
 

@@ -13,12 +13,13 @@ use Rattle.brk_book_theorems.specs.TradeReads.{lots_of_position}
 
 -- ---- lookups
 
--- The last price of the symbol, in cents, or `None` if the symbol has no row of LAST_TRADE.
+-- The price in the first row of LAST_TRADE of the symbol, in cents, or `None` if the symbol has no
+-- such row.
 abbrev pub last_price_of_symbol : Tables → Text → Option ℕ
 last_price_of_symbol t symbol = option_map (λ r. r.price) (find (λ r. bytes_eq r.symbol symbol) t.last_trades)
 
--- The charge for the trade type `kind` and the customer tier `tier`, in cents, or `None` if there
--- is no such charge.
+-- The amount, in cents, of the first charge for the trade type `kind` and the customer tier `tier`,
+-- or `None` if there is no such charge.
 abbrev pub charge_of_type_and_tier : Tables → TradeType → ℕ → Option ℕ
 charge_of_type_and_tier t kind tier = option_map (λ r. r.amount) (find (λ r. is_same_trade_type r.kind kind && (r.tier == tier)) t.charges)
 
@@ -26,8 +27,9 @@ charge_of_type_and_tier t kind tier = option_map (λ r. r.amount) (find (λ r. i
 abbrev pub trade_id_in_last_row : Tables → Option ℕ
 trade_id_in_last_row t = option_map (λ r. r.id) (slice_get (reverse t.trades) 0)
 
--- The customer of the account `account` in the tables satisfies `holds`. Vacuous if the account or
--- its customer does not exist.
+-- The customer of the account `account` in the tables satisfies `holds`: the first row of CUSTOMER
+-- with the customer id of the first row of the account. Vacuous if the account or its customer does
+-- not exist.
 abbrev pub CustomerOfAccountSatisfies : Tables → ℕ → (Customer → Type 0) → Type 0
 CustomerOfAccountSatisfies t account holds = IfSome (account_row_with_id t account) (λ a. IfSome (find (λ r. r.id == a.customer) t.customers) holds)
 

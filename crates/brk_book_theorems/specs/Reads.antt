@@ -36,7 +36,7 @@ commission_bands_of_tier_type_and_exchange t tier kind exchange =
 abbrev pub overlaps_some_band : Tables → Band → Bool
 overlaps_some_band t b = list_any (bands_overlap b) (commission_bands_of_tier_type_and_exchange t b.tier b.kind b.exchange)
 
--- The row of the tax rate with the id `id`, or `None` if there is none.
+-- The first row of the tax rate with the id `id`, or `None` if there is none.
 abbrev pub tax_rate_with_id : Tables → ℕ → Option TaxRate
 tax_rate_with_id t id = tax_rate_with_id_in_list t.tax_rates id
 
@@ -44,8 +44,8 @@ tax_rate_with_id t id = tax_rate_with_id_in_list t.tax_rates id
 abbrev pub contains_tax_rate : Tables → ℕ → Bool
 contains_tax_rate t id = is_some (tax_rate_with_id t id)
 
--- The rate of the tax rate with the id `tax`, in hundred-thousandths, or `None` if there is no such
--- tax rate.
+-- The rate in the first row of the tax rate with the id `tax`, in hundred-thousandths, or `None` if
+-- there is no such tax rate.
 abbrev pub rate_of_tax_rate_with_id : Tables → ℕ → Option ℕ
 rate_of_tax_rate_with_id t tax = option_map (λ r. r.rate) (tax_rate_with_id t tax)
 

@@ -26,22 +26,24 @@ last_cash_row_number_or_zero t = unwrap_or (option_map (λ r. r.id) (slice_get (
 abbrev pub permissions_of_account : Tables → ℕ → List Permission
 permissions_of_account t account = filter (λ r. r.account == account) t.permissions
 
--- The permission of the account for the tax id `tax_id`, as a list of one element, or the empty
--- list if there is none.
+-- The first permission of the account for the tax id `tax_id`, as a list of one element, or the
+-- empty list if there is none.
 abbrev pub permission_list_for_tax_id : Tables → ℕ → Text → List Permission
 permission_list_for_tax_id t account tax_id = option_to_list (find (λ r. (r.account == account) && bytes_eq r.tax_id tax_id) t.permissions)
 
 -- The first commission band, in the order of the table, of the customer tier `tier`, the trade type
--- `kind` and the exchange `exchange` that contains the quantity `qty`, or `None` if there is none.
+-- `kind` and the exchange `exchange` that contains the quantity `qty`, both bounds included, or
+-- `None` if there is none.
 abbrev pub commission_band_of_quantity : Tables → ℕ → TradeType → Text → ℕ → Option Band
 commission_band_of_quantity t tier kind exchange qty =
     find (λ r. nat_le r.from_qty qty && nat_le qty r.to_qty) (commission_bands_of_tier_type_and_exchange t tier kind exchange)
 
--- The volume of the symbol in LAST_TRADE, in shares, or 0 if the symbol has no row there.
+-- The volume in the first row of LAST_TRADE of the symbol, in shares, or 0 if the symbol has no row
+-- there.
 abbrev pub volume_of_symbol : Tables → Text → ℕ
 volume_of_symbol t symbol = option_map_or (λ r. r.volume) (find (λ r. bytes_eq r.symbol symbol) t.last_trades) 0
 
--- The row of LAST_TRADE of the symbol, or `None` if there is none.
+-- The first row of LAST_TRADE of the symbol, or `None` if there is none.
 abbrev pub last_trade_row_of_symbol : Tables → Text → Option LastTradeRow
 last_trade_row_of_symbol t symbol = find (λ r. bytes_eq r.symbol symbol) t.last_trades
 
@@ -68,7 +70,7 @@ lot_of_row r = record { trade = r.trade; price = r.price; qty = r.qty; stamp = r
 abbrev pub lots_of_position : Tables → ℕ → Text → List Lot
 lots_of_position t account symbol = map lot_of_row (holding_rows_of_position t account symbol)
 
--- The row of HOLDING_SUMMARY of the account in the symbol, or `None` if there is none.
+-- The first row of HOLDING_SUMMARY of the account in the symbol, or `None` if there is none.
 abbrev pub summary_row_of_position : Tables → ℕ → Text → Option SummaryRow
 summary_row_of_position t account symbol = find (λ r. (r.account == account) && bytes_eq r.symbol symbol) t.summaries
 

@@ -55,7 +55,7 @@ pub fn results_preserve_books_invariant()
 {}
 
 /// Proves that an accepted deposit, an accepted withdrawal and an accepted command that sets the
-/// settlement day preserve the books invariant.
+/// first day of one-day settlement preserve the books invariant.
 pub fn movements_and_settlement_day_preserve_books_invariant()
     ensures deposit { (base : Base) (now account amount : ℕ) → PreservesBooksInvariant base now (DepositCash account amount) }
     ensures withdrawal { (base : Base) (now account amount : ℕ) → PreservesBooksInvariant base now (WithdrawCash account amount) }

@@ -26,7 +26,8 @@ ghost use Rattle.brk_book_theorems.specs.Movements.{tables_after_movement};
 ghost use Rattle.brk_book_theorems.specs.Results.{tables_after_result, result_rows_of_trade};
 ghost use Rattle.brk_book_theorems.specs.Trading.{tables_after_cancel, trade_ids_triggered_by_feed, tables_after_feed, tables_after_order};
 
-/// Proves that the tables of the empty base have no rows, no last stamp and no settlement day.
+/// Proves that the tables of the empty base have no rows, no last stamp and no first day of one-day
+/// settlement.
 pub fn empty_base_has_no_rows()
     ensures { sheets empty_base ≡ tables_without_rows }
 {}
@@ -105,9 +106,9 @@ pub fn movements_change_only_their_rows()
         (tables_after_movement base (withdrawal_movement (stamp_of_next_command base now) account amount)) }
 {}
 
-/// Proves, if the base satisfies the books invariant, that an accepted command that sets the
-/// settlement day changes only that day and the last stamp (`row`), and that the new day does not
-/// change the due day of a trade of the base that is already completed (`due_days`).
+/// Proves, if the base satisfies the books invariant, that an accepted command that sets the first
+/// day of one-day settlement changes only that day and the last stamp (`row`), and that the new day
+/// does not change the due day of a trade of the base that is already completed (`due_days`).
 pub fn settlement_day_changes_only_its_row()
     ensures row { (base : Base) (now day : ℕ) → HasTableEffect base now (SetOneDay day) (tables_with_settlement_day day) }
     ensures due_days { (base : Base) (now day : ℕ) → BooksInvariant base → refusal_of_command base now (SetOneDay day) ≡ None

@@ -35,9 +35,9 @@ ghost use Rattle.brk_book_theorems.specs.TradeReads.{holding_rows_of_position, p
 ghost use Rattle.brk_book_theorems.specs.TradeReads.{summary_row_if_nonzero, summary_quantity_or_zero, summary_row_of_position};
 ghost use Rattle.brk_book_theorems.specs.Trading.{trade_ids_triggered_by_tick};
 
-/// Proves that the row of a broker, a customer, an account or a tax rate with an id is the row of
-/// the base's record with this id, and that there is no such row if and only if the base has no
-/// such record.
+/// Proves that the first row of a broker, a customer, an account or a tax rate with an id is the
+/// row of the base's first record with this id, and that there is no such row if and only if the
+/// base has no such record.
 pub fn rows_by_id_match_records()
     ensures broker { (base : Base) (id : ℕ)
         → find (λ r. r.id == id) (sheets base).brokers ≡ option_map (broker_row base.accounts (completed_trades base)) (broker_with_id base id) }
@@ -47,10 +47,10 @@ pub fn rows_by_id_match_records()
     ensures tax_rate { (base : Base) (id : ℕ) → find (λ r. r.id == id) (sheets base).tax_rates ≡ tax_rate_record_with_id base id }
 {}
 
-/// Proves that the row with a key is the row of the base's record with this key, and that there is
-/// no such row if and only if the base has no such record. The key is the account and the tax id of
-/// a permission, the symbol of a security or a last trade, the trade type and the tier of a charge,
-/// and the customer and the tax rate of a customer's tax.
+/// Proves that the first row with a key is the row of the base's first record with this key, and
+/// that there is no such row if and only if the base has no such record. The key is the account and
+/// the tax id of a permission, the symbol of a security or a last trade, the trade type and the
+/// tier of a charge, and the customer and the tax rate of a customer's tax.
 pub fn rows_by_key_match_records()
     // Permissions by account and tax id.
     ensures permission { (base : Base) (account : ℕ) (tax_id : Text)
@@ -79,8 +79,8 @@ pub fn band_overlaps_match_the_base()
 {}
 
 /// Proves that the rates of a list of tax rates sum to the sum of a customer's tax rates in the
-/// tables, if the list has the tax rate of each tax that the customer pays, in the order of
-/// CUSTOMER_TAXRATE.
+/// tables, if the list has exactly the tax rates of the taxes that the customer pays, in the order
+/// of CUSTOMER_TAXRATE.
 pub fn tax_rates_sum_to_customer_rates()
     ensures { (t : Tables) (customer : ℕ) (taxes : List Tax)
         → map (λ tax. Some (abstract_tax_rate tax)) taxes ≡ map (λ r. tax_rate_with_id t r.tax) (filter (λ r. r.customer == customer) t.customer_taxes)
@@ -110,15 +110,15 @@ pub fn last_stamp_matches_the_base()
     ensures { (base : Base) → (sheets base).last ≡ base.last }
 {}
 
-/// Proves that the row of KEPT with a key is the row that the base stores under this key, and that
-/// there is no such row if and only if the base stores none.
+/// Proves that the first row of KEPT with a key is the first row that the base stores under this
+/// key, and that there is no such row if and only if the base stores none.
 pub fn stored_replies_match_the_base()
     ensures { (base : Base) (key : Key)
         → find (λ k. bytes_eq k.key.batch key.batch && (k.key.row == key.row)) (sheets base).kept ≡ stored_row_with_key base key }
 {}
 
-/// Proves that the row of TRADE with an id is the row of the base's trade with this id, and that
-/// there is no such row if and only if the base has no such trade.
+/// Proves that the first row of TRADE with an id is the row of the base's first trade with this id,
+/// and that there is no such row if and only if the base has no such trade.
 pub fn trade_rows_match_trades()
     ensures { (base : Base) (id : ℕ) → trade_row_with_id (sheets base) id ≡ option_map trade_row (trade_with_id base id) }
 {}

@@ -191,7 +191,7 @@ abbrev pub tables_with_last_stamp : ℕ → Tables → Tables
 tables_with_last_stamp stamp t = record t { last = Some stamp }
 
 -- The function that returns the tables after one typed row change: a row is inserted, updated or
--- deleted, or the settlement day or the last stamp is set.
+-- deleted, or the first day of one-day settlement or the last stamp is set.
 abbrev pub tables_after_change : Change → Tables → Tables
 tables_after_change (AddBroker broker) = tables_with_broker (abstract_broker broker)
 tables_after_change (AddCustomer customer) = tables_with_customer (abstract_customer customer)

@@ -52,7 +52,7 @@ pub enum Change {
     RemoveRequest(Id),
     /// Sets the last trade of a security that has one.
     SetLastTrade(LastTrade),
-    /// Sets in a trade's row the values of its completion.
+    /// Sets the status of a trade to `Completed`, and its stamp, price, commission and tax.
     CompleteTrade {
         trade: Id,
         stamp: Stamp,

@@ -11,8 +11,8 @@ pub enum Schema {
     First,
     /// Cash rows are numbered, and belong to a trade or are a deposit or a withdrawal (CASH_MOVE).
     Second,
-    /// In addition to the second: a settlement day can be set (SETTLE_RULE), and quantities are
-    /// larger.
+    /// In addition to the second: the first day of one-day settlement can be set (SETTLE_RULE), and
+    /// the limits of quantities are greater.
     Third,
 }
 
@@ -39,7 +39,8 @@ impl Schema {
         }
     }
 
-    /// Returns true if the schema has the table SETTLE_RULE, which stores the settlement day.
+    /// Returns true if the schema has the table SETTLE_RULE, which stores the first day of one-day
+    /// settlement.
     pub fn has_settle_rule_table(self) -> bool
         ensures { result ≡ (abstract_schema self).has_settle_rule_table }
     {
@@ -50,7 +51,7 @@ impl Schema {
     }
 
     /// Returns the greatest quantity, in shares, that the schema allows for a trade, a request and
-    /// a bound of a commission band.
+    /// a bound of a commission band: 9,999,999 for the third schema, otherwise 999,999.
     pub fn greatest_qty(self) -> u32
         ensures { result ≡ (abstract_schema self).greatest_qty }
     {
@@ -61,7 +62,7 @@ impl Schema {
     }
 
     /// Returns the greatest number of shares of a security that the schema allows an account to
-    /// hold or to be short of.
+    /// hold or to be short of: 9,999,999,999 for the third schema, otherwise 999,999,999.
     pub fn greatest_summary(self) -> u64
         ensures { result ≡ (abstract_schema self).greatest_summary }
     {

@@ -15,8 +15,8 @@ pub enum ProgramClock<'a, R> {
     Machine(&'a R),
 }
 
-/// Returns the stamp of a time of the machine: its whole milliseconds since 1970-01-01 UTC, 0 for
-/// an earlier time, or the greatest stamp for a time after this stamp.
+/// Returns the stamp of a time of the machine: its whole milliseconds since 1970-01-01 UTC, or the
+/// greatest stamp if the time is later than this stamp. No `SystemTime` is before 1970.
 pub fn stamp_of_system_time(time: SystemTime) -> Stamp
     ensures { result ≡ stamp_of_time time }
 {
@@ -29,8 +29,8 @@ pub fn stamp_of_system_time(time: SystemTime) -> Stamp
     }
 }
 
-// Reads the machine's clock and returns the stamp of its time, or 0 if the clock cannot be read. It
-// has no contract.
+// Reads the machine's clock and returns the stamp of its time, or 0 if the clock cannot be read or
+// is set before 1970. It has no contract.
 fn read_machine_clock<R: rt::Clock>(clock: &R) -> Stamp {
     match SystemTime::now(clock) {
         Ok(time) => stamp_of_system_time(time),
@@ -51,13 +51,13 @@ impl<'a, R: rt::Clock> ProgramClock<'a, R> {
     }
 }
 
-/// No contract specifies the time that the machine's clock has. If the clock cannot be read, the
-/// reading is 0.
+/// No contract specifies the time that the machine's clock has. If the clock cannot be read or is
+/// set before 1970, the reading is 0.
 impl<R: rt::Clock> Clock for ProgramClock<'_, R> {
     ghost gives = { ReturnsReading };
 
     /// Returns the fixed timestamp, or a reading of the machine's clock, which is 0 if this clock
-    /// cannot be read.
+    /// cannot be read or is set before 1970.
     fn now(&mut self) -> Stamp {
         match self {
             ProgramClock::At(stamp) => *stamp,

@@ -1,5 +1,5 @@
-//! The texts of commands: parsing the fields of a row, the row that is stored under a key, and the
-//! line of a reply.
+//! The texts of commands: parsing the fields of a row, the row that is stored under an idempotency
+//! key, and the line of a reply.
 #![tactic(auto)]
 
 pub mod command;

@@ -189,8 +189,8 @@ fn moved_reply_text(
     )
 }
 
-/// Returns the line of a reply, as it is stored under a key: its fields, the stamp first, joined by
-/// commas. Fails with `Memory` only.
+/// Returns the line of a reply, as it is stored under an idempotency key: its fields, the stamp
+/// first, joined by commas. Fails with `Memory` only.
 pub fn line_text(alloc: Global, reply: &Reply) -> Result<String, Fault>
     ensures line { IfOk result (λ line. string_bytes line ≡ model.line_text (abstract_reply reply.now)) }
     ensures fault { OnErr result (result ≡ Err Memory) }

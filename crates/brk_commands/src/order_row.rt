@@ -1,4 +1,4 @@
-//! The rows of orders, feeds, cancels and results, as they are stored under keys.
+//! The rows of orders, feeds, cancels and results, as they are stored under idempotency keys.
 #![tactic(auto, unfolding(brk_model::specs::Rows::row_fields))]
 
 ghost use Rattle.std.specs.Prelude.{◌≡◌, ◌∷◌, ◌++◌, [], IfOk, OnOk, codes, drop, string_bytes, take};

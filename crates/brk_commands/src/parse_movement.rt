@@ -21,8 +21,9 @@ fn parse_movement_command(direction: Direction, fields: &[&[u8]]) -> Result<Comm
     }
 }
 
-// Parses the command that sets the settlement day from the one field DAY of a row. Refuses a
-// malformed day, or a wrong number of fields, with `BadText`.
+// Parses the command that sets the settlement day (the first day whose completions settle after one
+// day) from the one field DAY of a row. Refuses a malformed day, or a wrong number of fields, with
+// `BadText`.
 fn parse_settlement_day_command(fields: &[&[u8]]) -> Result<Command, Refusal>
     ensures { ParsesAs abstract_command result (read_and_wrap SetOneDay read_settlement_day (texts_of_fields fields.now)) }
 {

@@ -1,4 +1,4 @@
-//! The rows of commands, as they are stored under keys.
+//! The rows of commands, as they are stored under idempotency keys.
 #![tactic(auto, unfolding(brk_model::specs::Rows::row_fields))]
 
 ghost use Rattle.std.specs.Prelude.{◌≡◌, IfOk, OnErr, Err, string_bytes};
@@ -143,8 +143,8 @@ fn customer_tax_row_text(alloc: Global, pays: &CustomerTax) -> Result<String, Al
     format!(in alloc; "custtax\x1f{}\x1f{}", pays.customer.get(), pays.tax.get())
 }
 
-/// Returns the row that adds a record of reference data, as it is stored under a key: its fields,
-/// the kind first, joined by byte 31. Fails if memory runs out.
+/// Returns the row that adds a record of reference data, as it is stored under an idempotency key:
+/// its fields, the kind first, joined by byte 31. Fails if memory runs out.
 pub fn reference_row_text(alloc: Global, reference: &Reference) -> Result<String, AllocError>
     ensures { IfOk result (λ row. string_bytes row ≡ model.row_text (books.command_adding_record reference.now)) }
 {
@@ -161,8 +161,8 @@ pub fn reference_row_text(alloc: Global, reference: &Reference) -> Result<String
     }
 }
 
-/// Returns the row of a command, as it is stored under a key: its fields, the kind first, joined by
-/// byte 31. Fails with `Memory` only.
+/// Returns the row of a command, as it is stored under an idempotency key: its fields, the kind
+/// first, joined by byte 31. Fails with `Memory` only.
 pub fn row_text(alloc: Global, command: &Command) -> Result<String, Fault>
     ensures row { IfOk result (λ row. string_bytes row ≡ model.row_text (abstract_command command.now)) }
     ensures fault { OnErr result (result ≡ Err Memory) }

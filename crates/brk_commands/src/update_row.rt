@@ -1,4 +1,4 @@
-//! The rows of text updates, as they are stored under keys.
+//! The rows of text updates, as they are stored under idempotency keys.
 #![tactic(auto, unfolding(brk_model::specs::Rows::row_fields))]
 
 ghost use Rattle.std.specs.Prelude.{◌≡◌, ◌∷◌, ◌++◌, IfOk, OnOk, decimal, string_bytes};
@@ -31,9 +31,9 @@ fn executor_update_row_text(alloc: Global, trades: &[Id]) -> Result<String, Allo
     Ok(row)
 }
 
-// Returns the row that updates the settlement texts of an account's trades between two stamps, as
-// it is stored under a key: `upcash`, the account and the two stamps, in milliseconds since
-// 1970-01-01 UTC, joined by byte 31. Fails if memory runs out.
+// Returns the row that updates the settlement texts of the first 20 completed trades of an account
+// between two stamps, both included, as it is stored under a key: `upcash`, the account and the two
+// stamps, in milliseconds since 1970-01-01 UTC, joined by byte 31. Fails if memory runs out.
 fn cash_type_update_row_text(alloc: Global, account: Id, span: Span) -> Result<String, AllocError>
     ensures { IfOk result (λ row. string_bytes row ≡ model.row_text (ChangeCashTypes account span.first span.last)) }
 {
@@ -45,9 +45,9 @@ fn cash_type_update_row_text(alloc: Global, account: Id, span: Span) -> Result<S
     )
 }
 
-// Returns the row that updates the cash texts of a symbol's trades between two stamps, as it is
-// stored under a key: `uptext`, the symbol and the two stamps, in milliseconds since 1970-01-01
-// UTC, joined by byte 31. Fails if memory runs out.
+// Returns the row that updates the cash texts of the first 20 completed cash trades of a symbol
+// between two stamps, both included, as it is stored under a key: `uptext`, the symbol and the two
+// stamps, in milliseconds since 1970-01-01 UTC, joined by byte 31. Fails if memory runs out.
 fn cash_name_update_row_text(
     alloc: Global,
     symbol: &Symbol,

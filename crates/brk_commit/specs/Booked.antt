@@ -24,12 +24,13 @@ abbrev pub RefinesStep : {S : Type 0} → Ghosts S → Held S → Held S → ℕ
 RefinesStep g old new now command key answer =
     (base : Base) → Represents g old base → (after : Base) × Represents g new after × (keyed_step base now command key ≡ (model_answer answer, after))
 
--- The store in the state `new` represents every base that it represents in the state `old`.
+-- The store in the state `new` represents every base that it represents in the state `old`. Vacuous
+-- if, in the state `new`, the disk assumption fails or the store is closed (`Represents`).
 abbrev pub PreservesRepresentation : {S : Type 0} → Ghosts S → Held S → Held S → Type 0
 PreservesRepresentation g old new = (base : Base) → Represents g old base → Represents g new base
 
 -- The base after the model executes `command` on `base` at the clock reading `now`, under `key` or
--- without one. It is `base` itself if the command is refused or repeated.
+-- without one. It is `base` itself if the command is refused or `key` was recorded before.
 abbrev pub base_after_keyed_command : Base → ℕ → Command → Option Key → Base
 base_after_keyed_command base now command key = (keyed_step base now command key).1
 
@@ -45,9 +46,10 @@ IsDiskContentAfterCommand g old now command key trees =
 -- store. At `Ok` the call refines the model's step for the command. A refusal, a stored reply or an
 -- error changes nothing in a store that is still open. A crash after the call exposes a state that
 -- a crash before it could expose, or the tables after the command; after `Done` only these tables.
--- An error is `Memory` or `Store`, and the command and its key are well-formed. The clauses on the
--- answer and on `Done` are vacuous if the disk assumption fails. `brk_store/specs/Holds.antt`
--- explains the terms of the clauses; `g` is the specification of the storage `S`.
+-- An error is `Memory` or `Store`. The command meets the formats that an audit checks, and its key
+-- is well-formed. The clauses with the premise `HasCleanDisk`, and the promise on crashes in
+-- `survives`, are vacuous if the disk assumption fails. `brk_store/specs/Holds.antt` explains the
+-- terms of the clauses; `g` is the specification of the storage `S`.
 pub record CommandPost {S : Type 0} (g : Ghosts S) (old new : Held S) (now : ℕ) (command : Command) (key : Option Key)
     (result : Result CommandAnswer Fault) : Type 0 where
   -- At `Ok` the call refines the model's step. Vacuous if the disk assumption fails.

@@ -17,7 +17,7 @@ use Rattle.brk_book_theorems.specs.Books.{BooksInvariant}
 -- `planned` is the result of the model for the estimate of `order`, for every base that satisfies
 -- the books invariant and has the tables `t`: an estimate equals the model's estimate, and the view
 -- of the query `EstimateOf` is one record with its fields; a refusal is the refusal of this query.
--- Vacuous if no such base has the tables `t`.
+-- Vacuous if no base that satisfies this invariant has the tables `t`.
 abbrev pub IsEstimateOfModel : Order → Result Estimate Refusal → Tables → Type 0
 IsEstimateOfModel order planned t =
     (base : Base) → BooksInvariant base → t ≡ sheets base

@@ -35,8 +35,8 @@ pub record CustomerOrderFactsMatchTables (t : Tables) (order : Order) (customer 
       ≡ option_map (λ b. b.rate) (commission_band_of_quantity t customer.tier (trade_type_of_order_type order.order_type) s.exchange order.qty))
 
 -- `assets` is the balance in the row `account` plus the market value of the account's holdings in
--- the tables `t`, in cents, and `shares` its number of shares of the security with the symbol
--- `symbol`, or `None` if it has no summary of the security.
+-- the tables `t`, in cents. `shares` is the account's number of shares of the security with the
+-- symbol `symbol`, or `None` if the account has no summary of the security.
 pub record AreAssetsAndSharesOfAccount (t : Tables) (account : AccountRow) (symbol : Text) (assets : ℤ) (shares : Option ℤ) : Type 0 where
   pub assets_total : assets ≡ account.balance +ℤ market_value_of_account t account.account.id
   pub shares_held : shares ≡ option_map (λ r. r.qty) (summary_row_of_position t account.account.id symbol)

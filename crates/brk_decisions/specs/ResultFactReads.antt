@@ -50,8 +50,9 @@ pub record SecurityFactsMatchTables (t : Tables) (trade : TradeRow) (tier : ℕ)
   pub name : listed.name ≡ row.name
   pub rate : listed.rate ≡ option_map (λ b. b.rate) (commission_band_of_quantity t tier trade.kind row.exchange trade.qty)
 
--- The facts `posting` for the cash row of a result agree with the tables `t`: the settlement day,
--- or `None` if none is set, and the number of the next cash row.
+-- The facts `posting` for the cash row of a result agree with the tables `t`: the first day of
+-- one-day settlement, or `None` if none is set, and the number of the next cash row: one more than
+-- the greatest number, or 1 if there is no cash row.
 pub record PostingFactsMatchTables (t : Tables) (posting : Posting) : Type 0 where
   pub rule : posting.rule ≡ t.rule
   pub next : posting.next ≡ last_cash_row_number_or_zero t + 1

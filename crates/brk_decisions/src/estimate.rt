@@ -22,11 +22,11 @@ use sqlite::Alter;
 use std::alloc::Global;
 
 // Plans the estimate of an order from the facts `found` in the tables and from `lots`, the lots of
-// the position: returns the estimate, or the refusal. If these lots form a position that other
-// trades opened, it reads at most 16 lots more than the order would close or reduce, also if it
-// fails. It reads no lot if it refuses the order or the order closes no held shares. Fails with
-// `Memory` or `Store` only; with `Store` also if one of the lots that it reads has no shares, or if
-// the number of lots read exceeds 32 bits.
+// the position: returns the estimate, or the refusal. Under the disk assumption, if these lots form
+// a position that other trades opened, it reads at most 16 lots more than the order would close or
+// reduce, also if it fails. It reads no lot if it refuses the order or the order closes no held
+// shares. Fails with `Memory` or `Store` only; with `Store` also if one of the lots that it reads
+// has no shares, or if the number of lots read exceeds 32 bits.
 fn plan_estimate_over_lots<S: Alter>(
     order: &Order,
     found: &OrderPlanFacts,
@@ -58,9 +58,10 @@ fn plan_estimate_over_lots<S: Alter>(
 
 /// Returns the estimated figures of an order, in cents (Trade-Order): its price, the buy and the
 /// sell value of the shares that it would close, the tax, the commission, the charge and the
-/// account's assets; or the refusal. They equal those of the model if the tables equal those of a
-/// base that satisfies the books invariant. If the database is still open, it is unchanged. A crash
-/// after the call exposes only states that a crash before the call could expose.
+/// account's assets; or the refusal. The figures and the refusal equal those of the model if the
+/// tables equal those of a base that satisfies the books invariant. If the database is still open,
+/// it is unchanged. A crash after the call exposes only states that a crash before the call could
+/// expose.
 ///
 /// Fails with `Memory` or `Store` only; with `Store` also if the account's customer or one of the
 /// customer's taxes does not exist, the tax rates total more than the greatest rate, a held symbol

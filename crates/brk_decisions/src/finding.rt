@@ -115,9 +115,9 @@ fn read_customer_facts<S: Alter>(
     })
 }
 
-// Returns the facts that decide on a new account: whether an account with its id, its customer and
-// its broker exist, and the number of accounts of its customer. If the database is still open, it
-// is unchanged. Fails with `Memory` or `Store` only.
+// Returns the facts that decide on a new account: whether an account with its id exists, whether
+// its customer and its broker exist, and the number of accounts of its customer. If the database is
+// still open, it is unchanged. Fails with `Memory` or `Store` only.
 fn read_account_facts<S: Alter>(
     alloc: Global,
     store: &mut Store<S>,

@@ -39,7 +39,7 @@ pub(crate) fn require_account<S: Alter>(store: &mut Store<S>, id: Id) -> Result<
 
 // Returns the totals of the broker with the id `id`: the number of its completed trades and their
 // commissions in cents. If the database is still open, it is unchanged. Fails with `Memory` or
-// `Store` only; with `Store` also if there is no such broker or a total is out of range.
+// `Store` only; with `Store` also if the broker does not exist or a total is out of range.
 pub(crate) fn require_broker_totals<S: Alter>(
     store: &mut Store<S>,
     id: Id,

@@ -1,4 +1,4 @@
-//! Decisions on the settlement day.
+//! Decisions on commands that set the first day of one-day settlement.
 
 ghost use Rattle.std.specs.Prelude.{IfErr};
 ghost use Rattle.brk_trade_theorems.specs.Decisions.{DecidesCommand};

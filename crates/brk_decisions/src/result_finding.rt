@@ -56,8 +56,8 @@ fn read_security_facts<S: Alter>(
     })
 }
 
-/// The facts for the cash row of a result: the settlement day, if one is set, and the number of the
-/// next cash row.
+/// The facts for the cash row of a result: the first day of one-day settlement, if one is set, and
+/// the number of the next cash row.
 #[derive(Clone, Copy)]
 pub struct Posting {
     /// The first day whose completions settle after one day (SR_DAY), in days since 1970-01-01, or
@@ -67,9 +67,9 @@ pub struct Posting {
     pub next: MoveId,
 }
 
-// Returns the settlement day, or `None` if none is set, and the number of the next cash row. If the
-// database is still open, it is unchanged. Fails with `Memory` or `Store` only; with `Store` also
-// if no number is left for a cash row.
+// Returns the first day of one-day settlement, or `None` if none is set, and the number of the next
+// cash row. If the database is still open, it is unchanged. Fails with `Memory` or `Store` only;
+// with `Store` also if no number is left for a cash row.
 fn read_posting_facts<S: Alter>(store: &mut Store<S>) -> Result<Posting, Fault>
     ensures read { ReadPost S.Store store.old store.new result (λ posting t. PostingFactsMatchTables t posting) }
     ensures fault { IfErr result IsCallFault }

@@ -132,10 +132,10 @@ fn read_commission_rate_of_order<S: Alter>(
     }
 }
 
-// Returns the facts that the checks of an order test, for an order of the customer `customer`,
-// whose account exists: the last price, whether the executor may order, the charge and the
-// commission rate, which may have any value if the security of the order does not exist. If the
-// database is still open, it is unchanged. Fails with `Memory` or `Store` only.
+// Returns the facts that the checks of an order test if its account exists and is of the customer
+// `customer`: the last price, whether the executor may order, the charge, and the commission rate.
+// The rate may have any value if the security of the order does not exist. If the database is still
+// open, it is unchanged. Fails with `Memory` or `Store` only.
 pub(crate) fn read_order_check_facts<S: Alter>(
     alloc: Global,
     store: &mut Store<S>,

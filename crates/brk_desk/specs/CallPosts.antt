@@ -112,8 +112,8 @@ CrashMayExposeDiskContent g old calls outcomes trees =
 -- The postcondition of a sequence of calls that were executed in order, from the state `old` to the
 -- state `new`. For every base that the store represented, the calls with their outcomes are a run
 -- of the model (`Run`), and the store represents the base after this run. The other clauses are on
--- the number and the faults of the outcomes, on an unchanged database, on crashes, and on
--- well-formed commands and keys.
+-- the number and the faults of the outcomes, on an unchanged database, on crashes, and on the
+-- formats of commands and keys.
 pub record RunPost {S : Type 0} (g : Ghosts S) (old new : Held S) (calls : List (ℕ × Call)) (outcomes : List Outcome) : Type 0 where
   -- There is exactly one outcome for each call.
   pub count : length outcomes ≡ length calls
@@ -142,15 +142,16 @@ pub record RunPost {S : Type 0} (g : Ghosts S) (old new : Held S) (calls : List 
       → CrashStatesSatisfy g new (HasAcknowledgedCommands base calls outcomes)
   -- If the disk assumption holds after the calls, it held before.
   pub clean : HasCleanDisk (state g new) → HasCleanDisk (state g old)
-  -- The commands and their keys are well-formed, as all values of their types are.
+  -- The commands meet the formats that an audit checks, and their keys are well-formed
+  -- (`CallMeetsAuditFormats`), as all values of their types are.
   pub well_formed : AllByRecursion CallMeetsAuditFormats (map model_call calls)
 
 -- After the calls from `base` the store represents some base `after` whose tables pass the audit of
 -- schema 3. The calls with their outcomes are a run of the model from `base` to `after`; the broker
--- totals, balances (with the opening balance) and summaries of `after` equal the sums over the
--- completed trades, cash rows and lots from which they are computed; and the row of each trade that
--- an accepted command `Complete` completed has the tax of its completion, on exactly the shares
--- that it closed (`IsRunWithSumsAndTaxes`).
+-- totals, balances (with the opening balance) and holding summaries of `after` equal the sums over
+-- the completed trades, cash rows and lots from which they are computed; and the row of each trade
+-- that an accepted command `Complete` completed has the tax of its completion, on exactly the
+-- shares that it closed (`IsRunWithSumsAndTaxes`).
 abbrev pub ReachesBasePassingAudit : {S : Type 0} → Ghosts S → Held S → Base → List (ℕ × Call) → List Outcome → Type 0
 ReachesBasePassingAudit g new base calls outcomes =
     (after : Base) × Represents g new after × PassesAudit third_schema (sheets after)

@@ -194,8 +194,8 @@ impl<S: Alter> Desk<S> {
     /// its rows pass this audit.
     ///
     /// Fails with `Damaged` and the first condition that fails, or with `Memory` or `Store`. Under
-    /// the disk assumption a desk that represents a base never returns `Damaged`. The rows and the
-    /// open database are unchanged, whatever the result.
+    /// the disk assumption a desk that represents a base never returns `Damaged`. The rows are
+    /// unchanged, and so is a database that is still open, whatever the result.
     ///
     /// A crash after the call exposes only states that a crash before the call could expose.
     ///
@@ -233,8 +233,9 @@ impl<S: Alter> Desk<S> {
     ///
     /// Fails with `Memory` or `Store` only; `Store` may also mean that a row that another row
     /// requires does not exist or, for a completed trade, that it or a trade that opened a lot of
-    /// which it closed shares has no price, or that the number or the sum of the account's earlier
-    /// cash rows overflows. If the database is still open, it is unchanged, whatever the result.
+    /// which it closed shares has no price, or that the number of the account's cash rows with
+    /// stamps before this trade's or the sum of their amounts overflows. If the database is still
+    /// open, it is unchanged, whatever the result.
     ///
     /// A crash after the call exposes only states that a crash before the call could expose.
     pub fn trade_details(&mut self, alloc: Global, trade: Id) -> Result<Option<TradeDetails>, Fault>
@@ -264,14 +265,14 @@ impl<S: Alter> Desk<S> {
 
     /// Returns the facts that the explanation of the holding of an account in a security reads: the
     /// rows of the account and of the security; the completed trades of the account in the
-    /// security; every lot that these trades opened, also if it was closed, each with its later
-    /// changes; the number of shares held, 0 if there is no holding summary; and the last price.
-    /// Refuses with `NoAccount` if the account does not exist, and with `NoSecurity` if the account
-    /// exists and the security does not.
+    /// security; every lot that these trades opened, also if it was closed, each with the changes
+    /// made after its opening; the number of shares held, 0 if there is no holding summary; and the
+    /// last price. Refuses with `NoAccount` if the account does not exist, and with `NoSecurity` if
+    /// the account exists and the security does not.
     ///
     /// Fails with `Memory` or `Store` only; `Store` may also mean that the security has no last
-    /// price, or that a later trade that changed one of these lots does not exist or has no price.
-    /// If the database is still open, it is unchanged, whatever the result.
+    /// price, or that a trade that changed one of these lots after its opening does not exist or
+    /// has no price. If the database is still open, it is unchanged, whatever the result.
     ///
     /// A crash after the call exposes only states that a crash before the call could expose.
     pub fn holding_details(
@@ -305,7 +306,8 @@ impl<S: Alter> Desk<S> {
     }
 
     /// Passes the completed trades of a broker's accounts to a visitor, sorted by the stamp of
-    /// completion, ascending. Returns `Ok` only after the visitor has taken the last trade.
+    /// completion, then by id, ascending. Returns `Ok` only after the visitor has taken the last
+    /// trade.
     ///
     /// Fails with `Cause` and the visitor's error, or with `Failed` and the fault `Memory` or
     /// `Store` after a prefix of the trades. If the database is still open, it is unchanged,
@@ -331,8 +333,8 @@ impl<S: Alter> Desk<S> {
     }
 
     /// Passes the cash rows of an account with stamps from `from` to `to`, both included, to a
-    /// visitor, sorted by stamp, ascending. Returns `Ok` only after the visitor has taken the last
-    /// row.
+    /// visitor, sorted by stamp, then by number (CM_ID), ascending. Returns `Ok` only after the
+    /// visitor has taken the last row.
     ///
     /// Fails with `Cause` and the visitor's error, or with `Failed` and the fault `Memory` or
     /// `Store` after a prefix of the rows. If the database is still open, it is unchanged, whatever
@@ -359,8 +361,8 @@ impl<S: Alter> Desk<S> {
             .visit_cash_rows::<E, V>(account, from, to, visitor)
     }
 
-    /// Passes the lots of an account to a visitor, sorted by symbol, then by opening stamp,
-    /// ascending. Returns `Ok` only after the visitor has taken the last lot.
+    /// Passes the lots of an account to a visitor, sorted by symbol, then by opening stamp, then by
+    /// trade, ascending. Returns `Ok` only after the visitor has taken the last lot.
     ///
     /// Fails with `Cause` and the visitor's error, or with `Failed` and the fault `Memory` or
     /// `Store` after a prefix of the lots. If the database is still open, it is unchanged, whatever
@@ -385,7 +387,8 @@ impl<S: Alter> Desk<S> {
     }
 
     /// Calls a closure with each cash row of an account with a stamp from `from` to `to`, both
-    /// included, sorted by stamp, ascending. Returns `Ok` only after the last row.
+    /// included, sorted by stamp, then by number (CM_ID), ascending. Returns `Ok` only after the
+    /// last row.
     ///
     /// Fails with the closure's first error, or with a fault (`Memory` or `Store`) as an error of
     /// type `E`, after a prefix of the rows. If the database is still open, it is unchanged,
@@ -411,7 +414,7 @@ impl<S: Alter> Desk<S> {
     }
 
     /// Calls a closure with each lot of an account and its symbol, sorted by symbol, then by
-    /// opening stamp, ascending. Returns `Ok` only after the last lot.
+    /// opening stamp, then by trade, ascending. Returns `Ok` only after the last lot.
     ///
     /// Fails with the closure's first error, or with a fault (`Memory` or `Store`) as an error of
     /// type `E`, after a prefix of the lots. If the database is still open, it is unchanged,

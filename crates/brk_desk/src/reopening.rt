@@ -29,8 +29,8 @@ ghost use Rattle.brk_store.specs.Holds.{CreatePost};
 use sqlite::Alter;
 
 /// Proves that recovery never reports damage: the adoption of a crash state does not fail with
-/// `Damaged`. This holds after a crash that follows a call or a run of a store that represented a
-/// base, if a crash before exposed only the tables of this base (`crash_after_call`,
+/// `Damaged`. This holds after a crash that follows a command or a run on a store that represented
+/// a base, if a crash before it exposed only the tables of this base (`crash_after_call`,
 /// `crash_after_run`); after a crash that follows an adoption of rows that pass their audit
 /// (`crash_after_adoption`); and after a crash that follows a creation, except for states that were
 /// possible before it (`crash_after_creation`). The adoption may fail with `Memory` or `Store`.
@@ -69,7 +69,7 @@ pub fn recovery_never_reports_damage<S: Alter>()
         → (state S.Store before).may_leave trees ⊎ FindsBaseWithoutDamage S.Store adopted result (λ base. base ≡ empty_base) }
     // Suppose that a store represents a base and that a crash exposes only the tables of this base
     // (`RepresentsDurableBase`), as after a creation or an adoption. After a crash that follows a
-    // call of this store, the adopted store represents the base before the command or the base
+    // command on this store, the adopted store represents the base before the command or the base
     // after it; after `Done` the latter, since a crash then exposes only its rows (`durable` of
     // `CommandPost`). A crash of the adopted store exposes only the tables of the base that it
     // represents, so this clause and the next one apply again after each further crash.

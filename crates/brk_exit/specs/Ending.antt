@@ -40,9 +40,9 @@ exit_status_of_report_fault (report.Desk fault) = exit_status_of_fault fault
 exit_status_of_report_fault report.Write = 3
 
 -- The exit status of an ending: 0 if the job is done or help was requested, 2 if the arguments are
--- wrong, 3 if a stream ended early, no stream could be accepted, the output could not be written,
--- also to a closed pipe, or memory ran out while the arguments were parsed, and otherwise the exit
--- status of the fault of the open, the batch or the report.
+-- wrong, 3 if a stream ended early, the port could not be opened, a stream could not be accepted,
+-- the output could not be written, also to a closed pipe, or memory ran out while the arguments
+-- were parsed, and otherwise the exit status of the fault of the open, the batch or the report.
 abbrev pub exit_status : Ending → ℕ
 exit_status ending.Done = 0
 exit_status (ending.Open fault) = exit_status_of_fault fault

@@ -18,7 +18,8 @@ use itoa::Buffer;
 pub enum Ending {
     /// The job is done, even if rows were refused.
     Done,
-    /// The database could not be opened as a desk's, or could not be closed.
+    /// The desk could not be opened, created or closed, or memory ran out before the request for a
+    /// view or an explanation was parsed.
     Open(Fault),
     /// The batch ended early.
     Batch(BatchFault),
@@ -26,9 +27,10 @@ pub enum Ending {
     Report(ReportFault),
     /// A stream of requests ended because memory ran out.
     Serve(ServeFault),
-    /// No stream could be accepted: the port is in use, or the machine allows no more streams.
+    /// The port could not be opened, for example because it is in use, or a stream could not be
+    /// accepted.
     Net,
-    /// The requested output could not be printed.
+    /// The help, the version, or the `ok` of an audit could not be written.
     Output,
     /// The reader of the explanation or the view closed its pipe before the end of the text.
     ClosedPipe,
@@ -99,9 +101,10 @@ fn report_exit_status(fault: &ReportFault) -> u8
 }
 
 // Returns the exit status of an ending: 0 if the job is done or help was requested, 2 if the
-// arguments are wrong, 3 if a stream ended early, no stream could be accepted, the output could not
-// be written, also to a closed pipe, or memory ran out while the arguments were parsed, and
-// otherwise the exit status of the fault of the open, the batch or the report.
+// arguments are wrong, 3 if a stream ended early, the port could not be opened, a stream could not
+// be accepted, the output could not be written, also to a closed pipe, or memory ran out while the
+// arguments were parsed, and otherwise the exit status of the fault of the open, the batch or the
+// report.
 fn ending_exit_status(ending: &Ending) -> u8
     ensures { result ≡ spec.exit_status ending.now }
 {

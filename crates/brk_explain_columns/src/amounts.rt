@@ -1,5 +1,4 @@
-//! Sums, differences and products of amounts. A result that overflows is the fault `Store`: no row
-//! of a store that passed its audit leads to one.
+//! Sums, differences and products of amounts. A result that overflows is the fault `Store`.
 
 ghost use Rattle.std.specs.Prelude.{◌≡◌, ◌*ℤ◌, ◌+ℤ◌, ◌-ℤ◌, IfErr, IfOk, pos};
 ghost use Rattle.brk_model.specs.Run.{IsCallFault};

@@ -34,10 +34,10 @@ fn put_cash_row_line(out: &mut Vec<u8>, row: &Option<MoveRow>) -> Result<(), Fau
 }
 
 /// Appends to `out` the lines of the cash row of a completed trade (`none` without one), of the
-/// opening balance, of the sum of the earlier cash rows, of the balance before the trade, of the
-/// amount of the cash row (0.00 without one), and of the balance after the trade. Fails with
-/// `Memory` or `Store`; with `Store` if a balance overflows. After an error a part of the lines may
-/// be appended.
+/// opening balance, of the sum of the account's cash rows before the completion of the trade, of
+/// the balance before the trade, of the amount of the cash row (0.00 without one), and of the
+/// balance after the trade. Fails with `Memory` or `Store`; with `Store` if a balance overflows.
+/// After an error a part of the lines may be appended.
 #[tactic(auto, unfolding(brk_explain_model::specs::TradeLines::trade_balance_lines))]
 pub(crate) fn put_balance_lines(
     alloc: Global,
@@ -64,7 +64,8 @@ pub(crate) fn put_balance_lines(
 
 // Appends to `out` the last line of the explanation of a completed trade, with the numbers of its
 // status changes (`statuses`), of the lots of which it closed shares (`lots`), and of the account's
-// earlier cash rows (`cash`). Fails with `Memory` only; a part of these bytes may then be appended.
+// cash rows before the completion of the trade (`cash`). Fails with `Memory` only; a part of these
+// bytes may then be appended.
 fn put_counts_line_of_trade(
     out: &mut Vec<u8>,
     statuses: usize,
@@ -82,8 +83,8 @@ fn put_counts_line_of_trade(
 
 /// Appends to `out` the last line of the explanation of the completed trade `order` with the
 /// results `details`: the numbers of its status changes, of the lots of which it closed shares, and
-/// of the account's earlier cash rows. Fails with `Memory` only; a part of the line may then be
-/// appended.
+/// of the account's cash rows before the completion of the trade. Fails with `Memory` only; a part
+/// of the line may then be appended.
 #[tactic(auto, unfolding(brk_explain_model::specs::TradeLines::counts_lines_of_trade))]
 pub(crate) fn put_counts_of_completed_trade(
     out: &mut Vec<u8>,

@@ -112,7 +112,7 @@ fn lot_closing_sequence_text(is_lifo: bool) -> &'static str
 }
 
 // Appends to `out` the lines of the terms of an order: its type, security, quantity and price,
-// whether it settles in cash or on margin, and the order in which it closes lots. Fails with
+// whether it settles in cash or on margin, and the sequence in which it closes lots. Fails with
 // `Memory` only; a part of the lines may then be appended.
 #[tactic(auto, unfolding(brk_explain_model::specs::TradeLines::order_terms_lines))]
 fn put_order_terms_lines(

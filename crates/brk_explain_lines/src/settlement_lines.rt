@@ -63,9 +63,9 @@ fn put_day_or_none_line(out: &mut Vec<u8>, label: &str, day: Option<Day>) -> Res
     }
 }
 
-/// Appends to `out` the lines of the day of completion of a trade, of the settlement day or `none`,
-/// of the number of days from completion to settlement, and of the due day. Fails with `Memory`
-/// only; a part of the lines may then be appended.
+/// Appends to `out` the lines of the day of completion of a trade, of the first day whose
+/// completions settle after one day, or `none`, of the number of days to settle by this day, and of
+/// the recorded due day. Fails with `Memory` only; a part of the lines may then be appended.
 #[tactic(auto, unfolding(brk_explain_model::specs::TradeLines::due_day_lines))]
 pub(crate) fn put_due_day_lines(
     out: &mut Vec<u8>,

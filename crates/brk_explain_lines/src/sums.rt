@@ -1,5 +1,4 @@
-//! The amounts of a completed trade. A sum that overflows is the fault `Store`: no row of a store
-//! that passed its audit leads to one.
+//! The amounts of a completed trade. A sum that overflows is the fault `Store`.
 
 ghost use Rattle.std.specs.Prelude.{◌≡◌, ◌*◌, IfErr, IfOk, map, neg_ℤ, pos, if◌then◌else◌};
 ghost use Rattle.brk_explain_model.specs.Trades as trades;

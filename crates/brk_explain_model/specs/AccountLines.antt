@@ -64,8 +64,8 @@ pub record PricedHolding : Type 0 where
   pub summary : SummaryRow
   pub price : ℕ
 
--- The market value of the holding `held`, in cents: its quantity times the last price, below 0 if
--- the shares were sold short.
+-- The market value of the holding `held`, in cents: its quantity times the last price, never above
+-- 0 if the shares were sold short.
 abbrev pub market_value_of_holding : PricedHolding → ℤ
 market_value_of_holding held = held.summary.qty *ℤ pos held.price
 

@@ -48,9 +48,9 @@ lot_opening_line lot =
     leading_row_columns (codes "Lot") (timestamp_text lot.trade.stamp) lot.trade.id lot.opened (completion_price_or_zero lot.trade)
     ++ value_column (lot.opened *ℤ pos (completion_price_or_zero lot.trade))
 
--- The line of the change `c` of a lot that was opened at `price`: the word `Change`, the timestamp
--- and the id of the trade that changed it, the change of the quantity, the price of that trade, the
--- realised gain, and the quantity of the lot after the change.
+-- The line of the change `c` of a lot that was opened at `price`, which is given in cents: the word
+-- `Change`, the timestamp and the id of the trade that changed it, the change of the quantity, the
+-- price of that trade, the realised gain, and the quantity of the lot after the change.
 unfoldable pub lot_change_line : ℕ → LotChange → Text
 lot_change_line price c =
     leading_row_columns (codes "Change") (timestamp_text c.stamp) c.trade (c.after -ℤ c.before) c.price ++ value_column (realised_gain_of_change price c)
@@ -64,11 +64,12 @@ lot_remainder_line lot =
     leading_row_columns (codes "Left") blank_timestamp_text lot.trade.id (remaining_quantity_of_lot lot) (completion_price_or_zero lot.trade)
     ++ value_column (remaining_cost_of_lot lot)
 
--- A line for each of the later `changes` of a lot that was opened at `price`.
+-- A line for each of the `changes` of a lot that was opened at `price`, by trades other than the
+-- trade that opened it.
 abbrev pub lot_change_lines : ℕ → List LotChange → List Text
 lot_change_lines price changes = map (lot_change_line price) changes
 
--- The lines of `lot`: its opening, each later change, and its remaining shares.
+-- The lines of `lot`: its opening, each change by another trade, and its remaining shares.
 unfoldable pub lot_history_lines : LotDetails → List Text
 lot_history_lines lot = lot_opening_line lot ∷ lot_change_lines (completion_price_or_zero lot.trade) lot.changes ++ lot_remainder_line lot ∷ []
 
@@ -90,8 +91,9 @@ holding_value_lines shares price cost =
     ∷ labeled_amount (codes "Unrealised gain") (shares *ℤ pos price -ℤ cost)
     ∷ []
 
--- The last line of the explanation of a holding: the numbers of its trades, of its lots, of its
--- lots that are not fully closed, and of the later changes of its lots.
+-- The last line of the explanation of a holding: the numbers of its completed trades, of its lots,
+-- of its lots that are not fully closed, and of the changes of its lots by other trades than those
+-- that opened them.
 abbrev pub holding_counts_line : ℕ → ℕ → ℕ → ℕ → Text
 holding_counts_line trades lots open_count changes =
     codes "Trades " ++ decimal trades ++ codes ", lots " ++ decimal lots ++ codes ", open lots " ++ decimal open_count ++ codes ", changes " ++ decimal changes

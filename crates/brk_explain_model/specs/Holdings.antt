@@ -25,8 +25,9 @@ signed_quantity_of_trade u = signed_by_side (side_of_trade_type u.kind) u.qty
 abbrev pub signed_value_of_trade : TradeRow → ℤ
 signed_value_of_trade u = signed_quantity_of_trade u *ℤ pos (completion_price_or_zero u)
 
--- A change of a lot by a later trade: the id of that trade, with its stamp and its price, in cents,
--- and the lot's quantity before and after the change, below 0 if it was sold short.
+-- A change of a lot by another trade than the one that opened it: the id, the stamp and the price,
+-- in cents, of the trade that changed the lot, and the lot's quantity before and after the change,
+-- below 0 if it was sold short.
 pub record LotChange : Type 0 where
   pub trade : ℕ
   pub stamp : ℕ
@@ -63,7 +64,7 @@ abbrev pub realised_gain_of_change : ℕ → LotChange → ℤ
 realised_gain_of_change price c = (c.before -ℤ c.after) *ℤ (pos c.price -ℤ pos price)
 
 -- A lot that a completed trade opened: the trade, the quantity that it opened, below 0 if it sold
--- short, and the changes by later trades.
+-- short, and the changes of the lot by other trades.
 pub record LotDetails : Type 0 where
   pub trade : TradeRow
   pub opened : ℤ
@@ -74,7 +75,7 @@ abbrev pub quantity_opened_by_trade : Tables → ℕ → ℤ
 quantity_opened_by_trade tables trade = option_map_or (λ row. row.after) (opened_lot_row tables trade) (pos 0)
 
 -- The lot that the trade `u` opened: the trade, the opened quantity (0 if the trade opened no lot),
--- and the changes of the lot by later trades.
+-- and the changes of the lot by other trades.
 abbrev pub lot_with_later_changes : Tables → TradeRow → LotDetails
 lot_with_later_changes tables u = record { trade = u; opened = quantity_opened_by_trade tables u.id; changes = later_changes_of_lot tables u.id }
 
@@ -90,7 +91,7 @@ abbrev pub remaining_quantity_of_lot : LotDetails → ℤ
 remaining_quantity_of_lot lot = unwrap_or (last_or None (map (λ c. c.after) lot.changes)) lot.opened
 
 -- The cost basis of the remaining shares of `lot`, in cents: their quantity times the price at
--- which they were opened, below 0 if they were sold short.
+-- which they were opened, never above 0 if they were sold short.
 abbrev pub remaining_cost_of_lot : LotDetails → ℤ
 remaining_cost_of_lot lot = remaining_quantity_of_lot lot *ℤ pos (completion_price_or_zero lot.trade)
 
@@ -108,11 +109,11 @@ abbrev pub realised_gain_in_symbol : Tables → ℕ → Text → ℤ
 realised_gain_in_symbol tables account symbol = realised_gain_of_lots (lots_opened_in_symbol tables account symbol)
 
 -- The cost basis of the remaining shares of `lots`, in cents: the sum of their quantities times
--- their opening prices, below 0 for shares that were sold short.
+-- their opening prices, never above 0 for shares that were sold short.
 abbrev pub remaining_cost_of_lots : List LotDetails → ℤ
 remaining_cost_of_lots lots = total_by remaining_cost_of_lot lots
 
--- The number of the changes of all `lots` by later trades.
+-- The number of the changes of all `lots` by other trades than those that opened them.
 abbrev pub count_of_lot_changes : List LotDetails → ℕ
 count_of_lot_changes lots = length (flat_map (λ lot. lot.changes) lots)
 

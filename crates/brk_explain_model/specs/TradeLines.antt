@@ -99,8 +99,9 @@ trigger_condition_text LimitSell price = codes "a tick at or above " ++ nonnegat
 trigger_condition_text MarketBuy price = codes "a cancel"
 trigger_condition_text MarketSell price = codes "a cancel"
 
--- The text of the event that a trade waits for, by its status: its trigger if it is pending, a
--- result if it is submitted, and otherwise `nothing`.
+-- The text of the event that a trade waits for, by its status: if it is pending, the tick at which
+-- it is submitted (`a cancel` for a market type); if it is submitted, `a result`; and otherwise
+-- `nothing`. `price` is given in cents.
 abbrev pub awaited_event_text : Status → TradeType → ℕ → Text
 awaited_event_text Pending kind price = trigger_condition_text kind price
 awaited_event_text Submitted kind price = codes "a result"
@@ -121,17 +122,18 @@ uncompleted_trade_lines o =
 
 -- ---- a completed trade
 
--- The line of the closing `c` by a trade on `side` at `price`: the word `Closed`, the timestamp and
--- the id of the trade that opened the lot, the number of closed shares, the lot's price, the buy
--- value and the sell value of these shares, and the lot's quantity after the closing.
+-- The line of the closing `c` by a trade on `side` at `price`, which is given in cents: the word
+-- `Closed`, the timestamp and the id of the trade that opened the lot, the number of closed shares,
+-- the lot's price, the buy value and the sell value of these shares, and the lot's quantity after
+-- the closing.
 unfoldable pub closed_lot_line : Side → ℕ → Closing → Text
 closed_lot_line side price c =
     leading_row_columns (codes "Closed") (timestamp_text c.stamp) c.lot (pos (shares_of_closing c)) c.price
     ++ value_column (pos (buy_value_of_closing side price c))
     ++ value_column (pos (sell_value_of_closing side price c)) ++ shares_column c.after
 
--- The line of the lot that the trade `u` opened at `price`: the word `Opened`, the timestamp and
--- the id of the trade, the quantity and the price.
+-- The line of the lot that the trade `u` opened at `price`, which is given in cents: the word
+-- `Opened`, the timestamp and the id of the trade, the quantity and the price.
 unfoldable pub opened_lot_line : TradeRow → ℕ → HoldingHistoryRow → Text
 opened_lot_line u price row = leading_row_columns (codes "Opened") (timestamp_text u.stamp) u.id row.after price
 
@@ -205,8 +207,8 @@ band_unit_and_bounds_text b = codes " of 10000 for " ++ decimal b.from_qty ++ co
 unfoldable pub band_tier_and_exchange_text : Band → Text
 band_tier_and_exchange_text b = codes ", tier " ++ decimal b.tier ++ codes ", " ++ b.exchange
 
--- The line of the current commission band: its rate in ten-thousandths, its quantities, its tier
--- and its exchange, or `none` if there is no band.
+-- The line of the current commission band: its rate in ten-thousandths, its least and greatest
+-- quantity, its tier and its exchange, or `none` if there is no band.
 unfoldable pub commission_band_line : Option Band → Text
 commission_band_line None = labeled_value (codes "Band now") (codes "none")
 commission_band_line (Some b) = labeled_number (codes "Band now") b.rate ++ band_unit_and_bounds_text b ++ band_tier_and_exchange_text b
@@ -233,8 +235,8 @@ trade_settlement_lines o r =
     ∷ labeled_text (codes "Cash type") r.settlement.cash_type
     ∷ []
 
--- The lines of the day of completion, of the first day with one-day settlement (the settlement day)
--- or `none`, of the number of days to settle, and of the due day.
+-- The lines of the day of completion, of the first day of one-day settlement (`none` if it is not
+-- set), of the number of days to settle by this day, and of the recorded due day.
 unfoldable pub due_day_lines : OrderDetails → ResultDetails → List Text
 due_day_lines o r =
     labeled_text (codes "Completed on") (day_text (day_of o.trade.stamp))

@@ -1,5 +1,5 @@
 -- The facts that the explanation of a trade reads from the tables, and the amounts that follow from
--- them. The tables are read in the order of their keys.
+-- them. The rows of each table are supposed to be sorted by key, ascending.
 use Rattle.std.specs.Prelude.{ℕ, ◌*◌, Bool, not, ◌&&◌, ◌==◌, nat_le, nat_lt, if◌then◌else◌, List, [], map, filter, find, flat_map, reverse, sum_by, length}
 use Rattle.std.specs.Prelude.{Option, Some, None, unwrap_or, option_to_list, ℤ, pos, nat_abs, ◌+ℤ◌, ◌-ℤ◌, bytes_eq}
 use Rattle.std.specs.Option.{option_map, option_map_or}
@@ -49,8 +49,8 @@ pub record Closing : Type 0 where
 -- The results of a completed trade: its price, in cents; its closings, in the order of closing; the
 -- HOLDING_HISTORY row of the lot that it opened, if any; the current tax rates of its customer and
 -- its current commission band, if any; its settlement; its cash row, if any; the sum, in cents, and
--- the number of the account's cash rows before its completion; and the current settlement day
--- (`rule`).
+-- the number of the account's cash rows before its completion; and the current first day of one-day
+-- settlement, if one is set (`rule`).
 pub record ResultDetails : Type 0 where
   pub price : ℕ
   pub closings : List Closing
@@ -138,8 +138,8 @@ abbrev pub tax_rates_of_customer : Tables → ℕ → List TaxRate
 tax_rates_of_customer tables customer =
     flat_map (λ x. option_to_list (find (λ r. r.id == x.tax) tables.tax_rates)) (filter (λ x. x.customer == customer) tables.customer_taxes)
 
--- The first commission band of `tier`, of the type of the trade `u` and of `exchange` whose bounds
--- contain the quantity of the trade, or none.
+-- The first commission band of `tier`, of the type of the trade `u` and of `exchange` whose bounds,
+-- both included, contain the quantity of the trade, or none.
 abbrev pub band_for_tier_and_exchange : Tables → TradeRow → ℕ → Text → Option Band
 band_for_tier_and_exchange tables u tier exchange =
     find (λ b. (b.tier == tier) && is_same_trade_type b.kind u.kind && bytes_eq b.exchange exchange && nat_le b.from_qty u.qty
@@ -265,8 +265,8 @@ withheld_tax_of_trade o = if is_withholding_status o.tax_status then o.trade.tax
 abbrev pub balance_change_of_trade : ResultDetails → ℤ
 balance_change_of_trade r = option_map_or (λ row. row.amount) r.cash (pos 0)
 
--- The balance before the completion of the trade, in cents: the opening balance plus the sum of the
--- account's cash rows before the completion.
+-- The balance before the completion of the trade, in cents: the opening balance plus the amounts of
+-- the account's cash rows before the completion.
 abbrev pub balance_before_trade : OrderDetails → ResultDetails → ℤ
 balance_before_trade o r = o.opening +ℤ r.cash_before
 
@@ -275,7 +275,7 @@ balance_before_trade o r = o.opening +ℤ r.cash_before
 abbrev pub balance_after_trade : OrderDetails → ResultDetails → ℤ
 balance_after_trade o r = balance_before_trade o r +ℤ balance_change_of_trade r
 
--- The number of days from the completion of the trade to its settlement, 1 or 2, by the current
--- settlement day.
+-- The number of days from the completion of the trade to its settlement: 1 if the current first day
+-- of one-day settlement is set and not later than the day of completion, otherwise 2.
 abbrev pub days_to_settle_trade : OrderDetails → ResultDetails → ℕ
 days_to_settle_trade o r = days_to_settlement r.rule (day_of o.trade.stamp)

@@ -61,16 +61,17 @@ AreTaxRatesAndBand t order terms =
     (find (λ c. c.id == order.account.account.customer) t.customers) (Some (abstract_security_row order.security)))
 
 -- `settled` has the row of SETTLEMENT of `trade` (a row of zeros if there is none), the trade's
--- cash row, if any, and the settlement day of the tables `t`, if any.
+-- cash row, if any, and the first day of one-day settlement in the tables `t`, if one is set.
 abbrev pub IsSettlementAndCashOfTrade : Tables → ℕ → SettlementAndCash → Type 0
 IsSettlementAndCashOfTrade t trade settled =
     (abstract_settlement_row settled.settlement ≡ settlement_of_trade_or_zeros t trade)
     × (option_map abstract_move_row settled.cash ≡ find (is_cash_row_of_trade trade) t.moves) × (settled.rule ≡ t.rule)
 
 -- `details` has the results of the trade of `order` in the tables `t`: the trade's price, closings,
--- opened lot, settlement and cash row, the number and the sum of the account's earlier cash rows,
--- the current tax rates and commission band, and the settlement day. Vacuous if `order` does not
--- have the rows and status changes of its trade in these tables (`IsOrderOfTrade`).
+-- opened lot, settlement and cash row, the number of the account's cash rows with stamps before the
+-- trade's and the sum of their amounts, the current tax rates and commission band, and the first
+-- day of one-day settlement. Vacuous if `order` does not have the rows and status changes of its
+-- trade in these tables (`IsOrderOfTrade`).
 abbrev pub IsResultOfOrder : OrderDetails → ResultDetails → Tables → Type 0
 IsResultOfOrder order details t =
     IsOrderOfTrade order.trade order t → abstract_result_details details ≡ result_details_of_trade t (abstract_trade_row order.trade)

@@ -57,8 +57,8 @@ impl Visitor<MoveRow, Fault> for EarlierCashSum {
     ghost stops = { λ _ _ e _. e ≡ Store };
 
     /// If the stamp of the cash row is before `until`, counts the row and adds its amount to the
-    /// total; otherwise does nothing. Fails with `Store`, and changes nothing, if the number or the
-    /// total overflows.
+    /// total; otherwise does nothing. Fails with `Store`, and changes nothing (no clause states
+    /// this), if the number or the total overflows.
     fn visit(&mut self, item: &MoveRow) -> Result<(), Fault> {
         if item.stamp.get() < self.until.get() {
             self.sum = cash_sum_with_row(&self.sum, item.amount)?;
@@ -71,8 +71,8 @@ impl Visitor<MoveRow, Fault> for EarlierCashSum {
     ghost transitive = { λ _ _ _ _ _. tt };
 }
 
-// Returns the fault for a failed walk: `Memory` if the walk ran out of memory, otherwise `Store`,
-// also if the visitor stopped the walk.
+// Returns the fault for a failed walk: `Memory` if the walk failed with `Memory`, otherwise
+// `Store`, also if the visitor stopped the walk.
 fn fault_of_failed_walk(stop: WalkError<Fault>) -> Fault
     ensures { IsCallFault result }
 {

@@ -1,4 +1,5 @@
-//! The changes of a lot by other trades, and the change with which it was opened.
+//! The change with which a lot was opened, and the changes of the lot by trades other than the one
+//! that opened it.
 
 ghost use Rattle.std.specs.Prelude.{◌≡◌, ◌==◌, ◌++◌, ◌∷◌, [], Err, IfErr, IfOk, OnErr, OnOk, filter, find, map, not, option_map};
 ghost use Rattle.brk_changes.specs.Rows.{abstract_lot_change_row};
@@ -19,7 +20,7 @@ use brk_store::Store;
 use sqlite::Alter;
 use std::alloc::Global;
 
-/// The changes of a lot: its opening, and the changes by other trades.
+/// The changes of a lot: its opening, and the changes by trades other than the one that opened it.
 #[derive(Drop)]
 pub struct OpeningAndLaterChanges {
     /// The change with which the lot was opened, or `None` if there is none.

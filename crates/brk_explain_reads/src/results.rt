@@ -16,15 +16,15 @@ use sqlite::Alter;
 use std::alloc::Global;
 
 // Returns the results of the completed trade of `order`: the trade's price, closings, opened lot,
-// settlement and cash row, the number of the account's earlier cash rows and the sum of their
-// amounts, the current tax rates and commission band, and the settlement day. The results are
-// specified only if `order` has the rows and the status changes of its trade. If the database is
-// still open, it is unchanged.
+// settlement and cash row, the number of the account's cash rows with stamps before the trade's and
+// the sum of their amounts, the current tax rates and commission band, and the first day of one-day
+// settlement. The results are specified only if `order` has the rows and the status changes of its
+// trade. If the database is still open, it is unchanged.
 //
 // Fails with `Memory` or `Store`; with `Store` also if the account's customer, one of the
 // customer's taxes, the trade's settlement or a trade that opened the lot of a closing does not
 // exist, if the trade or a trade that opened the lot of a closing has no price, or if the number of
-// the earlier cash rows or the sum of their amounts overflows.
+// these cash rows or the sum of their amounts overflows.
 pub(crate) fn read_result_of_trade<S: Alter>(
     alloc: Global,
     store: &mut Store<S>,

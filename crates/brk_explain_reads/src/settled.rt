@@ -11,7 +11,7 @@ use brk_money::{Day, Fault, Id};
 use brk_store::Store;
 use sqlite::Alter;
 
-/// The settlement and the cash row of a trade, and the settlement day.
+/// The settlement and the cash row of a trade, and the first day of one-day settlement.
 #[derive(Drop)]
 pub struct SettlementAndCash {
     pub settlement: SettlementRow,
@@ -21,10 +21,10 @@ pub struct SettlementAndCash {
     pub rule: Option<Day>,
 }
 
-// Returns the settlement and the cash row of the trade with the id `trade`, and the settlement day;
-// the cash row is `None` if the trade has none, and the settlement day if none is set. If the
-// database is still open, it is unchanged. Fails with `Memory` or `Store`; with `Store` also if the
-// trade has no settlement.
+// Returns the settlement and the cash row of the trade with the id `trade`, and the first day of
+// one-day settlement; the cash row is `None` if the trade has none, and the day is `None` if none
+// is set. If the database is still open, it is unchanged. Fails with `Memory` or `Store`; with
+// `Store` also if the trade has no settlement.
 pub(crate) fn read_settlement_and_cash<S: Alter>(
     store: &mut Store<S>,
     trade: Id,

@@ -30,8 +30,9 @@ fn is_completed(trade: &TradeRow) -> bool
 /// Fails with `Memory` or `Store` only; with `Store` also if the trade's account or security does
 /// not exist. For a completed trade it fails with `Store` also if the account's customer, one of
 /// the customer's taxes, the trade's settlement or a trade that opened a lot of which this trade
-/// closed shares does not exist, if this trade or such a trade has no price, or if the number of
-/// the account's earlier cash rows or the sum of their amounts overflows.
+/// closed shares does not exist, if this trade or a trade that opened one of these lots has no
+/// price, or if the number of the account's cash rows with stamps before this trade's or the sum of
+/// their amounts overflows.
 ///
 /// If the database is still open, it is unchanged, whatever the result. A crash after the call
 /// exposes only states that a crash before the call could expose.

@@ -27,8 +27,8 @@ use Rattle.brk_explain_rows.specs.declared.details.TradeDetails as trade_details
 abbrev pub abstract_closing : closing.Closing → Closing
 abstract_closing c = record { lot = c.lot; stamp = c.stamp; price = c.price; before = c.before; after = c.after }
 
--- The model's facts of a trade as ordered that have the values of the typed facts `o`: of its
--- trade, account and security, and its status changes, in the same order.
+-- The model's facts of a trade as ordered that have the values of the typed facts `o`: the trade,
+-- values of its account, the name of its security, and its status changes, in the order of `o`.
 abbrev pub abstract_order_details : order_details.OrderDetails → OrderDetails
 abstract_order_details o = record {
   trade = abstract_trade_row o.trade;
@@ -79,11 +79,11 @@ AreDetailsOfAccount account None t = account_row_with_id t account ≡ None
 AreDetailsOfAccount account (Some s) t =
     (account_row_with_id t account ≡ Some (abstract_account_row s.account)) × (map abstract_priced_holding s.held.items ≡ priced_holdings_of_account t account)
 
--- The model's change of a lot by a later trade that has the values of the typed change `c`.
+-- The model's change of a lot that has the values of the typed change `c`.
 abbrev pub abstract_priced_lot_change : priced_lot_change.PricedLotChange → LotChange
 abstract_priced_lot_change c = record { trade = c.trade; stamp = c.stamp; price = c.price; before = c.before; after = c.after }
 
--- The model's lot with its later changes that has the values of the typed lot `l`.
+-- The model's lot, with its changes after the opening, that has the values of the typed lot `l`.
 abbrev pub abstract_lot_details : lot_details.LotDetails → LotDetails
 abstract_lot_details l = record { trade = abstract_trade_row l.trade; opened = l.opened; changes = map abstract_priced_lot_change l.changes.items }
 

@@ -1,6 +1,7 @@
 use brk_ref::BrokerRow;
 
-/// The facts that the explanation of a broker reads, except for the trades that it walks.
+/// The facts that the explanation of a broker reads, except for the completed trades, which are
+/// read row by row.
 #[derive(Drop)]
 pub struct BrokerDetails {
     pub broker: BrokerRow,

@@ -17,20 +17,20 @@ pub struct OrderDetails {
 #[derive(Drop)]
 pub struct ResultDetails {
     pub price: Price,
-    /// The lots of which it closed shares, in the order of closing.
+    /// The lots of which the trade closed shares, in the order of closing.
     pub closings: Vec<Closing>,
     /// The change with which the trade opened a lot, or `None` if it opened none.
     pub own_lot: Option<LotChange>,
-    /// The tax rates of its customer, as they are now.
+    /// The tax rates of the trade's customer, as they are now.
     pub rates: Vec<Tax>,
     /// The commission band of the trade, as it is now, if there is one.
     pub band: Option<Band>,
     pub settlement: SettlementRow,
-    /// Its cash row, if it has one.
+    /// The cash row of the trade, if it has one.
     pub cash: Option<MoveRow>,
-    /// The sum of the account's cash rows before its completion, in cents.
+    /// The sum of the account's cash rows before the completion of the trade, in cents.
     pub cash_before: Wide,
-    /// The number of the account's cash rows before its completion.
+    /// The number of the account's cash rows before the completion of the trade.
     pub cash_rows: u64,
     /// The first day whose completions settle after one day, as it is now.
     pub rule: Option<Day>,

@@ -2,7 +2,8 @@ use brk_changes::TradeRow;
 use brk_money::{Id, Price, Stamp};
 use brk_ref::{AccountRow, Security};
 
-/// A change of a lot by a later trade. The quantities are below 0 if the lot was sold short.
+/// A change of a lot by a trade after the one that opened the lot. The quantities are below 0 if
+/// the lot was sold short.
 #[derive(Clone, Copy)]
 pub struct PricedLotChange {
     /// The trade that changed the lot.
@@ -20,9 +21,9 @@ pub struct PricedLotChange {
 pub struct LotDetails {
     /// The trade that opened the lot.
     pub trade: TradeRow,
-    /// The number of shares that it opened, below 0 if it sold short.
+    /// The number of shares that the trade opened, below 0 if it sold short.
     pub opened: i64,
-    /// The changes of the lot by later trades, in the order of their completion.
+    /// The changes of the lot by trades after that one, in the order of their completion.
     pub changes: Vec<PricedLotChange>,
 }
 

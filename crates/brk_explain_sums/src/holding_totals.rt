@@ -67,8 +67,8 @@ fn put_holding_value_lines(
 }
 
 // Appends to `out` the last line of the explanation of a holding: the numbers of its trades, of its
-// lots, of the lots that are not fully closed, and of the later changes of lots. Fails with
-// `Memory` only; a part of the line may then be appended.
+// lots, of the lots that are not fully closed, and of the changes of its lots after their opening.
+// Fails with `Memory` only; a part of the line may then be appended.
 fn put_holding_counts_line(
     out: &mut Vec<u8>,
     trades: usize,

@@ -38,10 +38,11 @@ fn put_lot_opening_line(alloc: Global, out: &mut Vec<u8>, lot: &LotDetails) -> R
     end_line(out)
 }
 
-// Appends to `out` the line of a later change of a lot that was opened at `price`: the word
-// `Change`, the stamp and the id of the trade that made the change, the change of the quantity, the
-// price of this trade, the realised gain, and the quantity after the change. Fails with `Memory` or
-// `Store`; with `Store` if the gain overflows. After an error a part of the line may be appended.
+// Appends to `out` the line of a change, after the opening, of a lot that was opened at `price`:
+// the word `Change`, the stamp and the id of the trade that made the change, the change of the
+// quantity, the price of this trade, the realised gain, and the quantity after the change. Fails
+// with `Memory` or `Store`; with `Store` if the gain overflows. After an error a part of the line
+// may be appended.
 #[tactic(auto, unfolding(brk_explain_model::specs::HoldingLines::lot_change_line))]
 fn put_lot_change_line(
     alloc: Global,
@@ -68,9 +69,9 @@ fn put_lot_change_line(
     end_line(out)
 }
 
-// Appends to `out` a line for each later change of a lot that was opened at `price`, in the order
-// of `changes`. Fails with `Memory` or `Store`; with `Store` if a gain overflows. After an error a
-// part of the lines may be appended.
+// Appends to `out` a line for each change, after the opening, of a lot that was opened at `price`,
+// in the order of `changes`. Fails with `Memory` or `Store`; with `Store` if a gain overflows.
+// After an error a part of the lines may be appended.
 fn put_lot_change_lines(
     alloc: Global,
     out: &mut Vec<u8>,
@@ -104,9 +105,9 @@ fn put_lot_remainder_line(alloc: Global, out: &mut Vec<u8>, lot: &LotDetails) ->
     end_line(out)
 }
 
-// Appends to `out` the lines of a lot: its opening, each later change, and its remaining shares.
-// Fails with `Memory` or `Store`; with `Store` if an amount overflows or the trade that opened the
-// lot has no price. After an error a part of the lines may be appended.
+// Appends to `out` the lines of a lot: its opening, each change after the opening, and its
+// remaining shares. Fails with `Memory` or `Store`; with `Store` if an amount overflows or the
+// trade that opened the lot has no price. After an error a part of the lines may be appended.
 #[tactic(auto, unfolding(brk_explain_model::specs::HoldingLines::lot_history_lines))]
 fn put_lot_history_lines(alloc: Global, out: &mut Vec<u8>, lot: &LotDetails) -> Result<(), Fault>
     ensures ok { OnOk result (out.new.items ≡ out.old.items ++ text_of_lines (lines.lot_history_lines (abstract_lot_details lot.now))) }
@@ -118,9 +119,10 @@ fn put_lot_history_lines(alloc: Global, out: &mut Vec<u8>, lot: &LotDetails) -> 
     put_lot_remainder_line(alloc, out, lot)
 }
 
-/// Appends to `out` the lines of each lot, in the order of `lots`: its opening, each later change,
-/// and its remaining shares. Fails with `Memory` or `Store`; with `Store` if an amount overflows or
-/// a trade that opened a lot has no price. After an error a part of the lines may be appended.
+/// Appends to `out` the lines of each lot, in the order of `lots`: its opening, each change after
+/// the opening, and its remaining shares. Fails with `Memory` or `Store`; with `Store` if an amount
+/// overflows or a trade that opened a lot has no price. After an error a part of the lines may be
+/// appended.
 pub(crate) fn put_all_lot_history_lines(
     alloc: Global,
     out: &mut Vec<u8>,

@@ -1,5 +1,5 @@
 //! The realised gains, remaining costs and counts of lots and of their changes. A product or a sum
-//! that overflows is the fault `Store`, and so is a missing price of the trade that opened a lot.
+//! that overflows, and a missing price of the trade that opened a lot, are the fault `Store`.
 
 ghost use Rattle.std.specs.Prelude.{◌≡◌, ◌+◌, ◌-ℤ◌, IfErr, IfOk, if◌then◌else◌, length, map, not, pos};
 ghost use Rattle.brk_explain_model.specs.Holdings as holdings;
@@ -171,8 +171,8 @@ fn count_of_changes(changes: &[PricedLotChange]) -> u64
     changes.len() as u64
 }
 
-/// Returns the number of the changes of all lots by trades after those that opened them. Fails with
-/// `Store` if the number overflows.
+/// Returns the number of the changes of all lots by other trades than those that opened them. Fails
+/// with `Store` if the number overflows.
 pub(crate) fn count_of_lot_changes(lots: &[LotDetails]) -> Result<u64, Fault>
     ensures count { IfOk result (λ count. count ≡ holdings.count_of_lot_changes (map abstract_lot_details lots.now)) }
     ensures fault { IfErr result IsCallFault }

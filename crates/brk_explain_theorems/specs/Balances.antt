@@ -58,6 +58,7 @@ pub record PrintedBalancesMatchBase (base : Base) (t : Trade) : Type 0 where
 -- After the result of the trade `id` from `base` at the clock reading `now` and the price `price`,
 -- in cents, as if `base` accepted it, and after any run of calls that follows it, the printed
 -- balance after the trade is the balance of its account in the base right after that result.
+-- Vacuous if the base after that run has no trade `id`.
 abbrev pub RunsPreservePrintedBalanceAfterTrade : Base → ℕ → ℕ → ℕ → Type 0
 RunsPreservePrintedBalanceAfterTrade base now id price =
     (calls : List (ℕ × Call)) (outcomes : List Outcome) (later : Base) (u : Trade)

@@ -27,7 +27,7 @@ pub record PrintedSettlementMatchesBase (base : Base) (t : Trade) : Type 0 where
   pub sum : (result_details_in_base base t).settlement.amount
       ≡ ((signed_trade_value (order_details_in_base base t) (result_details_in_base base t) +ℤ neg_ℤ (pos t.charge)) +ℤ neg_ℤ (pos t.commission))
       +ℤ neg_ℤ (pos (withheld_tax_of_trade (order_details_in_base base t)))
-  -- It is the settlement amount of the trade.
+  -- Settlement is the settlement amount of the trade.
   pub amount : (result_details_in_base base t).settlement.amount ≡ settlement_amount base.accounts t
   -- Cash moved is the settlement amount of a cash trade, and 0 on margin.
   pub moved : balance_change_of_trade (result_details_in_base base t) ≡ if t.is_cash then (result_details_in_base base t).settlement.amount else pos 0

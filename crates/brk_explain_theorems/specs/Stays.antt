@@ -23,17 +23,18 @@ pub record PrintsSameFigures (base later : Base) (t u : Trade) : Type 0 where
   pub opening : (order_details_in_base later u).opening ≡ (order_details_in_base base t).opening
   -- The status changes.
   pub statuses : (order_details_in_base later u).statuses ≡ (order_details_in_base base t).statuses
-  -- The lots that it closed, and its own lot: so BUY, SELL, Realised gain and the shares.
+  -- The price, the lots that the trade closed and the lot that it opened; they determine BUY, SELL,
+  -- Realised gain and the numbers of shares.
   pub price : (result_details_in_base later u).price ≡ (result_details_in_base base t).price
   pub closings : (result_details_in_base later u).closings ≡ (result_details_in_base base t).closings
   pub own_lot : (result_details_in_base later u).own_lot ≡ (result_details_in_base base t).own_lot
-  -- The settlement, its due day, and the cash that it moved.
+  -- The settlement amount, the due day, and the cash that the trade moved.
   pub settlement : (result_details_in_base later u).settlement.amount ≡ (result_details_in_base base t).settlement.amount
   pub due : (result_details_in_base later u).settlement.due_day ≡ (result_details_in_base base t).settlement.due_day
   pub moved : balance_change_of_trade (result_details_in_base later u) ≡ balance_change_of_trade (result_details_in_base base t)
-  -- The number of its cash row, and of the account's cash rows before it.
+  -- The id of the trade's cash row, and how many cash rows of the account are before that row.
   pub number : option_map (λ row. row.id) (result_details_in_base later u).cash ≡ option_map (λ row. row.id) (result_details_in_base base t).cash
   pub rows : (result_details_in_base later u).cash_rows ≡ (result_details_in_base base t).cash_rows
-  -- The balances before and after it.
+  -- The balances before and after the trade.
   pub before : printed_balance_before_trade (sheets later) u ≡ printed_balance_before_trade (sheets base) t
   pub after : printed_balance_after_trade (sheets later) u ≡ printed_balance_after_trade (sheets base) t

@@ -10,8 +10,8 @@ ghost use Rattle.brk_book_theorems.specs.Books.{BooksInvariant};
 ghost use Rattle.brk_explain_theorems.specs.Told.{PrintsReplyFigures};
 
 /// Proves that after an accepted result, with or without a key, the explanation of its trade prints
-/// the commission, tax, amount, due day, buy value, sell value and balance of the reply, if the
-/// base satisfies the books invariant.
+/// the commission, tax, settlement amount, due day, buy value, sell value and balance of the reply,
+/// if the base satisfies the books invariant.
 pub fn explanations_print_reply_figures()
     ensures result { (base after : Base) (now id price stamp : ℕ) (c : Completion) → BooksInvariant base
         → step base now (CompleteTrade id price) ≡ Ok (CompletedTrade stamp c, after)

@@ -12,7 +12,7 @@ use Rattle.sqlite.specs.Closing.{IsCopied}
 pub record IsNewConnectionToFile {D : Type 0} {g : Ghosts D} (conn : Held (FileStore D g)) : Type 0 where
   -- The connection is open. Vacuous if the disk assumption fails.
   pub opened : HasCleanDisk (file_state conn) → IsOpened conn
-  -- The connection is new.
+  -- The connection is new: it is in no transaction, has changed no row, and has no step limit.
   pub fresh : IsNew conn
 
 -- The last commit of the connection `conn` is in a database file, also without its log, and a crash

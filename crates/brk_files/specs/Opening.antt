@@ -18,7 +18,8 @@ IsAdoptionResult conn (Ok store) = AdoptPost over_files conn store (Ok tt)
 IsAdoptionResult {D} {g} conn (Err fault) = (left : Held (FileStore D g)) × AdoptPost over_files conn left (Err fault)
 
 -- A desk was created over a new connection and closed, with its last commit in the file, and then
--- the new connection `conn` was opened.
+-- the new connection `conn` was opened. No clause states that `conn` is a connection to the file of
+-- this desk.
 pub record FollowsCreationOfDesk {D : Type 0} {g : Ghosts D} (conn : Held (FileStore D g)) : Type 0 where
   pub first : Held (FileStore D g)
   pub desk : Held (FileStore D g)
@@ -44,14 +45,16 @@ OpenPost {D} {g} (Err (fault.Damaged c)) =
 OpenPost (Err fault.Memory) = Unit {0}
 OpenPost (Err fault.Store) = Unit {0}
 
--- The connection `conn` is to a newly created desk, which was closed and opened again, or to a
--- database in which the creation of a desk failed because it has one of the tables of a desk.
+-- The connection `conn` was opened after a desk was created and closed (`FollowsCreationOfDesk`),
+-- or it is the connection on which the creation of a desk failed because its database has one of
+-- the tables of a desk (`FollowsFailedCreation`).
 abbrev pub HasNewDeskOrDeskTable : {D : Type 0} {g : Ghosts D} → Held (FileStore D g) → Type 0
 HasNewDeskOrDeskTable conn = FollowsCreationOfDesk conn ⊎ FollowsFailedCreation conn
 
 -- The postcondition of opening a desk that is created if there is none. `Ok` and `Damaged`: the
--- result is the result of adopting the database of a connection to a newly created desk, or to a
--- database that has one of the tables of a desk. Nothing is specified for `Memory` and `Store`.
+-- result is the result of adopting the database of a connection that was opened after a desk was
+-- created and closed, or on which the creation failed because its database has one of the tables of
+-- a desk (`HasNewDeskOrDeskTable`). Nothing is specified for `Memory` and `Store`.
 abbrev pub OpenOrCreatePost : {D : Type 0} {g : Ghosts D} → Result (Held (FileStore D g)) Fault → Type 0
 OpenOrCreatePost {D} {g} (Ok store) = (conn : Held (FileStore D g)) × HasNewDeskOrDeskTable conn × IsAdoptionResult conn (Ok store)
 OpenOrCreatePost {D} {g} (Err (fault.Damaged c)) = (conn : Held (FileStore D g)) × HasNewDeskOrDeskTable conn × IsAdoptionResult conn (Err (fault.Damaged c))

@@ -20,7 +20,7 @@ pub type FileDesk = Store<FileStore<File>>;
 
 // Closes the files of a connection. At `Ok`, under the disk assumption, the database file contains
 // the last commit even without its log, and a crash exposes only this commit. Fails with `Store`
-// only; the files are then dropped, and a part of the committed data may be only in the log.
+// only; the file handles are then dropped, and a part of the committed data may be only in the log.
 fn close_connection(conn: Connection<FileStore<File>>) -> Result<(), Fault>
     ensures closed { OnOk result (HasLastCommitInFile conn) }
     ensures fault { OnErr result (result ≡ Err fault.Store) }
@@ -36,8 +36,8 @@ fn close_connection(conn: Connection<FileStore<File>>) -> Result<(), Fault>
 
 /// Closes the file of a desk. At `Ok`, under the disk assumption, the database file contains the
 /// last commit even without its log, and a crash exposes only this commit; before that, a part of
-/// the committed data may be only in the log beside it. Fails with `Store` only; the file is then
-/// dropped, and a part may still be only in the log.
+/// the committed data may be only in the log beside it. Fails with `Store` only; the file handle is
+/// then dropped, and a part of the committed data may still be only in the log.
 pub fn close_desk_file(store: FileDesk) -> Result<(), Fault>
     ensures closed { OnOk result (HasLastCommitInFile store) }
     ensures fault { OnErr result (result ≡ Err fault.Store) }
@@ -72,10 +72,10 @@ fn adopt_connection<S: Alter>(
 }
 
 // Adopts the database of a connection as a store, upgraded to schema 3. If the adoption fails,
-// closes the file, ignores an error of this, and fails with the fault of the adoption: `Damaged`
-// with the first condition that fails, `Memory` or `Store`. A database that was still open after
-// the adoption failed is unchanged; a crash then exposes a prior crash state or, if the rows of an
-// older schema pass their audit, the tables after the upgrade.
+// closes the file, ignores an error of the close, and fails with the fault of the adoption:
+// `Damaged` with the first condition that fails, `Memory` or `Store`. A database that was still
+// open after the adoption failed is unchanged; a crash then exposes a prior crash state or, if the
+// rows of an older schema pass their audit, the tables after the upgrade.
 fn adopt_or_close_connection(
     rt: &HostRuntime,
     conn: Connection<FileStore<File>>,
@@ -100,8 +100,8 @@ fn adopt_or_close_connection(
 /// A new desk is closed and opened again, so that its tables are in the file itself, and a file
 /// that then loses its log is never treated as a new one.
 ///
-/// At `Ok`, under the premise of `Store::adopt`, a crash exposes only the tables of the returned
-/// store.
+/// At `Ok`, under the disk assumption and the premise of `Store::adopt`, a crash exposes only the
+/// tables of the returned store while the store is open.
 pub fn open_or_create_desk_file(rt: &HostRuntime, path: &str) -> Result<FileDesk, Fault>
     ensures opened { OpenOrCreatePost result }
     ensures represented { IfOk result (λ store. RepresentsRowsOfFile over_files store) }
@@ -134,8 +134,8 @@ fn is_missing_or_empty(rt: &HostRuntime, path: &str) -> bool {
 /// Fails with `Damaged(Schema)` if the file is missing or empty, with `Damaged` and the first
 /// condition that fails if it does not pass the audit, or with `Memory` or `Store`.
 ///
-/// At `Ok`, under the premise of `Store::adopt`, a crash exposes only the tables of the returned
-/// store.
+/// At `Ok`, under the disk assumption and the premise of `Store::adopt`, a crash exposes only the
+/// tables of the returned store while the store is open.
 pub fn open_desk_file(rt: &HostRuntime, path: &str) -> Result<FileDesk, Fault>
     ensures opened { OpenPost result }
     ensures represented { IfOk result (λ store. RepresentsRowsOfFile over_files store) }

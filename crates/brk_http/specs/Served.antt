@@ -1,4 +1,5 @@
--- The effect of one stream on a desk, for a reader whose content is not specified, as a socket.
+-- The effect of one stream on a desk, for a reader whose content is not specified, such as a
+-- socket.
 use Rattle.std.specs.Prelude.{◌<◌, ◌≤◌, ℕ, IfErr, IfOk, List, Result, length}
 use Rattle.sqlite_trees.specs.declared.store.Store.{Ghosts}
 use Rattle.sqlite.specs.Held.{Held}
@@ -11,9 +12,9 @@ use Rattle.brk_http_engine.specs.declared.stream.ServeFault.{ServeFault}
 use Rattle.brk_http_listener.specs.Listening.{ServeRelation}
 
 -- A stream that ended with the result `ended` changed the desk from the state `old` to the state
--- `new` only by a sequence of its calls, with their outcomes. There are at most 1,000 replies,
--- fewer before a fault, and at most one call for each reply and one more after a fault of memory or
--- of the writer.
+-- `new` only by a sequence of calls of the desk, with their outcomes. There are at most 1,000
+-- replies, fewer before a fault, and at most one call for each reply and one more after a fault of
+-- memory or of the writer.
 pub record ServesStreamByCalls {S : Type 0} (g : Ghosts S) (old new : Held S) (ended : Result ℕ ServeFault) : Type 0 where
   pub calls : List (ℕ × Call)
   pub outcomes : List Outcome
@@ -25,7 +26,7 @@ pub record ServesStreamByCalls {S : Type 0} (g : Ghosts S) (old new : Held S) (e
   pub early : IfErr ended (λ fault. fault.done < most_requests_per_stream)
 
 -- Serving the stream, with the result `ended`, changed the desk from `old` to `new` only by a
--- sequence of its calls (`ServesStreamByCalls`). The clock and the bytes of the stream are not
--- specified.
+-- sequence of calls of the desk (`ServesStreamByCalls`). The clock and the bytes of the stream are
+-- not specified.
 abbrev pub DeskServesStream : {S C X : Type 0} → Ghosts S → ServeRelation C (Held S) X
 DeskServesStream g clock old stream ended later new = ServesStreamByCalls g old new ended

@@ -13,8 +13,8 @@ use std::marker::PhantomData;
 use std::net::{Shutdown, TcpStream};
 use std::time::Duration;
 
-/// The time limit of each read and write on a socket, in seconds. That a stream ends at it is only
-/// tested.
+/// The time limit of each read and write on a socket, in seconds. Only tests show that a stream
+/// ends at this limit.
 pub const STREAM_TIMEOUT_SECONDS: u64 = 30;
 
 // The time limit in milliseconds for each read after the last reply; the bytes that it reads are
@@ -68,9 +68,9 @@ impl<C: Clock, S: Alter> StreamServer for SocketServer<C, S> {
     ///
     /// The contract says only that the desk changed by a sequence of its calls, how many calls
     /// there are at most, and that there are at most 1,000 replies, fewer before a fault
-    /// (`ServesStreamByCalls`). Tested only: the time limits, which fail with `Read` before any
-    /// request if they cannot be set, and the draining of the socket after the last reply, whose
-    /// failure is ignored.
+    /// (`ServesStreamByCalls`). Tested only: the time limits of the socket, the fault `Read` before
+    /// any request if these limits cannot be set, and the draining of the socket after the last
+    /// reply, whose failure is ignored.
     fn serve_accepted_stream(
         alloc: Global,
         stream: TcpStream,

@@ -4,7 +4,8 @@
 -- Parameters: `forms`, the parsers of rows and queries; `does base now call outcome after`, a call
 -- leads from `base` to `after`; `gives clock moment later`, a reading of the clock; `n`, the number
 -- of earlier replies of the stream; `input`, the bytes of the stream that are not yet answered;
--- `span`, the desk's base, the clock and the writer's content before and after.
+-- `span`, the desk's base, the clock and the writer's content before and after. A condition that
+-- bytes were written (`Appends`) is vacuous if the writer's content before is unknown.
 use Rattle.std.specs.Prelude.{◌≡◌, ◌⊎◌, ◌==◌, ◌||◌, Bool, ℕ, ◌+◌, List, [], Option, Some, Result, Ok, Err, length, take}
 use Rattle.std.specs.Io.KnownBytes.{Appends}
 use Rattle.std.specs.List.{concat}

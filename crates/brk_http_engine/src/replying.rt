@@ -104,7 +104,8 @@ pub fn fields_between_commas(alloc: Global, line: &str) -> Result<Vec<String>, A
 }
 
 // Returns the body of the reply to a refused row or query, `{"no":["NUMBER",..]}`: the number of
-// the refusal and, for a wrong status or a range, its detail. Fails only if memory runs out.
+// the refusal and, for `WrongStatus` the status code, for `Range` the word of the limit. Fails only
+// if memory runs out.
 #[tactic(auto, using(crate::proofs::PieceLemmas::refusal_parts))]
 fn refusal_body(alloc: Global, refusal: Refusal) -> Result<String, AllocError>
     ensures { IfOk result (λ s. string_bytes s ≡ response_body (FromOutcome (run.NoView refusal))) }

@@ -143,12 +143,12 @@ pub fn serve_next_request<R: Read, W: Write, C: Clock, D: Service>(
     desk: &mut D::Desk,
     done: u64,
 ) -> Result<ExchangeResult, FaultKind>
-    // The stream may have another reply; the router has all routes; no view has an empty name.
+    // `done` is less than 1,000; the router has exactly the three routes; no view name is empty.
     requires few { done < most_requests_per_stream }
     requires routes { router.now ≡ all_router_rows }
     requires named { list_all is_nonempty D.forms.views ≡ Bool.true }
 
-    // At most one call of the desk; at `Open` the stream may have another reply.
+    // At most one call of the desk; at `Open` fewer than 1,000 requests are answered so far.
     ensures called { ChangesOnlyByCalls D.acts (call_limit_of_turn result) desk.old desk.new }
     ensures open { result ≡ Ok ExchangeResult.Open → done + 1 < most_requests_per_stream }
 

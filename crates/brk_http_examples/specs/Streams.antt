@@ -23,8 +23,8 @@ get_request target = record { method = codes "GET"; target = target; closes = fa
 abbrev pub closing_request : Request → Request
 closing_request request = record request { closes = true }
 
--- The bytes of a reply with the JSON body `body`: a status line with `status`, the type of the
--- body, `len` as the length of the body, the further lines `fields` of the head, an empty line, and
+-- The bytes of a reply with the JSON body `body`: a status line with `status`, the content type of
+-- JSON, `len` as the length of the body, the further lines `fields` of the head, an empty line, and
 -- the body.
 abbrev pub expected_reply_bytes : Text → List Text → Text → Text → Text
 expected_reply_bytes status fields len body =

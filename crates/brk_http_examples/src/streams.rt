@@ -17,9 +17,9 @@ pub fn row_is_accepted_once_per_key()
         ∷ expected_reply_bytes (codes "409 Conflict") [] (codes "13") (codes "{\"no\":[\"15\"]}") ∷ []) }
 {}
 
-/// Shows the replies to five requests of one stream, after each of which but the last the stream
-/// continues: a query, a refused query, a request with an unknown target, one with a wrong method
-/// and one with a malformed body.
+/// Shows the replies to five requests of one stream, which continues after each of the first four
+/// requests: a query, a query with a surplus argument, which is refused with `BadText` (18), a
+/// request with an unknown target, one with a wrong method and one with a malformed body.
 pub fn stream_continues_after_refusals()
     ensures { HasRepliesInSetting
         (post_request (codes "/ask/submitted") (codes "[]")
@@ -44,7 +44,7 @@ pub fn stream_ends_after_close_request()
 {}
 
 /// Shows the replies to an order, to its retry under its key, to a query of the view `submitted`,
-/// and to a cancel of the submitted trade, which is refused with 13.
+/// and to a cancel of the submitted trade, which is refused with `WrongStatus` (13).
 pub fn replies_to_order_over_http()
     ensures { HasRepliesInSetting
         (post_request (codes "/rows/H/1") (codes "[\"order\",\"100\",\"TMB\",\"ABC\",\"100\",\"\",\"cash\",\"fifo\",\"Ann\",\"Lee\",\"T10\"]")

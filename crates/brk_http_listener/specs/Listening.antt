@@ -62,9 +62,9 @@ HandlesStreamsInOrder {L} {C} {D} accepts serves old (end ∷ ends) new =
     (mid : ListenerClockAndDesk L C D) × HandlesStream accepts serves old end mid × MayAcceptNextStream end × HandlesStreamsInOrder accepts serves mid ends new
 
 -- The postcondition of accepting and serving `streams` streams in sequence. `Ok`: exactly `streams`
--- streams were handled. `Stream`: fewer streams were handled, and then one more was accepted and
--- served, and ended with this fault, because memory ran out. `Net`: fewer streams were handled, the
--- next accept failed with `Failed`, and it changed neither the clock nor the desk.
+-- streams were handled. `Stream`: fewer than `streams` were handled, and then one more was accepted
+-- and served, and ended with this fault, because memory ran out. `Net`: fewer than `streams` were
+-- handled, the next accept failed with `Failed`, and it changed neither the clock nor the desk.
 abbrev pub ServeEachStreamPost : {L C D X : Type 0} → AcceptRelation L X → ServeRelation C D X → ℕ → ListenerClockAndDesk L C D → Result (Unit {0}) ListenFault
     → ListenerClockAndDesk L C D → Type 0
 ServeEachStreamPost accepts serves streams old (Ok done) new =

@@ -12,8 +12,8 @@ pub enum AcceptFault {
 /// The cause that ended the serving of a listener early.
 #[derive(Clone, Copy, Debug, PartialEq, Eq)]
 pub enum ListenFault {
-    /// A stream ended because memory ran out.
+    /// A stream ended with this fault, because memory ran out.
     Stream(ServeFault),
-    /// No stream could be accepted.
+    /// An accept failed with `AcceptFault::Failed`.
     Net,
 }

@@ -10,8 +10,8 @@ use std::alloc::Global;
 // before it was accepted is not served, and is no failure here. Nor is a fault of the stream's
 // reader or writer.
 //
-// Fails with `Stream` if the stream ended because memory ran out, and with `Net` if no stream could
-// be accepted. Unless a stream was accepted, the clock and the desk are unchanged.
+// Fails with `Stream` if the stream ended because memory ran out, and with `Net` if the accept
+// failed with `Failed`. Unless a stream was accepted, the clock and the desk are unchanged.
 fn serve_next_stream<L: Listener, H: StreamServer<Stream = L::Stream>>(
     alloc: Global,
     listener: &mut L,
@@ -40,9 +40,9 @@ fn serve_next_stream<L: Listener, H: StreamServer<Stream = L::Stream>>(
 /// before the next one is accepted. A stream that its peer broke off before it was accepted counts
 /// as one, and so does one that a fault of its reader or writer ended early.
 ///
-/// Fails with `Stream` at the first stream that ended because memory ran out, and with `Net` if no
-/// stream could be accepted. No stream is accepted after a fault. The clock and the desk change
-/// only by the serving of accepted streams, whose changes remain at a fault.
+/// Fails with `Stream` at the first stream that ended because memory ran out, and with `Net` at the
+/// first accept that failed with `Failed`. No stream is accepted after a fault. The clock and the
+/// desk change only by the serving of accepted streams, whose changes remain at a fault.
 pub fn serve_each_stream<L: Listener, H: StreamServer<Stream = L::Stream>>(
     alloc: Global,
     listener: &mut L,

@@ -33,8 +33,8 @@ text_of_problem NotImplemented = codes "not implemented"
 text_of_problem NotFound = codes "not found"
 text_of_problem NotAllowed = codes "method not allowed"
 
--- The word of a fault in the body of a reply: `memory` or `store`. `Damaged`, which no call of a
--- desk returns, has the word `store`.
+-- The word of a fault in the body of a reply: `memory` or `store`. `Damaged`, with which no command
+-- or query of a desk fails, has the word `store`.
 abbrev pub fault_word : Fault → Text
 fault_word fault.Memory = codes "memory"
 fault_word fault.Store = codes "store"
@@ -60,7 +60,7 @@ http_status_of_response (FromProblem problem) = http_status_of_problem problem
 http_status_of_response (FromOutcome outcome) = http_status_of_outcome outcome
 
 -- The body of the reply for an answer, {"WORD":["FIELD",..]}: its word (`ok`, `again` or `no`) and
--- its fields; a stored line is split at its commas.
+-- its fields; a stored reply is split into its fields at each comma.
 abbrev pub answer_body : Answer → Text
 answer_body (Done reply) = json_texts_object (codes "ok") (reply_fields reply)
 answer_body (Again line) = json_texts_object (codes "again") (split_at_byte 44 line)

@@ -8,8 +8,9 @@ use Rattle.brk_http_reader.specs.declared.fields.FieldFactsSoFar.{FieldFactsSoFa
 -- The facts `s` of the head fields that were read so far, updated for one more field `p`, a name
 -- and a value: whether there is a `Transfer-Encoding` (`chunked`), whether `Connection: close` asks
 -- to close the stream (`closes`), whether there is a `Content-Length` (`any_length`), and the body
--- length in bytes, or the problem with it (`len`). If `p` is a `Content-Length`, this is what its
--- value gives, or `BadRequest` if there was one before; otherwise it equals that of `s`.
+-- length in bytes, or the problem with it (`len`). If `p` is a `Content-Length`, `len` is the
+-- result of parsing its value, or `BadRequest` if there was a `Content-Length` before; otherwise
+-- `len` equals that of `s`.
 abbrev pub facts_with_field : FieldFactsSoFar → HeadField → FieldFactsSoFar
 facts_with_field s p = record {
   chunked = s.chunked || is_equal_ignoring_case p.0 (codes "transfer-encoding");

@@ -8,9 +8,9 @@ use Rattle.brk_http_model.specs.Found.{most_head_fields}
 use Rattle.brk_http_reader.specs.declared.head.HeadFacts.{HeadFacts}
 
 -- The bytes `front` begin with the head `h`, which has at most `most_head_fields` fields, and
--- continue with `rest`. The positions in `facts` locate the method and the target of `h`, its
--- length is the body length that the fields of `h` give, or the problem with them, and its close
--- flag is true if and only if `h` is of version 1.0 or asks to close the stream.
+-- continue with `rest`. The positions in `facts` locate the method and the target of `h` in
+-- `front`. `facts.len` is the body length in bytes by the fields of `h`, or the problem with these
+-- fields. `facts.closes` is true if and only if `h` is of version 1.0 or asks to close the stream.
 pub record FactsDescribeHead (front : List ℕ) (facts : HeadFacts) (h : RequestHead) (rest : List ℕ) : Type 0 where
   pub reads : ReadsRequest front h rest
   pub few : length h.fields ≤ most_head_fields

@@ -12,8 +12,8 @@ ghost use Rattle.brk_http_model.specs.Replies.{answer_body};
 ghost use Rattle.brk_http_model.specs.Routes.{split_at_byte};
 
 /// Proves that the line of a reply, split at its commas, results in the fields of the reply. Proves
-/// also that the body of the reply to a retry has exactly the fields of the first reply, under the
-/// word `again`.
+/// also that the body of the reply to a retry has exactly the fields of the first reply, in the
+/// member `again`.
 pub fn reply_line_splits_into_its_fields()
     ensures fields { (reply : Reply) → split_at_byte 44 (line_text reply) ≡ reply_fields reply }
     ensures retry_body { (reply : Reply) → answer_body (Again (line_text reply)) ≡ json_texts_object (codes "again") (reply_fields reply) }

@@ -21,11 +21,12 @@ use Rattle.brk_batch_engine.specs.Batch.{BeginsWithWholeBatch}
 -- the batch.
 pub record RetryCompletesBatch {C : Type 0} (form : Fields → ReadResult Command) (gives : C → ℕ → C → Type 0) (text : Option Text) (base after : Base)
     (one two : ClockAndWriterChange C) : Type 0 where
-  -- All rows of the batch.
+  -- The name and all rows of the batch with which `text` begins, or any if `text` is `None`.
   pub name : Text
   pub rows : List Fields
   pub whole : BeginsWithWholeBatch text name rows
-  -- The answers of the first run to the first rows, and the timestamps of these rows.
+  -- The answers of the first run to the first rows, and the timestamps of these rows. No clause
+  -- relates them to the lines that the first run wrote.
   pub answers : List Answer
   pub moments : List ℕ
   pub mid : C
@@ -35,8 +36,8 @@ pub record RetryCompletesBatch {C : Type 0} (form : Fields → ReadResult Comman
   pub others : List ℕ
   pub asked : ClockReturnsInOrder gives two.clock others two.later
   pub written : Appends two.old two.new (answer_lines_from 1 retry_answers ++ batch_end_line retry_answers)
-  -- If the first run refused none of these rows, both runs equal one uninterrupted run. A row that
-  -- was committed but not answered is decided at its own timestamp.
+  -- If the first run refused none of the rows that it answered, both runs equal one uninterrupted
+  -- run. A row that was committed but not answered is decided at its own timestamp.
   pub completed : refused_answer_count answers ≡ 0 → IsCompletedByRetry form name base moments others rows answers retry_answers after
       ⊎ ((moment : ℕ) × (answer : Answer) × gives mid moment one.later
       × IsCompletedByRetry form name base (moments ++ moment ∷ []) others rows (answers ++ answer ∷ []) retry_answers after)
@@ -46,13 +47,13 @@ pub record RetryCompletesBatch {C : Type 0} (form : Fields → ReadResult Comman
 -- rows the two runs refused, they are equivalent to one run of calls from `base` to `after`.
 pub record RunAndRetryEqualOneRun {C : Type 0} (form : Fields → ReadResult Command) (gives : C → ℕ → C → Type 0) (text : Option Text) (base after : Base)
     (one two : ClockAndWriterChange C) : Type 0 where
-  -- All rows of the batch.
+  -- The name and all rows of the batch with which `text` begins, or any if `text` is `None`.
   pub name : Text
   pub rows : List Fields
   pub whole : BeginsWithWholeBatch text name rows
   -- The first rows: those that the first run answered, and the next one if it was committed but not
   -- answered. From `base` they have these answers at these timestamps, and `mid_base` is the base
-  -- after them.
+  -- after them. No clause relates them to the lines that the first run wrote.
   pub front : List Fields
   pub back : List Fields
   pub split : rows ≡ front ++ back

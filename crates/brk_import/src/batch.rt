@@ -27,7 +27,8 @@ use std::io::{Read, Write};
 ///
 /// The input is comma-separated: `batch,NAME`, then the rows, then `end,N` with the number of rows.
 /// Only its first 67,108,864 bytes are read. A row is executed only if a record follows it. If
-/// these bytes end without an end record, their last row is not executed: it is refused with 18.
+/// these bytes end without an end record, their last row is not executed: it is refused with 18
+/// (`BadText`).
 ///
 /// Row n of batch NAME has the key (NAME, n), under which it is accepted at most once. Each decided
 /// row that is well-formed and has a record after it is one call of the desk; one more call may
@@ -63,9 +64,9 @@ pub fn run_batch<R: Read + Drop, W: Write, C: Clock, S: Alter>(
         (λ desk. Represents S.Store desk) (parse_by_first_field row_parsers) step_of_row C.gives
         (option_map input_text (R.remaining reader)) desk.old desk.new
         (record { clock = clock.old; later = clock.new; old = W.contents writer.old; new = W.contents writer.new }) result }
-    // Crash safety: if a crash before the batch exposes only the tables of such a base, a crash
-    // after the batch exposes the tables of the base after it. If the call of a row failed, a crash
-    // may also expose the tables after the command of this row.
+    // Crash safety: if a crash before the batch exposes only the tables of a base that the desk
+    // represented, a crash after the batch exposes only the tables of the base after the batch. If
+    // the call of a row failed, a crash may also expose the tables after the command of this row.
     ensures crash_safe { IsBatchCrashSafe (λ desk. HasCleanDisk (state S.Store desk))
         (λ desk. Represents S.Store desk) (CrashExposesOnlyOneOf S.Store) (parse_by_first_field row_parsers) step_of_row
         C.gives (option_map input_text (R.remaining reader)) desk.old desk.new

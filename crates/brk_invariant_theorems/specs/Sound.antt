@@ -1,5 +1,5 @@
--- The audit invariant: what an audit of a base's tables needs beyond the books invariant:
--- well-formed fields, unique keys, existing references, and limits.
+-- The audit invariant: the conditions that an audit of a base's tables needs beyond the books
+-- invariant, on the formats of fields, on keys, references, histories and limits.
 use Rattle.std.specs.Prelude.{◌≡◌, ◌≤◌, ⊤, ℕ, ◌==◌, ◌&&◌, ◌||◌, Bool, true, List, [], ◌∷◌, Option, is_some, nat_abs, length, filter, map, codes, bytes_eq}
 use Rattle.std.specs.List.{AllByRecursion}
 use Rattle.brk_money.specs.Spelling.{Text, is_within_amount_limit}
@@ -55,8 +55,8 @@ has_trade_numbers_in_range t = are_trade_numbers_in_range third_schema t.id t.qt
 abbrev pub StatusStampIsAtMostLastStamp : Option ℕ → StatusChange → Type 0
 StatusStampIsAtMostLastStamp last m = is_up_to_last_stamp last m.stamp ≡ true
 
--- If the status change is a completion, its due day by the settlement day `rule` is within the
--- calendar. Vacuous for other statuses.
+-- If the status change is a completion, its due day is within the calendar, where `rule` is the
+-- first day of one-day settlement, if it is set. Vacuous for other statuses.
 abbrev pub HasDueDayInCalendar : SettleRule → StatusChange → Type 0
 HasDueDayInCalendar rule m = is_due_within_calendar rule m.status m.stamp ≡ true
 
@@ -72,9 +72,9 @@ has_cash_text_with_security_name t name =
     bytes_eq t.cash_name (cash_row_name_from_parts (codes " shares of ") t.kind t.qty name)
     || bytes_eq t.cash_name (cash_row_name_from_parts (codes " Shares of ") t.kind t.qty name)
 
--- True if the trade's cash text is one of the two (`has_cash_text_with_security_name`) with the
--- name of its security in `securities`, or with the empty text as name if the security is not one
--- of them.
+-- True if the trade's cash text is one of the two cash texts (`has_cash_text_with_security_name`)
+-- with the name of the trade's security in `securities`, or with the empty text as name if this
+-- security is not one of them.
 abbrev pub has_cash_text_of_security : List Security → Trade → Bool
 has_cash_text_of_security securities t = has_cash_text_with_security_name t (security_name_in_list securities t.symbol)
 
@@ -82,24 +82,23 @@ has_cash_text_of_security securities t = has_cash_text_with_security_name t (sec
 -- numbers are within their limits, its statuses are a valid status sequence with strictly ascending
 -- stamps, it has a price if and only if it is completed, it has a settlement text only if it is
 -- completed and a cash text only if it is a completed cash trade, and if it is completed, its
--- settlement text is one of the two texts of a cash trade or, for a margin trade, of the two texts
--- of a margin trade.
+-- settlement text is one of the two texts for its kind (cash or margin).
 pub record TradeOnlyAuditInvariant (t : Trade) : Type 0 where
   pub fields : has_trade_numbers_in_range t ≡ true
   -- Its statuses are a valid status sequence, with stamps in ascending order.
   pub stamps : HasAscendingStatusStamps t
   pub way : HasValidStatusSequence t
-  -- It has a price if and only if it is completed, no stray text, and one of the two settlement
-  -- texts if it is completed.
+  -- It has a price if and only if it is completed, a settlement or cash text only if it may have
+  -- one (`HasTextsOnlyIfCompleted`), and one of the two settlement texts if it is completed.
   pub priced : has_price_exactly_if_completed t ≡ true
   pub words : HasTextsOnlyIfCompleted t
   pub cash_type : is_completed t ≡ true → is_cash_type_of_trade t.is_cash t.cash_type ≡ true
 
 -- The trade satisfies the conditions of the audit invariant on a trade: the conditions that depend
 -- on the trade alone, no stamp after the last stamp `last`, and a due day within the calendar by
--- the settlement day `rule`. If it is completed, its settlement amount is within the limit and, if
--- it is also a cash trade, its cash text is one of the two cash texts with the name of its
--- security.
+-- `rule`, the first day of one-day settlement, if it is set. If the trade is completed, its
+-- settlement amount is within the limit and, if it is also a cash trade, its cash text is one of
+-- the two cash texts with the name of its security.
 pub record TradeAuditInvariant (last : Option ℕ) (rule : SettleRule) (accounts : List Account) (securities : List Security) (t : Trade) : Type 0 where
   pub alone : TradeOnlyAuditInvariant t
   pub open alone use *
@@ -113,7 +112,8 @@ pub record TradeAuditInvariant (last : Option ℕ) (rule : SettleRule) (accounts
   pub amount : is_completed t ≡ true → is_within_amount_limit (settlement_amount accounts t) ≡ true
 
 -- The trade satisfies the conditions of the audit invariant on a trade (`TradeAuditInvariant`),
--- with the last stamp, the settlement day, the accounts and the securities of the base.
+-- with the last stamp, the first day of one-day settlement, the accounts and the securities of the
+-- base.
 abbrev pub BaseTradeAuditInvariant : Base → Trade → Type 0
 BaseTradeAuditInvariant base t = TradeAuditInvariant base.last base.rule base.accounts base.securities t
 
@@ -125,16 +125,17 @@ BaseTradeAuditInvariant base t = TradeAuditInvariant base.last base.rule base.ac
 abbrev pub is_well_formed_movement : Movement → Bool
 is_well_formed_movement m = is_movement_name_and_amount m.name m.amount && is_within_amount_limit m.amount
 
--- The part of the audit invariant that concerns the movements and the settlement day `rule`: the
--- texts and amounts of the movements are well-formed, their stamps are strictly ascending, their
--- number is at most the greatest id, and the settlement day, if it is set, is within the calendar.
+-- The part of the audit invariant that concerns the movements and the first day of one-day
+-- settlement `rule`: the texts and amounts of the movements are well-formed, their stamps are
+-- strictly ascending, their number is at most the greatest id, and `rule`, if it is set, is within
+-- the calendar.
 pub record MovementAuditInvariant (movements : List Movement) (rule : SettleRule) : Type 0 where
   pub fields : AllByRecursion (λ m. is_well_formed_movement m ≡ true) movements
   -- The movements are in ascending order of their stamps, and their number is within the limit of
   -- ids.
   pub risen : is_strictly_ascending (map (λ m. m.stamp) movements) ≡ true
   pub few : length movements ≤ greatest_id
-  -- The settlement day is within the calendar.
+  -- The first day of one-day settlement, if it is set, is within the calendar.
   pub day : is_settlement_day_in_calendar rule ≡ true
 
 -- ---- references
@@ -215,10 +216,11 @@ pub record SumAuditInvariant (accounts : List Account) (done : List Trade) (move
 -- exist. The stamps of securities and status changes are at most the last stamp, and the stamps of
 -- movements are strictly ascending. Each trade has a valid status sequence with strictly ascending
 -- stamps, and the price and the texts that its status and its kind (cash or margin) require. Due
--- days and the settlement day are within the calendar. The accounts and the tax rates of customers,
--- the number and the amounts of movements, and the summaries, balances, commission totals and
--- settlement amounts are within their limits. Each part depends only on the fields of the base that
--- it names, and the part on trades also on those that `BaseTradeAuditInvariant` names.
+-- days and the first day of one-day settlement are within the calendar. The accounts and the tax
+-- rates of customers, the number and the amounts of movements, and the summaries, balances,
+-- commission totals and settlement amounts are within their limits. Each part depends only on the
+-- fields of the base that it names, and the part on trades also on those that
+-- `BaseTradeAuditInvariant` names.
 pub record AuditInvariant (base : Base) : Type 0 where
   pub keyed : StoredReplyAuditInvariant base.kept
   pub open keyed use *
@@ -230,7 +232,7 @@ pub record AuditInvariant (base : Base) : Type 0 where
   pub open listed use *
   -- Each trade satisfies the conditions on it.
   pub trades : AllByRecursion (BaseTradeAuditInvariant base) base.trades
-  -- Each movement and the settlement day satisfy the conditions on them.
+  -- The movements and the first day of one-day settlement satisfy the conditions on them.
   pub cash : MovementAuditInvariant base.movements base.rule
   pub sums : SumAuditInvariant base.accounts (completed_trades base) base.movements
   pub open sums use *

@@ -52,9 +52,9 @@ pub fn empty_base_satisfies_audit_invariant()
 {}
 
 /// Proves that a command whose fields meet the formats of the audit (`MeetsAuditFormats`) preserves
-/// the audit invariant of a base that satisfies the books invariant. Clause `step`: if the step
-/// accepts the command. Clause `keyed`: whatever the answer is, if the command has no key or a
-/// well-formed key.
+/// the audit invariant of a base that satisfies the books invariant, if the step accepts the
+/// command (`step`). The call of the command preserves this invariant too, whatever its answer is,
+/// if the command has no key or a well-formed key (`keyed`).
 pub fn commands_preserve_audit_invariant()
     ensures step { (base : Base) (now : ℕ) (command : Command) (reply : Reply) (after : Base)
         → AuditInvariant base → BooksInvariant base → MeetsAuditFormats command → step base now command ≡ Ok (reply, after) → AuditInvariant after }
@@ -64,10 +64,10 @@ pub fn commands_preserve_audit_invariant()
 {}
 
 /// Proves that a run of calls that meet the formats of the audit (`CallMeetsAuditFormats`)
-/// preserves the audit invariant, if the base satisfies both invariants. The tables after such a
-/// run from the empty base, or from the base of rows that pass the audit of the third schema, pass
-/// that audit. The tables after a run of well-formed calls (`IsWellFormedCall`) from the empty base
-/// also pass that audit.
+/// preserves the audit invariant, if the base satisfies both invariants. The tables after a run of
+/// calls that meet these formats, from the empty base or from the base of rows that pass the audit
+/// of the third schema, pass that audit. The tables after a run of well-formed calls
+/// (`IsWellFormedCall`) from the empty base also pass that audit.
 pub fn tables_after_runs_pass_the_audit()
     ensures preserved { (base : Base) (calls : List (ℕ × Call)) (outcomes : List Outcome) (after : Base)
         → BooksInvariant base → AuditInvariant base → AllByRecursion CallMeetsAuditFormats calls → Run base calls outcomes after → AuditInvariant after }

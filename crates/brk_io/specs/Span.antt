@@ -1,4 +1,5 @@
--- The environment of an engine, before and after it ran.
+-- The environment of an engine, which executes the rows of a batch or of a stream, before and after
+-- the engine ran.
 use Rattle.std.specs.Prelude.{◌≡◌, [], Option}
 use Rattle.std.specs.Io.KnownBytes.{Appends}
 use Rattle.brk_money.specs.Spelling.{Text}

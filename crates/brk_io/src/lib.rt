@@ -1,5 +1,5 @@
-//! The environment of an engine: a clock, writing all bytes, and the reasons why a batch ended
-//! early.
+//! The environment of an engine, which executes the rows of a batch or of a stream: a clock,
+//! writing all bytes, and the reasons why a batch ended early.
 #![tactic(auto)]
 
 mod batch_fault;

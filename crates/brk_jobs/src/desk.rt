@@ -14,8 +14,8 @@ use std::io::{Read, Write};
 
 // Executes a job on an open desk, and returns its outcome: `Done`, or, by the kind of the job,
 // `Batch`, `Report`, `ClosedPipe`, `Serve`, `Net` or `Open(Memory)` if the job is refused or ends
-// early. For an audit it does nothing and returns `Done`: the audit passed when the desk was
-// opened.
+// early. For an audit the function does nothing and returns `Done`: the audit passed when the desk
+// was opened.
 fn execute_job_at_desk<R: Read + Drop, W: Write, S: Alter>(
     rt: &HostRuntime,
     desk: &mut Desk<S>,

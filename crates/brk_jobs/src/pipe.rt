@@ -1,11 +1,11 @@
-//! A writer that notes whether the reader of its pipe has closed it.
+//! A writer that records whether the reader of its pipe has closed the pipe.
 
 use brk_exit::Ending;
 use brk_report::ReportFault;
 use std::io;
 use std::io::{ErrorKind, Write};
 
-/// A writer that passes the bytes on to another writer, and notes whether a write failed because
+/// A writer that passes the bytes on to another writer, and records whether a write failed because
 /// the reader of the pipe had closed it.
 #[derive(Drop)]
 pub(crate) struct PipeWriter<'a, W> {

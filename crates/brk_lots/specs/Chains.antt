@@ -19,7 +19,7 @@ IsNearerToZero after before = (side : Side) × (m : ℕ) × (n : ℕ) × (after 
 
 -- The changes form a chain from `from` to `to`: the first starts at `from`, each later one starts
 -- where the one before it ended, and the last ends at `to`. Each ends strictly nearer to 0 than it
--- starts, at 0 or on the same side. Without changes `from` equals `to`.
+-- starts, at 0 or with the sign with which it starts. Without changes `from` equals `to`.
 abbrev pub ShrinksTowardZero : ℤ → List Touch → ℤ → Type 0
 ShrinksTowardZero from [] to = from ≡ to
 ShrinksTowardZero from (row ∷ rows) to = (row.before ≡ from) × IsNearerToZero row.after row.before × ShrinksTowardZero row.after rows to

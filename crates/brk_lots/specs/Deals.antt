@@ -3,7 +3,7 @@ use Rattle.std.specs.Prelude.{◌≢◌, ◌<◌, ⊤, List, [], ◌∷◌}
 use Rattle.std.specs.List.{AllByRecursion}
 use Rattle.brk_model.specs.Shares.{Deal}
 
--- The deal `e` belongs to another trade than `d` and has a later stamp.
+-- The deal `e` belongs to another trade than the deal `d`, and has a later stamp than `d`.
 abbrev pub IsLaterDealOfOtherTrade : Deal → Deal → Type 0
 IsLaterDealOfOtherTrade d e = (d.trade ≢ e.trade) × (d.stamp < e.stamp)
 

@@ -1,5 +1,5 @@
--- The rows of HOLDING_HISTORY of a lot as one row for each deal, of which those that change the
--- lot's quantity are kept.
+-- The HOLDING_HISTORY rows of a lot: first one row for each deal, then only the rows of those deals
+-- that change the quantity of the lot.
 use Rattle.std.specs.Prelude.{ℕ, Bool, List, [], ◌∷◌, filter}
 use Rattle.brk_model.specs.Derived.{deals_of_position}
 use Rattle.brk_model.specs.Records.{Trade}

@@ -9,7 +9,7 @@ abbrev pub FirstLotSatisfies : (Lot → Type 0) → List Lot → Type 0
 FirstLotSatisfies P [] = ⊤
 FirstLotSatisfies P (l ∷ ls) = P l
 
--- The lot `m` has the side of the lot `l` and a later stamp.
+-- The lot `m` has the side of the lot `l`, and a later stamp than `l`.
 abbrev pub PrecedesOnSameSide : Lot → Lot → Type 0
 PrecedesOnSameSide l m = (side_of_qty m.qty ≡ side_of_qty l.qty) × (l.stamp < m.stamp)
 

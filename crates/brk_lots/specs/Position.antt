@@ -4,7 +4,7 @@ use Rattle.std.specs.List.{AllByRecursion}
 use Rattle.brk_lots.specs.declared.lot.Lot.{Lot}
 use Rattle.brk_lots.specs.Lots.{side_of_qty}
 
--- The lot `m` has the side of the lot `l` and was opened by another trade.
+-- The lot `m` has the side of the lot `l`, and was opened by another trade than `l`.
 abbrev pub HasSameSideAndOtherTrade : Lot → Lot → Type 0
 HasSameSideAndOtherTrade l m = (side_of_qty m.qty ≡ side_of_qty l.qty) × (m.trade ≢ l.trade)
 
@@ -14,7 +14,8 @@ abbrev pub IsPositionInAnyOrder : List Lot → Type 0
 IsPositionInAnyOrder [] = ⊤
 IsPositionInAnyOrder (l ∷ ls) = (l.qty ≢ pos 0) × AllByRecursion (HasSameSideAndOtherTrade l) ls × IsPositionInAnyOrder ls
 
--- The lot `m` has the side of the lot `l`, was opened by another trade, and has a later stamp.
+-- The lot `m` has the side of the lot `l`, was opened by another trade than `l`, and has a later
+-- stamp than `l`.
 abbrev pub IsLaterInPosition : Lot → Lot → Type 0
 IsLaterInPosition l m = HasSameSideAndOtherTrade l m × (l.stamp < m.stamp)
 

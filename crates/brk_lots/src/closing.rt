@@ -71,10 +71,10 @@ pub(crate) fn opened_lot(
 /// the lots of a position, none of which `trade` opened, and only under the disk assumption.
 ///
 /// Requests at most one lot for each share of the trade. At `Ok` it requests at most one lot more
-/// than it closes or reduces. Over the lots of such a position, under the disk assumption, it
-/// requests at most one lot more than the trade closes or reduces, also if it fails. Fails with a
-/// fault of the source or with `Memory`. The lots that it did not take then remain in the source,
-/// under the disk assumption.
+/// than it closes or reduces. Over the lots of a position, none of which `trade` opened, under the
+/// disk assumption, it requests at most one lot more than the trade closes or reduces, also if it
+/// fails. Fails with a fault of the source or with `Memory`. The lots that it did not take remain
+/// in the source, also if it fails, under the disk assumption.
 pub fn close_with_amounts<L: LotSource>(
     alloc: Global,
     source: &mut L,
@@ -85,8 +85,8 @@ pub fn close_with_amounts<L: LotSource>(
     stamp: Stamp,
 ) -> Result<ClosedLots, Fault>
     ensures leads { L.leads source.old source.new }
-    // Over the lots of a position from the trade's end, it is the effect of the trade on the shares
-    // of that position.
+    // Over the lots of a position, from either end, none of which `trade` opened, the result is the
+    // effect of the trade on the shares of that position, under the disk assumption.
     ensures closed { IfOk result (λ closed. (ls : List Lot) (lifo : Bool)
         → YieldsPosition (AreLotsOfFaithfulSource (L.reads_faithfully source.new) (L.remaining source.old)) lifo ls → AreOpenedByOtherTrades trade ls →
         IsEffectOfDealOnLots (record { trade = trade; side = side; qty = qty; price = price; stamp = stamp; is_lifo = lifo }) ls closed) }
@@ -94,8 +94,8 @@ pub fn close_with_amounts<L: LotSource>(
     ensures bought { IfOk result (λ closed. closed.values.buy_value ≤ qty * greatest_price) }
     ensures sold { IfOk result (λ closed. closed.values.sell_value ≤ qty * greatest_price) }
     ensures asked { IfOk result (λ closed. L.asked source.new ≤ L.asked source.old + vec_len closed.touched + 1) }
-    // Also if it fails, it has requested at most one lot for each share, and at most one lot more
-    // than the trade closes or reduces.
+    // Also if it fails, it has requested at most one lot for each share of the trade and, under the
+    // conditions of the effect above, at most one lot more than the trade closes or reduces.
     ensures requests_at_most_shares { L.asked source.new ≤ L.asked source.old + qty }
     ensures requests_at_most_touched { (ls : List Lot) (lifo : Bool)
         → YieldsPosition (AreLotsOfFaithfulSource (L.reads_faithfully source.new) (L.remaining source.old)) lifo ls → AreOpenedByOtherTrades trade ls →
@@ -127,10 +127,10 @@ pub fn close_with_amounts<L: LotSource>(
 /// opened, and only under the disk assumption.
 ///
 /// Requests at most one lot for each share of the trade. At `Ok` it requests at most one lot more
-/// than it closes or reduces. Over the lots of such a position, under the disk assumption, it
-/// requests at most one lot more than the trade closes or reduces, also if it fails. Fails with a
-/// fault of the source or with `Memory`. The lots that it did not take then remain in the source,
-/// under the disk assumption.
+/// than it closes or reduces. Over the lots of a position, none of which `trade` opened, under the
+/// disk assumption, it requests at most one lot more than the trade closes or reduces, also if it
+/// fails. Fails with a fault of the source or with `Memory`. The lots that it did not take remain
+/// in the source, also if it fails, under the disk assumption.
 pub fn close<L: LotSource>(
     alloc: Global,
     source: &mut L,
@@ -141,8 +141,8 @@ pub fn close<L: LotSource>(
     stamp: Stamp,
 ) -> Result<Closing, Fault>
     ensures leads { L.leads source.old source.new }
-    // Over the lots of a position from the trade's end, it is the effect of the trade on the shares
-    // of that position.
+    // Over the lots of a position, from either end, none of which `trade` opened, the result is the
+    // effect of the trade on the shares of that position, under the disk assumption.
     ensures closing { IfOk result (λ closing. (ls : List Lot) (lifo : Bool)
         → YieldsPosition (AreLotsOfFaithfulSource (L.reads_faithfully source.new) (L.remaining source.old)) lifo ls → AreOpenedByOtherTrades trade ls →
         IsClosingOfDeal (record { trade = trade; side = side; qty = qty; price = price; stamp = stamp; is_lifo = lifo }) ls closing) }
@@ -150,8 +150,8 @@ pub fn close<L: LotSource>(
     ensures bought { IfOk result (λ closing. (pos 0 ≤ℤ closing.buy_value) × (closing.buy_value ≤ℤ pos (qty * greatest_price))) }
     ensures sold { IfOk result (λ closing. (pos 0 ≤ℤ closing.sell_value) × (closing.sell_value ≤ℤ pos (qty * greatest_price))) }
     ensures asked { IfOk result (λ closing. L.asked source.new ≤ L.asked source.old + vec_len closing.touched + 1) }
-    // Also if it fails, it has requested at most one lot for each share, and at most one lot more
-    // than the trade closes or reduces.
+    // Also if it fails, it has requested at most one lot for each share of the trade and, under the
+    // conditions of the effect above, at most one lot more than the trade closes or reduces.
     ensures requests_at_most_shares { L.asked source.new ≤ L.asked source.old + qty }
     ensures requests_at_most_touched { (ls : List Lot) (lifo : Bool)
         → YieldsPosition (AreLotsOfFaithfulSource (L.reads_faithfully source.new) (L.remaining source.old)) lifo ls → AreOpenedByOtherTrades trade ls →

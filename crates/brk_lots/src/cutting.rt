@@ -58,7 +58,7 @@ fn remove_back_lots(lots: &mut Vec<Lot>, last: usize, qty: i64)
 // its lot. Returns the index of the first remaining lot, or the length of the vector if no lot
 // remains; closed lots before this index are not removed from the vector.
 pub(crate) fn apply_touches_to_lots(lots: &mut Vec<Lot>, first: usize, touched: &[Touch]) -> usize
-    // The lots from `first` on form a position; the changes equal those of its shares from one end.
+    // The lots from `first` on form a position; the changes close its first or last `k` shares.
     requires within { first ≤ vec_len lots.old }
     requires walk { IsPositionInAnyOrder (drop first lots.old.items) }
     requires rows { (lifo : Bool) × (k : ℕ) × (touched.now ≡ touches_of_first_shares k (list_reversed_if_lifo lifo (drop first lots.old.items))) }

@@ -20,8 +20,8 @@ pub struct Lot {
     pub stamp: Stamp,
 }
 
-/// A change of a lot by a trade that reduced, closed or opened it (HOLDING_HISTORY): its quantity
-/// before and after.
+/// A change of a lot by a trade that reduced, closed or opened it (HOLDING_HISTORY): the lot's
+/// quantity before and after.
 #[derive(Clone, Copy, PartialEq, Eq)]
 pub struct Touch {
     /// The trade that opened the lot.

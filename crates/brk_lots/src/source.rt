@@ -19,11 +19,12 @@ pub trait LotSource {
     /// lead.
     ghost leads: { Self → Self → Type 0 };
 
-    /// A count of the lots that were requested so far, kept by the source: a call raises it by at
-    /// most 1.
+    /// A count of the lots that were requested so far, which the source defines: a call raises it
+    /// by at most 1.
     ghost asked: { Self → ℕ };
 
-    /// A count of the faults so far, kept by the source: a call that succeeds does not change it.
+    /// A count of the faults so far, which the source defines: a call that succeeds does not change
+    /// it.
     ghost faulted: { Self → ℕ };
 
     /// The effect of a call that fails: the source before it, the fault, and the source after it.
@@ -49,6 +50,7 @@ pub trait LotSource {
     /// `leads` is transitive.
     ghost transitive: { (p q r : Self) → leads p q → leads q r → leads p r };
 
-    /// If the disk assumption holds in a later state of the source, it held in an earlier one.
+    /// If the disk assumption holds in a state of the source, it held in each state that leads to
+    /// it.
     ghost faithful_before: { (p q : Self) → leads p q → reads_faithfully q → reads_faithfully p };
 }

@@ -56,13 +56,14 @@ pub fn estimate_closing_values<L: LotSource>(
     price: Price,
 ) -> Result<Values, Fault>
     ensures leads { L.leads source.old source.new }
-    // Over the lots of a position from the order's end, these are the values of exactly the shares
-    // that a trade at that price would close.
+    // Over the lots of a position, from either end, the result is the values of exactly the shares
+    // that a trade at `price` would close, under the disk assumption.
     ensures values { IfOk result (λ values. (ls : List Lot) (trade stamp : ℕ) (lifo : Bool) →
         YieldsPosition (AreLotsOfFaithfulSource (L.reads_faithfully source.new) (L.remaining source.old)) lifo ls →
         values ≡ closing_values_of_deal (record { trade = trade; side = side; qty = qty; price = price; stamp = stamp; is_lifo = lifo }) (shares_of_lots ls)) }
-    // It requests at most one lot for each share, and at most one lot more than a trade that opened
-    // none of them would close or reduce, also if it fails.
+    // Also if it fails, it has requested at most one lot for each share of the order and, over the
+    // lots of a position under the disk assumption, at most one lot more than a trade that opened
+    // none of them would close or reduce.
     ensures requests_at_most_shares { L.asked source.new ≤ L.asked source.old + qty }
     ensures requests_at_most_touched { (ls : List Lot) (trade stamp : ℕ) (lifo : Bool) →
         YieldsPosition (AreLotsOfFaithfulSource (L.reads_faithfully source.new) (L.remaining source.old)) lifo ls → AreOpenedByOtherTrades trade ls →

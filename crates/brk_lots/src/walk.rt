@@ -42,15 +42,15 @@ fn close_lots_with_cost<L: LotSource, R: TouchReceiver>(
 ) -> Result<CloseCost, Fault>
     requires { R.holds rows.old [] }
     ensures leads { L.leads source.old source.new }
-    // It adds to `rows` the changes of the lots that it closes or reduces, and requests at most one
-    // lot more than it adds changes.
+    // It requests at most one lot more than it adds changes to `rows`. Over the lots of a position
+    // under the disk assumption, it adds the changes of the lots that the trade closes or reduces.
     ensures taken { IfOk result (λ walked. (touched : List Touch) × R.holds rows.new touched × (L.asked source.new ≤ L.asked source.old + length touched + 1)
         × ((ls : List Lot) → AreLotsOfFaithfulSource (L.reads_faithfully source.new) (L.remaining source.old) ls → IsPositionInAnyOrder ls
         → IsResultOfClosingLots side qty ls touched walked.left walked.cost)) }
     ensures left { IfOk result (λ walked. walked.left ≤ qty) }
     ensures limit { IfOk result (λ walked. walked.cost ≤ qty * greatest_price) }
-    // It requests at most one lot for each share, and at most one lot more than the trade closes or
-    // reduces, also if it fails.
+    // Also if it fails, it has requested at most one lot for each share and, over the lots of a
+    // position under the disk assumption, at most one lot more than the trade closes or reduces.
     ensures requests_at_most_shares { L.asked source.new ≤ L.asked source.old + qty }
     ensures requests_at_most_touched { (ls : List Lot) → AreLotsOfFaithfulSource (L.reads_faithfully source.new) (L.remaining source.old) ls
         → IsPositionInAnyOrder ls → L.asked source.new ≤ L.asked source.old + length (touches_of_first_shares (closed_share_count side qty ls) ls) + 1 }
@@ -91,15 +91,15 @@ pub(crate) fn close_lots_with_values<L: LotSource, R: TouchReceiver>(
 ) -> Result<CloseValues, Fault>
     requires { R.holds rows.old [] }
     ensures leads { L.leads source.old source.new }
-    // It adds to `rows` the changes of the lots that it closes or reduces, and requests at most one
-    // lot more than it adds changes.
+    // It requests at most one lot more than it adds changes to `rows`. Over the lots of a position
+    // under the disk assumption, it adds the changes of the lots that the trade closes or reduces.
     ensures taken { IfOk result (λ taken. (touched : List Touch) × R.holds rows.new touched × (L.asked source.new ≤ L.asked source.old + length touched + 1)
         × ((ls : List Lot) → AreLotsOfFaithfulSource (L.reads_faithfully source.new) (L.remaining source.old) ls → IsPositionInAnyOrder ls
         → IsResultOfTradeAgainstLots side qty price ls touched taken.left taken.values)) }
     ensures bought { IfOk result (λ taken. taken.values.buy_value ≤ qty * greatest_price) }
     ensures sold { IfOk result (λ taken. taken.values.sell_value ≤ qty * greatest_price) }
-    // It requests at most one lot for each share, and at most one lot more than the trade closes or
-    // reduces, also if it fails.
+    // Also if it fails, it has requested at most one lot for each share and, over the lots of a
+    // position under the disk assumption, at most one lot more than the trade closes or reduces.
     ensures requests_at_most_shares { L.asked source.new ≤ L.asked source.old + qty }
     ensures requests_at_most_touched { (ls : List Lot) → AreLotsOfFaithfulSource (L.reads_faithfully source.new) (L.remaining source.old) ls
         → IsPositionInAnyOrder ls → L.asked source.new ≤ L.asked source.old + length (touches_of_first_shares (closed_share_count side qty ls) ls) + 1 }

@@ -16,9 +16,9 @@ use Rattle.brk_model.specs.Records.{Broker, Customer, Account, Permission, Secur
 use Rattle.brk_model.specs.Records.{SettleRule, Kept}
 use Rattle.brk_model.specs.Lists.{update_where}
 
--- The base (abstract state): a list for each kind of record, the settlement day (`rule`), the
--- stored requests with their replies (`kept`), and the stamp of the last accepted command (`last`),
--- or none before the first.
+-- The base (abstract state): a list for each kind of record, the first day of one-day settlement,
+-- or none if it is not set (`rule`), the stored requests with their replies (`kept`), and the stamp
+-- of the last accepted command, or none if no command was accepted (`last`).
 pub record Base : Type 0 where
   pub brokers : List Broker
   pub customers : List Customer
@@ -35,7 +35,8 @@ pub record Base : Type 0 where
   pub kept : List Kept
   pub last : Option ℕ
 
--- The empty base: its lists are empty, and it has no settlement day and no last stamp.
+-- The empty base: its lists are empty, and it has no first day of one-day settlement and no last
+-- stamp.
 unfoldable pub empty_base : Base
 empty_base = record {
   brokers = [];

@@ -48,10 +48,10 @@ abbrev pub HasNoHeader : Option Text → Type 0
 HasNoHeader text =
     HasExactlyRecords text [] ⊎ ((first : Fields) × BeginsWithRecords text (first ∷ []) × ((name : Text) → IsBatchName name → first ≡ batch_header name → ⊥))
 
--- Either the text ends after the header of the batch `name`, and `rows` and `told` are empty; or it
--- ends after this header, the records `rows` and one more record, which is not an end record, and
--- `told` is `answers` followed by the refusal `BadText`. An unknown text always satisfies the part
--- about its records.
+-- Either the text ends after the header of the batch `name`, and `rows` and the printed answers
+-- `told` are empty; or it ends after this header, the records `rows` and one more record, which is
+-- not an end record, and `told` is `answers` followed by the refusal `BadText`. An unknown text
+-- always satisfies the part about its records.
 abbrev pub EndsWithoutEndRecord : Option Text → Text → List Fields → List Answer → List Answer → Type 0
 EndsWithoutEndRecord text name rows answers told =
     ((rows ≡ []) × HasExactlyRecords text (batch_header name ∷ []) × (told ≡ []))

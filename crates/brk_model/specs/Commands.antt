@@ -33,10 +33,10 @@ pub record Tick : Type 0 where
   pub price : ℕ
   pub qty : ℕ
 
--- A command: one of nine kinds of reference records, an order, a feed, a cancel, a result, one of
--- three text updates, a deposit, a withdrawal, or the settlement day. `price` and `amount` are in
--- cents; `first` and `last` are stamps, both included, in milliseconds since 1970-01-01 UTC; `day`
--- is in days since 1970-01-01.
+-- A command: one of nine kinds of reference records, an order, a feed, a cancel, a result (the
+-- completion of a trade at a price), one of three text updates, a deposit, a withdrawal, or the
+-- first day of one-day settlement. `price` and `amount` are in cents; `first` and `last` are
+-- stamps, both included, in milliseconds since 1970-01-01 UTC; `day` is in days since 1970-01-01.
 pub data Command : Type 0 where
   AddBroker : Broker → Command
   AddCustomer : Customer → Command
@@ -85,7 +85,7 @@ pub record Completion : Type 0 where
 -- The reply to an accepted command, with its stamp and the figures of its kind. Amounts are in
 -- cents.
 pub data Reply : Type 0 where
-  -- The reply to a reference record or to the settlement day: the stamp only.
+  -- The reply to a reference record or to the first day of one-day settlement: the stamp only.
   Booked : (stamp : ℕ) → Reply
   -- The reply to an order: the id of its trade, the first status and the estimate.
   Ordered : (stamp trade : ℕ) → Status → Estimate → Reply

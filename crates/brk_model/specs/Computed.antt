@@ -40,8 +40,8 @@ RowsAndEndRecord = List Fields × Option Fields
 abbrev pub split_with_row_in_front : Fields → RowsAndEndRecord → RowsAndEndRecord
 split_with_row_in_front row split = (row ∷ split.0, split.1)
 
--- The rows before the first end record, and that record; all rows and none if there is no end
--- record.
+-- The rows before the first end record, and that record; if there is no end record, all rows, and
+-- none as the end record.
 abbrev pub split_at_end_record : List Fields → RowsAndEndRecord
 split_at_end_record [] = ([], None)
 split_at_end_record (row ∷ rows) = if is_end_record row then ([], Some row) else split_with_row_in_front row (split_at_end_record rows)

@@ -1,7 +1,7 @@
 -- The values that follow from a base: positions, summaries, settlements, postings, balances and
--- broker totals, of its completed trades, movements, accounts and settlement rule; the market value
--- of holdings, which needs its securities too; and the pending trades. Each definition takes the
--- lists that it reads; `done` are the completed trades.
+-- broker totals, of its completed trades, movements, accounts and first day of one-day settlement;
+-- the market value of holdings, which needs its securities too; and the pending trades. Each
+-- definition takes the lists that it reads; `done` are the completed trades.
 use Rattle.std.specs.Prelude.{ℕ, ◌+◌, ◌*◌, false, nat_le, ◌==◌, if◌then◌else◌, List, ◌++◌, length, map, filter, sum_by, Option, Some, None, ℤ, pos, ◌+ℤ◌, ◌-ℤ◌}
 use Rattle.std.specs.Prelude.{◌*ℤ◌, neg_ℤ, bytes_eq}
 use Rattle.std.specs.Option.{option_map_or}
@@ -68,19 +68,20 @@ abbrev pub settlement_amount : List Account → Trade → ℤ
 settlement_amount accounts t =
     signed_proceeds (side_of_trade_type t.kind) (t.qty * completion_price t) -ℤ pos (t.charge + t.commission + withheld_tax accounts t)
 
--- The number of days from a completion on the day `day` to its settlement: 1 if `rule` has a
--- settlement day and `day` is not before it, otherwise 2. Days are counted from 1970-01-01.
+-- The number of days from a completion on the day `day` to its settlement: 1 if `rule` has a first
+-- day of one-day settlement and `day` is not before it, otherwise 2. Days are counted from
+-- 1970-01-01.
 abbrev pub days_to_settlement : SettleRule → ℕ → ℕ
 days_to_settlement rule day = if option_map_or (λ first. nat_le first day) rule false then 1 else 2
 
--- The day on which a completion at the stamp `stamp` settles, in days since 1970-01-01: the day of
--- the stamp plus 1 or 2 days, by the settlement day in `rule` (`days_to_settlement`).
+-- The day on which a completion at the stamp `stamp` settles, in days since 1970-01-01: the UTC day
+-- of the stamp plus the 1 or 2 days of `days_to_settlement`.
 abbrev pub due_day_of_completion_stamp : SettleRule → ℕ → ℕ
 due_day_of_completion_stamp rule stamp = day_of stamp + days_to_settlement rule (day_of stamp)
 
 -- The day on which the completed trade `t` settles, in days since 1970-01-01 (SE_CASH_DUE_DATE,
--- Trade-Result): one day after its completion if it was completed on or after the settlement day in
--- `rule`, otherwise two.
+-- Trade-Result): one day after its completion if it was completed on or after the first day of
+-- one-day settlement in `rule`, otherwise two days after it.
 abbrev pub due_day : SettleRule → Trade → ℕ
 due_day rule t = due_day_of_completion_stamp rule (last_status_stamp_of_trade t)
 

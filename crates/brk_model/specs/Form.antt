@@ -60,7 +60,7 @@ is_at_most_last_stamp tables stamp = is_up_to_last_stamp tables.last stamp
 abbrev pub is_last_stamp_in_calendar : Option ℕ → Bool
 is_last_stamp_in_calendar last = option_map_or (λ l. nat_le l greatest_stamp) last true
 
--- True if the settlement day `rule` is at most the greatest day, or there is none.
+-- True if the first day of one-day settlement, `rule`, is at most the greatest day, or is none.
 abbrev pub is_settlement_day_in_calendar : SettleRule → Bool
 is_settlement_day_in_calendar rule = option_map_or (λ day. nat_le day greatest_day) rule true
 
@@ -387,9 +387,9 @@ has_distinct_tax_ids (c ∷ customers) = not (list_any (λ d. bytes_eq d.tax_id 
 -- SETTLE_RULE are sorted by their key, no key occurs twice in a table, and no two customers have
 -- equal tax ids. Bands do not overlap, no customer is above the limits of accounts and of tax
 -- rates, and trades are numbered from 1 without a gap. No trade has two rows of CASH_MOVE, and at
--- most `greatest_id` rows of CASH_MOVE have no trade. The last stamp and the settlement day, if
--- they are set, are within the calendar. CASH_MOVE and SETTLE_RULE have no rows if the schema lacks
--- them.
+-- most `greatest_id` rows of CASH_MOVE have no trade. The last stamp and the first day of one-day
+-- settlement, if they are set, are at most 9999-12-31. CASH_MOVE and SETTLE_RULE have no rows if
+-- the schema lacks them.
 unfoldable pub satisfies_form_condition : Schema → Tables → Bool
 satisfies_form_condition schema t =
     is_last_stamp_in_calendar t.last

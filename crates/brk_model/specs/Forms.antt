@@ -249,6 +249,7 @@ abbrev pub one_to_twenty_distinct_ids : List ℕ → ReadResult (List ℕ)
 one_to_twenty_distinct_ids ids = if all_distinct ids then one_to_twenty_elements ids else Err BadText
 
 -- The ids that the texts parse as, one each, if they are distinct and 1 to 20 in number; otherwise
--- a refusal, `TooMany` if there are more than 20 distinct ids, and `BadText` in any other case.
+-- a refusal, `TooMany` if all texts are well-formed, the ids are distinct and there are more than
+-- 20, and `BadText` in any other case.
 abbrev pub read_distinct_ids : List Text → ReadResult (List ℕ)
 read_distinct_ids texts = check_read_value one_to_twenty_distinct_ids (read_each_text read_id texts)

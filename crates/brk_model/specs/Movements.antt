@@ -1,4 +1,4 @@
--- Deposits, withdrawals and the settlement day.
+-- Deposits, withdrawals and the first day of one-day settlement.
 use Rattle.std.specs.Prelude.{ℕ, ◌+◌, [], ◌∷◌, ◌++◌, length, Some, pos, neg_ℤ, codes}
 use Rattle.brk_model.specs.Records.{Movement}
 use Rattle.brk_model.specs.Base.{Base}
@@ -19,8 +19,8 @@ withdrawal_movement stamp account amount = record { account = account; stamp = s
 abbrev pub base_after_movement : Base → Movement → Base
 base_after_movement base m = record base { movements = base.movements ++ m ∷ [] }
 
--- The base `base` with the settlement day `day`, in days since 1970-01-01, in place of the one that
--- it had, if any.
+-- The base `base` with `day`, in days since 1970-01-01, as the first day of one-day settlement, in
+-- place of the one that it had, if any.
 abbrev pub base_with_settlement_day : Base → ℕ → Base
 base_with_settlement_day base day = record base { rule = Some day }
 

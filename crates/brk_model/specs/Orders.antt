@@ -52,8 +52,8 @@ abbrev pub tax_on_deal : Base → ℕ → Deal → List Share → ℕ
 tax_on_deal base account d shares =
     if is_taxable_account base account then tax (realised_gain d shares) (tax_rate_sum_of_customer base (customer_id_of_account base account)) else 0
 
--- The deal of the order `o` at its requested price, with the number of trades of `base` plus 1 as
--- the id of its trade, and with the stamp 0.
+-- The deal of the order `o` at its `bid_price_of_order`, with the number of trades of `base` plus 1
+-- as the id of its trade, and with the stamp 0.
 abbrev pub deal_of_order : Base → Order → Deal
 deal_of_order base o = record {
   trade = length base.trades + 1;
@@ -96,10 +96,10 @@ first_status kind = if is_market_type kind then Submitted else Pending
 abbrev pub executor_name : Executor → Text
 executor_name e = e.first_name ++ 32 ∷ e.last_name
 
--- The trade that the order `o` creates at `stamp`, with its requested price, its estimated charge
--- and commission, tax 0, no completion price, and an empty cash type and cash row name. Its id is
--- the number of trades of `base` plus 1. Its only status change is to the `first_status` of its
--- type, at `stamp`.
+-- The trade that the order `o` creates at `stamp`, with its `bid_price_of_order`, its estimated
+-- charge and commission, tax 0, no completion price, and an empty cash type and cash row name. The
+-- id of the trade is the number of trades of `base` plus 1. Its only status change is to the
+-- `first_status` of its type, at `stamp`.
 abbrev pub trade_of_order : Base → ℕ → Order → Trade
 trade_of_order base stamp o = record {
   id = length base.trades + 1;

@@ -147,8 +147,8 @@ abbrev pub read_movement_command : (ℕ → ℕ → Command) → List Text → R
 read_movement_command moved (account ∷ amount ∷ []) = Ok (λ a n. moved a n) ⊛ read_id account ⊛ read_movement_amount amount
 read_movement_command moved _ = Err BadText
 
--- The settlement day, in days since 1970-01-01, that exactly one field parses as, otherwise the
--- refusal `BadText`.
+-- The first day of one-day settlement, in days since 1970-01-01, that exactly one field parses as,
+-- otherwise the refusal `BadText`.
 abbrev pub read_settlement_day : List Text → ReadResult ℕ
 read_settlement_day (day ∷ []) = read_day day
 read_settlement_day _ = Err BadText
@@ -204,8 +204,8 @@ update_row_parsers =
     ∷ (codes "upcash", read_cash_type_update)
     ∷ (codes "uptext", read_cash_name_update) ∷ []
 
--- The parsers of the row kinds for deposits, withdrawals and the settlement day, each with the word
--- of its kind.
+-- The parsers of the row kinds for deposits, withdrawals and the first day of one-day settlement,
+-- each with the word of its kind.
 abbrev pub movement_and_settlement_day_row_parsers : List (NamedParser Command)
 movement_and_settlement_day_row_parsers =
     (codes "deposit", read_movement_command (λ a n. DepositCash a n))

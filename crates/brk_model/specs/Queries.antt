@@ -13,9 +13,9 @@ pub data Query : Type 0 where
   PositionOf : (customer : ℕ) → Query
   -- The balances and market values of the accounts of the customers with a tax id (view `taxid`).
   PositionOfTaxId : (tax_id : Text) → Query
-  -- The last trades of an account and their status changes (view `recent`).
+  -- The last 10 trades of an account and their status changes (view `recent`).
   RecentOf : (account : ℕ) → Query
-  -- The names of an account's customer and broker, and its last trades (view `status`).
+  -- The names of an account's customer and broker, and its last 50 trades (view `status`).
   StatusOf : (account : ℕ) → Query
   -- The submitted trades (view `submitted`).
   SubmittedTrades : Query
@@ -24,12 +24,13 @@ pub data Query : Type 0 where
   -- The trades with these ids, with their settlements, cash rows and status changes (view
   -- `trades`).
   TradesWith : (trades : List ℕ) → Query
-  -- The first trades of an account between two stamps, both included (view `accounttrades`).
+  -- The first 20 trades of an account between two stamps, both included (view `accounttrades`).
   TradesOfAccount : (account first last : ℕ) → Query
-  -- The first trades of a symbol between two stamps, both included (view `symboltrades`).
+  -- The first 20 trades of a symbol between two stamps, both included (view `symboltrades`).
   TradesOfSymbol : (symbol : Text) → (first last : ℕ) → Query
-  -- The first changes of the lots that were touched by the oldest trade of an account with a stamp
-  -- of at least `first` (view `lots`).
+  -- The first 20 changes of the lots that were touched by an account's oldest trade with a stamp of
+  -- at least `first` (view `lots`).
   LotsTouched : (account first : ℕ) → Query
-  -- The volumes of the brokers with these names in a sector (view `volume`).
+  -- The value, in cents, of the pending trades in a sector, for each broker that has one of these
+  -- names and at least one such trade (view `volume`).
   VolumeOf : (sector : Text) → (names : List Text) → Query

@@ -85,13 +85,13 @@ pub record StatusChange : Type 0 where
   pub status : Status
 
 -- A trade: the terms of its order, its status changes (`marks`), and the values that its completion
--- records. `kind` is its type. `bid` is the requested price, or the last market price at the order
--- of a market type, and `price` the price at completion, none before it. `commission` is an
--- estimate until the completion. Prices, charge, commission and tax are in cents. `executor` is the
--- name of the person who ordered. The trade is a cash trade if `is_cash` is true, otherwise a
--- margin trade. It closes the last shares of its position first if `is_lifo` is true, otherwise the
--- first ones. `cash_type` is the cash type of its settlement and `cash_name` the name of its cash
--- row, each empty if the trade has none.
+-- records. `kind` is its type. `bid` is the requested price or, for a market type, the last price
+-- of the security when the order was accepted; `price` is the price at completion, none before it.
+-- `commission` is an estimate until the completion. Prices, charge, commission and tax are in
+-- cents. `executor` is the name of the person who ordered. The trade is a cash trade if `is_cash`
+-- is true, otherwise a margin trade. It closes the last shares of its position first if `is_lifo`
+-- is true, otherwise the first ones. `cash_type` is the cash type of its settlement and `cash_name`
+-- the name of its cash row, each empty if the trade has none.
 pub record Trade : Type 0 where
   pub id : ℕ
   pub account : ℕ

@@ -27,7 +27,7 @@ abbrev pub cash_row_name_from_parts : Text → TradeType → ℕ → Text → Te
 cash_row_name_from_parts words kind qty security = trade_type_name kind ++ 32 ∷ decimal qty ++ words ++ security
 
 -- The name of the cash row of the trade `t`: the name of its type, a space, its quantity, the text
--- `words`, and the name of its security.
+-- `words`, and the name of its security, which is empty if `base` has no such security.
 abbrev pub cash_row_name : Text → Base → Trade → Text
 cash_row_name words base t = cash_row_name_from_parts words t.kind t.qty (security_name base t.symbol)
 

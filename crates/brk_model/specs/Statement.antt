@@ -65,9 +65,9 @@ lot_line row =
 
 -- The lines of the statement of account `a` over the days `from` to `to`, both included: title,
 -- name, period, balance before the period, cash rows of the period, balance after the period, lots,
--- market value, and the numbers of these cash rows and of the lots. `rows` are all cash rows of the
--- account; both balances are its opening balance plus amounts of `rows`. Days are counted from
--- 1970-01-01.
+-- market value, and the counts of the cash rows of the period and of the lots. `rows` are all cash
+-- rows of the account; both balances are its opening balance plus amounts of `rows`. Days are
+-- counted from 1970-01-01.
 abbrev pub statement_lines : Tables → AccountRow → ℕ → ℕ → List MoveRow → List Text
 statement_lines tables a from to rows =
     (codes "Statement of account " ++ decimal a.id)
@@ -87,8 +87,8 @@ statement_lines tables a from to rows =
 abbrev pub text_of_lines : List Text → Text
 text_of_lines lines = flat_map (λ line. line ++ 10 ∷ []) lines
 
--- The statement of the account over the days `from` to `to`, or the refusal `NoAccount` if there is
--- no account.
+-- The statement of the account over the days `from` to `to`, both included, or the refusal
+-- `NoAccount` if there is no account.
 abbrev pub statement_or_refusal : Tables → Option AccountRow → ℕ → ℕ → Result Text Refusal
 statement_or_refusal tables None from to = Err NoAccount
 statement_or_refusal tables (Some a) from to = Ok (text_of_lines (statement_lines tables a from to (sorted_cash_rows_of_account tables a.id)))

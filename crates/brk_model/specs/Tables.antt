@@ -140,8 +140,9 @@ pub record MoveRow : Type 0 where
   pub name : Text
 
 -- The rows of all tables. `last` is D_LAST of DESK, whose other columns are left out, and `rule` is
--- SR_DAY of the row of SETTLE_RULE, or none without a row. Cash rows are in CASH_TRANSACTION
--- (`cash`) in the first schema, and in CASH_MOVE (`moves`) in each later one.
+-- SR_DAY of the row of SETTLE_RULE, the first day of one-day settlement, or none without a row.
+-- Cash rows are in CASH_TRANSACTION (`cash`) in the first schema, and in CASH_MOVE (`moves`) in the
+-- second and the third.
 pub record Tables : Type 0 where
   pub last : Option ℕ
   pub kept : List Kept
@@ -300,7 +301,7 @@ cash_move_rows schema posted = if schema.has_cash_move_table then numbered_move_
 abbrev pub cash_transaction_rows : Schema → List Account → List Trade → List CashRow
 cash_transaction_rows schema accounts done = if schema.has_cash_move_table then [] else map (cash_transaction_row accounts) (cash_trades done)
 
--- The tables without rows, without a last stamp and without a settlement day.
+-- The tables without rows, without a last stamp and without a first day of one-day settlement.
 abbrev pub tables_without_rows : Tables
 tables_without_rows = record {
   last = None;

@@ -69,7 +69,7 @@ bands_overlap b c =
     (b.tier == c.tier) && is_same_trade_type b.kind c.kind && bytes_eq b.exchange c.exchange && nat_le b.from_qty c.to_qty && nat_le c.from_qty b.to_qty
 
 -- The check that refuses with `NoCharge` if `base` has no charge for the type of the order `o` and
--- the tier of its customer.
+-- the tier of the customer of its account.
 abbrev pub charge_exists_check : Base → Order → RefusalCheck
 charge_exists_check base o = (is_none (charge_for_type_and_tier base (trade_type_of_order_type o.order_type) (tier_of_account base o.account)), NoCharge)
 
@@ -81,8 +81,8 @@ commission_band_exists_check base o = (
   NoRate,
 )
 
--- The checks of the order `o`, also of a query for its estimate, in sequence: account, security,
--- permission, charge and commission band.
+-- The checks of the order `o`, also of a query for its estimate, in sequence: its account and its
+-- security exist, its executor may order for the account, and a charge and a commission band apply.
 abbrev pub checks_of_order : Base → Order → List RefusalCheck
 checks_of_order base o =
     account_exists_check base o.account ∷ security_exists_check base o.symbol ∷ (not (may_order_for_account base o.account o.executor), NotPermitted)
@@ -93,9 +93,10 @@ checks_of_order base o =
 abbrev pub status_check : Bool → Trade → RefusalCheck
 status_check right t = (not right, WrongStatus (last_status_of_trade t))
 
--- The checks of a result of the trade `t` at `stamp`, in sequence: status, commission band, holding
--- summary, balance of a cash trade, commission total of the broker, and due day. `after` is the
--- base that would follow the result.
+-- The checks of a result of the trade `t` at `stamp`, in sequence: `t` is submitted, a commission
+-- band applies, the holding summary, the balance of the account (for a cash trade only) and the
+-- commission total of the broker are within their limits in `after`, and the due day is at most
+-- `greatest_day`. `after` is the base that would follow the result.
 abbrev pub checks_of_result : Base → Base → ℕ → Trade → List RefusalCheck
 checks_of_result base after stamp t =
     status_check (has_last_status Submitted t) t
@@ -153,15 +154,15 @@ checks_of_command base stamp (DepositCash account amount) = checks_of_movement b
 checks_of_command base stamp (WithdrawCash account amount) = checks_of_movement base (withdrawal_movement stamp account amount)
 checks_of_command base stamp (SetOneDay day) = duplicate_check (is_some base.rule) ∷ []
 
--- True if the command sets a settlement day that is not after the day of `stamp`; false for any
--- other command.
+-- True if the command sets a first day of one-day settlement that is not after the UTC day of
+-- `stamp`; false for any other command.
 abbrev pub is_settlement_day_too_early : ℕ → Command → Bool
 is_settlement_day_too_early stamp (SetOneDay day) = nat_le day (day_of stamp)
 is_settlement_day_too_early stamp _ = false
 
--- The checks of the stamp `stamp` of a command, which follow all its other checks: `ClockEnd` if it
--- is past the greatest stamp, and `TooEarly` if the command sets a settlement day that is not after
--- the day of the stamp.
+-- The checks of the stamp `stamp` of a command, which follow all other checks of the command:
+-- `ClockEnd` if the stamp is past the greatest stamp, and `TooEarly` if the command sets a first
+-- day of one-day settlement that is not after the UTC day of the stamp.
 abbrev pub checks_of_stamp : ℕ → Command → List RefusalCheck
 checks_of_stamp stamp command = (nat_lt greatest_stamp stamp, ClockEnd) ∷ (is_settlement_day_too_early stamp command, TooEarly) ∷ []
 

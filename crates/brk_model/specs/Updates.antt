@@ -49,15 +49,15 @@ abbrev pub selected_trade_ids : Base → (Trade → Bool) → ℕ → ℕ → Li
 selected_trade_ids base test first last =
     map (λ t. t.id) (take 20 (trades_oldest_first (filter (λ t. test t && trade_stamp_is_between first last t) (completed_trades base))))
 
--- The ids of the trades that an `upcash` of the account `account` updates: the completed trades of
--- the account whose last status change has a stamp from `first` to `last`, both included, sorted by
--- `trades_oldest_first`; at most the first 20.
+-- The ids of the trades that the command `ChangeCashTypes` of the account `account` updates: the
+-- completed trades of the account whose last status change has a stamp from `first` to `last`, both
+-- included, sorted by `trades_oldest_first`; at most the first 20.
 abbrev pub selected_trade_ids_of_account : Base → ℕ → ℕ → ℕ → List ℕ
 selected_trade_ids_of_account base account first last = selected_trade_ids base (λ t. t.account == account) first last
 
--- The ids of the trades that an `uptext` of the symbol `symbol` updates: the completed cash trades
--- of the symbol whose last status change has a stamp from `first` to `last`, both included, sorted
--- by `trades_oldest_first`; at most the first 20.
+-- The ids of the trades that the command `ChangeCashNames` of the symbol `symbol` updates: the
+-- completed cash trades of the symbol whose last status change has a stamp from `first` to `last`,
+-- both included, sorted by `trades_oldest_first`; at most the first 20.
 abbrev pub selected_trade_ids_of_symbol : Base → Text → ℕ → ℕ → List ℕ
 selected_trade_ids_of_symbol base symbol first last = selected_trade_ids base (λ t. t.is_cash && bytes_eq t.symbol symbol) first last
 

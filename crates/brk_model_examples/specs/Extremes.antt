@@ -59,7 +59,7 @@ trade_with_commission commission = record {
   cash_name = [];
 }
 
--- The base `setting_base` with one completed trade with the commission `commission`, in cents,
--- which is then also the commission total of the trade's broker.
+-- The base `setting_base` with one completed trade, whose commission, `commission` cents, is also
+-- the commission total of the broker of its account.
 abbrev pub setting_with_commission_total : ℕ → Base
 setting_with_commission_total commission = record setting_base { trades = trade_with_commission commission ∷ [] }

@@ -1,4 +1,4 @@
--- A deposit and a withdrawal after the first sale, and the first purchase with a settlement day.
+-- Two movements after the first sale, and a purchase before the first day of one-day settlement.
 use Rattle.std.specs.Prelude.{Some, [], ◌∷◌, pos, negsuc, codes}
 use Rattle.brk_model.specs.Base.{Base}
 use Rattle.brk_model.specs.Records.{Trade}
@@ -20,7 +20,7 @@ abbrev pub purchase_one_millisecond_later : Trade
 purchase_one_millisecond_later =
     record first_purchase { marks = record { stamp = 1709251200017; status = Submitted } ∷ record { stamp = 1709251200018; status = Completed } ∷ [] }
 
--- The base `setting_base` with the first purchase one millisecond later, and with the settlement
--- day 2024-03-02, which is set before the purchase.
+-- The base `setting_base` with the trade `purchase_one_millisecond_later`, and with 2024-03-02 as
+-- the first day of one-day settlement, which was set before the purchase.
 unfoldable pub base_after_purchase_with_settlement_day : Base
 base_after_purchase_with_settlement_day = record setting_base { trades = purchase_one_millisecond_later ∷ []; rule = Some 19784; last = Some 1709251200018 }

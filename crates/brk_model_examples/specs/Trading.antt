@@ -1,4 +1,4 @@
--- Six trades: two purchases, a sale, a sale to a short position, a purchase back, a sale of all.
+-- Six completed trades, of which the third has two variants, and the bases after them.
 use Rattle.std.specs.Prelude.{ℕ, true, false, Some, List, [], ◌∷◌, codes}
 use Rattle.brk_money.specs.declared.trade_type.TradeType.TheVariants.{MarketBuy, MarketSell}
 use Rattle.brk_money.specs.declared.status.Status.TheVariants.{Completed, Submitted}

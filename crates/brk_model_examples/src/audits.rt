@@ -18,9 +18,9 @@ ghost use Rattle.brk_model_examples.specs.Bought.{tables_with_trade_above_older_
 ghost use Rattle.brk_model_examples.specs.Bought.{tables_with_settlement_day_after_completion, tables_with_settlement_day_at_completion, tables_with_movement};
 
 /// Shows that the tables after the first purchase pass the audit of the third and of the second
-/// schema, and those with the cash row in CASH_TRANSACTION that of the first. With a settlement day
-/// after the completion, or with a deposit, the tables after the first purchase pass the audit of
-/// the third schema, and with a withdrawal that of the second.
+/// schema, and those with the cash row in CASH_TRANSACTION that of the first. With a first day of
+/// one-day settlement after the completion, or with a deposit, the tables after the first purchase
+/// pass the audit of the third schema, and with a withdrawal that of the second.
 pub fn tables_after_purchase_pass_audit()
     ensures third { IsAuditResult third_schema tables_after_first_purchase None }
     ensures second { IsAuditResult second_schema tables_after_first_purchase None }
@@ -71,10 +71,10 @@ pub fn audit_checks_movement_rows()
 {}
 
 /// Shows that tables with a trade or a band whose quantity is above the limit of the second schema
-/// fail its audit with `Form`, and that the tables with this band pass the audit of the third.
-/// Tables with a settlement day fail the audit of the second schema with `Form`, tables with a row
-/// of CASH_MOVE that of the first with `Form`, and tables whose cash row is in CASH_TRANSACTION
-/// that of the second with `Cash`.
+/// fail the audit of this schema with `Form`, and that the tables with this band pass the audit of
+/// the third. Tables with a first day of one-day settlement fail the audit of the second schema
+/// with `Form`, tables with a row of CASH_MOVE that of the first with `Form`, and tables whose cash
+/// row is in CASH_TRANSACTION that of the second with `Cash`.
 pub fn audit_applies_limits_of_schema()
     ensures quantity { IsAuditResult second_schema tables_with_trade_above_older_limit (Some condition.Form) }
     ensures band { IsAuditResult second_schema tables_with_band_above_older_limit (Some condition.Form) }

@@ -49,8 +49,8 @@ pub fn values_have_one_canonical_text()
     ensures empty { decimal_number_of_text [] ≡ None }
 {}
 
-/// Shows that an account is refused with 18 for three texts of its opening balance that are not
-/// canonical.
+/// Shows that an account is refused with `BadText` (18) for three texts of its opening balance that
+/// are not canonical.
 pub fn noncanonical_opening_balance_is_refused()
     ensures { BatchOutputsLines setting_base
         (codes "account,101,10,1,Main,1,-0.00"

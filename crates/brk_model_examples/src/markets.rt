@@ -46,9 +46,10 @@ pub fn feed_triggers_pending_trades()
 {}
 
 /// Shows that the cancel of a pending trade is accepted, that the cancel of a canceled or a
-/// submitted trade is refused with 13 and that of an unknown trade with 5, and that a feed is
-/// refused with 4 if a security does not exist and with 18 if a tick is incomplete. Shows also the
-/// submitted trades and an estimate after a cancel and a feed.
+/// submitted trade is refused with `WrongStatus` (13) and that of an unknown trade with `NoTrade`
+/// (5), and that a feed is refused with `NoSecurity` (4) if a security does not exist and with
+/// `BadText` (18) if a tick is incomplete. Shows also the submitted trades and an estimate after a
+/// cancel and a feed.
 pub fn cancel_needs_pending_trade()
     ensures lines { BatchOutputsLines base_with_pending_orders
         (codes "cancel,1"
@@ -79,8 +80,8 @@ pub fn cancel_needs_pending_trade()
         ∷ []) }
 {}
 
-/// Shows that a feed may raise the volume of a security to its limit, and is refused with 14 if one
-/// tick, or two ticks together, would raise it above the limit.
+/// Shows that a feed may raise the volume of a security to its limit, and is refused with `Range`
+/// (14) if one tick, or two ticks together, would raise it above the limit.
 pub fn volume_limit_is_checked()
     ensures at_limit { BatchOutputsLines setting_with_volume_near_limit
         (codes "feed,ABC,10.00,100" ∷ [])

@@ -11,10 +11,10 @@ ghost use Rattle.brk_model_examples.specs.Setting.{setting_base};
 ghost use Rattle.brk_model_examples.specs.Trading.{base_after_fifo_sale};
 
 /// Shows that a balance may fall below 0 and rise to its limit, and that a deposit that would raise
-/// it above the limit is refused with 14. A withdrawal of 0.00 is refused with 18, and a deposit to
-/// an account that does not exist with 1. The reply to a movement has the number of its cash row,
-/// which follows the numbers of the earlier cash rows. Shows also the base after the first two
-/// movements, without stored replies.
+/// it above the limit is refused with `Range` (14). A withdrawal of 0.00 is refused with `BadText`
+/// (18), and a deposit to an account that does not exist with `NoAccount` (1). The reply to a
+/// movement has the number of its cash row, which follows the numbers of the earlier cash rows.
+/// Shows also the base after the first two movements, without stored replies.
 pub fn movements_respect_balance_limit()
     ensures lines { BatchOutputsLines base_after_fifo_sale
         (codes "deposit,100,100.00"
@@ -88,8 +88,8 @@ pub fn retried_deposit_is_not_booked_again()
         (codes "deposit,100,100.00" ∷ []))).accounts ≡ pos 1010000 ∷ [] }
 {}
 
-/// Shows that a movement is refused with 18 if its amount is malformed, out of range or missing, or
-/// if its account is 0.
+/// Shows that a movement is refused with `BadText` (18) if its amount is malformed, out of range or
+/// missing, or if its account is 0.
 pub fn malformed_movements_are_refused()
     ensures { BatchOutputsLines setting_base
         (codes "deposit,100,1000000000000000.01"

@@ -5,9 +5,9 @@ ghost use Rattle.std.specs.Prelude.{◌∷◌, [], codes};
 ghost use Rattle.brk_model_examples.specs.Batches.{BatchOutputsLines};
 ghost use Rattle.brk_model_examples.specs.Setting.{setting_base};
 
-/// Shows that an order whose executor has another tax id than the customer is refused with 6, and
-/// is accepted if a permission has the executor's first name, last name and tax id. It is also
-/// refused with 6 if the permission has another first name.
+/// Shows that an order whose executor has another tax id than the customer is refused with
+/// `NotPermitted` (6), and is accepted if a permission has the executor's first name, last name and
+/// tax id. The order is also refused with `NotPermitted` if the permission has another first name.
 pub fn order_needs_permission_of_executor()
     ensures refused { BatchOutputsLines setting_base
         (codes "order,100,TMB,ABC,100,,cash,fifo,Ann,Lee,T11" ∷ [])
@@ -27,8 +27,9 @@ pub fn order_needs_permission_of_executor()
         ∷ codes "end,1,0,1" ∷ []) }
 {}
 
-/// Shows that an order is refused with 10 if there is no charge for its type and the tier of its
-/// customer, and otherwise with 11 if there is no commission band.
+/// Shows that an order is refused with `NoCharge` (10) if there is no charge for its type and the
+/// tier of its customer, and otherwise with `NoRate` (11) if there is no commission band for its
+/// type and this tier.
 pub fn order_needs_charge_and_commission_band()
     ensures { BatchOutputsLines setting_base
         (codes "customer,11,2,T11,Kay,Kim"
@@ -44,8 +45,8 @@ pub fn order_needs_charge_and_commission_band()
         ∷ codes "end,3,0,2" ∷ []) }
 {}
 
-/// Shows that an order is refused with 1 if its account does not exist, and otherwise with 4 if its
-/// security does not exist, before the executor is checked.
+/// Shows that an order is refused with `NoAccount` (1) if its account does not exist, and otherwise
+/// with `NoSecurity` (4) if its security does not exist, before the executor is checked.
 pub fn order_needs_account_and_security()
     ensures { BatchOutputsLines setting_base
         (codes "order,999,TMB,QQQ,100,,cash,fifo,Ann,Lee,T10"

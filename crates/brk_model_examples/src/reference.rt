@@ -7,9 +7,9 @@ ghost use Rattle.brk_model_examples.specs.Batches.{base_after_batch, BatchOutput
 ghost use Rattle.brk_model_examples.specs.Setting.{setting_base, setting_rows};
 ghost use Rattle.brk_model_examples.specs.Extremes.{setting_with_ten_accounts};
 
-/// Shows the answers to a broker, a customer and two accounts. The second account is refused,
-/// because its customer does not exist, and its key is not recorded. The output of a batch without
-/// rows is only its end line.
+/// Shows the answers to a broker, a customer and two accounts. The second account is refused with
+/// `NoCustomer` (2), because its customer does not exist, and its key is not recorded. The output
+/// of a batch without rows is only its end line.
 pub fn refused_reference_row_records_no_key()
     ensures rows { BatchOutputsLines empty_base
         (codes "broker,1,Bo"
@@ -84,8 +84,8 @@ pub fn invalid_reference_rows_are_refused()
         ∷ codes "end,1,0,10" ∷ []) }
 {}
 
-/// Shows that an eleventh account of a customer is refused with 14, or with 3 if its broker does
-/// not exist.
+/// Shows that an eleventh account of a customer is refused with `Range` (14), or with `NoBroker`
+/// (3) if its broker does not exist.
 pub fn eleventh_account_is_refused()
     ensures { BatchOutputsLines setting_with_ten_accounts
         (codes "account,110,10,1,Main,1,0.00"
@@ -95,8 +95,8 @@ pub fn eleventh_account_is_refused()
         ∷ codes "end,0,0,2" ∷ []) }
 {}
 
-/// Shows that eight reference rows are refused with 15, because for each of them a record with its
-/// key exists, and that a new permission is accepted.
+/// Shows that eight reference rows are refused with `Exists` (15), because for each of them a
+/// record with its primary key exists, and that a new permission is accepted.
 pub fn duplicate_reference_rows_are_refused()
     ensures { BatchOutputsLines setting_base
         (codes "broker,1,Bob"

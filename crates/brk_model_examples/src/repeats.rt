@@ -8,8 +8,8 @@ ghost use Rattle.brk_model.specs.Computed.{result_of_batch_input};
 ghost use Rattle.brk_model_examples.specs.Batches.{twenty_clock_readings, bytes_of_batch, text_with_line_ends, base_after_batch, BatchOutputsLines};
 ghost use Rattle.brk_model_examples.specs.Setting.{setting_base, setting_rows};
 
-/// Shows the replies to a batch, that its retry is answered with the stored replies and leaves the
-/// base unchanged, and that a changed row under a recorded key is refused with 19.
+/// Shows the replies to a batch, that its retry is answered with the stored replies and does not
+/// change the base, and that a changed row under a recorded key is refused with `KeyReused` (19).
 pub fn retried_batch_changes_nothing()
     ensures once { BatchOutputsLines setting_base
         (codes "order,100,TMB,ABC,100,,cash,fifo,Ann,Lee,T10"
@@ -86,8 +86,8 @@ pub fn retried_batch_changes_nothing()
         ∷ codes "result,3,13.00" ∷ []) }
 {}
 
-/// Shows that the retried rows `setting_rows` are answered with their stored replies, and that
-/// another first row under the recorded key is refused with 19.
+/// Shows that the retried rows `setting_rows` are answered with their stored replies, and that a
+/// changed first row under its recorded key is refused with `KeyReused` (19).
 pub fn retried_setting_is_answered_again()
     ensures again { BatchOutputsLines (base_after_batch empty_base setting_rows) setting_rows
         (codes "1,again,1709251200000"
@@ -155,8 +155,8 @@ pub fn refused_row_may_be_retried()
 {}
 
 /// Shows that an input without an end record ends with `NoEnd`, also if it is a header alone, and
-/// that its last row, which may be cut, is refused with 18, is not executed, and counts as a
-/// decided row.
+/// that its last row, which may be cut, is refused with `BadText` (18), is not executed, and counts
+/// as a decided row.
 pub fn last_row_of_cut_input_is_refused()
     ensures text { (result_of_batch_input setting_base twenty_clock_readings (codes "batch,C\nbroker,2,Cy\nbroker,3\nbroker,4,D")).text
         ≡ text_with_line_ends (codes "1,ok,1709251200016"

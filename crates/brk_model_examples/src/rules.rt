@@ -51,9 +51,9 @@ pub fn only_cash_trades_change_balance()
         ≡ pos 1000000 }
 {}
 
-/// Shows that a completion settles after two days if there is no settlement day or if it is in the
-/// last millisecond before the settlement day, and after one day if it is on the settlement day or
-/// on the day after it.
+/// Shows that a completion settles after two days if no first day of one-day settlement is set or
+/// if the completion is in the last millisecond before that day, and after one day if it is in the
+/// first millisecond of that day or of the day after it.
 pub fn settlement_takes_one_or_two_days()
     ensures no_settlement_day { due_day_of_completion_stamp None 1709251200000 ≡ 19785 }
     ensures before_settlement_day { due_day_of_completion_stamp (Some 19784) 1709337599999 ≡ 19785 }

@@ -1,4 +1,4 @@
-//! The settlement day, and quantities.
+//! The first day of one-day settlement, and large quantities.
 #![tactic(auto, unfolding(crate::proofs::OnLiterals::model_on_literals))]
 
 ghost use Rattle.std.specs.Prelude.{◌≡◌, ◌∷◌, [], ℕ, map, Some, replicate, codes};
@@ -8,11 +8,11 @@ ghost use Rattle.brk_model_examples.specs.Batches.{base_after_batch, bytes_of_ba
 ghost use Rattle.brk_model_examples.specs.Moving.{base_after_purchase_with_settlement_day};
 ghost use Rattle.brk_model_examples.specs.Setting.{setting_base};
 
-/// Shows that a settlement day on the day of its command is refused with 22, that the day after it
-/// is accepted, and that a second settlement day is refused with 15. A purchase that is completed
-/// before the settlement day settles after two days. Shows also the base after the settlement day
-/// is set and the purchase is completed, without stored replies, and the settlement day in the
-/// tables of this base.
+/// Shows that the command `oneday`, which sets the first day of one-day settlement, is refused with
+/// `TooEarly` (22) for the day of the command, accepted for the day after, and refused with
+/// `Exists` (15) once the first day is set. A purchase that is completed before the first day
+/// settles after two days. Shows also the base after an accepted `oneday` and the completed
+/// purchase, without stored replies, and the first day in the tables of this base.
 pub fn settlement_day_is_set_once()
     ensures lines { BatchOutputsLines setting_base
         (codes "oneday,2024-03-01"
@@ -33,8 +33,9 @@ pub fn settlement_day_is_set_once()
     ensures day { (tables_of_base base_after_purchase_with_settlement_day).rule ≡ Some 19784 }
 {}
 
-/// Shows that a trade that is completed on the settlement day, or on the day after it, settles
-/// after one day. The due day of a trade that was completed before does not change.
+/// Shows that a trade that is completed on the first day of one-day settlement, or on the day after
+/// it, settles after one day. The due day of a trade that was completed before the first day does
+/// not change.
 pub fn settlement_after_one_day()
     ensures lines { (result_of_batch_input base_after_purchase_with_settlement_day (replicate 2 1709337600000) (bytes_of_batch (codes "G")
         (codes "order,100,TMB,ABC,200,,cash,fifo,Ann,Lee,T10"
@@ -49,7 +50,8 @@ pub fn settlement_after_one_day()
 {}
 
 /// Shows that 9999-12-30 is the last day for a completion that settles after one day: a completion
-/// in the last millisecond of this day is accepted, and one a millisecond later is refused with 21.
+/// in the last millisecond of this day is accepted, and one a millisecond later is refused with
+/// `ClockEnd` (21).
 pub fn last_day_for_one_day_settlement()
     ensures accepted { (result_of_batch_input base_after_purchase_with_settlement_day (253402214399998 ∷ 253402214399999 ∷ []) (bytes_of_batch (codes "Y")
         (codes "order,100,TMB,ABC,100,,cash,fifo,Ann,Lee,T10"
@@ -65,9 +67,9 @@ pub fn last_day_for_one_day_settlement()
         ∷ codes "end,1,0,1" ∷ []) }
 {}
 
-/// Shows that a settlement day is refused with 18 for three texts that are not the canonical text
-/// of a day of the calendar, and if there is no field or more than one. The last day of the
-/// calendar is accepted.
+/// Shows that the command `oneday` is refused with `BadText` (18) for three texts that are not the
+/// canonical text of a day of the calendar, and if there is no field or more than one. The last day
+/// of the calendar, 9999-12-31, is accepted.
 pub fn malformed_days_are_refused()
     ensures { BatchOutputsLines setting_base
         (codes "oneday,2024-3-02"
@@ -85,8 +87,8 @@ pub fn malformed_days_are_refused()
         ∷ codes "end,1,0,5" ∷ []) }
 {}
 
-/// Shows that an order of 1,000,000 shares is refused with 11 until a commission band has this
-/// quantity, and that an order of 10,000,000 shares is refused with 8.
+/// Shows that an order of 1,000,000 shares is refused with `NoRate` (11) until a commission band
+/// contains this quantity, and that an order of 10,000,000 shares is refused with `BadQty` (8).
 pub fn large_quantities_need_a_commission_band()
     ensures { BatchOutputsLines setting_base
         (codes "order,100,TMB,ABC,1000000,,cash,fifo,Ann,Lee,T10"

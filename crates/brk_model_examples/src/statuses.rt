@@ -10,8 +10,8 @@ ghost use Rattle.brk_model_examples.specs.Trading.{base_after_first_purchase, ba
 ghost use Rattle.brk_model_examples.specs.Waiting.{base_with_pending_orders};
 ghost use Rattle.brk_model_examples.specs.Extremes.{base_at_greatest_stamp, setting_with_commission_total};
 
-/// Shows that a result is refused with 13 if its trade is completed or pending, and with 5 if its
-/// trade does not exist.
+/// Shows that a result is refused with `WrongStatus` (13) if its trade is completed or pending, and
+/// with `NoTrade` (5) if its trade does not exist.
 pub fn result_needs_submitted_trade()
     ensures completed { BatchOutputsLines base_after_first_purchase
         (codes "result,1,11.00"
@@ -25,8 +25,8 @@ pub fn result_needs_submitted_trade()
         ∷ codes "end,0,0,1" ∷ []) }
 {}
 
-/// Shows that a result is refused with 14 if it would raise the balance of the account above its
-/// limit: the trade remains submitted, and no lot is opened.
+/// Shows that a result is refused with `Range` (14) if it would raise the balance of the account
+/// above its limit: the trade remains submitted, and no lot is opened.
 pub fn balance_limit_is_checked()
     ensures lines { BatchOutputsLines setting_base
         (codes "account,102,10,1,Rich,0,1000000000000000.00"
@@ -49,7 +49,7 @@ pub fn balance_limit_is_checked()
 {}
 
 /// Shows that a result may raise the commission total of a broker to its limit, and is refused with
-/// 14 if it would raise the total above the limit.
+/// `Range` (14) if it would raise the total above the limit.
 pub fn broker_commission_limit_is_checked()
     ensures at_limit { BatchOutputsLines (setting_with_commission_total 99999999999998990)
         (codes "order,100,TMB,ABC,100,,cash,fifo,Ann,Lee,T10"
@@ -74,7 +74,8 @@ pub fn stamps_continue_if_clock_goes_back()
 {}
 
 /// Shows that, if the last stamp is the greatest stamp, a new broker, which passes all other
-/// checks, is refused with 21, and a broker whose id exists is refused with 15.
+/// checks, is refused with `ClockEnd` (21), and a broker whose id exists is refused with `Exists`
+/// (15).
 pub fn commands_at_greatest_stamp_are_refused()
     ensures { BatchOutputsLines base_at_greatest_stamp
         (codes "broker,7,Cy"
@@ -84,7 +85,8 @@ pub fn commands_at_greatest_stamp_are_refused()
         ∷ codes "end,0,0,2" ∷ []) }
 {}
 
-/// Shows that a result is refused with 21 if the due day of its trade is after 9999-12-31.
+/// Shows that a result is refused with `ClockEnd` (21) if the due day of its trade is after
+/// 9999-12-31.
 pub fn due_day_beyond_calendar_is_refused()
     ensures { (result_of_batch_input setting_base (253402300799000 ∷ 0 ∷ []) (bytes_of_batch (codes "Y")
         (codes "order,100,TMB,ABC,100,,cash,fifo,Ann,Lee,T10"
@@ -95,7 +97,8 @@ pub fn due_day_beyond_calendar_is_refused()
 {}
 
 /// Shows that 9999-12-29 is the last day for a completion that settles after two days: a completion
-/// in the last millisecond of this day is accepted, and one a millisecond later is refused with 21.
+/// in the last millisecond of this day is accepted, and one a millisecond later is refused with
+/// `ClockEnd` (21).
 pub fn last_day_for_two_day_settlement()
     ensures accepted { (result_of_batch_input setting_base (253402127999998 ∷ 253402127999999 ∷ []) (bytes_of_batch (codes "Y")
         (codes "order,100,TMB,ABC,100,,cash,fifo,Ann,Lee,T10"

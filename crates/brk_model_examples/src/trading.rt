@@ -135,7 +135,7 @@ pub fn purchase_covers_short_lot()
     } }
 {}
 
-/// Shows that a sale of all shares of a position leaves no lot and no summary row.
+/// Shows that a sale of all shares of a position closes its lot and deletes its summary row.
 pub fn sale_of_all_leaves_no_lot()
     ensures lines { BatchOutputsLines base_after_covering_purchase
         (codes "order,100,TMS,ABC,50,,cash,fifo,Ann,Lee,T10"

@@ -10,8 +10,9 @@ ghost use Rattle.brk_model_examples.specs.Setting.{setting_base};
 ghost use Rattle.brk_model_examples.specs.Trading.{base_after_fifo_sale};
 
 /// Shows that `upname`, `upcash` and `uptext` reply with the number of trades that they select, and
-/// that `upname` is refused with 18 for a repeated id and with 5 for an unknown id. Shows also the
-/// updated texts of the first trade, and the updated cash types of all three trades.
+/// that `upname` is refused with `BadText` (18) for a repeated id and with `NoTrade` (5) for an
+/// unknown id. Shows also the updated texts of the first trade, and the updated cash types of all
+/// three trades.
 pub fn text_updates_after_sale()
     ensures lines { BatchOutputsLines base_after_fifo_sale
         (codes "upname,1"

@@ -98,7 +98,7 @@ pub fn lots_view_of_oldest_trade()
         ≡ Ok ([]) }
 {}
 
-/// Shows the figures that the view `estimate` returns for a sale, and that it is refused with
+/// Shows the figures that the view `estimate` returns for a sale, and that the view is refused with
 /// `NotPermitted` if the executor has another tax id than the customer and no permission.
 pub fn estimate_returns_order_figures()
     ensures numbers { view_by_name_and_arguments base_after_two_purchases (codes "estimate")

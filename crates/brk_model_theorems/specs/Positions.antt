@@ -6,11 +6,12 @@ use Rattle.brk_money.specs.declared.side.Side.{Side}
 use Rattle.brk_model.specs.Shares.{Share}
 use Rattle.brk_model.specs.Tables.{HoldingRow}
 
--- All shares of the list have the side `side`.
+-- All shares of the list have the side `side`. The empty list always satisfies this.
 abbrev pub AllSharesHaveSide : Side → List Share → Type 0
 AllSharesHaveSide side shares = AllByRecursion (λ share. share.side ≡ side) shares
 
--- All shares of the list have one side: they were all bought, or all sold short.
+-- All shares of the list have one side: they were all bought, or all sold short. The empty list
+-- always satisfies this.
 abbrev pub AllSharesHaveSameSide : List Share → Type 0
 AllSharesHaveSameSide shares = (side : Side) × AllSharesHaveSide side shares
 

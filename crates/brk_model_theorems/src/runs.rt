@@ -9,8 +9,7 @@ ghost use Rattle.brk_model.specs.Keyed.{keyed_step};
 ghost use Rattle.brk_model.specs.Run.{Call, Outcome, Run};
 ghost use Rattle.brk_model_theorems.specs.Laws.{StampsAscendFrom, base_after_accepted_commands, accepted_stamps};
 
-/// Proves that a command that is refused, or answered with a stored line, leaves the base
-/// unchanged.
+/// Proves that a command that is refused, or answered with a stored line, does not change the base.
 pub fn refusals_and_retries_change_nothing()
     ensures refused { (base after : Base) (now : ℕ) (command : Command) (key : Option Key) (refusal : Refusal)
         → keyed_step base now command key ≡ (Refused refusal, after) → after ≡ base }

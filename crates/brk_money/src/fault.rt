@@ -12,9 +12,10 @@ pub enum Condition {
     NotEmpty,
     /// The tables exist with their columns.
     Schema,
-    /// Columns are well-formed and within their limits, keys are unique, and references resolve.
+    /// Each row passes the checks of formats, limits and references of its table, keys and tax ids
+    /// are unique, trades are numbered from 1 without a gap, and bands do not overlap.
     Form,
-    /// Each trade's history is a valid status sequence.
+    /// Each trade's status history is valid, and no two completions or movements have equal stamps.
     Status,
     /// The requests equal those of the pending trades.
     Requests,
@@ -26,7 +27,7 @@ pub enum Condition {
     Summary,
     /// Each broker's trade count equals the number of its completed trades.
     Count,
-    /// Each broker's commission total equals the sum over its completed trades.
+    /// Each broker's commission total equals the sum of the commissions of its completed trades.
     Commission,
     /// The settlements equal those of the completed trades.
     Settlement,

@@ -12,17 +12,18 @@ pub type Planned<T> = Result<Result<T, Refusal>, Fault>;
 /// A number or a sum that would leave its range.
 #[derive(Clone, Copy, Debug, PartialEq, Eq)]
 pub enum Limit {
-    /// The quantity of an account in a security (HS_QTY).
+    /// The absolute value of the net quantity of an account in a security (HS_QTY), at most
+    /// 9,999,999,999 shares.
     Summary,
-    /// An account's balance (CA_BAL).
+    /// The absolute value of an account's balance (CA_BAL), at most `Cents::GREATEST`.
     Balance,
-    /// A broker's commission total (B_COMM_TOTAL).
+    /// A broker's commission total (B_COMM_TOTAL), at most `Cents::GREATEST`.
     Broker,
-    /// The volume of a security (LT_VOL).
+    /// The volume of a security (LT_VOL), at most 10^17 shares.
     Volume,
-    /// The number of trades.
+    /// The number of trades, at most `Id::GREATEST`.
     Trades,
-    /// The number of accounts of a customer.
+    /// The number of accounts of a customer, at most 10.
     Accounts,
     /// The number of deposits and withdrawals, at most `Id::GREATEST`.
     Moves,
@@ -48,9 +49,11 @@ impl Limit {
 /// The reason why a command or a query is refused. A refusal changes nothing.
 #[derive(Clone, Copy, Debug, PartialEq, Eq)]
 pub enum Refusal {
-    /// A field is malformed, the kind is unknown, or there are too few or too many fields.
+    /// A field is malformed, the kind of a row, a view or an explanation is unknown, there are too
+    /// few or too many fields, an id occurs twice in a list, the last day of a statement is before
+    /// the first, or a batch ends after the row without an end record.
     BadText,
-    /// A quantity is malformed or out of range.
+    /// A quantity is malformed or out of range, or a band's lower bound is above its upper bound.
     BadQty,
     /// A price is malformed or out of range, or does not fit the type of an order.
     BadPrice,
@@ -76,21 +79,22 @@ pub enum Refusal {
     WrongStatus(Status),
     /// The executor is neither the customer nor permitted to order for the account.
     NotPermitted,
-    /// The record already exists.
+    /// The record or a customer with the tax id already exists, or the first day of one-day
+    /// settlement is already set.
     Exists,
-    /// The band shares a quantity with another band.
+    /// The band shares a quantity with another band of its tier, trade type and exchange.
     Overlap,
     /// The customer's tax rates would total more than `TaxRate::GREATEST`.
     TaxSum,
     /// No charge exists for the type of trade and the tier.
     NoCharge,
-    /// No commission rate exists for the quantity.
+    /// No commission band of the tier, the trade type and the exchange contains the quantity.
     NoRate,
     /// A number or a sum would leave its range.
     Range(Limit),
-    /// No later stamp is left, or a due day would fall after 9999-12-31.
+    /// No stamp after the last one is left, or a due day would be after 9999-12-31.
     ClockEnd,
-    /// The settlement day is not later than the UTC day of the command's stamp.
+    /// The first day of one-day settlement is not later than the UTC day of the command's stamp.
     TooEarly,
 }
 

@@ -1,5 +1,6 @@
 //! Orders, market ticks, cancels, completions, text updates, deposits and withdrawals, and the
-//! settlement day, each as it is requested, and the functions that parse them from fields.
+//! first day of one-day settlement, each as it is requested, and the functions that parse them from
+//! fields.
 #![tactic(auto)]
 
 pub mod cancel;

@@ -25,7 +25,7 @@ pub struct Order {
     pub qty: Qty,
     /// True if the order creates a cash trade, false if it creates a margin trade.
     pub is_cash: bool,
-    /// True if the last lots are closed first, false if the first are.
+    /// True if the trade closes the newest lots first, false if it closes the oldest first.
     pub is_lifo: bool,
     /// The person who places it.
     pub executor: Executor,
@@ -100,7 +100,7 @@ fn order_type_without_price(order_type: OrderType, price: &[u8]) -> Result<Order
 }
 
 // Parses the price that an order asks for, such as `10.00`. Refuses with `BadPrice` if the text is
-// malformed, which an empty text is too, or if the price is out of range.
+// empty or otherwise malformed, or if the price is out of range.
 fn parse_order_price(price: &[u8]) -> Result<Price, Refusal>
     ensures { result ≡ read_price price.now }
 {

@@ -18,11 +18,11 @@ use std::alloc::Global;
 pub enum Update {
     /// Updates the executors' names of the trades with these ids.
     Executors(TradeIds),
-    /// Updates the cash types (SE_CASH_TYPE) of the first 20 trades of an account that were
-    /// completed between two stamps, both included.
+    /// Updates the cash types (SE_CASH_TYPE) of at most 20 trades, the oldest first, of an account
+    /// that were completed between two stamps, both included.
     CashTypes { account: Id, span: Span },
-    /// Updates the cash names, the texts of the cash rows, of the first 20 cash trades of a
-    /// security that were completed between two stamps, both included.
+    /// Updates the cash names, the texts of the cash rows, of at most 20 cash trades, the oldest
+    /// first, of a security that were completed between two stamps, both included.
     CashNames { symbol: Symbol, span: Span },
 }
 

@@ -26,7 +26,8 @@ row_changes_of_cancel trade stamp = row_changes_of_status_after_pending trade Ca
 
 -- `plan` cancels `trade`, whose status is `found`, at the stamp of the command, where `last` is the
 -- stamp of the last accepted command and `now` the clock reading. The trade passes its checks, a
--- later stamp exists, the row changes are `row_changes_of_cancel`, and the reply has the stamp.
+-- stamp later than `last` exists, the row changes are `row_changes_of_cancel`, and the reply has
+-- the stamp.
 pub record IsCancelPlan (trade : ℕ) (found : Option Status) (last : Option ℕ) (now : ℕ) (plan : Plan) : Type 0 where
   pub stamp : ℕ
   pub accepted : first_refusal (cancel_checks found ++ later_stamp_check last now ∷ []) ≡ None

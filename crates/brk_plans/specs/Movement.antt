@@ -39,8 +39,8 @@ abbrev pub balance_after_movement : Movement → MovementPlanFacts → ℤ
 balance_after_movement m found = unwrap_or found.balance (pos 0) +ℤ signed_amount_of_movement m
 
 -- The checks of the movement `m` against the facts `found`, in this order: the account exists
--- (`NoAccount`), the balance after the movement does not exceed the limit (`Range(Balance)`), and
--- there are fewer deposits and withdrawals than the greatest number (`Range(Moves)`).
+-- (`NoAccount`), the absolute value of the balance after the movement is at most 10^17 cents
+-- (`Range(Balance)`), and there are fewer than 10^12 deposits and withdrawals (`Range(Moves)`).
 abbrev pub movement_checks : Movement → MovementPlanFacts → List RefusalCheck
 movement_checks m found =
     (is_none found.balance, NoAccount) ∷ (nat_lt greatest_amount (nat_abs (balance_after_movement m found)), Range limit.Balance)
@@ -68,8 +68,8 @@ pub record AppliesMovement (m : Movement) (number : ℕ) (balance : ℤ) (stamp 
 
 -- `plan` applies the movement `m` at the stamp of the command, where `found` are the facts in the
 -- tables, `last` is the stamp of the last accepted command, and `now` the clock reading. The
--- movement passes its checks, a later stamp exists, and the plan has the next id of a cash row and
--- the balance after the movement.
+-- movement passes its checks, a stamp later than `last` exists, and the plan has the next id of a
+-- cash row and the balance after the movement.
 pub record IsMovementPlan (m : Movement) (found : MovementPlanFacts) (last : Option ℕ) (now : ℕ) (plan : Plan) : Type 0 where
   pub stamp : ℕ
   pub accepted : first_refusal (movement_checks m found ++ later_stamp_check last now ∷ []) ≡ None

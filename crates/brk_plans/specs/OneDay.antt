@@ -1,4 +1,5 @@
--- The settlement day: its checks, and the plan that sets it.
+-- The settlement day, the first day whose completions settle after one day: its checks, and the
+-- plan that sets it.
 use Rattle.std.specs.Prelude.{◌≡◌, ℕ, false, is_some, nat_le, List, [], ◌∷◌, Option, None, Some}
 use Rattle.std.specs.Option.{option_map_or}
 use Rattle.brk_money.specs.Moments.{day_of, stamp_after}
@@ -10,13 +11,14 @@ use Rattle.brk_plans.specs.declared.plan.Plan.{Plan}
 use Rattle.brk_plans.specs.declared.reply.Reply.TheVariants as reply
 
 -- The check that `day` is later than the day (UTC) of the command's stamp (`TooEarly`), where
--- `last` is the last stamp and `now` the clock reading. It passes if no later stamp exists.
+-- `last` is the last stamp and `now` the clock reading. It passes if no stamp later than `last`
+-- exists.
 abbrev pub later_settlement_day_check : ℕ → Option ℕ → ℕ → RefusalCheck
 later_settlement_day_check day last now = (option_map_or (λ stamp. nat_le day (day_of stamp)) (stamp_after last now) false, TooEarly)
 
--- The checks of `day` as the settlement day, in this order: none is set yet (`rule`; `Exists`), a
--- later stamp exists (`ClockEnd`), and `day` is later than the day (UTC) of the command's stamp
--- (`TooEarly`). `last` is the last stamp, and `now` the clock reading.
+-- The checks of `day` as the settlement day, in this order: no settlement day is set yet (`rule` is
+-- `None`; `Exists`), a stamp later than `last` exists (`ClockEnd`), and `day` is later than the day
+-- (UTC) of the command's stamp (`TooEarly`). `last` is the last stamp, and `now` the clock reading.
 abbrev pub settlement_day_checks : ℕ → Option ℕ → Option ℕ → ℕ → List RefusalCheck
 settlement_day_checks day rule last now = duplicate_check (is_some rule) ∷ later_stamp_check last now ∷ later_settlement_day_check day last now ∷ []
 

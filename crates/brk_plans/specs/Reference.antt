@@ -17,8 +17,8 @@ use Rattle.brk_plans.specs.declared.reference.Reference.TheVariants as reference
 use Rattle.brk_plans.specs.declared.reply.Reply.TheVariants.{Booked}
 
 -- The checks of a new account against the facts `found`, in this order: its customer and its broker
--- exist (`NoCustomer`, `NoBroker`), its id is new (`Exists`), and its customer has fewer accounts
--- than the greatest number (`Range(Accounts)`).
+-- exist (`NoCustomer`, `NoBroker`), its id is new (`Exists`), and its customer has fewer than 10
+-- accounts (`Range(Accounts)`).
 abbrev pub account_checks : ReferenceFacts → List RefusalCheck
 account_checks found =
     (not found.customer, NoCustomer) ∷ (not found.broker, NoBroker) ∷ duplicate_check found.same_id
@@ -35,9 +35,9 @@ permission_checks found = (not found.account, NoAccount) ∷ duplicate_check fou
 abbrev pub band_checks : Band → ReferenceFacts → List RefusalCheck
 band_checks band found = (nat_lt band.to_qty band.from_qty, BadQty) ∷ (found.overlaps, Overlap) ∷ []
 
--- True if the sum of a customer's tax rates plus the rate of another tax exceeds the greatest rate
--- (hundred-thousandths). True also if the sum is `None`, which means that it exceeds the greatest
--- rate already. A rate of `None` counts as 0.
+-- True if the sum of a customer's tax rates plus the rate of another tax exceeds the greatest rate,
+-- 100,000 hundred-thousandths (100 percent). True also if the sum is `None`, which means that it
+-- exceeds the greatest rate already. A rate of `None` counts as 0.
 abbrev pub is_sum_above_greatest_tax_rate : Option ℕ → Option ℕ → Bool
 is_sum_above_greatest_tax_rate None rate = true
 is_sum_above_greatest_tax_rate (Some rates) rate = nat_lt greatest_tax_rate (rates + unwrap_or rate 0)
@@ -96,8 +96,8 @@ row_changes_adding_record stamp other = row_change_adding_record other ∷ []
 
 -- `plan` adds the record `reference` at the stamp of the command, where `found` are the facts in
 -- the tables, `last` is the last stamp, and `now` the clock reading. The record passes its checks,
--- and a later stamp exists. The row changes add the record and set the last stamp to the stamp of
--- the command, and the reply has this stamp.
+-- and a stamp later than `last` exists. The row changes add the record and set the last stamp to
+-- the stamp of the command, and the reply has this stamp.
 pub record IsReferencePlan (reference : Reference) (found : ReferenceFacts) (last : Option ℕ) (now : ℕ) (plan : Plan) : Type 0 where
   pub stamp : ℕ
   pub accepted : first_refusal (reference_checks reference found ++ later_stamp_check last now ∷ []) ≡ None

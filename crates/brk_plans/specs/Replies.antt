@@ -30,7 +30,7 @@ abstract_completion c = record {
   balance = c.balance;
 }
 
--- The model's reply of the same kind with the values of the typed reply.
+-- The model's reply of the kind of the typed reply, with the values of that reply.
 abbrev pub abstract_reply : trade.Reply → Reply
 abstract_reply (reply.Booked stamp) = Booked stamp
 abstract_reply (reply.Ordered ordered) = Ordered ordered.stamp ordered.trade ordered.status (abstract_estimate ordered.estimate)

@@ -22,16 +22,16 @@ use Rattle.brk_plans.specs.declared.corrected.SettlementText.{SettlementText}
 use Rattle.brk_plans.specs.declared.plan.Plan.{Plan}
 use Rattle.brk_plans.specs.declared.reply.Reply.TheVariants.{Changed}
 
--- The new settlement text of a trade whose present one is `word`: for a cash trade (`is_cash`)
--- `Cash` if it is `Cash Account`, otherwise `Cash Account`; for a margin trade `Margin` if it is
--- `Margin Account`, otherwise `Margin Account`.
+-- The new settlement text (SE_CASH_TYPE) of a trade whose present one is `word`: for a cash trade
+-- (`is_cash`) `Cash` if `word` is `Cash Account`, otherwise `Cash Account`; for a margin trade
+-- `Margin` if `word` is `Margin Account`, otherwise `Margin Account`.
 abbrev pub toggled_cash_type_text : Bool → Text → Text
 toggled_cash_type_text is_cash word =
     if is_cash then toggled_word (codes "Cash Account") (codes "Cash") word else toggled_word (codes "Margin Account") (codes "Margin") word
 
--- The new cash text of a trade whose present one is `name`: the name of its type, a space, its
--- quantity, the words " Shares of " if `name` contains " shares of " and " shares of " otherwise,
--- and the name `security` of its security.
+-- The new cash text (CM_NAME) of a trade whose present one is `name`: the name of its type, a
+-- space, its quantity, the words " Shares of " if `name` contains " shares of " and " shares of "
+-- otherwise, and the name `security` of its security.
 abbrev pub toggled_cash_text : TradeType → ℕ → Text → Text → Text
 toggled_cash_text kind qty security name =
     if contains_text (codes " shares of ") name then cash_row_name_from_parts (codes " Shares of ") kind qty security
@@ -83,8 +83,8 @@ count_of_updated_trades (corrected.CashTypes settled) = length settled.items
 count_of_updated_trades (corrected.CashNames security paid) = length paid.items
 
 -- `plan` replaces the text of each trade of `found` by its new one and sets the last stamp to the
--- stamp of the command, where `last` is the last stamp and `now` the clock reading. A later stamp
--- exists, and the reply has the stamp and the number of the trades.
+-- stamp of the command, where `last` is the last stamp and `now` the clock reading. A stamp later
+-- than `last` exists, and the reply has the stamp and the number of the trades.
 pub record IsUpdatePlan (found : TextUpdate) (last : Option ℕ) (now : ℕ) (plan : Plan) : Type 0 where
   pub stamp : ℕ
   pub stamped : stamp_after last now ≡ Some stamp

@@ -42,8 +42,9 @@ fn create_cancel_changes(alloc: Global, trade: Id, stamp: Stamp) -> Result<Vec<C
 /// The plan sets the status to `Canceled` and the stamp of the trade, adds a history row, deletes
 /// the request and sets the last stamp. Its reply has the stamp.
 ///
-/// Refuses with the first that applies of `NoTrade`; `WrongStatus`, if the trade is not pending;
-/// and `ClockEnd`, if no later stamp exists. Fails with `Memory` only.
+/// Refuses with the first that applies of `NoTrade`, if `found` is `None`; `WrongStatus`, if the
+/// trade is not pending; and `ClockEnd`, if no stamp later than `last` exists. Fails with `Memory`
+/// only.
 pub fn plan_cancel(
     alloc: Global,
     trade: Id,

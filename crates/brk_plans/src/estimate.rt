@@ -3,7 +3,7 @@ use brk_money::{Amount, Price, Wide};
 /// The estimated figures of an order, in cents (Trade-Order).
 #[derive(Clone, Copy, PartialEq, Eq)]
 pub struct Estimate {
-    /// The requested price of a share.
+    /// The requested price of a share, or the last price for a market order.
     pub price: Price,
     /// Buy value of the shares that it would close.
     pub buy_value: Amount,

@@ -274,9 +274,9 @@ fn apply_ticks_to_quotes(
 /// status and its stamp, adds a history row and deletes its request. The plan then sets the last
 /// stamp. Its reply has the stamp and the ids of the triggered trades.
 ///
-/// Refuses with the first that applies of `NoSecurity`, if a tick has no quote; `Range(Volume)`, if
-/// a volume exceeds its limit after all ticks; and `ClockEnd`, if no later stamp exists. Fails with
-/// `Memory` only.
+/// Refuses with the first that applies of `NoSecurity`, if the symbol of a tick has no quote;
+/// `Range(Volume)`, if a volume exceeds 10^17 shares after all ticks; and `ClockEnd`, if no stamp
+/// later than `last` exists. Fails with `Memory` only.
 pub fn plan_feed(
     alloc: Global,
     feed: &Feed,

@@ -150,9 +150,10 @@ fn create_movement_plan(
 /// The plan adds a cash row with the number `found.next`, and sets the balance of the account and
 /// the last stamp. Its reply has the stamp, the number and the balance in cents.
 ///
-/// Refuses with the first that applies of `NoAccount`; `Range(Balance)`, if the balance would
-/// exceed its limit; `Range(Moves)`, if there are already `Id::GREATEST` deposits and withdrawals;
-/// and `ClockEnd`, if no later stamp exists. Fails with `Memory` only.
+/// Refuses with the first that applies of `NoAccount`, if the account does not exist;
+/// `Range(Balance)`, if the absolute value of the balance would exceed 10^17 cents; `Range(Moves)`,
+/// if there are already `Id::GREATEST` deposits and withdrawals; and `ClockEnd`, if no stamp later
+/// than `last` exists. Fails with `Memory` only.
 pub fn plan_move(
     alloc: Global,
     movement: &Movement,

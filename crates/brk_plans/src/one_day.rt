@@ -32,9 +32,9 @@ fn create_settlement_day_changes(
 ///
 /// The plan sets the day and the last stamp. Its reply has the stamp.
 ///
-/// Refuses with the first that applies of `Exists`, if a day is set; `ClockEnd`, if no later stamp
-/// exists; and `TooEarly`, if `day` is not later than the day (UTC) of the command's stamp. Fails
-/// with `Memory` only.
+/// Refuses with the first that applies of `Exists`, if a settlement day is set; `ClockEnd`, if no
+/// stamp later than `last` exists; and `TooEarly`, if `day` is not later than the day (UTC) of the
+/// command's stamp. Fails with `Memory` only.
 pub fn plan_oneday(
     alloc: Global,
     day: Day,

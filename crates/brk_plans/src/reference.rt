@@ -32,15 +32,15 @@ pub enum Reference {
     CustomerTax(CustomerTax),
 }
 
-/// The facts in the tables that decide on a new record of reference data. A field that the records
-/// of its kind do not need may have any value.
+/// The facts in the tables that decide on a new record of reference data. A field that no check of
+/// the record's kind needs may have any value.
 #[derive(Clone, Copy, PartialEq, Eq)]
 pub struct ReferenceFacts {
-    /// True if a record with its key exists: of a permission the account and the tax id, of a
-    /// security the symbol, of a charge the type and the tier, of a customer's tax both ids,
-    /// otherwise the id.
+    /// True if a record with the key of the new record exists: the key of a permission is the
+    /// account and the tax id, of a security the symbol, of a charge the type and the tier, of a
+    /// customer's tax both ids, otherwise the id.
     pub same_id: bool,
-    /// True if a customer has its tax id.
+    /// True if a customer has the tax id of the new customer.
     pub same_tax_id: bool,
     /// True if its customer exists.
     pub customer: bool,
@@ -50,10 +50,10 @@ pub struct ReferenceFacts {
     pub accounts: usize,
     /// True if its account exists.
     pub account: bool,
-    /// True if a band of its tier, type and exchange overlaps it: the lower bound of each is at
-    /// most the upper bound of the other.
+    /// True if a band of the tier, type and exchange of the new band overlaps it: the lower bound
+    /// of each is at most the upper bound of the other.
     pub overlaps: bool,
-    /// The rate of its tax rate, or `None` if that does not exist.
+    /// The rate of its tax, or `None` if that tax does not exist.
     pub rate: Option<TaxRate>,
     /// The sum of the rates that the customer pays, or `None` if it exceeds the greatest rate.
     pub rates: Option<TaxRate>,
@@ -222,8 +222,11 @@ fn create_reference_changes(
 /// stamp. Its reply has the stamp.
 ///
 /// Refuses with the first that applies of `BadQty` (the upper bound of a band is below its lower
-/// bound), `NoAccount`, `NoCustomer`, `NoBroker`, `NoTax`, `Exists`, `Overlap`, `TaxSum` and
-/// `Range(Accounts)`; and then with `ClockEnd`, if no later stamp exists. Fails with `Memory` only.
+/// bound), `NoAccount`, `NoCustomer`, `NoBroker`, `NoTax` (the record names one that does not
+/// exist), `Exists` (the key, or the tax id of a customer, is in use), `Overlap` (a band of its
+/// tier, type and exchange overlaps a new band), `TaxSum` (the rates of a customer exceed 100
+/// percent in sum) and `Range(Accounts)` (the customer has 10 accounts or more); and then with
+/// `ClockEnd`, if no stamp later than `last` exists. Fails with `Memory` only.
 pub fn plan_reference(
     alloc: Global,
     reference: &Reference,

@@ -5,7 +5,7 @@ use brk_money::{Amount, Cents, Day, Id, MoveId, Stamp, Status};
 #[derive(Clone, Copy, PartialEq, Eq)]
 pub struct Ordered {
     pub stamp: Stamp,
-    /// The number of the new trade.
+    /// The id of the new trade.
     pub trade: Id,
     /// `Submitted` for a market order, otherwise `Pending`.
     pub status: Status,
@@ -13,7 +13,7 @@ pub struct Ordered {
     pub estimate: Estimate,
 }
 
-/// The figures of a completed trade (Trade-Result), in cents.
+/// The figures of a completed trade (Trade-Result). The amounts are in cents.
 #[derive(Clone, Copy, PartialEq, Eq)]
 pub struct Completed {
     pub stamp: Stamp,
@@ -35,7 +35,8 @@ pub struct Completed {
 /// The reply to an accepted command, with its stamp.
 #[derive(Drop)]
 pub enum Reply {
-    /// A row of reference data was added, or the settlement day was set.
+    /// A row of reference data was added, or the settlement day (the first day whose completions
+    /// settle after one day) was set.
     Booked(Stamp),
     /// An order was placed.
     Ordered(Ordered),
@@ -51,9 +52,9 @@ pub enum Reply {
     /// Cash was deposited or withdrawn.
     Moved {
         stamp: Stamp,
-        /// The number of its cash row (CM_ID).
+        /// The number of the new cash row (CM_ID).
         number: MoveId,
-        /// The balance of the account after it.
+        /// The balance of the account after the deposit or the withdrawal.
         balance: Cents,
     },
 }

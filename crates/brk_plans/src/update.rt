@@ -142,8 +142,8 @@ fn count_updated_trades(found: &TextUpdate) -> usize
 /// the number of trades. No status and no stamp of a trade changes.
 ///
 /// Refuses, if `found` is `None`, with `NoTrade`, `NoAccount` or `NoSecurity`, as the update names
-/// trades, an account or a security, and otherwise with `ClockEnd` if no later stamp exists. Fails
-/// with `Memory` only.
+/// trades, an account or a security, and otherwise with `ClockEnd` if no stamp later than `last`
+/// exists. Fails with `Memory` only.
 pub fn plan_update(
     alloc: Global,
     update: &Update,

@@ -1,4 +1,5 @@
-//! The new texts of text updates: of an executor's name, a settlement text and a cash text.
+//! The new texts of text updates: of an executor's name (T_EXEC_NAME), a settlement text
+//! (SE_CASH_TYPE) and a cash text (CM_NAME).
 
 ghost use Rattle.std.specs.Prelude.{◌≡◌, ◌≤◌, ◌∷◌, ◌++◌, IfOk, OnOk, codes, decimal, length, string_bytes};
 ghost use Rattle.brk_model.specs.Lists.{contains_text, replace_text};

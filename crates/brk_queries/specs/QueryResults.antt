@@ -26,11 +26,11 @@ abbrev pub EqualsModelQueryResult : Query → Result View Refusal → Tables →
 EqualsModelQueryResult query seen t = (base : Base) → BooksInvariant base → AuditInvariant base → t ≡ sheets base → ask base query ≡ model_query_result seen
 
 -- The view that `seen` contains satisfies `HasRowsOfQuery`: it is of the kind of `query` and, if
--- the query is for an account's status, for trades with their settlements, cash rows and histories,
--- or for touched lots, has the trades or lot changes that the query selects from the tables `t`,
--- and if it is for recent trades, these trades. For any other query only the kind is stated.
--- Vacuous if `seen` is a refusal, and if `t` are not the tables of a base that satisfies the books
--- invariant and the audit invariant.
+-- the query is for recent trades, for an account's status, for trades with their settlements, cash
+-- rows and histories, or for touched lots, has the trades or lot changes that the query selects
+-- from the tables `t`. The status changes in a view of recent trades are not specified, and for any
+-- other query only the kind is. Vacuous if `seen` is a refusal, and if `t` are not the tables of a
+-- base that satisfies the books invariant and the audit invariant.
 abbrev pub ViewHasRowsOfQuery : Query → Result View Refusal → Tables → Type 0
 ViewHasRowsOfQuery query seen t = IfOk seen (λ view. (base : Base) → BooksInvariant base → AuditInvariant base → t ≡ sheets base → HasRowsOfQuery query view t)
 

@@ -19,8 +19,8 @@ last_status_stamp t trade = option_map_or (λ r. r.stamp) (trade_row_with_id t t
 abbrev pub stamped_changes_of_lot : Tables → ℕ → List LotTouch
 stamped_changes_of_lot t lot = map (stamped_lot_change t) (filter (λ r. r.lot == lot) t.holding_history)
 
--- `lots` has the id `trade` and at most 20 changes of the lots that this trade touched, by any
--- trade: the first when all of them are sorted by stamp, then by lot, ascending.
+-- `lots` has the id `trade` and the first 20 changes, by any trade, of the lots that this trade
+-- touched, or all if there are fewer, sorted by stamp, then by lot, ascending.
 abbrev pub AreTouchedLotsOfTrade : ℕ → TouchedLots → Tables → Type 0
 AreTouchedLotsOfTrade trade lots t =
     (lots.trade ≡ trade)

@@ -62,11 +62,11 @@ fn read_all_rows_of_trades<S: Alter>(
     Ok(found)
 }
 
-/// Returns the view of the trades with the ids in `trades`, sorted by stamp, then by id, ascending,
-/// each with its settlement and its cash row, if they exist, and its history. Refuses with
-/// `NoTrade` if one of the trades does not exist. The result equals that of the model if the tables
-/// equal those of a base that satisfies the books invariant and the audit invariant. If the
-/// database is still open, it is unchanged. Fails with `Memory` or `Store` only.
+/// Returns the view of the trades with the ids in `trades`, sorted by the stamp of the last status,
+/// then by id, ascending, each with its settlement and its cash row, if they exist, and its
+/// history. Refuses with `NoTrade` if one of the trades does not exist. The result equals that of
+/// the model if the tables equal those of a base that satisfies the books invariant and the audit
+/// invariant. If the database is still open, it is unchanged. Fails with `Memory` or `Store` only.
 pub fn view_of_trades_by_ids<S: Alter>(
     alloc: Global,
     store: &mut Store<S>,
@@ -85,12 +85,12 @@ pub fn view_of_trades_by_ids<S: Alter>(
     Ok(Ok(lookup_ids(found)))
 }
 
-/// Returns the view of the first 20 trades of an account, or of all if there are fewer, whose
-/// stamps are in `span`, both ends included, sorted by stamp, then by id, ascending, each with its
-/// settlement and its cash row, if they exist, and its history. Refuses with `NoAccount` if the
-/// account does not exist. The result equals that of the model if the tables equal those of a base
-/// that satisfies the books invariant and the audit invariant. If the database is still open, it is
-/// unchanged. Fails with `Memory` or `Store` only.
+/// Returns the view of the first 20 trades of an account, or of all if there are fewer, whose last
+/// statuses have stamps in `span`, both ends included, sorted by this stamp, then by id, ascending,
+/// each with its settlement and its cash row, if they exist, and its history. Refuses with
+/// `NoAccount` if the account does not exist. The result equals that of the model if the tables
+/// equal those of a base that satisfies the books invariant and the audit invariant. If the
+/// database is still open, it is unchanged. Fails with `Memory` or `Store` only.
 pub fn view_of_account_trades<S: Alter>(
     alloc: Global,
     store: &mut Store<S>,
@@ -108,12 +108,12 @@ pub fn view_of_account_trades<S: Alter>(
     Ok(Ok(lookup_account(found)))
 }
 
-/// Returns the view of the first 20 trades of a symbol, or of all if there are fewer, whose stamps
-/// are in `span`, both ends included, sorted by stamp, then by id, ascending, each with its
-/// settlement and its cash row, if they exist, and its history. Refuses with `NoSecurity` if the
-/// security does not exist. The result equals that of the model if the tables equal those of a base
-/// that satisfies the books invariant and the audit invariant. If the database is still open, it is
-/// unchanged. Fails with `Memory` or `Store` only.
+/// Returns the view of the first 20 trades of a symbol, or of all if there are fewer, whose last
+/// statuses have stamps in `span`, both ends included, sorted by this stamp, then by id, ascending,
+/// each with its settlement and its cash row, if they exist, and its history. Refuses with
+/// `NoSecurity` if the security does not exist. The result equals that of the model if the tables
+/// equal those of a base that satisfies the books invariant and the audit invariant. If the
+/// database is still open, it is unchanged. Fails with `Memory` or `Store` only.
 pub fn view_of_symbol_trades<S: Alter>(
     alloc: Global,
     store: &mut Store<S>,

@@ -52,8 +52,8 @@ fn read_stamped_changes_of_lot<S: Alter>(
     Ok(touches)
 }
 
-// Returns the id `trade` and at most 20 changes, by any trade, of the lots that the trade with this
-// id touched: the first when all of them are sorted by stamp, then by lot, ascending. If the
+// Returns the id `trade` and the first 20 changes, by any trade, of the lots that the trade with
+// this id touched, or all if there are fewer, sorted by stamp, then by lot, ascending. If the
 // database is still open, it is unchanged. Fails with `Memory` or `Store` only; with `Store` also
 // if a trade that made one of the changes does not exist.
 fn read_changes_of_touched_lots<S: Alter>(
@@ -76,8 +76,8 @@ fn read_changes_of_touched_lots<S: Alter>(
     })
 }
 
-/// Returns the view of the lots that one trade touched, the oldest trade of the account whose last
-/// status has the stamp `first` or a later one (of equally old trades the one with the least id):
+/// Returns the view of the lots that one trade touched, the trade of the account whose last status
+/// has the least stamp that is `first` or later (of several such trades the one with the least id):
 /// the id of this trade, and the first 20 changes of these lots, by any trade, or all if there are
 /// fewer, sorted by stamp, then by lot, ascending. Without such a trade the view has no record.
 /// Refuses with `NoAccount` if the account does not exist. The result equals that of the model if

@@ -28,9 +28,10 @@ fn append_history_rows(history: &mut Vec<HistoryRow>, rows: &[HistoryRow]) -> Re
     Ok(())
 }
 
-// Returns the last ten trades of an account, or all if it has fewer, the most recent first, and
-// their status changes (of TRADE_HISTORY), trade by trade in this order. If the database is still
-// open, it is unchanged. Fails with `Memory` or `Store` only.
+// Returns the last ten trades of an account, or all if it has fewer, sorted by the stamp of the
+// last status, then by id, descending, and their status changes (of TRADE_HISTORY), trade by trade
+// in this order. If the database is still open, it is unchanged. Fails with `Memory` or `Store`
+// only.
 fn read_recent_trades_with_history<S: Alter>(
     alloc: Global,
     store: &mut Store<S>,
@@ -50,11 +51,11 @@ fn read_recent_trades_with_history<S: Alter>(
     Ok((trades, history))
 }
 
-/// Returns the view of the last ten trades of an account, or of all if it has fewer, the most
-/// recent first, with their status changes. Refuses with `NoAccount` if the account does not exist.
-/// The result equals that of the model if the tables equal those of a base that satisfies the books
-/// invariant and the audit invariant. If the database is still open, it is unchanged. Fails with
-/// `Memory` or `Store` only.
+/// Returns the view of the last ten trades of an account, or of all if it has fewer, sorted by the
+/// stamp of the last status, then by id, descending, with their status changes. Refuses with
+/// `NoAccount` if the account does not exist. The result equals that of the model if the tables
+/// equal those of a base that satisfies the books invariant and the audit invariant. If the
+/// database is still open, it is unchanged. Fails with `Memory` or `Store` only.
 pub fn view_of_recent_trades<S: Alter>(
     alloc: Global,
     store: &mut Store<S>,

@@ -59,10 +59,10 @@ fn security_of_symbol(statuses: &[TradeStatus], symbol: &Symbol) -> Result<Optio
     Ok(Some(security))
 }
 
-// Returns the last fifty trades of an account, or all if it has fewer, the most recent first, each
-// with its security. Reads the security of each symbol once. If the database is still open, it is
-// unchanged. Fails with `Memory` or `Store` only; with `Store` also if one of the securities does
-// not exist.
+// Returns the last fifty trades of an account, or all if it has fewer, sorted by the stamp of the
+// last status, then by id, descending, each with its security. Reads the security of each symbol
+// once. If the database is still open, it is unchanged. Fails with `Memory` or `Store` only; with
+// `Store` also if one of the securities does not exist.
 fn read_recent_trades_with_securities<S: Alter>(
     alloc: Global,
     store: &mut Store<S>,
@@ -87,11 +87,11 @@ fn read_recent_trades_with_securities<S: Alter>(
 }
 
 /// Returns the view of the names of an account's customer and broker, and of its last fifty trades,
-/// or of all if it has fewer, the most recent first, with their securities. Refuses with
-/// `NoAccount` if the account does not exist. The result equals that of the model if the tables
-/// equal those of a base that satisfies the books invariant and the audit invariant. If the
-/// database is still open, it is unchanged. Fails with `Memory` or `Store` only; with `Store` also
-/// if the customer, the broker or one of the securities does not exist.
+/// or of all if it has fewer, sorted by the stamp of the last status, then by id, descending, with
+/// their securities. Refuses with `NoAccount` if the account does not exist. The result equals that
+/// of the model if the tables equal those of a base that satisfies the books invariant and the
+/// audit invariant. If the database is still open, it is unchanged. Fails with `Memory` or `Store`
+/// only; with `Store` also if the customer, the broker or one of the securities does not exist.
 pub fn view_of_account_status<S: Alter>(
     alloc: Global,
     store: &mut Store<S>,

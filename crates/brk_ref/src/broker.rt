@@ -16,8 +16,8 @@ pub struct Broker {
     pub name: Name,
 }
 
-/// A row of BROKER: a broker with the number of its completed trades and the sum of their
-/// commissions, in cents.
+/// A row of BROKER: a broker with the number of the completed trades of its accounts and the sum of
+/// their commissions, in cents.
 #[derive(Drop)]
 pub struct BrokerRow {
     pub broker: Broker,

@@ -11,7 +11,7 @@ use crate::tax_id::TaxId;
 use brk_money::{Id, Planned, Refusal};
 use std::alloc::Global;
 
-/// A person other than the customer who may place orders for an account (a row of
+/// A person who, besides the account's customer, may place orders for an account (a row of
 /// ACCOUNT_PERMISSION).
 #[derive(Clone, Drop)]
 pub struct Permission {

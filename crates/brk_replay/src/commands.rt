@@ -180,8 +180,8 @@ fn execute_http_command(
 
 // Writes the statement of the account and of the first and the last day that `words` names,
 // separated by spaces. Appends the lines that were written and, if the statement failed, `no` and
-// the number of its refusal, or `! fault`. If `words` is malformed, appends only the refusal 18.
-// Fails only if memory runs out.
+// the number of its refusal, or `! fault`. If `words` is malformed, appends only `no 18`
+// (`BadText`). Fails only if memory runs out.
 fn execute_statement_command(
     alloc: Global,
     out: &mut String,
@@ -209,8 +209,8 @@ fn execute_statement_command(
 
 // Writes the explanation that `words` requests. Appends the lines that were written and, if the
 // explanation failed, `no` and the number of its refusal, or `! fault`. If `words` requests no
-// explanation, appends only the refusal 18. If memory runs out while `words` is parsed, appends
-// only `! fault`. Fails only if memory runs out.
+// explanation, appends only `no 18` (`BadText`). If memory runs out while `words` is parsed,
+// appends only `! fault`. Fails only if memory runs out.
 fn execute_explain_command(
     alloc: Global,
     out: &mut String,

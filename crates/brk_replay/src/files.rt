@@ -96,7 +96,7 @@ fn change_file(rt: &HostRuntime, verb: &str, words: &str, input: &[u8]) -> bool 
 
 /// Executes a command over files, given by its first word `verb`, the rest of its line `words` and
 /// its input: the program `brk` if `verb` is `$`, and otherwise a change of a file. Appends the
-/// output lines, of a change `= done` or `= failed`. Fails only if memory runs out.
+/// output lines, which for a change are `= done` or `= failed`. Fails only if memory runs out.
 pub fn execute_file_command(
     rt: &HostRuntime,
     out: &mut String,

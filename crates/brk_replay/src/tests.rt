@@ -7,8 +7,7 @@ use std::process::Termination;
 use std::test::Fail;
 
 // Runs the test `name`: the test over sockets, or a test of `brk_tests_unit` or of `brk_tests`.
-// Returns the result of the test, which is its failure if it fails, or `None` if there is no test
-// of this name.
+// Returns `None` if no test has this name, and otherwise the result of the test.
 fn run_test(rt: &HostRuntime, name: &str) -> Option<Result<(), Fail>> {
     match name {
         "socket_streams_share_one_desk" => Some(socket_streams_share_one_desk(rt)),

@@ -33,7 +33,8 @@ abbrev pub csv_text : View → Text
 csv_text records = flat_map (row_text default_writer) records
 
 -- The bytes of the records as one line of JSON: an object whose only member, `view`, is the list of
--- the records, and a line feed. The body of an HTTP reply to a query has the same form.
+-- the records, and a line feed. The body of an HTTP reply with a view is this object without the
+-- line feed.
 abbrev pub json_line_text : View → Text
 json_line_text records = json_records_object (codes "view") records ++ 10 ∷ []
 

@@ -30,7 +30,8 @@ pub record PreservesDesk {S : Type 0} (g : Ghosts S) (old new : Held S) : Type 0
   pub survives : Survives (state g old) (state g new) (λ _. ⊥)
 
 -- All tables that the store held before the call, in the state `old`, satisfy `So`. Vacuous if the
--- disk assumption fails up to the state `new`, after the call.
+-- disk assumption fails up to the state `new`, after the call, or if the store was open in the
+-- state `old` and did not contain the tables of a desk.
 abbrev pub HoldsForStoredTables : {S : Type 0} → Ghosts S → Held S → Held S → (Tables → Type 0) → Type 0
 HoldsForStoredTables g old new So = HasCleanDisk (state g new) → (t : Tables) → HoldsRows g old t → So t
 
@@ -41,8 +42,9 @@ IsMemoryStoreOrWriteFault lines.Write = Unit {0}
 
 -- ---- the parts of a statement
 
--- The result of writing a line for each lot of `account`. `Ok`: exactly these lines were written,
--- and `count` is their number. `Err`: writing them failed as `FailsWithinFirstLines` specifies.
+-- The result of writing a line for each lot of `account`, sorted by symbol, then by opening stamp,
+-- both ascending. `Ok`: exactly these lines were written, and `count` is their number. `Err`:
+-- writing them failed as `FailsWithinFirstLines` specifies.
 abbrev pub WritesLotLines : Tables → ℕ → Option Text → Option Text → Result ℕ LinesFault → Type 0
 WritesLotLines t account old new (Ok count) =
     Appends old new (text_of_lines (map lot_line (holding_rows_of_account t account))) × (count ≡ length (holding_rows_of_account t account))
@@ -51,18 +53,18 @@ WritesLotLines t account old new (Err e) = FailsWithinFirstLines (map lot_line (
 -- ---- the whole
 
 -- The day `to` is not before the day `from`, the account with the id `account` exists, and `lines`
--- are the lines of its statement from the day `from` to the day `to`.
+-- are the lines of its statement from the day `from` to the day `to`, both included.
 abbrev pub AreStatementLines : Tables → ℕ → ℕ → ℕ → List Text → Type 0
 AreStatementLines t account from to lines =
     (nat_lt to from ≡ false)
     × ((a : AccountRow) × (account_row_with_id t account ≡ Some a) × (lines ≡ statement_lines t a from to (sorted_cash_rows_of_account t account)))
 
--- The result of writing the statement of `account` from the day `from` to the day `to`. `Ok`:
--- exactly the text of the model's statement was written. `Refused`: the model refuses the statement
--- with this refusal; the output is not specified here. `Desk`: the fault is `Memory` or `Store`,
--- and nothing was written, or the first lines of the statement whole, perhaps none and never the
--- last one. `Write`: the first lines were written whole, perhaps none, and then a prefix of the
--- next one.
+-- The result of writing the statement of `account` from the day `from` to the day `to`, both
+-- included. `Ok`: exactly the text of the model's statement was written. `Refused`: the model
+-- refuses the statement with this refusal; the output is not specified here. `Desk`: the fault is
+-- `Memory` or `Store`, and nothing was written, or the first lines of the statement whole, perhaps
+-- none and never the last one. `Write`: the first lines were written whole, perhaps none, and then
+-- a prefix of the next one.
 abbrev pub WritesStatement : Tables → ℕ → ℕ → ℕ → Option Text → Option Text → Result (Unit {0}) ReportFault → Type 0
 WritesStatement t account from to old new (Ok u) = (text : Text) × (statement t account from to ≡ Ok text) × Appends old new text
 WritesStatement t account from to old new (Err (Refused refusal)) = statement t account from to ≡ Err refusal
@@ -83,7 +85,7 @@ IsRefusalOrMemoryStoreOrWriteFault Write = Unit {0}
 pub record StatementPost {S : Type 0} (g : Ghosts S) (old new : Held S) (account from to : ℕ) (before after : Option Text)
     (result : Result (Unit {0}) ReportFault) : Type 0 where
   -- The output is as `WritesStatement` specifies for all rows that the store held before the call.
-  -- Vacuous if some read up to the return of the call did not return what was written.
+  -- `HoldsForStoredTables` states when this is vacuous.
   pub written : HoldsForStoredTables g old new (λ t. WritesStatement t account from to before after result)
   -- A fault of the desk is `Memory` or `Store`. This does not depend on the disk assumption.
   pub fault : IfErr result IsRefusalOrMemoryStoreOrWriteFault

@@ -36,8 +36,9 @@ WritesCashAndClosingLines t account from to opening old new (Ok count) =
     × (count ≡ length (cash_move_rows_within_days from to (sorted_cash_rows_of_account t account)))
 WritesCashAndClosingLines t account from to opening old new (Err e) = FailsWithinLines (cash_and_closing_lines t account from to opening) old new e
 
--- A line for each lot of `account`, the line of the market value `holdings`, in cents, and the line
--- of the numbers of cash rows, `cash`, and of lots.
+-- A line for each lot of `account`, sorted by symbol, then by opening stamp, both ascending; the
+-- line of the market value `holdings`, in cents; and the line of the numbers of cash rows, `cash`,
+-- and of lots.
 abbrev pub lot_and_total_lines : Tables → ℕ → ℤ → ℕ → List Text
 lot_and_total_lines t account holdings cash =
     map lot_line (holding_rows_of_account t account) ++ amount_line (codes "Holdings") holdings

@@ -1,4 +1,5 @@
--- The output of lines that a desk reads and does not change.
+-- The output of lines that follow from the tables of a desk, which a call reads and does not
+-- change.
 use Rattle.std.specs.Prelude.{◌≡◌, ◌⊎◌, List, [], IfErr, Option, Result, Ok, Err}
 use Rattle.std.specs.Io.KnownBytes.{Appends}
 use Rattle.sqlite_trees.specs.declared.store.Store.{Ghosts}
@@ -25,14 +26,14 @@ WritesLinesOrRefuses told old new (Err (Desk fault)) =
     IsCallFault fault × (Appends old new [] ⊎ ((lines : List Text) × (told ≡ Ok lines) × WritesProperPrefixOfLines lines old new))
 WritesLinesOrRefuses told old new (Err Write) = (lines : List Text) × (told ≡ Ok lines) × WritesLinesAndPartOfNext lines old new
 
--- The postcondition of writing the lines that `told` gives for the tables of a desk, or of
--- returning the refusal that it gives: the output is as `WritesLinesOrRefuses` specifies, a fault
--- of the desk is `Memory` or `Store`, the desk is unchanged, and nothing is written if the result
--- is a refusal. `before` and `after` are the writer's content.
+-- The postcondition of writing the lines that `told` returns for the tables of a desk, or of
+-- failing with the refusal that `told` returns: the output is as `WritesLinesOrRefuses` specifies,
+-- a fault of the desk is `Memory` or `Store`, the desk is unchanged, and nothing is written if the
+-- result is a refusal. `before` and `after` are the writer's content.
 pub record WriteLinesPost {S : Type 0} (g : Ghosts S) (old new : Held S) (told : Tables → Result (List Text) Refusal) (before after : Option Text)
     (result : Result (Unit {0}) ReportFault) : Type 0 where
   -- The output is as `WritesLinesOrRefuses` specifies for all rows that the store held before the
-  -- call. Vacuous if some read up to the return of the call did not return what was written.
+  -- call. `HoldsForStoredTables` states when this is vacuous.
   pub written : HoldsForStoredTables g old new (λ t. WritesLinesOrRefuses (told t) before after result)
   -- A fault of the desk is `Memory` or `Store`. This does not depend on the disk assumption.
   pub fault : IfErr result IsRefusalOrMemoryStoreOrWriteFault

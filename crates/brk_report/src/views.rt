@@ -1,4 +1,4 @@
-//! One query, given as texts, executed on a desk, and its view, written as CSV rows or as JSON.
+//! Parses one query, executes it on a desk, and writes its view as CSV rows or as JSON.
 
 pub mod asking;
 pub mod form;

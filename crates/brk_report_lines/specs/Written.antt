@@ -1,4 +1,5 @@
--- The output of lines, complete or not.
+-- The output of lines, complete or not. `old` and `new` are the writer's contents before and after
+-- the output, `None` if they are unknown.
 use Rattle.std.specs.Prelude.{◌≡◌, ℕ, List, [], ◌∷◌, ◌++◌, Option, Result, Ok, Err, take}
 use Rattle.std.specs.Io.KnownBytes.{Appends}
 use Rattle.brk_money.specs.Spelling.{Text}
@@ -46,8 +47,8 @@ FailsWithinFirstLines lines old new (Desk fault) =
     IsCallFault fault × ((first : List Text) × (rest : List Text) × (first ++ rest ≡ lines) × Appends old new (text_of_lines first))
 FailsWithinFirstLines lines old new Write = WritesLinesAndPartOfNext lines old new
 
--- `Ok`: exactly the lines `lines` were written. `Err`: writing them failed as `FailsWithinLines`
--- specifies.
+-- `Ok`: exactly the lines `lines` were written; it states nothing if the writer's content before is
+-- unknown. `Err`: writing them failed as `FailsWithinLines` specifies.
 abbrev pub WritesLines : {R : Type 0} → List Text → Option Text → Option Text → Result R LinesFault → Type 0
 WritesLines lines old new (Ok r) = Appends old new (text_of_lines lines)
 WritesLines lines old new (Err fault) = FailsWithinLines lines old new fault

@@ -6,7 +6,8 @@ use brk_money::{Fault, Refusal};
 /// The cause of a failure to write lines.
 #[derive(Debug, Drop)]
 pub enum LinesFault {
-    /// The desk failed, or memory ran out. Only whole lines are written, and not the last one.
+    /// The desk failed, or memory ran out. Only whole lines are written, and not the last one of
+    /// the whole text.
     Desk(Fault),
     /// The writer failed, or accepted no byte.
     Write,
@@ -17,7 +18,8 @@ pub enum LinesFault {
 pub enum ReportFault {
     /// The report is refused, and nothing is written.
     Refused(Refusal),
-    /// The desk failed, or memory ran out. Only whole lines are written, and not the last one.
+    /// The desk failed, or memory ran out. Only whole lines are written, and not the last one of
+    /// the whole text.
     Desk(Fault),
     /// The writer failed, or accepted no byte.
     Write,

@@ -157,7 +157,8 @@ pub record HasTables {W T : Type 0} (desk : ProgramTables W T) (t : T) (tree : W
   pub is_table : (w : W) → IsTableAt db.schema (desk.shape w (tree w)) (place w)
   pub apart : (v w : W) → tree v ≡ tree w → v ≡ w
   pub keys_write_nothing : (w : W) → HasNoWritingForeignKeysAt db.schema (tree w)
-  -- The trees list the schema and obey it, so reopening the database finds the same schema.
+  -- The rows in the trees list the schema and satisfy its constraints, so reopening the database
+  -- finds this schema.
   pub sound : IsDatabase db
   pub rows : (w : W) → TreeHoldsRecords (desk.shape w (tree w)) (desk.encode w) (desk.order w) (desk.list w t) (db.trees (tree w))
 

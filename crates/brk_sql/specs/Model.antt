@@ -8,10 +8,10 @@ use Rattle.sqlite.specs.State.{State, HasCleanDisk, KeepsCommit, Survives, Execu
 use Rattle.brk_sql.specs.Desk.{ProgramTables, ChangesTablesBy, TablesSatisfy}
 
 -- Under the disk assumption the call commits nothing, a crash after it exposes only states that a
--- crash before it could expose, and the call closes an open database only if the disk fails in the
--- call (`Survives`). Also under the disk assumption, if a transaction is open and the call returns
--- `Ok v`, the transaction is still open after it, and `Made v` relates the states before and after
--- the call.
+-- crash before it could expose, and the call closes an open database only if a fault of the disk
+-- (an I/O error, a full disk or file, or a corrupt page) occurs in the call (`Survives`). Also
+-- under the disk assumption, if a transaction is open and the call returns `Ok v`, the transaction
+-- is still open after it, and `Made v` relates the states before and after the call.
 pub record IsTransactionStep {V E : Type 0} (old new : State) (result : Result V E) (Made : V → State → State → Type 0) : Type 0 where
   pub commits_nothing : HasCleanDisk new → KeepsCommit old new
   pub relates_states : HasCleanDisk new → IsTrue old.in_transaction → IfOk result (λ v. IsTrue new.in_transaction × Made v old new)

@@ -1,4 +1,8 @@
 //! The tables of a program as lists of records, in a database that may contain other tables.
+//!
+//! Each function that takes a transaction is called while the transaction is open. No clause states
+//! the effect of the call on the database, or the value that it returns, outside a transaction or
+//! if the disk assumption (every read so far returned what was written) fails.
 #![tactic(auto)]
 
 mod columns;

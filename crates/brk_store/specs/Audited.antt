@@ -157,8 +157,9 @@ pub record AdoptPost {S : Type 0} (g : Ghosts S) (old new : Held S) (result : Re
   -- the old database does not satisfy `ConnectionTablesWithDeskNamesAreDeskTables`.
   pub adopted : ConnectionTablesWithDeskNamesAreDeskTables g old
       → OnOk result ((t : Tables) × HoldsRows g new t × PassesAudit third_schema t × IsTrue (has_utf8_texts t))
-  -- At `Ok`, if the store is open, it contains the tables of the base that the old rows determine,
-  -- and they are committed: by this call, if the database had an older schema.
+  -- At `Ok`, if the store is open, the old rows passed the audit of their schema, the database
+  -- contains the tables of the base that they determine, next to its other tables
+  -- (`UpgradesAuditedRows`), and its current state is committed.
   pub upgraded : HasCleanDisk (state g new) → IsTrue (state g new).is_open → ConnectionTablesWithDeskNamesAreDeskTables g old
       → OnOk result (UpgradesAuditedRows (state g old).now (state g new).now × ((state g new).committed ≡ (state g new).now))
   -- At `Ok` of an upgrade the store is open. For a database of schema 3 no clause promises it, as

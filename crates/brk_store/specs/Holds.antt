@@ -19,8 +19,8 @@
 --   `old` could expose, or contents that satisfy `P`. With `λ _. ⊥` for `P`: only the former. It
 --   also states that only a fault of the disk closes an open connection, and that a disk assumption
 --   that has failed stays failed.
--- - `IfOk r P`, `IfErr r P`: `P` of the value, or of the error. `OnOk r Q`, `OnErr r Q`: `Q`, which
---   does not depend on it. All are vacuous for the other case.
+-- - `IfOk r P`, `OnOk r Q`: if the result `r` is `Ok`, `P` holds of its value, or `Q` holds.
+--   `IfErr r P`, `OnErr r Q`: if `r` is `Err`, `P` holds of its error, or `Q` holds.
 -- - `Tables`: the rows of all tables of a desk, `t` in the clauses; *the rows `t`* and *the tables
 --   of a base* (`sheets base`) are values of this type. In rows that a database contains, those of
 --   each table are sorted by its key, ascending.
@@ -67,11 +67,12 @@ pub record WasOpenAndIsUnchanged (old new : State) : Type 0 where
 
 -- The postcondition of a read, which writes nothing: `old` is the store before the call, and `new`
 -- after it. `Told` relates a returned value to the rows that the store holds. No clause states that
--- the store is open after the call, also at `Ok`: a disk fault at the end of the transaction of the
--- read may close it.
+-- the store is open after the call, not even at `Ok`: a disk fault at the end of the transaction of
+-- the read may close it.
 pub record ReadPost {S V E : Type 0} (g : Ghosts S) (old new : Held S) (result : Result V E) (Told : V → Tables → Type 0) : Type 0 where
   -- A returned value satisfies `Told` with the rows that the store held before the call. Vacuous if
-  -- some read up to the return of the call did not return what was written.
+  -- some read up to the return of the call did not return what was written, or if the store was
+  -- open and did not contain the tables of a desk.
   pub answered : HasCleanDisk (state g new) → IfOk result (λ answer. (t : Tables) → HoldsRows g old t → Told answer t)
   -- A value is returned only if the store was open before the call.
   pub was_open : HasCleanDisk (state g new) → OnOk result (IsTrue (state g old).is_open)
@@ -83,7 +84,8 @@ pub record ReadPost {S V E : Type 0} (g : Ghosts S) (old new : Held S) (result :
   pub survives : Survives (state g old) (state g new) (λ _. ⊥)
 
 -- The postcondition of a call that changes the rows `t` to `after t`, all together or not at all:
--- `old` is the store before the call, and `new` after it.
+-- `old` is the store before the call, and `new` after it. The clauses on `t` are vacuous if the
+-- store was open before the call and did not contain the tables of a desk.
 pub record ApplyPost {S V E : Type 0} (g : Ghosts S) (old new : Held S) (result : Result V E) (after : Tables → Tables) : Type 0 where
   -- At `Ok` the store holds the tables with all changes.
   pub applied : OnOk result ((t : Tables) → HoldsRows g old t → HoldsRows g new (after t))

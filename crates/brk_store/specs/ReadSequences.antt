@@ -11,8 +11,8 @@ use Rattle.brk_store.specs.Holds.{HoldsRows, ReadPost, WasOpenAndIsUnchanged}
 
 -- The postcondition of any number of reads: the store holds the rows that it held before them; if
 -- the database is open after them, it was open before and is unchanged; a crash after them exposes
--- only states that a crash before them could expose. Of a crash, and of the open database, nothing
--- is promised if some read up to the return of the last one did not return what was written.
+-- only states that a crash before them could expose. The promises on the open database and on a
+-- crash are vacuous if some read up to the return of the last one did not return what was written.
 pub record IsUnchangedByReads {S : Type 0} (g : Ghosts S) (old new : Held S) : Type 0 where
   pub same_rows : (t : Tables) → HoldsRows g old t → HoldsRows g new t
   pub unchanged_if_open : HasCleanDisk (state g new) → IsTrue (state g new).is_open → WasOpenAndIsUnchanged (state g old) (state g new)
@@ -22,8 +22,11 @@ pub record IsUnchangedByReads {S : Type 0} (g : Ghosts S) (old new : Held S) : T
 -- relates the returned value to the rows that the store holds.
 pub record ReadSequencePost {S V E : Type 0} (g : Ghosts S) (old new : Held S) (result : Result V E) (Told : V → Tables → Type 0) : Type 0 where
   -- A returned value satisfies `Told` with the rows that the store held before the call. Vacuous if
-  -- some read up to the return of the call did not return what was written.
+  -- some read up to the return of the call did not return what was written, or if the store was
+  -- open and did not contain the tables of a desk. If the store was closed, a returned value
+  -- satisfies `Told` with all rows.
   pub answered : HasCleanDisk (state g new) → IfOk result (λ answer. (t : Tables) → HoldsRows g old t → Told answer t)
+  -- The call changes nothing (`IsUnchangedByReads`), whatever the result.
   pub unchanged : IsUnchangedByReads g old new
 
 module _ {S : Type 0} {g : Ghosts S} where

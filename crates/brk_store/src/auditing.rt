@@ -86,7 +86,8 @@ impl<S: Alter> Store<S> {
     /// its rows pass this audit.
     ///
     /// Fails with `Damaged` and the first condition that fails, or with `Memory` or `Store`. The
-    /// rows and the open database are unchanged, whatever the result.
+    /// rows that the store holds are unchanged, and so is a database that is still open, whatever
+    /// the result.
     ///
     /// A crash after the call exposes only states that a crash before the call could expose.
     ///

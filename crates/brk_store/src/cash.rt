@@ -1,7 +1,7 @@
-//! Reads of cash rows and of the settlement day. Each read of the database begins a transaction and
-//! ends it without a commit (no clause states this). A read fails with `Store` also if a row is
-//! malformed, or if the `sqlite` crate or the decoding of a row runs out of memory. A crash after a
-//! read exposes only states that a crash before it could expose.
+//! Reads of cash rows and of the first day of one-day settlement. Each read of the database begins
+//! a transaction and ends it without a commit (no clause states this). A read fails with `Store`
+//! also if a row is malformed, or if the `sqlite` crate or the decoding of a row runs out of
+//! memory. A crash after a read exposes only states that a crash before it could expose.
 
 ghost use Rattle.std.specs.Prelude.{◌≡◌, ◌+◌, Err, OnErr, filter, is_none, length, nat_le, option_map, reverse, slice_get};
 ghost use Rattle.brk_money.specs.declared.fault.Fault.TheVariants as fault;

@@ -20,7 +20,7 @@ use sqlite::{Alter, Connection, Transaction};
 // that updates or deletes a row that does not exist changes nothing. The rows of other tables are
 // unchanged, unless a foreign key of such a table changes or deletes them. Fails with `Store` only,
 // also if the row to add exists or breaks another constraint of its table, or if the `sqlite` crate
-// runs out of memory. What is applied within the transaction at a failure is then not specified.
+// runs out of memory. After a failure the rows within the transaction are not specified.
 fn apply_change<S: Alter>(tx: &mut Transaction<'_, S>, change: &Change) -> Result<(), Fault>
     ensures same_reference { tx.new.conn.ghost_name ≡ tx.old.conn.ghost_name }
     ensures step { IsTransactionStep (state S.Store tx.old.conn.now) (state S.Store tx.new.conn.now) result
@@ -97,8 +97,8 @@ fn apply_change<S: Alter>(tx: &mut Transaction<'_, S>, change: &Change) -> Resul
 
 // Applies the changes in order within the transaction, up to the first that fails. The rows of
 // other tables are unchanged, unless a foreign key of such a table changes or deletes them. Fails
-// with `Store` only, if `apply_change` does. What is applied within the transaction at a failure is
-// then not specified.
+// with `Store` only, if `apply_change` does. After a failure the rows within the transaction are
+// not specified.
 fn apply_each_change<S: Alter>(tx: &mut Transaction<'_, S>, changes: &[Change]) -> Result<(), Fault>
     ensures same_reference { tx.new.conn.ghost_name ≡ tx.old.conn.ghost_name }
     ensures step { IsTransactionStep (state S.Store tx.old.conn.now) (state S.Store tx.new.conn.now) result

@@ -20,7 +20,7 @@ use std::alloc::Global;
 /// The result of an audit of a database by the conditions of the schema that it has.
 #[derive(Clone, Copy)]
 pub enum AuditResult {
-    /// The database has this schema, and its rows pass the audit by its conditions.
+    /// The database has this schema, and its rows pass the audit by the conditions of the schema.
     Passes(Schema),
     /// The first condition that the database fails.
     Fails(Condition),

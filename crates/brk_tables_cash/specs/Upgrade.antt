@@ -58,19 +58,20 @@ pub record HasUpgradedTables (desk_before : Schema) (before : DeskTable → ℕ)
   -- If no foreign key of a table at a tree changes or deletes rows in `old`, none does in `new`.
   pub keys_write_nothing : (tree : ℕ) → HasNoWritingForeignKeysAt old.schema tree → HasNoWritingForeignKeysAt new.schema tree
 
--- If the database `old` contains the tables of `schema` with the rows `t`, and no table that a
--- later schema adds, `new` contains the tables of schema 3 with the rows `t`. Other tables are
--- unchanged, unless a foreign key of their own changes or deletes their rows (`HasUpgradedTables`).
--- Vacuous otherwise.
+-- If the database `old` contains the tables of `schema` with the rows `t`, and both `old` and `t`
+-- lack the tables that a later schema adds (`LacksOtherDeskTables`), `new` contains the tables of
+-- schema 3 with the rows `t`. Other tables are unchanged, unless a foreign key of their own changes
+-- or deletes their rows (`HasUpgradedTables`). Vacuous otherwise.
 abbrev pub AddsTablesOfLaterSchemas : Schema → Database → Database → Type 0
 AddsTablesOfLaterSchemas schema old new =
     (t : Tables) (tree : DeskTable → ℕ) → HasSelectedTables (desk_tables_of_schema schema) (IsTableOfSchema schema) t tree old
     → LacksOtherDeskTables schema t old → HasUpgradedTables schema tree t old new
 
--- If the database `old` contains the tables of `schema` with the rows `t`, and no table that a
--- later schema adds, `new` contains the tables of schema 3 with the upgraded rows
--- (`tables_upgraded_from_schema`). Other tables are unchanged, unless a foreign key of their own
--- changes or deletes their rows (`HasUpgradedTables`). Vacuous otherwise.
+-- If the database `old` contains the tables of `schema` with the rows `t`, and both `old` and `t`
+-- lack the tables that a later schema adds (`LacksOtherDeskTables`), `new` contains the tables of
+-- schema 3 with the upgraded rows (`tables_upgraded_from_schema`). Other tables are unchanged,
+-- unless a foreign key of their own changes or deletes their rows (`HasUpgradedTables`). Vacuous
+-- otherwise.
 abbrev pub UpgradesTables : Schema → Database → Database → Type 0
 UpgradesTables schema old new =
     (t : Tables) (tree : DeskTable → ℕ) → HasSelectedTables (desk_tables_of_schema schema) (IsTableOfSchema schema) t tree old

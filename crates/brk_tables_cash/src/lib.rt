@@ -1,13 +1,16 @@
-//! The SQL statements on cash rows and on the settlement day, one function for each, and the upgrade
-//! of the tables of an older schema to schema 3, which numbers the cash rows.
+//! The SQL statements on cash rows and on the settlement day (the first day whose completions
+//! settle after one day), one function for each, and the upgrade of the tables of an older schema
+//! to schema 3, which numbers the cash rows.
 //!
-//! Each function is called within an open transaction, and commits nothing. An error of the
-//! `sqlite` crate, also if this crate runs out of memory, and a malformed row are reported as the
-//! fault `Store`; the database is then unchanged or the transaction is rolled back, or after an
-//! upgrade a part of its changes is made in the transaction. A write changes the table that its
-//! comment names, and another table only if a foreign key of that other table changes or deletes
-//! rows. No clause states the effect of a call on the tables, or the value that it returns, outside
-//! a transaction or in a database without all tables of a desk.
+//! Each function that takes a transaction is called while the transaction is open, and commits
+//! nothing. An error of the `sqlite` crate, also if this crate runs out of memory, and a malformed
+//! row are reported as the fault `Store`; the database is then unchanged or the transaction is
+//! rolled back, or after an upgrade a part of its changes is made in the transaction. A write
+//! changes the table that its comment names, and another table only if a foreign key of that other
+//! table changes or deletes rows. No clause states the effect of the call on the tables, or the
+//! value that it returns, outside a transaction, in a database without all tables of a desk (of the
+//! older schema, for an upgrade), or if the disk assumption (every read so far returned what was
+//! written) fails.
 #![tactic(auto)]
 
 pub mod moves;

@@ -28,9 +28,9 @@ pub fn set_settlement_day<S: Alter>(tx: &mut Transaction<'_, S>, day: Day) -> Re
     )
 }
 
-// Decodes the settlement day, in days since 1970-01-01, from all rows of SETTLE_RULE, or returns
-// `None` if there is no row. Fails with `Store` only, if there are two rows or more, if a row is
-// malformed, or if memory runs out.
+// Decodes the settlement day, the first day whose completions settle after one day, in days since
+// 1970-01-01, from all rows of SETTLE_RULE, or returns `None` if there is no row. Fails with
+// `Store` only, if there are two rows or more, if a row is malformed, or if memory runs out.
 fn settlement_day_in_rows(rows: &[Row]) -> Result<Option<Day>, Fault>
     ensures value { IfOk result (λ day. map rule_cells (rule_rows day) ≡ rows.now) }
     ensures fault { OnErr result (result ≡ Err Store) }

@@ -18,9 +18,9 @@ use sqlite::{Alter, Transaction};
 use std::alloc::Global;
 
 // Creates the tables that `schema` does not have and later schemas add, without rows, and sets the
-// number of the schema in DESK to 3. Fails with `Store` only, also if one of these tables exists.
-// After an error, some of these tables may exist in the transaction. The effect is specified only
-// if the tables of `schema` exist, and none that a later schema adds.
+// number of the schema in DESK to 3. Fails with `Memory` or `Store` only; with `Store` also if one
+// of these tables exists. After an error, some of these tables may exist in the transaction. The
+// effect is specified only if the tables of `schema` exist, and none that a later schema adds.
 fn add_tables_of_later_schemas<S: Alter>(
     tx: &mut Transaction<'_, S>,
     schema: Schema,
@@ -53,11 +53,11 @@ fn move_cash_transactions_to_cash_moves<S: Alter>(
 }
 
 /// Upgrades the tables of `schema`, with any rows, to schema 3: creates the tables that are
-/// missing, sets the number of the schema, and moves the cash rows of schema 1 to CASH_MOVE,
-/// numbered from 1 by ascending stamp. Fails with `Memory` or `Store` only; with `Store` also if a
-/// table that a later schema adds exists, if one of these rows is malformed, if its trade does not
-/// exist, has a second cash row or has a malformed account id, or if there are more of these rows
-/// than `MoveId` has numbers. After an error, a part of these changes may be made in the
+/// missing, sets the number of the schema, and for schema 1 moves the rows of CASH_TRANSACTION to
+/// CASH_MOVE, numbered from 1 by ascending stamp. Fails with `Memory` or `Store` only; with `Store`
+/// also if a table that a later schema adds exists, if one of these rows is malformed, if its trade
+/// does not exist, has a second cash row or has a malformed account id, or if there are more of
+/// these rows than `MoveId` has numbers. After an error, a part of these changes may be made in the
 /// transaction; nothing is committed. The effect is specified only if the tables of `schema` exist,
 /// and none that a later schema adds.
 pub fn upgrade_tables<S: Alter>(

@@ -1,7 +1,8 @@
 //! The creation of the tables of a brokerage.
 //!
-//! Each call is made within an open transaction. An error of the `sqlite` crate is reported as the
-//! fault `Store`.
+//! Each call is made within an open transaction. No clause states its effect on the database
+//! outside a transaction or if the disk assumption (every read so far returned what was written)
+//! fails. An error of the `sqlite` crate is reported as the fault `Store`.
 #![tactic(auto)]
 
 pub mod making;

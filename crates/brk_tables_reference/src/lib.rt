@@ -1,11 +1,14 @@
-//! The SQL statements on the nine kinds of reference rows, one function for each.
+//! The SQL statements on reference data (customers, accounts, permissions, brokers, securities,
+//! charges, commission bands and tax rates) and the insertion of last trades, one function for
+//! each.
 //!
 //! Each function is called within an open transaction, and commits nothing. An error of the
 //! `sqlite` crate, also if this crate runs out of memory, and a malformed row are reported as the
 //! fault `Store`; the database is then unchanged or the transaction is rolled back. A write changes
 //! the table that its comment names, and another table only if a foreign key of that other table
 //! changes or deletes rows. No clause states the effect of a call on the tables, or the value that
-//! it returns, outside a transaction or in a database without all tables of a desk.
+//! it returns, outside a transaction, in a database without all tables of a desk, or if the disk
+//! assumption (every read so far returned what was written) fails.
 #![tactic(auto)]
 
 pub mod accounts;

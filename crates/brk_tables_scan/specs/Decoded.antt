@@ -139,23 +139,24 @@ are_raw_sheets_well_formed desk raw =
     && are_summary_and_settlement_rows_well_formed raw.last && are_later_schema_rows_well_formed raw.later
 
 -- The raw rows of each table are, in order, the encodings of the typed rows `sheets`. Of KEPT,
--- `sheets` has the keys alone: its raw rows are, in order, the encodings of `whole`, typed rows with
--- these keys and any texts. The row of DESK has the number of the schema `desk`.
+-- `sheets` has the keys alone: the raw rows of KEPT are, in order, the encodings of `whole`, typed
+-- rows with these keys and any texts. The row of DESK has the number of the schema `desk`.
 pub record DecodesSheets (desk : Schema) (sheets : Sheets) (raw : RawSheets) : Type 0 where
   pub whole : List typed.Kept
   pub keys : keys_of_kept_rows whole ≡ map abstract_key sheets.kept.items
   pub encoded : (w : DeskTable) → map (encoded_row w) (rows_of_table_in_schema desk w (tables_with_whole_kept_rows whole sheets)) ≡ raw_rows_of_table raw w
 
 -- A step of a decoding of raw rows, with a flag that is `old` before the step and `new` after it.
--- If `new` is true, `old` is true and `Decodes` holds, which states that the step decodes its rows.
--- If `new` is false, `old` is false or `are_well_formed` is false, which is true if the raw rows of
--- this step are well-formed.
+-- `Decodes` states that the step decodes its rows; `are_well_formed` is true if these are
+-- well-formed. If `new` is true, `old` is true and `Decodes` holds. If `new` is false, `old` or
+-- `are_well_formed` is false.
 pub record ContinuesDecoding (old new are_well_formed : Bool) (Decodes : Type 0) : Type 0 where
   -- If the flag is true after the step, it was true before it.
   pub before : new ≡ true → old ≡ true
   -- If the flag is true after the step, the step decodes its rows.
   pub value : new ≡ true → Decodes
-  -- If the flag is false after the step, it was false before it, or a row of the step is malformed.
+  -- If the flag is false after the step, it was false before it, or the rows of the step are not
+  -- well-formed.
   pub form : new ≡ false → (old ≡ false) ⊎ (are_well_formed ≡ false)
 
 -- The reads return all rows of DESK, KEPT, BROKER and CUSTOMER from an open database

@@ -16,8 +16,8 @@ has_table_named schema w = is_some (table_named schema (table_name w))
 abbrev pub has_table_of_desk : database.Schema → Bool
 has_table_of_desk schema = list_any (has_table_named schema) all_tables
 
--- True if the database has each table of the desk's schema `desk`, and no table that a later schema
--- adds. Tables are compared by name only.
+-- True if the database has each table of the desk's schema `desk`, and no table that a schema later
+-- than `desk` adds. Tables are compared by name only.
 abbrev pub has_exact_table_names : Schema → database.Schema → Bool
 has_exact_table_names desk schema =
     list_all (has_table_named schema) (tables_in_schema desk) && not (list_any (has_table_named schema) (tables_of_later_schemas desk))

@@ -1,5 +1,5 @@
 -- The raw rows of all tables, as the reads return them: SQL values that are not yet decoded. In the
--- code only the rows of one table are in memory at a time.
+-- code only the raw rows of one table are in memory at a time.
 use Rattle.std.specs.Prelude.{◌≡◌, List, IsTrue}
 use Rattle.sqlite_value.specs.Order.{Row}
 use Rattle.sqlite.specs.State.{State}

@@ -47,8 +47,8 @@ HasTableWithNames schema names = (at : ℕ) × (table : Table) × IsTableWithNam
 abbrev pub HasTablesOfSchema : Schema → database.Schema → Type 0
 HasTablesOfSchema desk schema = AllByRecursion (λ w. HasTableWithNames schema (table_and_column_names (table_definition_at_tree w 0))) (tables_in_schema desk)
 
--- The database has no table with the name of one that the schema `desk` does not have and a later
--- schema adds.
+-- The database has no table with the name of one that the schema `desk` does not have and that a
+-- schema later than `desk` adds.
 abbrev pub LacksTablesOfLaterSchemas : Schema → database.Schema → Type 0
 LacksTablesOfLaterSchemas desk schema = AllByRecursion (λ w. table_named schema (table_name w) ≡ None) (tables_of_later_schemas desk)
 
@@ -63,9 +63,9 @@ abbrev pub IsOneDeskRowOfSchema : Schema → List Row → Type 0
 IsOneDeskRowOfSchema desk rows = (last : Value) × (rows ≡ (natural_as_value 1 ∷ natural_as_value desk.number ∷ last ∷ []) ∷ [])
 
 -- The database has the schema `desk`: each table of the schema, by its name and with exactly its
--- column names, in order; no table that a later schema adds; and exactly one row of DESK, with the
--- id 1 and the number of the schema. The clause on the row is vacuous if DESK is not defined as a
--- desk defines it.
+-- column names, in order; no table with the name of one that a schema later than `desk` adds; and
+-- exactly one row of DESK, with the id 1 and the number of the schema `desk`. The clause on the row
+-- is vacuous if DESK is not defined as a desk defines it.
 pub record DatabaseHasSchema (desk : Schema) (db : Database) : Type 0 where
   pub tables : HasTablesOfSchema desk db.schema
   pub later : LacksTablesOfLaterSchemas desk db.schema
@@ -78,9 +78,9 @@ pub record HasDistinctRowids (rows : List Row) : Type 0 where
   pub apart : IsDistinct has_same_rowid rows
 
 -- Each table of the database with the name of a table of the schema `desk` is defined as a desk
--- defines it, with the same columns, keys and foreign keys. These tables have distinct trees, their
--- rows have distinct rowids, and no foreign key of a table changes or deletes their rows. The
--- database is well-formed (`IsDatabase`).
+-- defines it, with the same columns, keys and foreign keys. These tables have distinct trees. In
+-- each of them the rowids of the rows are distinct integers, and no foreign key of a table at its
+-- tree changes or deletes rows. The database is well-formed (`IsDatabase`).
 pub record HasDeskDefinitions (desk : Schema) (db : Database) : Type 0 where
   pub sound : IsDatabase db
   -- The column types, keys and foreign keys equal those that the desk defines for this name.
@@ -89,7 +89,8 @@ pub record HasDeskDefinitions (desk : Schema) (db : Database) : Type 0 where
   -- No two of these tables share a tree.
   pub apart : (v w : DeskTable) → IsTableOfSchema desk v → IsTableOfSchema desk w → (i j tree : ℕ) → IsTableAt db.schema (table_definition_at_tree v tree) i
       → IsTableAt db.schema (table_definition_at_tree w tree) j → v ≡ w
-  -- No foreign key of a table at their trees changes or deletes rows.
+  -- No foreign key of a table whose rows are at the tree of one of these tables changes or deletes
+  -- rows.
   pub keys_write_nothing : (w : DeskTable) → IsTableOfSchema desk w → (at tree : ℕ) → IsTableAt db.schema (table_definition_at_tree w tree) at
       → HasNoWritingForeignKeysAt db.schema tree
   pub keyed : (w : DeskTable) → IsTableOfSchema desk w → (at tree : ℕ) → IsTableAt db.schema (table_definition_at_tree w tree) at

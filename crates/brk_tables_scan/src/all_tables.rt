@@ -212,10 +212,11 @@ pub struct LaterSchemaSheets {
     rule: Option<Day>,
 }
 
-// Returns the decoded rows of CASH_MOVE, sorted by key, and the settlement day in SETTLE_RULE, or
-// none of a table that `schema` lacks. If a table has a malformed row, or SETTLE_RULE two rows or
-// more, sets `are_well_formed` of the decoder to false and returns no value of this table. If the
-// function returns a value, the database is unchanged. Fails with `Memory` or `Store` only.
+// Returns the decoded rows of CASH_MOVE, sorted by key, and the first day of one-day settlement in
+// SETTLE_RULE, or none of a table that `schema` lacks. If a table has a malformed row, or
+// SETTLE_RULE two rows or more, sets `are_well_formed` of the decoder to false and returns no value
+// of this table. If the function returns a value, the database is unchanged. Fails with `Memory` or
+// `Store` only.
 fn read_later_schema_tables<S: Alter>(
     tx: &mut Transaction<'_, S>,
     alloc: Global,

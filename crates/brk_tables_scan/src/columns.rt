@@ -36,8 +36,8 @@ fn each_heading_matches<S: Alter>(
     Ok(true)
 }
 
-// Returns how many tables `schema` has, at most 22. They are the first of all tables, because later
-// schemas add the last ones.
+// Returns how many tables `schema` has, at most 22. They are the first ones in
+// `COLUMNS_OF_ALL_TABLES`.
 fn table_count(schema: Schema) -> usize
     ensures count { result ≡ length (tables_in_schema (abstract_schema schema)) }
     ensures at_most_all { result ≤ 22 }
@@ -62,9 +62,10 @@ fn tables_have_columns<S: Alter>(tx: &mut Transaction<'_, S>, schema: Schema) ->
 }
 
 /// Returns true if each table of `schema` exists by name, with exactly its column names, in order,
-/// and no table exists that a later schema adds. Other properties of the tables are not checked. If
-/// the function returns a value, the database was open and is unchanged. Fails with `Store` only,
-/// also if a statement of the check does not compile for another reason than a missing table.
+/// and no table exists with the name of one that a schema later than `schema` adds. Other
+/// properties of the tables are not checked. If the function returns a value, the database was open
+/// and is unchanged. Fails with `Store` only, also if a statement of the check does not compile for
+/// another reason than a missing table.
 pub fn has_exact_tables_and_columns<S: Alter>(
     tx: &mut Transaction<'_, S>,
     schema: Schema,

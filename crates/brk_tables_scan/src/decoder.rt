@@ -163,10 +163,10 @@ impl Decoder {
         }
     }
 
-    /// Returns the settlement day, in days since 1970-01-01, from all rows of SETTLE_RULE, or
-    /// `None` if there is no row. If there are two rows or more, or if the row is malformed or has
-    /// another id than 1, sets `are_well_formed` to false and returns `None`. Fails with `Memory`
-    /// only.
+    /// Returns the first day of one-day settlement, in days since 1970-01-01, from all rows of
+    /// SETTLE_RULE, or `None` if there is no row. If there are two rows or more, or if the row is
+    /// malformed or has another id than 1, sets `are_well_formed` to false and returns `None`.
+    /// Fails with `Memory` only.
     pub(crate) fn decode_settlement_day(&mut self, rows: Vec<Row>) -> Result<Option<Day>, Fault>
         ensures decoding { IfOk result (λ day. ContinuesDecoding self.old.are_well_formed self.new.are_well_formed
             (has_at_most_one_valid_rule_row rows.items)

@@ -3,8 +3,9 @@
 //!
 //! The raw rows of one table at a time are in memory, beside the typed rows of all.
 //!
-//! Each call is made within an open transaction. An error of the `sqlite` crate is reported as the
-//! fault `Store`.
+//! Each call is made within an open transaction. No clause states the value that it returns outside
+//! a transaction or if the disk assumption (every read so far returned what was written) fails. An
+//! error of the `sqlite` crate is reported as the fault `Store`.
 #![tactic(auto)]
 
 pub mod all_tables;

@@ -97,8 +97,8 @@ fn has_present_and_no_absent_tables<S: Alter>(
 }
 
 // Returns true if a table with the name of each table of `schema` exists, and none with the name of
-// a table that a later schema adds. If the function returns a value, the database is unchanged.
-// Fails with `Store` only (`table_exists`).
+// a table that a schema later than `schema` adds. If the function returns a value, the database is
+// unchanged. Fails with `Store` only (`table_exists`).
 fn has_exactly_tables_of_schema<S: Alter>(
     tx: &mut Transaction<'_, S>,
     schema: Schema,
@@ -124,9 +124,9 @@ fn has_exactly_tables_of_schema<S: Alter>(
 }
 
 /// Returns true if a table with the name of each table of `schema` exists, and none with the name
-/// of a table that a later schema adds. If the function returns a value, the database was open and
-/// is unchanged. Fails with `Store` only, also if the statement of a look-up does not compile for
-/// another reason than that no table has the name.
+/// of a table that a schema later than `schema` adds. If the function returns a value, the database
+/// was open and is unchanged. Fails with `Store` only, also if the statement of a look-up does not
+/// compile for another reason than that no table has the name.
 pub fn has_exact_tables_by_name<S: Alter>(
     tx: &mut Transaction<'_, S>,
     schema: Schema,

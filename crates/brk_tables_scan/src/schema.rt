@@ -63,9 +63,9 @@ fn has_one_desk_row_of_schema(schema: Schema, rows: &[Row]) -> bool
 }
 
 /// Returns true if the database has the schema `schema`: each of its tables by name, with exactly
-/// its column names, in order, no table that a later schema adds, and in DESK exactly one row, with
-/// the id 1 and the number of the schema. If the function returns a value, the database was open
-/// and is unchanged.
+/// its column names, in order, no table with the name of one that a schema later than `schema`
+/// adds, and in DESK exactly one row, with the id 1 and the number of the schema. If the function
+/// returns a value, the database was open and is unchanged.
 ///
 /// Fails with `Store` only, also if a statement of the check does not compile for another reason
 /// than a missing table. The result is specified only if the tables with these names and columns,

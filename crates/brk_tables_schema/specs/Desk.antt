@@ -55,7 +55,8 @@ desk_rows schema last = record { id = 1; schema = schema.number; last = last } �
 abbrev pub desk_key : DeskRow → List KeyPart
 desk_key r = number r.id ∷ []
 
--- The rows of SETTLE_RULE: one row with the id 1 and the settlement day, or no row if none is set.
+-- The rows of SETTLE_RULE: one row with the id 1 and the settlement day (the first day whose
+-- completions settle after one day), or no row if this day is not set.
 abbrev pub rule_rows : Option ℕ → List RuleRow
 rule_rows None = []
 rule_rows (Some day) = record { id = 1; day = day } ∷ []
@@ -64,8 +65,8 @@ rule_rows (Some day) = record { id = 1; day = day } ∷ []
 abbrev pub rule_key : RuleRow → List KeyPart
 rule_key r = number r.id ∷ []
 
--- True if the schema `schema` has the table: CASH_MOVE and SETTLE_RULE as the schema states, every
--- other table always.
+-- True if the schema `schema` has the table. For CASH_MOVE and SETTLE_RULE a field of `schema`
+-- decides; every schema has all other tables.
 abbrev pub schema_has_table : Schema → DeskTable → Bool
 schema_has_table schema CashMoves = schema.has_cash_move_table
 schema_has_table schema SettleRules = schema.has_settle_rule_table

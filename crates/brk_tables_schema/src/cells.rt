@@ -233,8 +233,9 @@ pub fn cents_in_column(row: &Row, at: usize) -> Result<Cents, DecodeError>
     Cents::new(integer_in_column(row, at)?).ok_or(DecodeError::Form)
 }
 
-/// Reads a stamp, in milliseconds since 1970-01-01 UTC, from 0 to the greatest stamp, from the
-/// column `at`. Fails with `Form`, only if the column is missing or malformed, or with `Memory`.
+/// Reads a stamp, in milliseconds since 1970-01-01 UTC, from 0 to that of 9999-12-31 23:59:59.999,
+/// from the column `at`. Fails with `Form`, only if the column is missing or malformed, or with
+/// `Memory`.
 pub fn stamp_in_column(row: &Row, at: usize) -> Result<Stamp, DecodeError>
     ensures value { IfOk result (λ stamp. column row.now at ≡ Int (pos stamp)) }
     ensures form { result ≡ Err Formless → at < length row.now → is_stamp_cell (column row.now at) ≡ false }
@@ -242,8 +243,8 @@ pub fn stamp_in_column(row: &Row, at: usize) -> Result<Stamp, DecodeError>
     Stamp::new(integer_in_column(row, at)?).ok_or(DecodeError::Form)
 }
 
-/// Reads a day, as the number of days since 1970-01-01, from 0 to the greatest day, from the column
-/// `at`. Fails with `Form`, only if the column is missing or malformed, or with `Memory`.
+/// Reads a day, as the number of days since 1970-01-01, from 0 to that of 9999-12-31, from the
+/// column `at`. Fails with `Form`, only if the column is missing or malformed, or with `Memory`.
 pub fn day_in_column(row: &Row, at: usize) -> Result<Day, DecodeError>
     ensures value { IfOk result (λ day. column row.now at ≡ Int (pos day)) }
     ensures form { result ≡ Err Formless → at < length row.now → is_day_cell (column row.now at) ≡ false }
@@ -251,9 +252,9 @@ pub fn day_in_column(row: &Row, at: usize) -> Result<Day, DecodeError>
     Day::new(read_column(row, at)?).ok_or(DecodeError::Form)
 }
 
-/// Reads a stamp, in milliseconds since 1970-01-01 UTC, from 0 to the greatest stamp, from the
-/// column `at`, or returns `None` if the column is null. Fails with `Form`, only if the column is
-/// missing or malformed, or with `Memory`.
+/// Reads a stamp, in milliseconds since 1970-01-01 UTC, from 0 to that of 9999-12-31 23:59:59.999,
+/// from the column `at`, or returns `None` if the column is null. Fails with `Form`, only if the
+/// column is missing or malformed, or with `Memory`.
 pub fn optional_stamp_in_column(row: &Row, at: usize) -> Result<Option<Stamp>, DecodeError>
     ensures value { IfOk result (λ stamp. column row.now at ≡ optional_natural_as_value stamp) }
     ensures form { result ≡ Err Formless → at < length row.now → is_null_or_stamp_cell (column row.now at) ≡ false }

@@ -10,7 +10,7 @@ use std::alloc::{AllocError, AllocFailed};
 /// The reason why a row could not be decoded.
 #[derive(Clone, Copy)]
 pub enum DecodeError {
-    /// A column is malformed, or the number of columns is wrong.
+    /// A column is malformed, or the number of columns or of rows is wrong.
     Form,
     /// Out of memory.
     Memory,

@@ -1,8 +1,10 @@
-//! The schema of a brokerage in SQL: the shapes of the tables, the binding of values, the decoding
-//! of columns, and the desk's own rows.
+//! The schema of a brokerage in SQL: the definitions of the tables, the conversion of values to
+//! parameters, the decoding of columns and rows, and the statements on DESK and KEPT.
 //!
-//! Each call is made within an open transaction. An error of the database and a malformed row are
-//! reported as the fault `Store`.
+//! Each function that takes a transaction is called while the transaction is open. No clause states
+//! the effect of the call on the database, or the value that it returns, outside a transaction or
+//! if the disk assumption (every read so far returned what was written) fails. An error of the
+//! database and a malformed row are reported as the fault `Store`.
 #![tactic(auto)]
 
 pub mod calls;

@@ -25,9 +25,10 @@ fn settlement_day_in_rule_row(row: &Row) -> Result<Day, DecodeError>
     day_in_column(row, 1)
 }
 
-/// Decodes the settlement day, in days since 1970-01-01, from all rows of SETTLE_RULE, or returns
-/// `None` if there is no row. Fails with `Form`, only if there are two rows or more, or if the row
-/// is malformed or has another id than 1, or with `Memory`.
+/// Decodes the settlement day, the first day whose completed trades settle after one day, in days
+/// since 1970-01-01, from all rows of SETTLE_RULE, or returns `None` if there is no row. Fails with
+/// `Form`, only if there are two rows or more, or if the row is malformed or has another id than 1,
+/// or with `Memory`.
 pub fn settlement_day_in_rule_rows(rows: &[Row]) -> Result<Option<Day>, DecodeError>
     ensures value { IfOk result (λ day. map rule_cells (rule_rows day) ≡ rows.now) }
     ensures form { result ≡ Err Formless → has_at_most_one_valid_rule_row rows.now ≡ false }

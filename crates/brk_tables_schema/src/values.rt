@@ -167,14 +167,16 @@ pub fn optional_price_as_parameter<'a>(price: Option<Price>) -> ValueRef<'a>
     }
 }
 
-/// Returns the code of a trade's status, such as CMPT, as a TEXT parameter of a statement.
+/// Converts the status of a trade to a TEXT, its code, such as CMPT, as the parameter of a
+/// statement.
 pub fn status_as_parameter<'a>(status: Status) -> ValueRef<'a>
     ensures { owned result ≡ Text (trade_status_code status) }
 {
     ValueRef::Text(status.code().as_bytes())
 }
 
-/// Converts the cash type of a settlement to a TEXT, as the parameter of a statement.
+/// Converts the cash type of a settlement to a TEXT, such as `Cash Account`, as the parameter of a
+/// statement.
 pub fn cash_type_as_parameter<'a>(cash_type: CashType) -> ValueRef<'a>
     ensures { owned result ≡ Text (cash_type_text cash_type) }
 {

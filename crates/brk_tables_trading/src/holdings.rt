@@ -28,10 +28,10 @@ fn skipped_rows_as_parameter<'a>(skipped: u32) -> ValueRef<'a>
     ValueRef::Int(skipped as i64)
 }
 
-/// Returns a page of the lots of an account in a security: at most 16 lots after the first
-/// `skipped`, sorted by the stamp of their opening and then by trade, the oldest first. Changes
-/// nothing if it succeeds. Fails with `Memory` or `Store` only; with `Store` also if a row is
-/// malformed.
+/// Returns a page of the lots of an account in a security, sorted by the stamp of their opening and
+/// then by the id of the trade that opened them, both ascending: after the first `skipped` lots the
+/// next 16, or all if there are fewer. Changes nothing if it succeeds. Fails with `Memory` or
+/// `Store` only; with `Store` also if a row is malformed.
 pub fn page_of_lots_oldest_first<S: Alter>(
     tx: &mut Transaction<'_, S>,
     alloc: Global,
@@ -56,10 +56,10 @@ pub fn page_of_lots_oldest_first<S: Alter>(
     decode_rows(alloc, &rows)
 }
 
-/// Returns a page of the lots of an account in a security: at most 16 lots after the first
-/// `skipped`, sorted by the stamp of their opening and then by trade, the newest first. Changes
-/// nothing if it succeeds. Fails with `Memory` or `Store` only; with `Store` also if a row is
-/// malformed.
+/// Returns a page of the lots of an account in a security, sorted by the stamp of their opening and
+/// then by the id of the trade that opened them, both descending: after the first `skipped` lots
+/// the next 16, or all if there are fewer. Changes nothing if it succeeds. Fails with `Memory` or
+/// `Store` only; with `Store` also if a row is malformed.
 pub fn page_of_lots_newest_first<S: Alter>(
     tx: &mut Transaction<'_, S>,
     alloc: Global,

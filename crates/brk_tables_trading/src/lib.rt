@@ -7,7 +7,8 @@
 //! fault `Store`; the database is then unchanged or the transaction is rolled back. A write changes
 //! the table that its comment names, and another table only if a foreign key of that other table
 //! changes or deletes rows. No clause states the effect of a call on the tables, or the value that
-//! it returns, outside a transaction or in a database without all tables of a desk.
+//! it returns, outside a transaction, in a database without all tables of a desk, or if the disk
+//! assumption (every read so far returned what was written) fails.
 #![tactic(auto)]
 
 pub mod balances;

@@ -37,7 +37,7 @@ pub fn add_lot<S: Alter>(tx: &mut Transaction<'_, S>, lot: &HoldingRow) -> Resul
 }
 
 /// Sets the number of shares of the lot that a trade opened (H_QTY), below 0 if they were sold
-/// short. Changes nothing if there is no such lot. Fails with `Store` only.
+/// short. Changes nothing if the trade has no lot. Fails with `Store` only.
 pub fn set_lot_quantity<S: Alter>(
     tx: &mut Transaction<'_, S>,
     trade: Id,
@@ -54,7 +54,7 @@ pub fn set_lot_quantity<S: Alter>(
     )
 }
 
-/// Deletes the lot that a trade opened. Changes nothing if there is no such lot. Fails with `Store`
+/// Deletes the lot that a trade opened. Changes nothing if the trade has no lot. Fails with `Store`
 /// only.
 pub fn remove_lot<S: Alter>(tx: &mut Transaction<'_, S>, trade: Id) -> Result<(), Fault>
     ensures same_reference { tx.new.conn.ghost_name ≡ tx.old.conn.ghost_name }

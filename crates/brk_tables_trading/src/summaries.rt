@@ -35,8 +35,8 @@ pub fn add_holding_summary<S: Alter>(
     )
 }
 
-/// Sets the number of shares in the holding summary of an account in a security (HS_QTY). Changes
-/// nothing if there is no such summary. Fails with `Store` only.
+/// Sets the number of shares in the holding summary of an account in a security (HS_QTY), below 0
+/// if they were sold short. Changes nothing if the summary does not exist. Fails with `Store` only.
 pub fn set_holding_summary_quantity<S: Alter>(
     tx: &mut Transaction<'_, S>,
     summary: &SummaryRow,

@@ -1,5 +1,5 @@
-//! Reads of the trades of an account for its views: its most recent trades, and the statuses that a
-//! trade reached.
+//! Reads for the views of an account: the most recent trades of the account, and the statuses that
+//! a trade reached.
 
 ghost use Rattle.std.specs.Prelude.{◌≡◌, ◌==◌, IfErr, map, take};
 ghost use Rattle.brk_model.specs.Joins.{trade_rows_recent_first, trade_rows_of_account};
@@ -62,7 +62,7 @@ pub fn last_fifty_trades_of_account<S: Alter>(
     decode_rows(alloc, &rows)
 }
 
-/// Returns the rows of TRADE_HISTORY of a trade: the statuses that it reached and their stamps,
+/// Returns the rows of TRADE_HISTORY of a trade: each status that it reached, with its stamp,
 /// sorted by the code of the status, ascending. Changes nothing if it succeeds. Fails with `Memory`
 /// or `Store` only; with `Store` also if a row is malformed.
 pub fn history_of_trade<S: Alter>(

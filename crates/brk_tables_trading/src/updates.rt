@@ -21,10 +21,10 @@ use brk_tables_schema::values::{
 use sqlite::{Alter, Transaction};
 use std::alloc::Global;
 
-/// Of the trades of an account that were completed from the stamp `first` to `last`, both included,
-/// returns the twenty oldest, or all if there are fewer, sorted by stamp and then by id, ascending.
-/// Changes nothing if it succeeds. Fails with `Memory` or `Store` only; with `Store` also if a row
-/// is malformed.
+/// Returns the first twenty, or all if there are fewer, of the trades of an account that were
+/// completed from the stamp `first` to the stamp `last`, both included, sorted by the stamp of
+/// completion and then by id, ascending. Changes nothing if it succeeds. Fails with `Memory` or
+/// `Store` only; with `Store` also if a row is malformed.
 pub fn first_twenty_completed_trades_of_account<S: Alter>(
     tx: &mut Transaction<'_, S>,
     alloc: Global,
@@ -53,10 +53,10 @@ pub fn first_twenty_completed_trades_of_account<S: Alter>(
     decode_rows(alloc, &rows)
 }
 
-/// Of the cash trades of a symbol that were completed from the stamp `first` to `last`, both
-/// included, returns the twenty oldest, or all if there are fewer, sorted by stamp and then by id,
-/// ascending. Changes nothing if it succeeds. Fails with `Memory` or `Store` only; with `Store`
-/// also if a row is malformed.
+/// Returns the first twenty, or all if there are fewer, of the cash trades of a symbol that were
+/// completed from the stamp `first` to the stamp `last`, both included, sorted by the stamp of
+/// completion and then by id, ascending. Changes nothing if it succeeds. Fails with `Memory` or
+/// `Store` only; with `Store` also if a row is malformed.
 pub fn first_twenty_completed_cash_trades_of_symbol<S: Alter>(
     tx: &mut Transaction<'_, S>,
     alloc: Global,

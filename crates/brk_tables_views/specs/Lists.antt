@@ -7,12 +7,13 @@ use Rattle.brk_model.specs.Tables.{Tables, HoldingRow, MoveRow, TradeRow}
 use Rattle.brk_money.specs.Kinds.{is_same_trade_status}
 use Rattle.brk_money.specs.declared.status.Status.TheVariants.{Completed}
 
--- The sort key of a lot: its symbol, then the stamp of its opening, then the trade that opened it.
+-- The sort key of a lot: its symbol, then the stamp of its opening, then the id of the trade that
+-- opened it.
 abbrev pub lot_sort_key : HoldingRow → List KeyPart
 lot_sort_key r = word r.symbol ∷ number r.stamp ∷ number r.trade ∷ []
 
--- The lots of `account`, sorted by symbol, then by the stamp of their opening, then by trade,
--- ascending.
+-- The lots of `account`, sorted by symbol, then by the stamp of their opening, then by the id of
+-- the trade that opened them, all ascending.
 abbrev pub account_lots_by_symbol : ℕ → Tables → List HoldingRow
 account_lots_by_symbol account t = rows_sorted_by_key lot_sort_key (filter (λ row. row.account == account) t.holdings)
 

@@ -28,21 +28,21 @@ TableWalkEndsEarly {X} {M} {V} Begins of takes stops before after (Cause e) =
 
 -- The database `db` is open, and the records `all` equal the list that `list` selects from the rows
 -- of a desk's tables in `db`. The second part is vacuous if `db` does not contain all tables of a
--- desk.
+-- desk in schema 3.
 abbrev pub AreAllRecordsOfList : {M : Type 0} → State → (Tables → List M) → List M → Type 0
 AreAllRecordsOfList db list all = IsTrue db.is_open × ((t : Tables) → HasDeskTables t db.now → all ≡ list t)
 
 -- The list `first` is empty; or the database `db` is open, and `first` is a prefix of the list that
 -- `list` selects from the rows of a desk's tables in `db`. The last part is vacuous if `db` does
--- not contain all tables of a desk.
+-- not contain all tables of a desk in schema 3.
 abbrev pub IsPrefixOfList : {M : Type 0} → State → (Tables → List M) → List M → Type 0
 IsPrefixOfList {M} db list first = (first ≡ []) ⊎ (IsTrue db.is_open × ((t : Tables) → HasDeskTables t db.now → (rest : List M) × (first ++ rest ≡ list t)))
 
 -- The postcondition of a walk, which writes nothing: the walk passes the records that `list`
 -- selects from a desk's tables to a visitor, in order, one at a time, until the last record, the
 -- error of the visitor or a fault. `takes` and `stops` relate the visitor before and after it takes
--- a record or stops at one. The clauses on records and on the database are vacuous if the disk
--- assumption fails.
+-- a record or stops at one. The clauses on records, on the database and on crashes are vacuous if
+-- the disk assumption fails.
 pub record TableWalkPost {S X M V E : Type 0} (g : Ghosts S) (old new : Held S) (of : X → M) (list : Tables → List M) (takes : V → X → V → Type 0)
     (stops : V → X → E → V → Type 0)
     (before after : V) (result : Result (Unit {0}) (WalkError E)) : Type 0 where
@@ -56,5 +56,6 @@ pub record TableWalkPost {S X M V E : Type 0} (g : Ghosts S) (old new : Held S) 
   -- If the database is open after the walk, it was open before and is unchanged.
   pub unchanged_if_open : HasCleanDisk (state g new) → IsTrue (state g new).is_open
       → IsTrue (state g old).is_open × ((state g new).now ≡ (state g old).now) × ((state g new).committed ≡ (state g old).committed)
-  -- A crash after the call exposes only states that a crash before the call could expose.
+  -- Under the disk assumption a crash after the call exposes only states that a crash before the
+  -- call could expose.
   pub survives : Survives (state g old) (state g new) (λ _. ⊥)

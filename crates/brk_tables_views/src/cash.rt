@@ -17,12 +17,13 @@ use sqlite::{Alter, Connection};
 ///
 /// Stops at the first error and returns it: `Failed` with `Memory`, or with `Store`, also if a row
 /// is malformed, or `Cause` with the visitor's error. The visitor has then taken a prefix of the
-/// rows, possibly none. Returns `Ok` only after the last row. Writes nothing. The list of the rows
-/// is specified only if the database contains all tables of a desk in schema 3.
+/// rows, possibly none. Returns `Ok` only after the last row. Writes nothing. The rows that the
+/// visitor takes are specified only under the disk assumption (every read so far returned what was
+/// written), and only if the database contains all tables of a desk in schema 3.
 ///
 /// Requires that `conn` is in no transaction and that the visitor is ready to take records; both
-/// hold also after the walk. A crash after the walk exposes only states that a crash before it
-/// could expose.
+/// hold also after the walk. Under the disk assumption a crash after the walk exposes only states
+/// that a crash before it could expose.
 pub fn walk_cash_rows_of_account<S: Alter, E, V: Visitor<MoveRow, E>>(
     conn: &mut Connection<S>,
     account: Id,

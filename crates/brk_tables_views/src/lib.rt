@@ -6,11 +6,12 @@
 //!
 //! Each function but a walk is called within an open transaction, and commits nothing. An error of
 //! the `sqlite` crate, also if this crate runs out of memory, and a malformed row are reported as
-//! the fault `Store`; the database is then unchanged or the transaction is rolled back. No clause
-//! states the effect of such a call on the tables, or the value that it returns, outside a
-//! transaction or in a database without all tables of a desk. The fault of a walk is `Store` also
-//! if a row is malformed or if the `sqlite` crate runs out of memory, and `Memory` if the decoding
-//! of a row does.
+//! the fault `Store`; the database is then unchanged or the transaction is rolled back. For a call
+//! other than a walk no clause states the effect on the tables, or the value that it returns,
+//! outside a transaction, in a database without all tables of a desk, or if the disk assumption
+//! (every read so far returned what was written) fails. The fault of a walk is `Store` also if a
+//! row is malformed or if the `sqlite` crate runs out of memory, and `Memory` if the decoding of a
+//! row does.
 #![tactic(auto)]
 
 pub mod brokers;

@@ -13,16 +13,17 @@ use brk_tables_schema::values::id_as_parameter;
 use sqlite::{Alter, Connection};
 
 /// Passes the lots of an account to the visitor, sorted by symbol, then by the stamp of their
-/// opening, then by trade, ascending.
+/// opening, then by the id of the trade that opened them, all ascending.
 ///
 /// Stops at the first error and returns it: `Failed` with `Memory`, or with `Store`, also if a row
 /// is malformed, or `Cause` with the visitor's error. The visitor has then taken a prefix of the
-/// lots, possibly none. Returns `Ok` only after the last lot. Writes nothing. The list of the lots
-/// is specified only if the database contains all tables of a desk in schema 3.
+/// lots, possibly none. Returns `Ok` only after the last lot. Writes nothing. The lots that the
+/// visitor takes are specified only under the disk assumption (every read so far returned what was
+/// written), and only if the database contains all tables of a desk in schema 3.
 ///
 /// Requires that `conn` is in no transaction and that the visitor is ready to take records; both
-/// hold also after the walk. A crash after the walk exposes only states that a crash before it
-/// could expose.
+/// hold also after the walk. Under the disk assumption a crash after the walk exposes only states
+/// that a crash before it could expose.
 pub fn walk_lots<S: Alter, E, V: Visitor<HoldingRow, E>>(
     conn: &mut Connection<S>,
     account: Id,

@@ -17,10 +17,10 @@ use brk_tables_schema::values::{id_as_parameter, stamp_as_parameter, text_as_par
 use sqlite::{Alter, Transaction};
 use std::alloc::Global;
 
-/// Of the trades of an account whose last status change has a stamp from `first` to `last`, both
-/// included, returns the twenty oldest, or all if there are fewer, sorted by this stamp and then by
-/// id, ascending. Changes nothing if it succeeds. Fails with `Memory` or `Store` only; with `Store`
-/// also if a row is malformed.
+/// Returns the first twenty, or all if there are fewer, of the trades of an account whose last
+/// status change has a stamp from `first` to `last`, both included, sorted by this stamp and then
+/// by id, ascending. Changes nothing if it succeeds. Fails with `Memory` or `Store` only; with
+/// `Store` also if a row is malformed.
 pub fn first_twenty_trades_of_account<S: Alter>(
     tx: &mut Transaction<'_, S>,
     alloc: Global,
@@ -48,10 +48,10 @@ pub fn first_twenty_trades_of_account<S: Alter>(
     decode_rows(alloc, &rows)
 }
 
-/// Of the trades in a security whose last status change has a stamp from `first` to `last`, both
-/// included, returns the twenty oldest, or all if there are fewer, sorted by this stamp and then by
-/// id, ascending. Changes nothing if it succeeds. Fails with `Memory` or `Store` only; with `Store`
-/// also if a row is malformed.
+/// Returns the first twenty, or all if there are fewer, of the trades in a security whose last
+/// status change has a stamp from `first` to `last`, both included, sorted by this stamp and then
+/// by id, ascending. Changes nothing if it succeeds. Fails with `Memory` or `Store` only; with
+/// `Store` also if a row is malformed.
 pub fn first_twenty_trades_of_symbol<S: Alter>(
     tx: &mut Transaction<'_, S>,
     alloc: Global,
@@ -79,10 +79,10 @@ pub fn first_twenty_trades_of_symbol<S: Alter>(
     decode_rows(alloc, &rows)
 }
 
-/// Of the trades of an account whose last status change has a stamp of at least `first`, returns
-/// the oldest, and of several with this stamp the one with the least id, or `None` if there is
-/// none. Changes nothing if it succeeds. Fails with `Store` only, also if the row is malformed or
-/// memory runs out.
+/// Returns the first, sorted by the stamp of the last status change and then by id, ascending, of
+/// the trades of an account for which this stamp is at least `first`, or `None` if there is none.
+/// Changes nothing if it succeeds. Fails with `Store` only, also if the row is malformed or memory
+/// runs out.
 pub fn first_trade_of_account_from_stamp<S: Alter>(
     tx: &mut Transaction<'_, S>,
     account: Id,

@@ -6,8 +6,8 @@ pub trait Visitor<R, E> {
     /// The condition under which the visitor may be called; a call preserves it.
     ghost ready: { Self → Type 0 };
 
-    /// Relates the visitor to each of its later states, including the states of the values that it
-    /// holds, to which calls can lead.
+    /// Relates the visitor to its state after any number of calls, zero included. This state
+    /// includes the values that the visitor holds.
     ghost leads: { Self → Self → Type 0 };
 
     /// Relates the visitor to its state after a record that it takes.

@@ -38,14 +38,15 @@ fn decode_record<R: Record>(row: &Row) -> Result<R, Fault>
 /// in the order of the query's result, until all are passed or an error occurs. Fails with `Failed`
 /// and the fault `Memory` or `Store`, or with `Cause` and the visitor's error. The fault is `Store`
 /// also if a row is malformed, if the `sqlite` crate runs out of memory, or if no end of the result
-/// is found after 2^64 - 1 rows. At an error the visitor has taken a prefix of the records,
-/// possibly none.
+/// is found after 2^64 - 1 rows. Under the disk assumption (every read so far returned what was
+/// written) the visitor has taken all records at `Ok`, and at an error a prefix of them, possibly
+/// none.
 ///
 /// Requires that the query `sql` has no RETURNING clause and that the visitor is ready to take
 /// records; the visitor is ready also after the walk. If `conn` was in no transaction, it is in
 /// none after the walk. Under the disk assumption the database is unchanged at `Ok`; at an error it
-/// is unchanged or an open transaction is rolled back. A crash after the walk exposes only states
-/// that a crash before it could expose.
+/// is unchanged or an open transaction is rolled back, and a crash after the walk exposes only
+/// states that a crash before it could expose.
 pub fn walk_query_rows<S: Alter, R: Record, E, V: Visitor<R, E>>(
     conn: &mut Connection<S>,
     sql: &str,

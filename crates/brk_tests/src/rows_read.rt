@@ -1,5 +1,6 @@
-//! Tests of what a sale reads: rows, on a position of forty lots of one share each, and calls of
-//! the database file, of which a position of many lots needs no more than one of a single lot.
+//! Tests of what a sale reads: the rows, on a position of forty lots of one share each, and the
+//! calls of the database file, of which the sale of one share of 100 lots makes no more than the
+//! sale of one share of a single lot.
 
 use crate::desks::{desk_with_reference_data, expect, open_in_memory, run_batch_at_desk};
 use crate::files::jobs::{Job, Task};

@@ -77,7 +77,7 @@ fn expect_outcomes_after_set<S: Alter + Drop>(
 }
 
 /// Checks that a run executes the calls after a refused one: of three brokers, the second has the
-/// id of the first and is refused with 15, and the third is accepted.
+/// id of the first and is refused with `Exists` (15), and the third is accepted.
 pub fn a_run_continues_after_a_refusal(alloc: Global) -> Result<(), Fail> {
     let mut calls = Vec::new(alloc);
     for row in ["broker,1,Bo", "broker,1,Cy", "broker,2,Cy"] {
@@ -88,8 +88,8 @@ pub fn a_run_continues_after_a_refusal(alloc: Global) -> Result<(), Fail> {
 }
 
 /// Checks that a run returns the stored reply for a repeated row under its key, refuses another row
-/// under this key with 19, and refuses the same row under another key with 15, because its broker
-/// exists.
+/// under this key with `KeyReused` (19), and refuses the same row under another key with `Exists`
+/// (15), because its broker exists.
 pub fn a_run_repeats_the_stored_reply(alloc: Global) -> Result<(), Fail> {
     let mut calls = Vec::new(alloc);
     for (row, n) in [
@@ -105,7 +105,7 @@ pub fn a_run_repeats_the_stored_reply(alloc: Global) -> Result<(), Fail> {
 }
 
 /// Checks that a run executes queries: it returns the view of submitted trades, which is empty, and
-/// refuses the estimate of an order of an account that does not exist with 1.
+/// refuses with `NoAccount` (1) the estimate of an order of an account that does not exist.
 pub fn a_run_answers_queries(alloc: Global) -> Result<(), Fail> {
     let stranger = split_fields(alloc, "101,TMB,ABC,100,,cash,fifo,Ann,Lee,T10")?;
     let mut calls = Vec::new(alloc);

@@ -38,7 +38,7 @@ enum Asked {
     Put,
     // It has the stored reply `5,CNCL`.
     Repeat,
-    // It is refused with 14, `accounts`.
+    // It is refused with `Range` (14), `accounts`.
     Refuse,
     // It fails with `Store`.
     Break,
@@ -90,8 +90,8 @@ impl Rows for Last {
     ] };
 
     // Returns the command `Put`, `Repeat`, `Refuse` or `Break` for a row of 3, 4, 5 or 6 fields.
-    // Refuses 7 fields with 8 (`BadQty`), fails at 9 fields with `Memory`, and refuses any other
-    // number with 18 (`BadText`).
+    // Refuses 7 fields with `BadQty` (8), fails at 9 fields with `Memory`, and refuses any other
+    // number with `BadText` (18).
     fn parse(_alloc: Global, row: &[&[u8]]) -> Planned<Asked> {
         match row.len() {
             3 => Ok(Ok(Asked::Put)),
@@ -105,8 +105,9 @@ impl Rows for Last {
     }
 
     // Executes the command: stores the timestamp `now` and returns it as the reply (`Put`), returns
-    // the stored reply `5,CNCL` (`Repeat`), or refuses with 14, `accounts` (`Refuse`). Only `Put`
-    // changes the desk. Fails with `Store` for `Break`, and with `Memory` if memory runs out.
+    // the stored reply `5,CNCL` (`Repeat`), or refuses with `Range` (14), `accounts` (`Refuse`).
+    // Only `Put` changes the desk. Fails with `Store` for `Break`, and with `Memory` if memory runs
+    // out.
     fn call(
         desk: &mut Last,
         alloc: Global,
@@ -286,7 +287,7 @@ fn batch_fault_result(rows: u64, kind: FaultKind) -> Result<Counts, BatchFault> 
 }
 
 // A batch with rows of 3, 4, 5, 1 and 7 fields: an accepted one, a repeated one and three refused
-// ones.
+// ones. The record after the end record is not executed.
 const WHOLE: &[u8] =
     b"\xef\xbb\xbfbatch,A\r\nput,1,\"a, b\"\r\n\r\nput,1,2,3\nrefuse,,,,\n\"\"\r\nqty,,,,,,\nend,5\r\nput,2,c\n";
 
@@ -328,8 +329,8 @@ const CUT_INPUTS: [(&[u8], u64, &[u8]); 2] = [
 ];
 
 /// Checks, for the two inputs of `CUT_INPUTS`, that a row without a record after it is refused with
-/// 18, and that the batch fails with `NoEnd` after the lines of its rows, if it has any. Fails if
-/// not, and if memory runs out.
+/// `BadText` (18), and that the batch fails with `NoEnd` after the lines of its rows, if it has
+/// any. Fails if not, and if memory runs out.
 pub fn the_last_row_of_a_cut_input_is_refused(alloc: Global) -> Result<(), Fail> {
     for (text, rows, lines) in &CUT_INPUTS {
         let wanted = batch_fault_result(*rows, FaultKind::NoEnd);

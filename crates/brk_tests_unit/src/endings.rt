@@ -49,10 +49,10 @@ pub fn exit_status_and_line_of_batch_faults(alloc: Global) -> Result<(), Fail> {
     Ok(())
 }
 
-/// Checks that a report that is refused with 1 or 18 has the exit status 1 and an error line with
-/// the number of the refusal, and that a report that ended with the desk's fault `Store`, or
-/// because writing failed, has the exit status 3 and the error line of its fault. Fails if not, and
-/// if memory runs out.
+/// Checks that a report that is refused with `NoAccount` (1) or `BadText` (18) has the exit status
+/// 1 and an error line with the number of the refusal, and that a report that ended with the desk's
+/// fault `Store`, or because writing failed, has the exit status 3 and the error line of its fault.
+/// Fails if not, and if memory runs out.
 pub fn exit_status_and_line_of_report_faults(alloc: Global) -> Result<(), Fail> {
     let stranger = Ending::Report(ReportFault::Refused(Refusal::NoAccount));
     expect_status_and_line(alloc, stranger, 1, "brk: refused: 1\n")?;

@@ -18,8 +18,8 @@ mod words;
 
 use std::test::Fail;
 
-/// Runs the test `name`, which is the name of its function. Returns the result of the test, which
-/// is its failure if it fails, or `None` if no test has this name.
+/// Runs the test `name`, which is the name of its function. Returns `None` if no test has this
+/// name, and otherwise the result of the test.
 pub fn run_test(rt: &HostRuntime, name: &str) -> Option<Result<(), Fail>> {
     let alloc = rt.alloc();
     let tested = match name {

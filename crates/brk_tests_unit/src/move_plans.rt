@@ -90,9 +90,10 @@ const MOVEMENTS: [(Case, &str); 5] = [
 ];
 
 /// Checks the replies to a deposit and to a withdrawal, with their number and the new balance,
-/// which may be below 0. Checks that a deposit beyond the limit of the balance is refused with 14,
-/// `balance`, a deposit to an account that does not exist with 1, and a deposit beyond the limit of
-/// movements with 14, `moves`. Fails if not, and if memory runs out.
+/// which may be below 0. Checks that a deposit beyond the limit of the balance is refused with
+/// `Range` (14), `balance`, a deposit to an account that does not exist with `NoAccount` (1), and a
+/// deposit beyond the limit of movements with `Range` (14), `moves`. Fails if not, and if memory
+/// runs out.
 pub fn movement_replies_and_refusals(alloc: Global) -> Result<(), Fail> {
     for (case, wanted) in &MOVEMENTS {
         expect_movement_reply(alloc, case, wanted)?;
@@ -100,10 +101,11 @@ pub fn movement_replies_and_refusals(alloc: Global) -> Result<(), Fail> {
     Ok(())
 }
 
-// Checks that the reply to the command that sets the settlement day `days`, or `no,` and the
-// refusal of the command, is the text `wanted`. The desk has the settlement day `rule`, or none,
-// and its last stamp is on 2024-03-01 UTC; both days are in days since 1970-01-01. Fails with both
-// texts if not. Fails also if a day is not within its limits, and if memory runs out.
+// Checks that the reply to the command that sets `days` as the first day of one-day settlement, or
+// `no,` and the refusal of the command, is the text `wanted`. The desk has `rule` as this day, or
+// has none set, and its last stamp is on 2024-03-01 UTC; both days are in days since 1970-01-01.
+// Fails with both texts if not. Fails also if a day is not within its limits, and if memory runs
+// out.
 fn expect_settlement_day_reply(
     alloc: Global,
     days: i32,
@@ -121,9 +123,9 @@ fn expect_settlement_day_reply(
     expect_planned_reply(alloc, planned, wanted)
 }
 
-/// Checks that a settlement day is refused with 22 if it is the day of the command's stamp,
-/// accepted if it is the next day, and refused with 15 if the desk has a settlement day already.
-/// Fails if not, and if memory runs out.
+/// Checks that a first day of one-day settlement is refused with `TooEarly` (22) if it is the day
+/// of the command's stamp, accepted if it is the next day, and refused with `Exists` (15) if the
+/// desk has one already. Fails if not, and if memory runs out.
 pub fn a_settlement_day_must_be_in_the_future(alloc: Global) -> Result<(), Fail> {
     expect_settlement_day_reply(alloc, 19_783, None, "no,22")?;
     expect_settlement_day_reply(alloc, 19_784, None, "1709251200016")?;

@@ -51,8 +51,8 @@ const FEEDS: [(&[&[u8]], &str); 4] = [
 ];
 
 /// Checks that a feed up to the limit of the volume is accepted, that feeds of one and of two ticks
-/// beyond the limit are refused with 14, `volume`, and that a feed beyond the limit with an unknown
-/// symbol is refused with 4. Fails if not, and if memory runs out.
+/// beyond the limit are refused with `Range` (14), `volume`, and that a feed beyond the limit with
+/// an unknown symbol is refused with `NoSecurity` (4). Fails if not, and if memory runs out.
 pub fn a_feed_beyond_volume_limit_is_refused(alloc: Global) -> Result<(), Fail> {
     for (ticks, wanted) in &FEEDS {
         expect_feed_reply(alloc, ticks, wanted)?;
@@ -109,8 +109,8 @@ fn expect_purchase_reply(alloc: Global, trades: u64, wanted: &str) -> Result<(),
 }
 
 /// Checks that an order after 10^12 - 1 trades is accepted as the trade with the greatest id,
-/// 10^12, and that an order after 10^12 trades is refused with 14, `trades`. Fails if not, and if
-/// memory runs out.
+/// 10^12, and that an order after 10^12 trades is refused with `Range` (14), `trades`. Fails if
+/// not, and if memory runs out.
 pub fn an_order_beyond_greatest_trade_id_is_refused(alloc: Global) -> Result<(), Fail> {
     let last = "1709251200020,1000000000000,SBMT,10.00,0.00,0.00,0.00,10.00,5.00,10000.00";
     expect_purchase_reply(alloc, 999_999_999_999, last)?;

@@ -150,8 +150,8 @@ fn expect_case_reply(alloc: Global, case: &Case, wanted: &str) -> Result<(), Fai
     expect_result_reply(alloc, Some(&found), Stamp::new(case.last), wanted)
 }
 
-/// Checks that a result for a trade that does not exist is refused with 5. Fails if not, and if
-/// memory runs out.
+/// Checks that a result for a trade that does not exist is refused with `NoTrade` (5). Fails if
+/// not, and if memory runs out.
 pub fn a_result_without_a_trade_is_refused(alloc: Global) -> Result<(), Fail> {
     expect_result_reply(alloc, None, None, "no,5")
 }
@@ -170,8 +170,8 @@ const BEYOND_BROKER_LIMIT: Case = Case {
     ..WITHOUT_LATER_STAMP
 };
 
-// `BEYOND_BROKER_LIMIT` with the balance at its lower limit, so that the amount of the purchase
-// exceeds it, and with the shares held 100 below their limit, which 100 more reach.
+// `BEYOND_BROKER_LIMIT` with the balance at its lower limit, so that the purchase would lower the
+// balance below the limit, and with the shares held 100 below their limit, which 100 more reach.
 const BEYOND_BALANCE_LIMIT: Case = Case {
     held: Some(9_999_999_899),
     balance: -100_000_000_000_000_000,
@@ -272,9 +272,9 @@ const LIMITS: [(Case, &str); 3] = [
 ];
 
 /// Checks that a result that reaches the limit of the broker's commissions is accepted, that one
-/// that exceeds it by one cent is refused with 14, `broker`, and that the result of a margin trade,
-/// which does not change the balance, is accepted at the lower limit of the balance. Fails if not,
-/// and if memory runs out.
+/// that exceeds it by one cent is refused with `Range` (14), `broker`, and that the result of a
+/// margin trade, which does not change the balance, is accepted at the lower limit of the balance.
+/// Fails if not, and if memory runs out.
 pub fn broker_and_balance_limits_of_results(alloc: Global) -> Result<(), Fail> {
     for (case, wanted) in &LIMITS {
         expect_case_reply(alloc, case, wanted)?;
@@ -302,8 +302,8 @@ const SUMMARIES: [(TradeType, i64, u32, &str); 4] = [
 ];
 
 /// Checks that a result that reaches the limit of the shares held, bought or sold short, is
-/// accepted, and that one that exceeds it by one share is refused with 14, `summary`. Fails if not,
-/// and if memory runs out.
+/// accepted, and that one that exceeds it by one share is refused with `Range` (14), `summary`.
+/// Fails if not, and if memory runs out.
 pub fn summary_limits_of_results(alloc: Global) -> Result<(), Fail> {
     for (kind, held, qty, wanted) in &SUMMARIES {
         let case = Case {

@@ -16,14 +16,14 @@ use Rattle.brk_lots.specs.Sources.{YieldsPosition}
 use Rattle.brk_lots.specs.declared.lot.Lot.{Lot}
 use Rattle.brk_lots.specs.declared.values.Values.{Values}
 
--- The tax on the realised gain of `values`, in cents, where `rates` is the sum of the tax rates in
--- hundred-thousandths. It is 0 if gains are not taxable at the tax status `status`, or if there is
--- no gain.
+-- The tax on the realised gain of `values`, in whole cents, rounded half up (`tax`), where `rates`
+-- is the sum of the tax rates in hundred-thousandths. The tax is 0 if gains are not taxable at the
+-- tax status `status`, or if there is no gain.
 abbrev pub tax_on_gain_at_status : TaxStatus → ℕ → Values → ℕ
 tax_on_gain_at_status status rates values = if is_taxable_status status then tax (pos values.sell_value -ℤ pos values.buy_value) rates else 0
 
 -- The commission of an order with the terms `terms`, in cents: the quantity times the price times
--- the rate (hundredths of a percent), rounded to a whole cent (`commission`).
+-- the rate (hundredths of a percent), rounded half up to a whole cent (`commission`).
 abbrev pub commission_from_terms : Terms → ℕ
 commission_from_terms terms = commission terms.rate terms.qty terms.price
 
@@ -52,10 +52,10 @@ pub record AreOrderTermsInBase (base : Base) (o : Order) (terms : Terms) : Type 
 abbrev pub deal_from_terms : Terms → (trade stamp : ℕ) → Bool → Deal
 deal_from_terms terms trade stamp lifo = record { trade = trade; side = terms.side; qty = terms.qty; price = terms.price; stamp = stamp; is_lifo = lifo }
 
--- For all lots of a position that the source may return (`given`) from one of its ends, none of
--- them opened by the trade of the order: from `before` to `after`, the number of lots requested
--- from the source grew by at most one more than the number of lots that an order with the terms
--- `terms` closes or reduces. Vacuous if the source may return no such list of lots.
+-- For all lots of a position that the source may return (`given`) from one end of the position,
+-- none of them opened by the trade of the order: from `before` to `after`, the number of lots
+-- requested from the source grew by at most one more than the number of lots that an order with the
+-- terms `terms` closes or reduces. Vacuous if `given` holds of no list of lots of a position.
 abbrev pub OrderReadsAtMostOneLotMore : Terms → (List Lot → Type 0) → (before after : ℕ) → Type 0
 OrderReadsAtMostOneLotMore terms given before after =
     (ls : List Lot) (trade stamp : ℕ) (lifo : Bool) → YieldsPosition given lifo ls → AreOpenedByOtherTrades trade ls

@@ -99,7 +99,8 @@ next_trade_id last = unwrap_or last 0 + 1
 
 -- The TRADE row of `order` with the terms `terms`, the id `trade`, the stamp `stamp`, the symbol
 -- `symbol` and the executor's name `executor`. It has the first status of its type, the price of
--- the terms as its bid price, no completion price, and tax 0.
+-- the terms as its bid price, the charge and the commission of the terms, no completion price, and
+-- tax 0.
 abbrev pub trade_row_with_texts : Order → Terms → (trade stamp : ℕ) → (symbol executor : Text) → tables.TradeRow
 trade_row_with_texts order terms trade stamp symbol executor = record {
   id = trade;
@@ -156,8 +157,8 @@ pub record AreOrderChanges (order : Order) (terms : Terms) (broker trade stamp :
 -- `plan` adds the trade of `order` at the stamp of the command, with the next id, where `found` are
 -- the facts in the tables, `given` is true of each list of lots that the source may return, `last`
 -- is the last stamp, and `now` the clock reading. The order passes its checks, a free id and a
--- later stamp exist, and the reply has the stamp, the id, the first status and the estimate from
--- the lots of the source (`MatchesModelEstimate`).
+-- stamp later than `last` exist, and the reply has the stamp, the id, the first status and the
+-- estimate from the lots of the source (`MatchesModelEstimate`).
 pub record IsOrderPlan (order : Order) (found : OrderPlanFacts) (given : List Lot → Type 0) (last : Option ℕ) (now : ℕ) (plan : Plan) : Type 0 where
   pub stamp : ℕ
   pub estimate : Estimate

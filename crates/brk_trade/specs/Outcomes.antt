@@ -71,22 +71,22 @@ abbrev pub broker_commissions_after_result : ResultPlanFacts → ℕ → ℕ
 broker_commissions_after_result found price = found.broker.commissions + commission_of_result found price
 
 -- The checks of a result that need no lots, in this order: the trade is submitted (`WrongStatus`),
--- a commission rate applies (`NoRate`), and the shares held after the trade do not exceed the limit
--- (`Range(Summary)`).
+-- a commission rate applies (`NoRate`), and the absolute value of the number of shares held after
+-- the trade is at most 9,999,999,999 (`Range(Summary)`).
 abbrev pub checks_before_reading_lots : ResultPlanFacts → List RefusalCheck
 checks_before_reading_lots found =
     (not (is_same_trade_status found.trade.status Submitted), WrongStatus found.trade.status) ∷ (is_none found.rate, NoRate)
     ∷ (nat_lt greatest_summary (nat_abs (shares_held_after_trade found)), Range limit.Summary) ∷ []
 
 -- The check that `stamp` is not `None` and that the due day of a completion at `stamp` is not after
--- 9999-12-31 (`ClockEnd`). `rule` is the settlement day, if any.
+-- 9999-12-31 (`ClockEnd`). `rule` is the first day whose completions settle after one day, if any.
 abbrev pub due_day_check : Option ℕ → Option ℕ → RefusalCheck
 due_day_check rule stamp = (option_map_or (λ s. nat_lt greatest_day (due_day_of_completion_stamp rule s)) stamp true, ClockEnd)
 
 -- The checks of a result that need the values of the closed shares or the stamp, in this order: the
--- balance after a cash trade and the broker's commissions do not exceed their limits
--- (`Range(Balance)`, `Range(Broker)`), the stamp is not `None`, and the due day is not after
--- 9999-12-31 (`ClockEnd`).
+-- absolute value of the balance after a cash trade and the broker's commissions after the trade are
+-- at most 10^17 cents (`Range(Balance)`, `Range(Broker)`), the stamp is not `None`, and the due day
+-- is not after 9999-12-31 (`ClockEnd`).
 abbrev pub checks_after_reading_lots : ResultPlanFacts → ℕ → Values → Option ℕ → List RefusalCheck
 checks_after_reading_lots found price values stamp =
     (found.trade.is_cash && nat_lt greatest_amount (nat_abs (balance_after_result found price values)), Range limit.Balance)

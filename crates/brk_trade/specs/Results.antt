@@ -64,8 +64,8 @@ row_change_of_summary (Some held) t qty =
     if is_zero qty then change.RemoveSummary t.account t.symbol
     else change.SetSummary (record { account = t.account; symbol = t.symbol; qty = qty })
 
--- The settlement text that a completion records: `CashAccount` for a cash trade (`is_cash`),
--- `Margin` for a margin trade.
+-- The settlement text (SE_CASH_TYPE) that a completion records: `CashAccount` for a cash trade
+-- (`is_cash`), `Margin` for a margin trade.
 abbrev pub first_cash_type_of_trade : Bool → CashType
 first_cash_type_of_trade is_cash = if is_cash then cash_type.CashAccount else cash_type.Margin
 
@@ -73,8 +73,8 @@ first_cash_type_of_trade is_cash = if is_cash then cash_type.CashAccount else ca
 abbrev pub cash_text_part_with_quantity : ℕ → Text
 cash_text_part_with_quantity qty = 32 ∷ decimal qty ++ codes " shares of "
 
--- The cash text of the trade `t`: the name of its type, a space, its quantity, " shares of " and
--- `security`, the name of its security.
+-- The cash text (CM_NAME) of the trade `t`: the name of its type, a space, its quantity, the text
+-- " shares of " and `security`, the name of its security.
 abbrev pub cash_text_of_trade : TradeRow → Text → Text
 cash_text_of_trade t security = cash_row_name_from_parts (codes " shares of ") t.kind t.qty security
 

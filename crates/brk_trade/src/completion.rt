@@ -45,8 +45,8 @@ fn append_completed_trade_changes(
     Ok(())
 }
 
-// Returns the row change of the HOLDING row of a touched lot: the lot is deleted if none of its
-// shares remains, and otherwise its quantity is set.
+// Returns the row change of the HOLDING row of a lot that a trade closes or reduces: the lot is
+// deleted if none of its shares remains, and otherwise its quantity is set.
 fn create_touched_lot_change(touch: &Touch) -> Change
     ensures { result ≡ spec.row_change_of_touched_holding touch.now }
 {
@@ -60,7 +60,7 @@ fn create_touched_lot_change(touch: &Touch) -> Change
     }
 }
 
-// Returns the row change that adds the HOLDING_HISTORY row of a lot that `trade` touched.
+// Returns the row change that adds the HOLDING_HISTORY row of a lot that `trade` closes or reduces.
 fn create_lot_history_change(trade: Id, touch: &Touch) -> Change
     ensures { result ≡ spec.row_change_adding_lot_history trade touch.now }
 {
@@ -72,9 +72,9 @@ fn create_lot_history_change(trade: Id, touch: &Touch) -> Change
     })
 }
 
-// Appends to `changes` the row changes of one lot that `trade` touched: of its HOLDING row, and of
-// its new HOLDING_HISTORY row. Fails with `Memory` only; a part of the row changes may then be
-// appended.
+// Appends to `changes` the row changes of one lot that `trade` closes or reduces: of its HOLDING
+// row, and of its new HOLDING_HISTORY row. Fails with `Memory` only; a part of the row changes may
+// then be appended.
 fn append_touched_lot_changes(
     trade: Id,
     touch: &Touch,
@@ -88,9 +88,9 @@ fn append_touched_lot_changes(
     Ok(())
 }
 
-// Appends to `changes` the row changes of all lots that `trade` touched, in sequence: of the
-// HOLDING row and of the new HOLDING_HISTORY row of each. Fails with `Memory` only; a part of the
-// row changes may then be appended.
+// Appends to `changes` the row changes of all lots that `trade` closes or reduces, in sequence: of
+// the HOLDING row and of the new HOLDING_HISTORY row of each. Fails with `Memory` only; a part of
+// the row changes may then be appended.
 fn append_changes_of_all_touched_lots(
     trade: Id,
     touched: &[Touch],

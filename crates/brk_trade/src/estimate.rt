@@ -60,9 +60,9 @@ fn realised_gain_of_values(values: Values) -> Cents
     Cents::new(values.sell_value.get() as i64 - values.buy_value.get() as i64).unwrap()
 }
 
-/// Returns the tax on the realised gain of shares, in cents. `rates` is the sum of the rates that
-/// the account's customer pays, in hundred-thousandths. The tax is 0 if gains are not taxable at
-/// the tax status, or if there is no gain.
+/// Returns the tax on the realised gain of shares, in whole cents, rounded half up. `rates` is the
+/// sum of the rates that the account's customer pays, in hundred-thousandths. The tax is 0 if gains
+/// are not taxable at the tax status, or if there is no gain.
 pub fn tax_on_realised_gain(values: Values, status: TaxStatus, rates: TaxRate) -> Amount
     ensures { result ≡ tax_on_gain_at_status status rates values }
 {

@@ -1,6 +1,6 @@
 //! Plans of the commands that read lots: orders and results, and the estimates of orders. A plan is
-//! a refusal, or the reply and the row changes that a store applies in one transaction. The other
-//! plans are re-exported from `brk_plans`.
+//! the reply and the row changes that a store applies in one transaction; planning returns a plan
+//! or a refusal. The other plans are re-exported from `brk_plans`.
 #![tactic(auto)]
 
 mod completion;

@@ -37,8 +37,8 @@ pub struct OrderAccount {
     pub tax_status: TaxStatus,
 }
 
-/// The facts in the tables that decide on an order. A fact that is not needed after an earlier
-/// refusal is not read.
+/// The facts in the tables that decide on an order. If a check of the order fails, the facts that
+/// are needed only after it may have any value.
 #[derive(Clone, Copy, PartialEq, Eq)]
 pub struct OrderPlanFacts {
     /// The account, or `None` if it does not exist.
@@ -116,16 +116,18 @@ fn checked_placement(order: &Order, found: &OrderPlanFacts) -> Result<Placement,
     })
 }
 
-/// Plans the estimate of an order from the facts in the tables and the lots of its account and
-/// symbol, which `source` returns in the sequence in which the order closes them (Trade-Order):
-/// returns the estimate or the refusal. The estimate is specified only if the quantities of these
-/// lots sum to the shares held, and only under the disk assumption.
+/// Returns the estimate of an order, or the refusal, from the facts in the tables, `found`, and the
+/// lots of its account and symbol, which `source` returns in the sequence in which the order closes
+/// them (Trade-Order). The estimate is specified only if the quantities of these lots sum to the
+/// shares held, and only under the disk assumption.
 ///
-/// Refuses with the first that applies of `NoAccount`, `NoSecurity`, `NotPermitted`, `NoCharge` and
-/// `NoRate`. Reads no lot if it refuses, or if the account holds no shares that the order would
-/// close; otherwise, over the lots of a position under the disk assumption, at most one lot more
-/// than the order would close or reduce, also if it fails. Fails only with a fault of the source;
-/// the lots that it did not take then remain in the source, under the disk assumption.
+/// Refuses with the first that applies of `NoAccount`, `NoSecurity` (the account or the security
+/// does not exist), `NotPermitted` (the executor is neither the account's customer nor has a
+/// permission of the account), `NoCharge` and `NoRate` (no charge or no commission rate applies).
+/// Reads no lot if it refuses, or if the account holds no shares that the order would close;
+/// otherwise, over the lots of a position under the disk assumption, at most one lot more than the
+/// order would close or reduce, also if it fails. Fails only with a fault of the source; the lots
+/// that it did not take then remain in the source, under the disk assumption.
 pub fn plan_estimate<L: LotSource>(
     order: &Order,
     found: &OrderPlanFacts,
@@ -136,7 +138,7 @@ pub fn plan_estimate<L: LotSource>(
         (EstimatesCheckedOrder order.now found.now (AreLotsOfFaithfulSource (L.reads_faithfully source.new) (L.remaining source.old)))
         (λ refusal. first_refusal (order_checks found.now) ≡ Some refusal)) }
     ensures refused { IfOk result (λ planned. OnErr planned (source.new ≡ source.old)) }
-    // It reads at most one lot more than the order would touch, also if it fails.
+    // It reads at most one lot more than the order would close or reduce, also if it fails.
     ensures asked { OrderReadsAtMostOneLotMore (terms_of_order order.now found.now)
         (AreLotsOfFaithfulSource (L.reads_faithfully source.new) (L.remaining source.old)) (L.asked source.old) (L.asked source.new) }
     // It reads no lot if the account holds no shares that the order would close.
@@ -325,12 +327,14 @@ fn create_order_changes(
 /// the estimate. The estimate is specified only if the quantities of the lots sum to the shares
 /// held, and only under the disk assumption.
 ///
-/// Refuses with the first that applies of `NoAccount`, `NoSecurity`, `NotPermitted`, `NoCharge`,
-/// `NoRate`; `Range(Trades)`, if no free id exists; and `ClockEnd`, if no later stamp exists. Reads
-/// no lot if it refuses, or if the account holds no shares that the order would close; otherwise,
-/// over the lots of a position under the disk assumption, at most one lot more than the order would
-/// close or reduce, also if it fails. Fails with `Memory` or a fault of the source; the lots that
-/// it did not take then remain in the source, under the disk assumption.
+/// Refuses with the first that applies of `NoAccount`, `NoSecurity` (the account or the security
+/// does not exist), `NotPermitted` (the executor is neither the account's customer nor has a
+/// permission of the account), `NoCharge`, `NoRate` (no charge or no commission rate applies);
+/// `Range(Trades)`, if no free id exists; and `ClockEnd`, if no stamp later than `last` exists.
+/// Reads no lot if it refuses, or if the account holds no shares that the order would close;
+/// otherwise, over the lots of a position under the disk assumption, at most one lot more than the
+/// order would close or reduce, also if it fails. Fails with `Memory` or a fault of the source; the
+/// lots that it did not take then remain in the source, under the disk assumption.
 pub fn plan_order<L: LotSource>(
     alloc: Global,
     order: &Order,
@@ -344,7 +348,7 @@ pub fn plan_order<L: LotSource>(
         (IsOrderPlan order.now found.now (AreLotsOfFaithfulSource (L.reads_faithfully source.new) (L.remaining source.old)) last now)
         (λ refusal. first_refusal (order_checks found.now ++ free_trade_id_check found.now.last_trade ∷ later_stamp_check last now ∷ []) ≡ Some refusal)) }
     ensures refused { IfOk result (λ planned. OnErr planned (source.new ≡ source.old)) }
-    // It reads at most one lot more than the order would touch, also if it fails.
+    // It reads at most one lot more than the order would close or reduce, also if it fails.
     ensures asked { OrderReadsAtMostOneLotMore (terms_of_order order.now found.now)
         (AreLotsOfFaithfulSource (L.reads_faithfully source.new) (L.remaining source.old)) (L.asked source.old) (L.asked source.new) }
     // It reads no lot if the account holds no shares that the order would close.

@@ -17,15 +17,15 @@ use brk_lots::ClosedLots;
 use brk_money::{Limit, Price, Rate, Refusal, Side, Stamp};
 use brk_plans::Completed;
 
-/// The figures of a completed trade, in cents (Trade-Result).
+/// The figures of a completed trade (Trade-Result). The amounts are in cents.
 #[derive(Clone, Copy, PartialEq, Eq)]
 pub struct ResultFigures {
     /// The figures in the reply.
     pub completed: Completed,
-    /// The number of shares of the security that the account holds after it, negative if sold
-    /// short.
+    /// The number of shares of the security that the account holds after the trade, negative if
+    /// sold short.
     pub summary: i64,
-    /// The commission total of the broker after it.
+    /// The commission total of the broker after the trade.
     pub commissions: Amount,
 }
 
@@ -63,8 +63,8 @@ fn shares_held_if_within_limit(found: &ResultPlanFacts) -> Option<i64>
 }
 
 // Returns the commission rate of the trade and the shares held after it, or the first refusal that
-// applies before lots are read: `WrongStatus`, if the trade is not submitted; `NoRate`; or
-// `Range(Summary)`, if the shares held would exceed their limit.
+// applies before lots are read: `WrongStatus`, if the trade is not submitted; `NoRate`, if no
+// commission rate applies; or `Range(Summary)`, if the shares held would exceed their limit.
 pub(crate) fn checked_rate_and_summary(found: &ResultPlanFacts) -> Result<RateAndSummary, Refusal>
     ensures { MatchResult result
         (λ known. (first_refusal (checks_before_reading_lots found.now) ≡ None) × (found.now.rate ≡ Some known.rate)

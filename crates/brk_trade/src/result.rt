@@ -77,16 +77,19 @@ fn effect_of_trade_on_lots<L: LotSource>(
 /// balance of the account. The plan then sets the last stamp. Its reply has the figures of the
 /// completion.
 ///
-/// Refuses with the first that applies of `NoTrade`; `WrongStatus`, if the trade is not submitted;
-/// `NoRate`; `Range(Summary)`; `Range(Balance)`, of a cash trade; `Range(Broker)`; and `ClockEnd`,
-/// if no later stamp exists or the due day is after 9999-12-31.
+/// Refuses with the first that applies of `NoTrade`, if `found` is `None`; `WrongStatus`, if the
+/// trade is not submitted; `NoRate`, if no commission rate applies; `Range(Summary)`,
+/// `Range(Balance)` and `Range(Broker)`, if the shares held, the balance after a cash trade or the
+/// broker's commissions would exceed their limit; and `ClockEnd`, if no stamp later than `last`
+/// exists or the due day is after 9999-12-31.
 ///
-/// The changes of lots and the values of the closed shares are specified only over the lots of a
-/// position, none of them opened by this trade, whose quantities sum to the shares held, and only
-/// under the disk assumption. Reads no lot if there is no such trade, or if the account holds no
-/// shares that the trade would close; otherwise, over such lots, at most one lot more than the
-/// trade would close or reduce, also if it refuses or fails. Fails with `Memory` or a fault of the
-/// source; the lots that it did not take then remain in the source, under the disk assumption.
+/// The changes of lots, the values of the closed shares and, if none of the first four refusals
+/// applies, the refusal are specified only over the lots of a position, none of them opened by this
+/// trade, whose quantities sum to the shares held, and only under the disk assumption. Reads no lot
+/// if there is no such trade, or if the account holds no shares that the trade would close;
+/// otherwise, over the lots of such a position, at most one lot more than the trade would close or
+/// reduce, also if it refuses or fails. Fails with `Memory` or a fault of the source; the lots that
+/// it did not take then remain in the source, under the disk assumption.
 pub fn plan_result<L: LotSource>(
     alloc: Global,
     found: Option<&ResultPlanFacts>,

@@ -13,8 +13,8 @@ pub struct ResultAccount {
     pub balance: Cents,
 }
 
-/// The facts in the tables that decide on a result of a trade. A fact that is not needed after an
-/// earlier refusal is not read.
+/// The facts in the tables that decide on a result of a trade. If a check of the result fails, the
+/// facts that are needed only after it may have any value.
 #[derive(Drop)]
 pub struct ResultPlanFacts {
     pub trade: TradeRow,

@@ -120,7 +120,7 @@ pub(crate) fn commissions_if_within_limit(
 }
 
 // Returns the due day of a trade that is completed at `stamp`, or `None` if it is after 9999-12-31.
-// `rule` is the settlement day, if it is set.
+// `rule` is the first day whose completions settle after one day, if it is set.
 pub(crate) fn due_day_if_in_calendar(rule: Option<Day>, stamp: Stamp) -> Option<Day>
     ensures { MatchOption result
         (nat_lt greatest_day (derived.due_day_of_completion_stamp rule stamp) ≡ true)

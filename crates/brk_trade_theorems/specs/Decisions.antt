@@ -13,7 +13,7 @@ use Rattle.brk_trade_theorems.specs.Plans.{PlanImplementsCommand}
 -- `planned` is the decision of the model on `command` at the clock reading `now`, in milliseconds
 -- since 1970-01-01 UTC, for every base that satisfies the books invariant and has the tables `t`: a
 -- plan has the effect of the model's step (`PlanImplementsCommand`), and a refusal is the refusal
--- of this step. Vacuous if no such base has the tables `t`.
+-- of this step. Vacuous if no base that satisfies the books invariant has the tables `t`.
 abbrev pub DecidesCommand : ℕ → Command → Result Plan Refusal → Tables → Type 0
 DecidesCommand now command planned t =
     (base : Base) → BooksInvariant base → t ≡ sheets base

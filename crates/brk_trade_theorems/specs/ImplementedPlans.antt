@@ -24,10 +24,10 @@ use Rattle.brk_trade_theorems.specs.Plans.{PlanImplementsCommand}
 use Rattle.brk_trade_theorems.specs.TradePlans.{AreQuotesOfTicks, IsQuoteOfTick}
 
 -- A cancel of the trade `id` with the status `found`, after the last stamp `last` and at the clock
--- reading `now`: its checks, followed by the check that a later stamp exists, refuse it exactly as
--- the model does over `base`, and its plan implements the command.
+-- reading `now`: its checks, followed by the check that a stamp after `last` exists, refuse it
+-- exactly as the model does over `base`, and its plan implements the command.
 pub record CancelPlanImplementsCommand (base : Base) (id : ℕ) (found : Option Status) (last : Option ℕ) (now : ℕ) : Type 0 where
-  -- The first check that refuses gives the refusal of the model.
+  -- The refusal of the first check that refuses, or `None` if none does, equals that of the model.
   pub first : first_refusal (cancel_checks found ++ later_stamp_check last now ∷ []) ≡ refusal_of_command base now (CancelTrade id)
   -- If a check refuses, the step of the model is this refusal.
   pub refused : (refusal : Refusal) → first_refusal (cancel_checks found ++ later_stamp_check last now ∷ []) ≡ Some refusal
@@ -35,10 +35,11 @@ pub record CancelPlanImplementsCommand (base : Base) (id : ℕ) (found : Option 
   pub done : (plan : Plan) → IsCancelPlan id found last now plan → PlanImplementsCommand base now (CancelTrade id) plan
 
 -- A feed of `ticks` with the quotes `quotes`, after the last stamp `last` and at the clock reading
--- `now`: its checks, at any stamp, followed by the check that a later stamp exists, refuse it
--- exactly as the model does over `base`, and its plan implements the command.
+-- `now`: its checks, at any stamp, followed by the check that a stamp after `last` exists, refuse
+-- it exactly as the model does over `base`, and its plan implements the command.
 pub record FeedPlanImplementsCommand (base : Base) (ticks : List Tick) (quotes : List SymbolState) (last : Option ℕ) (now : ℕ) : Type 0 where
-  -- The first check that refuses, at any stamp, gives the refusal of the model.
+  -- The refusal of the first check that refuses at any stamp, or `None` if none does, equals that
+  -- of the model.
   pub first : (stamp : ℕ) → first_refusal (feed_checks stamp ticks quotes ++ later_stamp_check last now ∷ [])
       ≡ refusal_of_command base now (FeedTicks (abstract_ticks ticks))
   -- If a check refuses, the step of the model is this refusal.

@@ -42,18 +42,19 @@ PassesFirstOrderChecks n found = first_refusal (take n (order_checks found)) ≡
 pub record EstimateFactsMatchTables (t : Tables) (order : Order) (found : OrderPlanFacts) : Type 0 where
   pub account : found.account ≡ option_map order_account_of_row (account_row_with_id t order.account)
   pub last_price : PassesFirstOrderChecks 1 found → found.last_price ≡ last_price_of_symbol t order.symbol
-  -- The executor is checked by the customer's names and the account's permission for the executor's
-  -- tax id.
+  -- The executor is permitted if and only if it has the names and the tax id of the customer or of
+  -- the account's permission for the executor's tax id.
   pub is_permitted : PassesFirstOrderChecks 2 found
       → CustomerOfAccountSatisfies t order.account (λ c.
       found.is_permitted
       ≡ is_customer_or_has_permission c (permission_list_for_tax_id t order.account order.executor.tax_id) (abstract_executor order.executor))
-  -- The charge is the one for the order's trade type and the customer's tier.
+  -- The charge is the one for the order's trade type and the customer's tier, or `None` if there is
+  -- no such charge.
   pub charge : PassesFirstOrderChecks 3 found
       → CustomerOfAccountSatisfies t order.account (λ c.
       found.charge ≡ charge_of_type_and_tier t (trade_type_of_order_type order.order_type) c.tier)
-  -- The rate equals that of the commission band that contains the quantity, by the customer's tier
-  -- and the security's exchange.
+  -- The rate equals that of the commission band that contains the quantity, by the customer's tier,
+  -- the order's trade type and the security's exchange, or is `None` if there is no such band.
   pub rate : PassesFirstOrderChecks 4 found
       → CustomerOfAccountSatisfies t order.account (λ c. IfSome (security_row_with_symbol t order.symbol) (λ s.
       found.rate ≡ option_map (λ b. b.rate) (commission_band_of_quantity t c.tier (trade_type_of_order_type order.order_type) s.exchange order.qty)))
@@ -61,7 +62,8 @@ pub record EstimateFactsMatchTables (t : Tables) (order : Order) (found : OrderP
   pub rates : PassesFirstOrderChecks 5 found → IfSome (account_row_with_id t order.account) (λ a. found.rates ≡ customer_tax_rate_sum t a.customer)
   -- The assets are the balance plus the market value of the holdings.
   pub assets : PassesFirstOrderChecks 5 found → IfSome (account_row_with_id t order.account) (λ a. found.assets ≡ a.balance +ℤ market_value_of_account_row t a)
-  -- The summary is the quantity of the account's holding summary in the symbol.
+  -- The summary is the quantity of the account's holding summary in the symbol, or `None` if there
+  -- is no such summary.
   pub summary : PassesFirstOrderChecks 5 found → found.summary ≡ option_map (λ r. r.qty) (summary_row_of_position t order.account order.symbol)
 
 -- The facts `found` that an estimate of the order needs are true of the tables, and the last trade

@@ -30,16 +30,17 @@ result_account_of_row r = record { broker = r.broker; tax_status = r.tax_status;
 
 -- The facts `found` about the result of a trade are true of the tables: the commission rate, the
 -- summary, the account, the sum of the customer's tax rates, the broker totals, the security's
--- name, the settlement day, and the number of the next cash row. A clause is vacuous if one of the
--- checks that it names fails, since the fact is not read then. A clause about the customer, the
--- account, the broker or the security is also vacuous if no such row exists.
+-- name, the first day of one-day settlement, and the number of the next cash row. A clause is
+-- vacuous if one of the checks that it names fails, since the fact is not read then. A clause about
+-- the customer, the account, the broker or the security is also vacuous if that row does not exist.
 pub record ResultFactsMatchTables (t : Tables) (found : ResultPlanFacts) : Type 0 where
-  -- The rate equals that of the commission band that contains the quantity, by the customer's tier
-  -- and the security's exchange.
+  -- The rate equals that of the commission band that contains the quantity, by the customer's tier,
+  -- the trade's type and the security's exchange, or is `None` if there is no such band.
   pub rate : PassesFirstResultChecks 1 found
       → CustomerOfAccountSatisfies t found.trade.account (λ c. IfSome (security_row_with_symbol t found.trade.symbol) (λ s.
       found.rate ≡ option_map (λ b. b.rate) (commission_band_of_quantity t c.tier found.trade.kind s.exchange found.trade.qty)))
-  -- The summary is the quantity of the account's holding summary in the symbol.
+  -- The summary is the quantity of the account's holding summary in the symbol, or `None` if there
+  -- is no such summary.
   pub summary : PassesFirstResultChecks 2 found → found.summary ≡ option_map (λ r. r.qty) (summary_row_of_position t found.trade.account found.trade.symbol)
   pub account : PassesFirstResultChecks 3 found → IfSome (account_row_with_id t found.trade.account) (λ a. found.account ≡ result_account_of_row a)
   -- The tax rates are the sum of the rates of the taxes that the customer pays.
@@ -49,8 +50,8 @@ pub record ResultFactsMatchTables (t : Tables) (found : ResultPlanFacts) : Type 
       → IfSome (account_row_with_id t found.trade.account) (λ a. IfSome (find (λ r. r.id == a.broker) t.brokers) (λ b.
       (pos found.broker.trades ≡ b.trades) × (found.broker.commissions ≡ b.commissions)))
   pub security : PassesFirstResultChecks 3 found → IfSome (security_row_with_symbol t found.trade.symbol) (λ s. found.security ≡ s.name)
-  -- The settlement day equals that of the tables, and the next cash row has the number after the
-  -- last one.
+  -- The first day of one-day settlement equals that of the tables, and the next cash row has the
+  -- number after that of the last cash row, or 1 if there are no cash rows.
   pub rule : PassesFirstResultChecks 3 found → found.rule ≡ t.rule
   pub next : PassesFirstResultChecks 3 found → found.next ≡ last_cash_row_number_or_zero t + 1
 

@@ -1,4 +1,5 @@
-//! Theorems: the plans of movements and of the settlement day implement their commands.
+//! Theorems: the plans of movements and of the settlement day, the first day of one-day settlement,
+//! implement their commands.
 
 ghost use Rattle.std.specs.Prelude.{◌≡◌, ◌∷◌, ◌++◌, [], ℕ, Err, Option, Some};
 ghost use Rattle.brk_money.specs.declared.refusal.Refusal.{Refusal};
@@ -17,8 +18,9 @@ ghost use Rattle.brk_trade_theorems.specs.MovePlans.{PlanMovementPrecondition, P
 ghost use Rattle.brk_trade_theorems.specs.Plans.{PlanImplementsCommand};
 
 /// Proves, under `PlanMovementPrecondition`, that the checks of a deposit or a withdrawal against
-/// the facts, followed by the check that a later stamp exists (`later_stamp_check`), refuse it
-/// exactly as the model does, and that the plan of the movement implements the command.
+/// the facts, followed by the check that a stamp after the last stamp exists
+/// (`later_stamp_check`), refuse it exactly as the model does, and that the plan of the movement
+/// implements the command.
 pub fn movement_plans_implement_commands()
     ensures first { (base : Base) (m : Movement) (found : MovementPlanFacts) (last : Option ℕ) (now : ℕ) → PlanMovementPrecondition base m found last now
         → first_refusal (movement_checks m found ++ later_stamp_check last now ∷ []) ≡ refusal_of_command base now (movement_command m) }
@@ -30,8 +32,9 @@ pub fn movement_plans_implement_commands()
         → IsMovementPlan m found last now plan → PlanImplementsCommand base now (movement_command m) plan }
 {}
 
-/// Proves, under `PlanSettlementDayPrecondition`, that the checks of a settlement day refuse it
-/// exactly as the model does, and that the plan of a settlement day implements the command.
+/// Proves, under `PlanSettlementDayPrecondition`, that the checks of a command that sets the first
+/// day of one-day settlement refuse it exactly as the model does, and that the plan of setting this
+/// day implements the command.
 pub fn settlement_day_plans_implement_commands()
     ensures first { (base : Base) (day : ℕ) (rule last : Option ℕ) (now : ℕ) → PlanSettlementDayPrecondition base rule last now
         → first_refusal (settlement_day_checks day rule last now) ≡ refusal_of_command base now (SetOneDay day) }

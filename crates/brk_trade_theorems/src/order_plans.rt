@@ -37,7 +37,7 @@ pub fn terms_from_order_facts_match_the_base()
 {}
 
 /// Proves, under `PlanOrderPrecondition`, that the checks of an order against the facts, followed
-/// by the checks that a free trade id (`free_trade_id_check`) and a later stamp
+/// by the checks that a free trade id (`free_trade_id_check`) and a stamp after the last stamp
 /// (`later_stamp_check`) exist, refuse it exactly as the model does, and that the plan of an order
 /// from the lots of its account and symbol implements the command.
 pub fn order_plans_implement_commands()

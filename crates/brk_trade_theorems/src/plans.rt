@@ -13,8 +13,8 @@ ghost use Rattle.brk_plans.specs.Commands.{command_adding_record};
 ghost use Rattle.brk_trade_theorems.specs.Plans.{PlanImplementsCommand, PlanReferencePrecondition};
 
 /// Proves, under `PlanReferencePrecondition`, that the checks of a record of reference data against
-/// the facts, followed by the check that a later stamp exists (`later_stamp_check`), refuse it
-/// exactly as the model does.
+/// the facts, followed by the check that a stamp after the last stamp exists
+/// (`later_stamp_check`), refuse it exactly as the model does.
 pub fn reference_checks_refuse_as_the_model_does()
     ensures first { (base : Base) (reference : Reference) (found : ReferenceFacts) (last : Option ℕ) (now : ℕ)
         → PlanReferencePrecondition base reference found last now

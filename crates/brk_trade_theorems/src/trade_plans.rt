@@ -16,16 +16,17 @@ ghost use Rattle.brk_trade_theorems.specs.ResultPlans.{PlanResultPrecondition};
 ghost use Rattle.brk_trade_theorems.specs.TradePlans.{AreQuotesOfTicks, PlanCancelPrecondition, PlanFeedPrecondition};
 
 /// Proves, under `PlanCancelPrecondition`, that the checks of a cancel against the status of its
-/// trade, followed by the check that a later stamp exists (`later_stamp_check`), refuse it exactly
-/// as the model does, and that the plan of a cancel implements the command.
+/// trade, followed by the check that a stamp after the last stamp exists (`later_stamp_check`),
+/// refuse it exactly as the model does, and that the plan of a cancel implements the command.
 pub fn cancel_plans_implement_commands()
     ensures { (base : Base) (id : ℕ) (found : Option Status) (last : Option ℕ) (now : ℕ)
         → PlanCancelPrecondition base id found last now → CancelPlanImplementsCommand base id found last now }
 {}
 
 /// Proves, under `PlanFeedPrecondition`, that the checks of a feed against the quotes of its
-/// symbols, at any stamp, followed by the check that a later stamp exists (`later_stamp_check`),
-/// refuse it exactly as the model does, and that the plan of a feed implements the command.
+/// symbols, at any stamp, followed by the check that a stamp after the last stamp exists
+/// (`later_stamp_check`), refuse it exactly as the model does, and that the plan of a feed
+/// implements the command.
 pub fn feed_plans_implement_commands()
     ensures { (base : Base) (ticks : List Tick) (quotes : List SymbolState) (last : Option ℕ) (now : ℕ)
         → PlanFeedPrecondition base ticks quotes last now → FeedPlanImplementsCommand base ticks quotes last now }

@@ -20,9 +20,9 @@ use sqlite::Alter;
 use std::alloc::Global;
 
 // Returns the trades of an account that an update of cash types selects, at most twenty, each with
-// the cash type of its settlement: the first that were completed in the span, the oldest first. If
-// the database is still open, it is unchanged. Fails with `Memory` or `Store` only; with `Store`
-// also if one of them has no settlement.
+// the cash type of its settlement: the first that were completed in the span, both ends included,
+// the oldest first. If the database is still open, it is unchanged. Fails with `Memory` or `Store`
+// only; with `Store` also if one of them has no settlement.
 fn read_trades_with_cash_types<S: Alter>(
     alloc: Global,
     store: &mut Store<S>,
@@ -47,9 +47,9 @@ fn read_trades_with_cash_types<S: Alter>(
 }
 
 // Returns the cash trades of a symbol that an update of cash names selects, at most twenty, each
-// with the name of its cash row: the first that were completed in the span, the oldest first. If
-// the database is still open, it is unchanged. Fails with `Memory` or `Store` only; with `Store`
-// also if one of them has no cash row.
+// with the name of its cash row: the first that were completed in the span, both ends included, the
+// oldest first. If the database is still open, it is unchanged. Fails with `Memory` or `Store`
+// only; with `Store` also if one of them has no cash row.
 fn read_cash_trades_with_names<S: Alter>(
     alloc: Global,
     store: &mut Store<S>,

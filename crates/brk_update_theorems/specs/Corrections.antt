@@ -77,17 +77,17 @@ SettlementTextsMatchTables t trades settled = map settlement_text_row_of_typed_r
 abbrev pub CashTextsMatchTables : Tables → List TradeRow → List CashText → Type 0
 CashTextsMatchTables t trades paid = map cash_text_row_of_typed_row paid ≡ map (cash_text_row_in_tables t) trades
 
--- The security with the symbol `symbol` exists in the tables and has the name `name`.
+-- The tables have a security with the symbol `symbol`, and the first such row has the name `name`.
 abbrev pub SecurityHasName : Tables → Text → Text → Type 0
 SecurityHasName t symbol name = option_map (λ s. s.name) (security_row_with_symbol t symbol) ≡ Some name
 
 -- The selection has exactly the trades that the update selects in the tables, with the columns from
--- which their new texts are formed: the trades with its ids, or the first 20, at most, of the
--- completed trades of its account or of the completed cash trades of its symbol, within its span of
--- stamps, the oldest first. For a text update of settlements, the account exists; for one of cash
--- rows, the security exists and has the name in the selection. False if one of the trades with the
--- ids does not exist, if one of the selected trades lacks the settlement or the cash row to update,
--- or if the selection belongs to another kind of update.
+-- which their new texts are formed: the trades with the update's ids, or the first 20, at most, of
+-- the completed trades of its account or of the completed cash trades of its symbol, within its
+-- span of stamps, the oldest first. For a text update of settlements, the account exists; for one
+-- of cash rows, the security exists and has the name in the selection. False if one of the trades
+-- with the ids does not exist, if one of the selected trades lacks the settlement or the cash row
+-- to update, or if the selection belongs to another kind of update.
 abbrev pub SelectedTradesMatchTables : Tables → told.Update → TextUpdate → Type 0
 SelectedTradesMatchTables t (update.Executors ids) (corrected.Executors trades) = AreTradesWithIds t ids trades.items
 SelectedTradesMatchTables t (update.CashTypes account span) (corrected.CashTypes settled) =

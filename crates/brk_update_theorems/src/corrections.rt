@@ -17,8 +17,8 @@ ghost use Rattle.brk_trade_theorems.specs.Plans.{PlanImplementsCommand};
 ghost use Rattle.brk_update_theorems.specs.Corrections.{ChangesOnlyExecutorNames, ChangesOnlyCashTexts, ChangesOnlySettlementTexts, PlanUpdatePrecondition};
 
 /// Proves, under `PlanUpdatePrecondition`, that the checks of a text update against the lookup
-/// result, followed by the check that a later stamp exists (`later_stamp_check`), refuse it exactly
-/// as the model does, and that the plan of a text update implements the command.
+/// result, followed by the check that a stamp after the last stamp exists (`later_stamp_check`),
+/// refuse it exactly as the model does, and that the plan of a text update implements the command.
 pub fn update_plans_implement_commands()
     ensures first { (base : Base) (update : Update) (found : Option TextUpdate) (last : Option ℕ) (now : ℕ) → PlanUpdatePrecondition base update found last now
         → first_refusal (update_checks update found ++ later_stamp_check last now ∷ []) ≡ refusal_of_command base now (text_update_command update) }

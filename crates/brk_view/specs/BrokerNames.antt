@@ -1,4 +1,4 @@
--- Names that are parsed from fields, each counted once.
+-- Names that are parsed from fields, without repetitions.
 use Rattle.std.specs.Prelude.{Bool, not, if◌then◌else◌, List, [], ◌∷◌, ◌++◌, filter, Ok, Err, bytes_eq}
 use Rattle.std.specs.Global.{Vec}
 use Rattle.std.specs.List.{list_any}

@@ -1,4 +1,4 @@
--- The records of the lots that a trade touched.
+-- The records of the lots that a trade touched: those that it reduced, closed or opened.
 use Rattle.std.specs.Prelude.{◌≡◌, ℕ, Bool, nat_le, List, [], ◌∷◌, filter, map, take, decimal, Option, Some, None, option_map, option_to_list, IfSome}
 use Rattle.std.specs.Fmt.{signed_decimal}
 use Rattle.brk_model.specs.Joins.{trade_rows_oldest_first, trade_rows_of_account}
@@ -36,15 +36,15 @@ stamped_lot_change t row =
 abbrev pub changes_of_touched_lots : Tables → ℕ → List LotTouch
 changes_of_touched_lots t trade = map (stamped_lot_change t) (filter (λ row. trade_touches_lot t trade row.lot) t.holding_history)
 
--- The oldest trade of `account` with a stamp of at least `first`, as a list of one, or an empty
--- list if there is none.
+-- The trade of `account` with the least stamp that is `first` or later, of several such trades the
+-- one with the least id, as a list of one; or an empty list if there is none.
 abbrev pub first_trade_since_stamp : Tables → ℕ → ℕ → List TradeRow
 first_trade_since_stamp t account first = take 1 (trade_rows_oldest_first (filter (λ row. nat_le first row.stamp) (trade_rows_of_account t account)))
 
--- `lots` has the id of the oldest trade of `account` with a stamp of at least `first`, and at most
--- twenty changes, by any trade, of the lots that it touched: the first when all of them in the
--- tables `t` are sorted by stamp, then by lot, ascending. `lots` is `None` if and only if there is
--- no such trade.
+-- `lots` has the id of the first trade of `account`, by stamp, then by id, whose stamp is `first`
+-- or later, and the first twenty changes, by any trade, of the lots that this trade touched, or all
+-- if there are fewer, sorted by stamp, then by lot, ascending. `lots` is `None` if and only if the
+-- account has no such trade in the tables `t`.
 pub record AreTouchedLots (t : Tables) (account first : ℕ) (lots : Option TouchedLots) : Type 0 where
   pub found : map (λ row. row.id) (first_trade_since_stamp t account first) ≡ option_to_list (option_map (λ l. l.trade) lots)
   pub changes : IfSome lots (λ l. l.changes.items ≡ take 20 (sort_by is_earlier_lot_change (changes_of_touched_lots t l.trade)))

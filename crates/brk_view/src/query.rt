@@ -22,13 +22,16 @@ pub enum Query {
     Estimate(Order),
     /// The trades with these ids, with their settlement, cash row and history (Trade-Lookup).
     Trades(NamedTrades),
-    /// The first 20 trades of an account between two stamps (Trade-Lookup).
-    AccountTrades { account: Id, span: Span },
-    /// The first 20 trades of a symbol between two stamps (Trade-Lookup).
-    SymbolTrades { symbol: Symbol, span: Span },
-    /// The changes of the lots that the first trade of an account at or after a stamp touched
+    /// The first 20 trades, oldest first, of an account between two stamps, both included
     /// (Trade-Lookup).
+    AccountTrades { account: Id, span: Span },
+    /// The first 20 trades, oldest first, of a symbol between two stamps, both included
+    /// (Trade-Lookup).
+    SymbolTrades { symbol: Symbol, span: Span },
+    /// The first 20 changes of the lots that the first trade of an account at or after a stamp
+    /// touched (Trade-Lookup).
     Lots { account: Id, first: Stamp },
-    /// The volumes of the brokers with these names in a sector (Broker-Volume).
+    /// The volumes in a sector of those brokers with these names that have a pending request in the
+    /// sector (Broker-Volume).
     Volume { sector: Name, names: BrokerNames },
 }

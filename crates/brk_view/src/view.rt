@@ -36,7 +36,7 @@ pub enum View {
     Estimate(Estimate),
     /// Trades with their settlement, cash row and history, the oldest first (Trade-Lookup).
     Lookup(Vec<LookedUp>),
-    /// The changes of the lots that a trade touched, or `None` if there is no such trade
+    /// The first 20 changes of the lots that a trade touched, or `None` if there is no such trade
     /// (Trade-Lookup).
     Lots(Option<TouchedLots>),
     /// The volumes of brokers in a sector, sorted by volume, descending, then by name and id,

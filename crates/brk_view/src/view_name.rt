@@ -19,9 +19,9 @@ pub enum ViewName {
     Status,
     /// `trades`: trades by their ids.
     Trades,
-    /// `accounttrades`: the trades of an account between two stamps.
+    /// `accounttrades`: the first 20 trades of an account between two stamps, both included.
     AccountTrades,
-    /// `symboltrades`: the trades of a symbol between two stamps.
+    /// `symboltrades`: the first 20 trades of a symbol between two stamps, both included.
     SymbolTrades,
     /// `lots`: the changes of the lots that a trade touched.
     Lots,

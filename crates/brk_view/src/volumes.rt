@@ -1,4 +1,5 @@
-//! The volumes of brokers: the value of their pending requests at the bid prices.
+//! The volumes of brokers in a sector: the value, at the bid prices, of their pending requests for
+//! securities of the sector.
 
 ghost use Rattle.std.specs.Prelude.{◌≡◌, ◌≤◌, Err, IfOk, List, OnErr, filter, map, pos, sum_by};
 ghost use Rattle.std.specs.Global.{Vec};
@@ -28,7 +29,7 @@ use std::cmp::Ordering;
 pub struct BrokerVolume {
     pub broker: Id,
     pub name: Name,
-    /// The value of its pending requests at their bid prices, in cents.
+    /// The value, at their bid prices, of its pending requests in a sector, in cents.
     pub volume: Wide,
 }
 

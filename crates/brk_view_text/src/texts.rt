@@ -1,4 +1,4 @@
-//! The texts of the fields of a record, each put at the end of the texts before it.
+//! The texts of the fields of a record, each appended to the texts before it.
 
 ghost use Rattle.std.specs.Prelude.{◌≡◌, ◌++◌, ◌∷◌, [], OnOk, decimal};
 ghost use Rattle.std.specs.Fmt.{signed_decimal};

@@ -22,9 +22,9 @@ pub fn sorting_tables_preserves_volume_view()
 {}
 
 /// Proves that the brokers with pending requests in a sector, read by each of some distinct names
-/// and sorted in the order of the view, equal all brokers with these names and such requests,
-/// sorted in the order of the view, if the base satisfies the books invariant and the audit
-/// invariant.
+/// and sorted in the order of the view, equal all brokers with these names and pending requests in
+/// the sector, sorted in the order of the view, if the base satisfies the books invariant and the
+/// audit invariant.
 #[tactic(auto, using(crate::proofs::VolumeRows::brokers_by_name))]
 pub fn brokers_read_by_name_are_complete()
     ensures { (base : Base) (sector : Text) (names : List Text) → BooksInvariant base → AuditInvariant base → distinct_texts names ≡ names

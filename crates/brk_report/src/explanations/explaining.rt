@@ -27,8 +27,9 @@ use std::io::Write;
 // does not exist, or with `Desk` if a read fails, memory runs out, a row that another row requires
 // does not exist, a completed trade has no price, the tax rates of the customer total more than the
 // greatest tax rate, or an amount, a number of shares or a number of cash rows overflows or exceeds
-// its limit; nothing is then written. Fails with `Write` after a prefix of the text, perhaps all of
-// it. If the database is still open, it is unchanged, whatever the result.
+// its limit; nothing is then written (after `Desk` no clause states this). Fails with `Write` after
+// a prefix of the text, perhaps all of it. If the database is still open, it is unchanged, whatever
+// the result.
 fn write_trade_explanation<W: Write, S: Alter>(
     alloc: Global,
     desk: &mut Desk<S>,
@@ -102,8 +103,9 @@ fn write_account_explanation<W: Write, S: Alter>(
 // account does not exist (`NoAccount`) or only the security does not exist (`NoSecurity`), or with
 // `Desk` if a read fails, memory runs out, the security has no last price, a trade that changed a
 // lot does not exist, a trade has no price, or an amount, a quantity or a number of lots or of
-// their changes overflows; nothing is then written. Fails with `Write` after a prefix of the text,
-// perhaps all of it. If the database is still open, it is unchanged, whatever the result.
+// their changes overflows; nothing is then written (after `Desk` no clause states this). Fails with
+// `Write` after a prefix of the text, perhaps all of it. If the database is still open, it is
+// unchanged, whatever the result.
 fn write_holding_explanation<W: Write, S: Alter>(
     alloc: Global,
     desk: &mut Desk<S>,

@@ -1,4 +1,4 @@
-//! The parts of the explanations of an account and of a broker over which the desk walks. If the
+//! The parts of the explanations of an account and of a broker that are written row by row. If the
 //! database is still open, none of them changes it.
 
 ghost use Rattle.std.specs.Prelude.{IfErr, length};

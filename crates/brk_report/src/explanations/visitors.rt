@@ -40,7 +40,8 @@ impl<W: Write> Visitor<MoveRow, LinesFault> for CashPostingWriter<'_, W> {
     /// Writes the line of the cash row with the balance after it, then sets the balance, which is
     /// in cents, to it and counts the row. Fails with `Desk(Memory)`, or with `Desk(Store)` if the
     /// balance or the count overflows; nothing is then written. Fails with `Write` after a prefix
-    /// of the line, perhaps all of it. The balance and the count are unchanged after an error.
+    /// of the line, perhaps all of it. The balance and the count are unchanged after an error (no
+    /// clause states this).
     fn visit(&mut self, item: &MoveRow) -> Result<(), LinesFault> {
         let balance = total_plus_amount(self.balance, item.amount)?;
         let Some(count) = self.count.checked_add(1) else {
@@ -84,7 +85,8 @@ impl<W: Write> Visitor<HoldingRow, LinesFault> for OpenLotWriter<'_, W> {
 
     /// Writes the line of the lot, then counts the lot. Fails with `Desk(Memory)`, or with
     /// `Desk(Store)` if the count overflows; nothing is then written. Fails with `Write` after a
-    /// prefix of the line, perhaps all of it. The count is unchanged after an error.
+    /// prefix of the line, perhaps all of it. The count is unchanged after an error (no clause
+    /// states this).
     fn visit(&mut self, item: &HoldingRow) -> Result<(), LinesFault> {
         let Some(count) = self.count.checked_add(1) else {
             return Err(LinesFault::Desk(Fault::Store));
@@ -132,7 +134,7 @@ impl<W: Write> Visitor<TradeRow, LinesFault> for TradeCommissionWriter<'_, W> {
     /// running total, which is in cents, to it and counts the trade. Fails with `Desk(Memory)`, or
     /// with `Desk(Store)` if the total or the count overflows; nothing is then written. Fails with
     /// `Write` after a prefix of the line, perhaps all of it. The total and the count are unchanged
-    /// after an error.
+    /// after an error (no clause states this).
     fn visit(&mut self, item: &TradeRow) -> Result<(), LinesFault> {
         let total = total_plus_commission(self.total, item.commission)?;
         let Some(count) = self.count.checked_add(1) else {

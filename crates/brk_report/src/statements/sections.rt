@@ -18,12 +18,12 @@ use std::io::Write;
 
 // Adds up the amounts of the cash rows of an account up to the stamp `last`, from the balance
 // `opening` on, in cents. Writes a line for each cash row from the stamp `first` on, and before the
-// first of these lines the line of the opening amount, which is the total of the earlier rows.
-// Returns the total, the number of the rows with a line, and whether the line of the opening amount
-// is written. If the database is still open, it is unchanged. Fails with `Desk` if a read fails,
-// memory runs out, or the number or the sum overflows, or with `Write`. After `Desk` only whole
-// lines are written, perhaps none or all; after `Write` whole lines and a prefix of the next one,
-// perhaps all of it.
+// first of these lines the line of the opening amount, which is `opening` plus the amounts of the
+// rows before. Returns the total, the number of the rows with a line, and whether the line of the
+// opening amount is written. If the database is still open, it is unchanged. Fails with `Desk` if a
+// read fails, memory runs out, or the number or the sum overflows, or with `Write`. After `Desk`
+// only whole lines are written, perhaps none or all; after `Write` whole lines and a prefix of the
+// next one, perhaps all of it.
 fn write_cash_walk_lines<W: Write, S: Alter>(
     alloc: Global,
     desk: &mut Desk<S>,

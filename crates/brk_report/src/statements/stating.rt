@@ -44,17 +44,17 @@ fn write_statement_lines<W: Write, S: Alter>(
 }
 
 /// Writes the statement of an account for the days `from` to `to`, both included: its name, the
-/// opening amount after the cash rows of earlier days, each cash row of the days, the closing
-/// amount, each lot that the account holds now, the market value of its holdings at last prices,
-/// and the numbers of these cash rows and lots. If the database is still open, it is unchanged,
-/// whatever the result.
+/// opening amount after the cash rows of the days before `from`, each cash row of the days, the
+/// closing amount, each lot that the account holds now, the market value of its holdings at last
+/// prices, and the numbers of these cash rows and lots. If the database is still open, it is
+/// unchanged, whatever the result.
 ///
-/// Fails with `Refused` 18 if `from` is after `to`, otherwise with `Refused` 1 if the account does
-/// not exist; nothing is then written. Fails with `Desk(Memory)` or `Desk(Store)`; `Desk(Store)`
-/// may also mean that a held symbol has no last price, or that a sum or a number of rows overflows.
-/// After `Desk` only whole lines are written, from the first on, perhaps none and never the last
-/// one. After `Write` whole lines are written, from the first on, and a prefix of the next one,
-/// perhaps empty or all of it.
+/// Fails with `Refused` and nothing written: with refusal 18 (`BadText`) if `from` is after `to`,
+/// otherwise with 1 (`NoAccount`) if the account does not exist. Fails with `Desk(Memory)` or
+/// `Desk(Store)`; `Desk(Store)` may also mean that a held symbol has no last price, or that a sum
+/// or a number of rows overflows. After `Desk` only whole lines are written, from the first on,
+/// perhaps none and never the last one. After `Write` whole lines are written, from the first on,
+/// and a prefix of the next one, perhaps empty or all of it.
 ///
 /// A crash after the call exposes only states that a crash before the call could expose.
 pub fn statement<W: Write, S: Alter>(

@@ -117,7 +117,7 @@ impl<R: Line, W: Write> Visitor<R, LinesFault> for LineWriter<'_, W> {
     /// Writes the line of the record, then counts the record. Fails with `Desk` and the fault of
     /// formatting the line, `Memory` or `Store`, or with `Desk(Store)` if the count overflows;
     /// nothing is then written. Fails with `Write` after a prefix of the line, perhaps all of it.
-    /// The count is unchanged after an error.
+    /// The count is unchanged after an error (no clause states this).
     fn visit(&mut self, item: &R) -> Result<(), LinesFault> {
         let Some(count) = self.count.checked_add(1) else {
             return Err(LinesFault::Desk(Fault::Store));
@@ -149,7 +149,7 @@ pub struct CashProgress {
 pub struct CashLineWriter<'a, W> {
     pub alloc: Global,
     pub writer: &'a mut W,
-    /// The stamp from which on it writes lines.
+    /// The stamp from which on the visitor writes lines.
     pub first: Stamp,
     pub moved: CashProgress,
 }
@@ -185,11 +185,11 @@ impl<W: Write> Visitor<MoveRow, LinesFault> for CashLineWriter<'_, W> {
         (W.contents p.writer.now) (W.contents q.writer.now) e };
 
     /// Adds the amount of the cash row to the total. If the row is not before the first stamp,
-    /// first writes its line, after the line of the opening amount unless this was written before,
-    /// and also counts the row. Fails with `Desk(Store)` and nothing written if the total or the
-    /// count overflows, with `Desk(Memory)` and nothing or only the line of the opening amount
-    /// written, or with `Write` after a prefix of the lines, perhaps all. The total, the count and
-    /// the note that the opening amount is written are unchanged after an error.
+    /// first writes its line, after the line of the opening amount unless that line is already
+    /// written, and also counts the row. Fails with `Desk(Store)` and nothing written if the total
+    /// or the count overflows, with `Desk(Memory)` and nothing or only the line of the opening
+    /// amount written, or with `Write` after a prefix of the lines, perhaps all. The progress
+    /// (`moved`) is unchanged after an error (no clause states this).
     fn visit(&mut self, item: &MoveRow) -> Result<(), LinesFault> {
         let total = total_plus_amount(self.moved.total, item.amount)?;
         if is_before_stamp(item, self.first) {

@@ -70,7 +70,8 @@ fn write_view<W: Write>(
 // Fails with `Refused` and the refusal of the query, or with `Desk(Memory)` or `Desk(Store)`, and
 // nothing is then written; or with `Write` after a prefix of the text, perhaps empty or all of it.
 // `Desk(Store)` may also mean that a row that another row requires does not exist, that a lot has
-// no shares, or that a sum overflows or exceeds its limit.
+// no shares, or that a sum overflows or exceeds its limit. If the database is still open, it is
+// unchanged, whatever the result.
 fn execute_query_and_write_view<W: Write, S: Alter>(
     alloc: Global,
     desk: &mut Desk<S>,
@@ -91,13 +92,15 @@ fn execute_query_and_write_view<W: Write, S: Alter>(
 /// its view: as JSON if `form.json` is true, otherwise as CSV, and with the names of its fields
 /// first if `form.heads` is true and all its records have the same fields.
 ///
-/// Fails with `Refused` and the refusal of the parser if the texts are no query: 18, 20 for more
-/// than 20 different ids or names, or 7, 8 or 9 for a field of an order; otherwise with `Refused`
-/// and the refusal of the query, if the desk refuses it; or with `Desk(Memory)` or `Desk(Store)`.
-/// `Desk(Store)` may also mean that a row that another row requires does not exist, that a lot has
-/// no shares, or that a sum overflows or exceeds its limit. In these cases nothing is written.
-/// Fails with `Write` after a prefix of the text, perhaps empty or all of it. If the database is
-/// still open, it is unchanged, whatever the result.
+/// Fails with `Refused` and the refusal of the parser if the texts are no query: 20 (`TooMany`) for
+/// more than 20 different trade ids or broker names, 7 (`BadType`), 8 (`BadQty`) or 9 (`BadPrice`)
+/// for a field of an order, or 18 (`BadText`) for an unknown view, a repeated trade id, or another
+/// malformed argument or wrong number of arguments; otherwise with `Refused` and the refusal of the
+/// query, if the desk refuses it; or with `Desk(Memory)` or `Desk(Store)`. `Desk(Store)` may also
+/// mean that a row that another row requires does not exist, that a lot has no shares, or that a
+/// sum overflows or exceeds its limit. In these cases nothing is written. Fails with `Write` after
+/// a prefix of the text, perhaps empty or all of it. If the database is still open, it is
+/// unchanged, whatever the result.
 ///
 /// A crash after the call exposes only states that a crash before the call could expose.
 pub fn parse_query_and_write_view<W: Write, S: Alter>(

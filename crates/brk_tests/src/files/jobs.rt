@@ -52,9 +52,9 @@ pub enum Ended {
     OtherFault,
 }
 
-/// The observation of a job: its end and the bytes that it wrote, and of an observed one all tables
-/// before and after it as text, empty if they could not be read, and true if an audit passed after
-/// it.
+/// The observation of a job: its end and the bytes that it wrote. For a job `Observed` also all
+/// tables before and after it as text, empty if they could not be read, and true if an audit passed
+/// after it.
 #[derive(Drop)]
 pub struct Observation {
     pub before: String,

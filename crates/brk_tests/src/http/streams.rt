@@ -176,7 +176,7 @@ fn request_with_head_of_length(alloc: Global, len: usize) -> Result<String, Allo
 }
 
 /// Checks that a request with a head of 16,384 bytes has its reply, and that one with a head of
-/// 16,385 bytes is refused with 413, which ends its stream, for each size of pieces.
+/// 16,385 bytes has the reply 413, which ends its stream, for each size of pieces.
 pub fn a_head_has_at_most_16_384_bytes(alloc: Global) -> Result<(), Fail> {
     for (len, wanted) in [(16_384, EMPTY), (16_385, LARGE)] {
         let input = request_with_head_of_length(alloc, len)?;
