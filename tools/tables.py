@@ -512,7 +512,7 @@ use Rattle.brk_sql.specs.Desk.{text_column, integer_column, nullable_integer_col
         refs = [f'foreign_key {spot(i)} ({q(r.split(".")[0])}) ({q(r.split(".")[1])})' for i, (c, k, _, r) in enumerate(cols) if r]
         refs = f'({lst(refs)})' if len(lst(refs)) < 130 else '\n    (' + folded('', refs + ['[]'], '∷').strip() + ')'
         out += f"""
-{remark(f'The definition of the table {sql}, with its rows at `tree`: its columns, keys and foreign keys.')}
+{remark(f'The definition of the table {sql}, whose rows the database stores under the number `tree`: its columns, its primary key, and its UNIQUE constraints and foreign keys, if any.')}
 abbrev pub {t}_table : ℕ → Table
 {t}_table tree = table_without_checks ({q(sql)}) tree{cs}
     {'(Some 0)' if rowkey else 'None'} ({primary}) ({lst(uniques)}) {refs}
@@ -582,12 +582,14 @@ use Rattle.brk_tables_schema.specs.Shapes.{{{', '.join(d[0] + '_table' for d in 
 use Rattle.brk_tables_schema.specs.Cells.{{DeskRow, RuleRow, {', '.join(d[0] + '_cells' for d in DATA)}}}
 use Rattle.brk_tables_schema.specs.Order.{{ordering_by_key}}
 
--- The tables of a desk, in all schemas. `table_name` is the SQL name of each.
+-- The tables that a desk may have. Schema 3 has all of them; `schema_has_table` tells which ones a
+-- schema has, and `table_name` is the SQL name of each.
 pub data DeskTable : Type 0 where
 {both(lambda d: f'  {d[2]} : DeskTable')}
 
 -- The rows of DESK in the schema `schema`: exactly one, with the id 1, the number of the schema,
--- and `last`, the stamp of the last accepted command, or `None`.
+-- and `last`, the stamp of the last accepted command in milliseconds since 1970-01-01 UTC, or
+-- `None` if there is none.
 abbrev pub desk_rows : Schema → Option ℕ → List DeskRow
 desk_rows schema last = record {{ id = 1; schema = schema.number; last = last }} ∷ []
 
@@ -596,7 +598,8 @@ abbrev pub desk_key : DeskRow → List KeyPart
 desk_key r = number r.id ∷ []
 
 -- The rows of SETTLE_RULE: one row with the id 1 and the settlement day (the first day whose
--- completions settle after one day), or no row if this day is not set.
+-- completions settle after one day, in days since 1970-01-01), or no row if the parameter is
+-- `None`, since this day is not set.
 abbrev pub rule_rows : Option ℕ → List RuleRow
 rule_rows None = []
 rule_rows (Some day) = record {{ id = 1; day = day }} ∷ []
@@ -632,7 +635,8 @@ abbrev pub encoded_row : (w : DeskTable) → RecordOfTable w → Row
 abbrev pub primary_key_of_record : (w : DeskTable) → RecordOfTable w → List KeyPart
 {both(lambda d: f'primary_key_of_record {d[2]} = {d[4]}')}
 
--- The ordering of two records of the table `w` by their primary keys.
+-- The ordering of two records of the table `w` by their primary keys, part by part, in the order of
+-- SQL values.
 abbrev pub ordering_by_primary_key : (w : DeskTable) → RecordOfTable w → RecordOfTable w → Ordering
 ordering_by_primary_key w = ordering_by_key (primary_key_of_record w)
 
@@ -666,11 +670,12 @@ desk_tables = desk_tables_of_schema third_schema
 abbrev pub all_tables : List DeskTable
 {folded('all_tables =', [d[2] for d in DATA] + ['[]'], '∷')}
 
--- The list of the tables that the schema `schema` has.
+-- The list of the tables that the schema `schema` has, in the order of `all_tables`.
 abbrev pub tables_in_schema : Schema → List DeskTable
 tables_in_schema schema = filter (schema_has_table schema) all_tables
 
--- The list of the tables of a desk that the schema `schema` does not have and later schemas add.
+-- The list of the tables of a desk that the schema `schema` does not have and later schemas add, in
+-- the order of `all_tables`; empty for schema 3.
 abbrev pub tables_of_later_schemas : Schema → List DeskTable
 tables_of_later_schemas schema = filter (λ w. not (schema_has_table schema w)) all_tables
 
@@ -678,7 +683,7 @@ tables_of_later_schemas schema = filter (λ w. not (schema_has_table schema w)) 
 abbrev pub table_name : DeskTable → List ℕ
 table_name w = (table_definition_at_tree w 0).name
 
--- The SQL names of all tables of a desk.
+-- The SQL names of all tables of a desk, in ASCII, in the order of `all_tables`.
 abbrev pub all_table_names : List (List ℕ)
 all_table_names = map table_name all_tables
 """
@@ -1190,7 +1195,9 @@ pub fn {rows_name(d)}_in_schema<S: Alter>(
 
 def rows_code():
     """The reads of whole tables in code"""
-    out = f"""//! Reads of all rows of each table, sorted by key, ascending.
+    out = f"""//! Reads of all rows of each table, sorted by key, ascending. The rows are not decoded. The
+//! returned rows are specified only if the table is defined as a desk defines it, and their order
+//! only if they encode records with distinct keys (`AreTableRows`).
 
 ghost use Rattle.std.specs.Prelude.{{◌≡◌, Err, OnErr}};
 ghost use Rattle.brk_money.specs.declared.fault.Fault.TheVariants.{{Store}};
@@ -1221,9 +1228,9 @@ def read_group(word, field, tables):
     types = ''.join(f'    {sheet_field(d)}: {VALUES[d[0]][0] if d[0] in VALUES else f"Vec<{sheet_type(d)}>"},\n' for d in tables)
     reads = ''.join(f'    let {sheet_field(d)} = {reading(d)};\n' for d in tables)
     fields = ''.join(f'        {sheet_field(d)},\n' for d in tables)
-    returned = {'DeskAndCustomer': 'Returns the last stamp in DESK, the keys of the rows of KEPT, and the decoded rows of BROKER and CUSTOMER, each list sorted by key.',
-                'LaterSchema': 'Returns the decoded rows of CASH_MOVE, sorted by key, and the first day of one-day settlement in SETTLE_RULE, or none of a table that `schema` lacks.'}
-    shown = returned.get(word, f'Returns the decoded rows of {named(tables)}, each list sorted by key.')
+    returned = {'DeskAndCustomer': 'Returns the last stamp in DESK, or `None` if none is stored, the keys of the rows of KEPT, and the decoded rows of BROKER and CUSTOMER, each list sorted by key, ascending.',
+                'LaterSchema': 'Returns the decoded rows of CASH_MOVE, sorted by key, ascending, and the first day of one-day settlement in SETTLE_RULE, or `None` if it has no row. Returns no rows and no day of a table that `schema` lacks.'}
+    shown = returned.get(word, f'Returns the decoded rows of {named(tables)}, each list sorted by key, ascending.')
     counted = {'DeskAndCustomer': ', or DESK not exactly one row with the number of `schema`,', 'LaterSchema': ', or SETTLE_RULE two rows or more,'}.get(word, ',')
     what = 'value' if by_schema else 'rows'
     malformed = f'If a table has a malformed row{counted} sets `are_well_formed` of the decoder to false and returns no {what} of this table.'
@@ -1274,7 +1281,7 @@ use std::alloc::Global;
     out += ''.join(read_group(word, field, tables) for word, field, _, tables in groups())
     schema = lambda word: 'schema, ' if word in ('DeskAndCustomer', 'LaterSchema') else ''
     out += f"""
-{remark('Returns the decoded rows of the tables of `schema`, of KEPT the keys alone, each list sorted by key, ascending. The list of a table that `schema` lacks is empty. If a table has a malformed row, DESK not exactly one row with the number of `schema`, or SETTLE_RULE two rows or more, sets `are_well_formed` of the decoder to false and returns no rows of this table. If the function returns a value, the database was open and is unchanged. Fails with `Memory` or `Store` only.', '///')}
+{remark('Returns the decoded rows of the tables of `schema`, each list sorted by key, ascending: of KEPT the keys alone, of DESK the last stamp, and of SETTLE_RULE the first day of one-day settlement, or `None` for a stamp or a day that is not stored. Returns no rows and no day of a table that `schema` lacks. If a table has a malformed row, DESK not exactly one row with the number of `schema`, or SETTLE_RULE two rows or more, sets `are_well_formed` of the decoder to false and returns no value of this table. If the function returns a value, the database was open and is unchanged. Fails with `Memory` or `Store` only.', '///')}
 pub(crate) fn read_all_tables<S: Alter>(
     tx: &mut Transaction<'_, S>,
     alloc: Global,
@@ -1331,7 +1338,7 @@ pub record RawSheets : Type 0 where
 abbrev pub IsUnchangedAndOpen : State → State → Type 0
 IsUnchangedAndOpen old new = IsTrue old.is_open × (new.now ≡ old.now)
 
--- The database was open, and the reads changed nothing. The lists `a`, `b`, `c` and `d` have all
+-- The database was open, and the reads changed nothing. The lists `a`, `b`, `c` and `d` are all
 -- rows of the tables `first`, `second`, `third` and `fourth` (`ShowsAllRows`). The clause on a
 -- table is vacuous if the database does not define it as a desk does.
 pub record ShowsFourTables (first second third fourth : DeskTable) (a b c d : List Row) (old new : State) : Type 0 where
@@ -1373,13 +1380,13 @@ def decoded_group(word, field, tables):
     decodes = lambda d: f'AreKeysOfRawRows {of(d)} raw.{raw_field(d)}' if is_kept(d) else f'map {shown(d)} {of(d)} ≡ raw.{raw_field(d)}'
     fields = '\n'.join(f'  pub {raw_field(d)} : {decodes(d)}' for d in tables)
     but_texts = ', but for the texts of KEPT' if any(map(is_kept, tables)) else ''
-    number = ' The row of DESK has the number of `schema`.' if first else ''
+    number = {'DeskAndCustomer': ' DESK has exactly one row, with the id 1 and the number of `schema`.', 'LaterSchema': ' SETTLE_RULE has one row if `sheets` has a settlement day, otherwise none.'}.get(word, '')
     return f"""
 {remark(f'The raw rows of {named(tables)} are, in order, the encodings of the typed rows `sheets`{but_texts}.{number}')}
 pub record Decodes{word}Tables {'(schema : Schema) ' if first else ''}(sheets : {word}Sheets) (raw : {word}Rows) : Type 0 where
 {fields}
 
-{remark(f'True if each column of each raw row of {named(tables)} is well-formed' + counted)}
+{remark(f'True if each raw row of {named(tables)} has exactly the columns of its table, each well-formed (`passes_all_cell_checks`)' + counted)}
 abbrev pub are_{words_of(word)}_rows_well_formed : {'Schema → ' if first else ''}{word}Rows → Bool
 {folded(f'are_{words_of(word)}_rows_well_formed ' + ('desk ' if first else '') + 'raw =', [form(d) for d in tables], '&&')}
 """
@@ -1391,11 +1398,11 @@ def reads_group(word, field, tables):
     but_texts = ', but for the texts of KEPT' if word == 'DeskAndCustomer' else ''
     none = ', or none of a table that the schema `desk` does not have' if word == 'LaterSchema' else ''
     counted = {'DeskAndCustomer': ', a row is malformed, or DESK does not have exactly one row, with the number of the schema `desk`', 'LaterSchema': ', a row is malformed, or SETTLE_RULE has two rows or more'}
-    false = f'If it is false, the flag `old` before the decoding was false{counted.get(word, " or a row is malformed")}.'
-    true = f'If the flag `new` after the decoding is true, the typed rows `sheets` are the decoded rows{but_texts}.'
+    false = f'If `new` is false, `old` was false{counted.get(word, " or a row is malformed")}.'
+    true = f'If the flag `new` after the decoding is true, the flag `old` before it was true, and the typed rows `sheets` are the decoded rows{but_texts}.'
     opened = '' if word == 'LaterSchema' else ' from an open database'
     shows = '`ShowsRowsIfInSchema`' if word == 'LaterSchema' else '`ShowsAllRows`'
-    told = f'The reads return all rows of {named(tables)}{opened}{none} ({shows}), and change nothing. {true} {false} The clause on the rows of a table is vacuous if the database does not define it as a desk does.'
+    told = f'The reads, from the state `a` to the state `b`, return all rows of {named(tables)}{opened}{none} ({shows}), and leave the contents of the database unchanged. {true} {false} The clause on the rows of a table is vacuous if the database does not define it as a desk does.'
     return f"""
 {remark(told)}
 pub record Reads{word}Tables {desk}(old new : Bool) (sheets : {word}Sheets) (a b : State) : Type 0 where
@@ -1428,14 +1435,16 @@ use Rattle.brk_tables_scan.specs.Raw.{{{', '.join(f'{word}Rows' for word, _, _ i
     out += ''.join(decoded_group(word, field, tables) for word, field, _, tables in groups())
     desk = lambda word: 'desk ' if word == 'DeskAndCustomer' else ''
     out += f"""
--- True if each column of each raw row of all tables is well-formed, there is exactly one row of
--- DESK, with the number of the schema `desk`, and there is at most one row of SETTLE_RULE.
+-- True if each raw row of each table has exactly the columns of its table, each well-formed
+-- (`passes_all_cell_checks`), there is exactly one row of DESK, with the number of the schema
+-- `desk`, and there is at most one row of SETTLE_RULE.
 abbrev pub are_raw_sheets_well_formed : Schema → RawSheets → Bool
 {folded('are_raw_sheets_well_formed desk raw =', [f'are_{words_of(word)}_rows_well_formed {desk(word)}raw.{field}' for word, field, _ in GROUPS], '&&')}
 
 -- The raw rows of each table are, in order, the encodings of the typed rows `sheets`. Of KEPT,
 -- `sheets` has the keys alone: the raw rows of KEPT are, in order, the encodings of `whole`, typed
--- rows with these keys and any texts. The row of DESK has the number of the schema `desk`.
+-- rows with these keys and any texts. DESK has exactly one row, with the id 1 and the number of the
+-- schema `desk`. SETTLE_RULE has one row if `sheets` has a settlement day, otherwise none.
 pub record DecodesSheets (desk : Schema) (sheets : Sheets) (raw : RawSheets) : Type 0 where
   pub whole : List typed.Kept
   pub keys : keys_of_kept_rows whole ≡ map abstract_key sheets.kept.items
@@ -1454,12 +1463,12 @@ pub record ContinuesDecoding (old new are_well_formed : Bool) (Decodes : Type 0)
   -- well-formed.
   pub form : new ≡ false → (old ≡ false) ⊎ (are_well_formed ≡ false)
 {''.join(reads_group(word, field, tables) for word, field, _, tables in groups())}
--- The reads return all rows of each table of the schema `desk`, and none of other tables
--- (`ShowsRowsIfInSchema`). The database was open, and the reads changed nothing. If the flag `new`
--- after the decoding is true, the typed rows `sheets` are the decoded rows, but for the texts of
--- KEPT. If it is false, the flag `old` before the decoding was false or the rows are malformed
--- (`are_raw_sheets_well_formed`). The clause on the rows of a table is vacuous if the database does
--- not define it as a desk does.
+-- The reads, from the state `a` to the state `b`, return all rows of each table of the schema
+-- `desk`, and none of other tables (`ShowsRowsIfInSchema`). The database was open, and its contents
+-- are unchanged. If the flag `new` after the decoding is true, the flag `old` before it was true,
+-- and the typed rows `sheets` are the decoded rows, but for the texts of KEPT. If `new` is false,
+-- `old` was false or the rows are malformed (`are_raw_sheets_well_formed`). The clause on the rows
+-- of a table is vacuous if the database does not define it as a desk does.
 pub record ReadsAndDecodesDeskTables (desk : Schema) (old new : Bool) (sheets : Sheets) (a b : State) : Type 0 where
   pub raw : RawSheets
   pub stays : IsUnchangedAndOpen a b

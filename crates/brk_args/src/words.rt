@@ -9,8 +9,8 @@ use std::alloc::{AllocError, Global};
 // that proves it, which is the text after `rattle-kit-` in the output of `rt version`.
 const VERSION: &str = "0.1.0 (schema 3, kit 13f)";
 
-// Returns the optional argument `--db` for the path of a desk's file, which is created if it is
-// missing or empty.
+// Returns the optional argument `--db` for the path of a desk's file. A desk is created if the file
+// is missing or empty or has no table of a desk.
 fn optional_file_argument<'a>(alloc: Global) -> Arg<'a> {
     Arg::new(alloc, "db").long("db").value_name("FILE").help(
         "The file of the desk, created if it is missing or empty; without it the desk is in memory",
@@ -191,8 +191,8 @@ fn add_subcommand<'a>(
 }
 
 // Returns the command `brk` with its version and without subcommands. Its arguments must name one
-// of the subcommands that `command_with_subcommands` adds; without arguments, parsing fails with
-// the help of `brk` as the error text. Fails only if memory runs out.
+// of the subcommands that `command_with_subcommands` adds, or request help or the version; without
+// arguments, parsing fails with the help of `brk` as the error text. Fails only if memory runs out.
 fn program_command<'a>(alloc: Global) -> Result<Command<'a>, AllocError> {
     Command::new(alloc, "brk")
         .version(VERSION)
@@ -234,8 +234,8 @@ fn path_of_db_option(
     }
 }
 
-// Returns the timestamp that the option `--at` gives, or `None` without this option or if its
-// number is not within the limits of a stamp.
+// Returns the timestamp that the option `--at` gives, or `None` without this option or if its text
+// is not a number within the limits of a stamp.
 fn timestamp_of_at_option(matches: &ArgMatches<'_>) -> Option<Stamp> {
     matches.get_one::<i64>("at").and_then(Stamp::new)
 }
@@ -247,9 +247,9 @@ fn parse_day_argument(matches: &ArgMatches<'_>, name: &str) -> Result<Day, Usage
     parse_day(text.as_bytes()).ok_or(UsageFault::Day)
 }
 
-// Returns the statement job that the arguments request. Fails with `Words` and an empty text if the
-// account is missing or not an id, with `Day` if the text of `--from` or `--to` is missing or is
-// not a day, or with `Memory`.
+// Returns the statement job that the arguments request; without `--db` its path is empty. Fails
+// with `Words` and an empty text if the account is missing or not an id, with `Day` if the text of
+// `--from` or `--to` is missing or is not a day, or with `Memory`.
 fn statement_job(alloc: Global, matches: &ArgMatches<'_>) -> Result<Job, UsageFault> {
     let Some(account) = matches.get_one::<u64>("account").and_then(Id::new) else {
         return Err(UsageFault::Words(String::new(alloc)));
@@ -262,8 +262,9 @@ fn statement_job(alloc: Global, matches: &ArgMatches<'_>) -> Result<Job, UsageFa
     })
 }
 
-// Returns the serve job that the arguments request; without `--port` its port is 0, and without
-// `--streams` its number of streams is 1. Fails with `Memory` only.
+// Returns the serve job that the arguments request; its port is 0 if `--port` is missing or not a
+// `u16`, and its number of streams is 1 if `--streams` is missing or not a `u32`. Fails with
+// `Memory` only.
 fn serve_job(alloc: Global, matches: &ArgMatches<'_>) -> Result<Job, UsageFault> {
     Ok(Job::Serve {
         port: matches.get_one("port").unwrap_or(0),
@@ -288,7 +289,7 @@ fn argument_texts(
 }
 
 // Returns the ask job that the arguments request: the file, the format, the name of the view and
-// its arguments. Fails with `Memory` only.
+// its arguments. A missing file or name is an empty text. Fails with `Memory` only.
 fn ask_job(alloc: Global, matches: &ArgMatches<'_>) -> Result<Job, UsageFault> {
     Ok(Job::Ask {
         db: argument_text(alloc, matches, "db")?,
@@ -299,8 +300,8 @@ fn ask_job(alloc: Global, matches: &ArgMatches<'_>) -> Result<Job, UsageFault> {
     })
 }
 
-// Returns the explain job that the arguments request: the file and the words of the request. Fails
-// with `Memory` only.
+// Returns the explain job that the arguments request: the file and the words of the request. A
+// missing file is an empty text. Fails with `Memory` only.
 fn explain_job(alloc: Global, matches: &ArgMatches<'_>) -> Result<Job, UsageFault> {
     Ok(Job::Explain {
         db: argument_text(alloc, matches, "db")?,

@@ -30,7 +30,7 @@ value_by_last_of_two_valid_statuses _ _ first second = false
 
 -- True if the history rows `a` and `b` are sorted by status code and form a valid status sequence
 -- in strictly ascending order of their stamps, and the row `r` of TRADE has the status and the
--- stamp of the later one.
+-- stamp of the one with the greater stamp.
 abbrev pub is_valid_two_row_history : TradeRow → HistoryRow → HistoryRow → Bool
 is_valid_two_row_history r a b =
     value_by_last_of_two_valid_statuses a.status b.status (nat_lt b.stamp a.stamp && has_status_and_stamp_of_row r a) (nat_lt a.stamp b.stamp
@@ -44,14 +44,14 @@ value_if_three_statuses_are_valid _ _ _ told = false
 
 -- True if the history rows `a`, `b` and `c` are sorted by status code and form a valid status
 -- sequence in strictly ascending order of their stamps, and the row `r` of TRADE has the status and
--- the stamp of the last one.
+-- the stamp of the one with the greatest stamp.
 abbrev pub is_valid_three_row_history : TradeRow → HistoryRow → HistoryRow → HistoryRow → Bool
 is_valid_three_row_history r a b c =
     value_if_three_statuses_are_valid a.status b.status c.status (nat_lt b.stamp c.stamp && nat_lt c.stamp a.stamp && has_status_and_stamp_of_row r a)
 
 -- True if the history rows are sorted by status code and form a valid status sequence in strictly
--- ascending order of their stamps, and the row `r` of TRADE has the status and the stamp of the
--- last one. False if there are no rows.
+-- ascending order of their stamps, and the row `r` of TRADE has the status and the stamp of the one
+-- with the greatest stamp. False if there are no rows.
 abbrev pub is_valid_history : TradeRow → List HistoryRow → Bool
 is_valid_history r [] = false
 is_valid_history r (h ∷ []) = is_first_status h.status && has_status_and_stamp_of_row r h
@@ -61,7 +61,7 @@ is_valid_history r (a ∷ b ∷ c ∷ d ∷ hs) = false
 
 -- True if the list of history rows begins with the rows of the first trade, then has the rows of
 -- the second, and so on, and the rows of each trade are a valid history of it (`is_valid_history`).
--- Rows after those of the last trade are not checked.
+-- Rows after those of the last trade are not checked. True if there are no trades.
 abbrev pub all_histories_are_valid : List TradeRow → List HistoryRow → Bool
 all_histories_are_valid [] hs = true
 all_histories_are_valid (r ∷ rs) hs =

@@ -46,7 +46,7 @@ fn is_completed_cash_trade_row(trade: &TradeRow) -> bool
 // Returns the rows of CASH_TRANSACTION after the row of `trade`, or all rows if `trade` is not a
 // completed cash trade. Returns `None` if `trade` is a completed cash trade and `cash` does not
 // begin with its row. Names of rows are not compared. An account that `terms` does not contain
-// counts as `Untaxed`.
+// counts as `Untaxed`, and a missing price as 0.
 fn cash_transactions_after_trade<'a>(
     cash: &'a [CashRow],
     trade: &TradeRow,
@@ -73,7 +73,7 @@ fn cash_transactions_after_trade<'a>(
 
 // Returns true if the rows of CASH_TRANSACTION are exactly the rows of the completed cash trades,
 // in the order of the trades. Names of rows are not compared. An account that `terms` does not
-// contain counts as `Untaxed`.
+// contain counts as `Untaxed`, and a missing price as 0.
 fn are_cash_transactions_of_trades(
     cash: &[CashRow],
     trades: &[TradeRow],
@@ -150,7 +150,8 @@ fn has_figures_of_trade(row: CashMoveFigures, trade: &TradeRow, tax_status: TaxS
 
 // Returns the figures in `rows` after the figures of `trade`, or all of `rows` if `trade` is not a
 // completed cash trade. Returns `None` if `trade` is a completed cash trade and `rows` does not
-// begin with its figures. An account that `terms` does not contain counts as `Untaxed`.
+// begin with its figures. An account that `terms` does not contain counts as `Untaxed`, and a
+// missing price as 0.
 fn posted_figures_after_trade<'a>(
     rows: &'a [CashMoveFigures],
     trade: &TradeRow,
@@ -176,7 +177,8 @@ fn posted_figures_after_trade<'a>(
 }
 
 // Returns true if the figures of rows of CASH_MOVE are exactly the figures of the completed cash
-// trades, in the order of the trades. An account that `terms` does not contain counts as `Untaxed`.
+// trades, in the order of the trades. An account that `terms` does not contain counts as `Untaxed`,
+// and a missing price as 0.
 fn cash_move_figures_match_trades(
     rows: &[CashMoveFigures],
     trades: &[TradeRow],
@@ -204,8 +206,8 @@ fn has_number_and_no_earlier_stamp(row: &MoveRow, number: u64, stamp: u64) -> bo
     row.id.get() == number && stamp <= stamp_in_millis(row.stamp)
 }
 
-// Returns true if the rows of CASH_MOVE are numbered 1, 2, 3 and so on, and their stamps do not
-// decrease.
+// Returns true if the rows of CASH_MOVE, in the order of the list, are numbered 1, 2, 3 and so on,
+// and their stamps do not decrease. Returns true if there are no rows.
 fn move_rows_are_numbered_by_stamp(moves: &[MoveRow]) -> bool
     ensures { result ≡ is_numbered_by_stamp 1 0 (map abstract_move_row moves.now) }
 {

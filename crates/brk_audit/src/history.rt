@@ -23,9 +23,10 @@ use brk_money::Fault;
 use std::alloc::Global;
 use std::cmp::Ordering;
 
-// Appends to `rows` the lot changes of the completed trades `run`, executed in order from no lots.
-// The trades must have prices, distinct ids and strictly ascending stamps. Fails with `Memory`
-// only; it may then have appended some of the first lot changes.
+// Appends to `rows`, trade by trade, the lot changes of the completed trades `run`, executed in
+// order on one position from no lots. The trades must have prices, distinct ids and strictly
+// ascending stamps. Fails with `Memory` only; it may then have appended some of the first lot
+// changes.
 fn append_lot_changes_of_trades(
     alloc: Global,
     rows: &mut Vec<DealTouch>,
@@ -42,9 +43,10 @@ fn append_lot_changes_of_trades(
     Ok(())
 }
 
-// Returns the lot changes of the completed trades `done`, position by position. The trades must be
-// sorted by account, symbol and stamp, and have prices, distinct ids and distinct stamps. Fails
-// with `Memory` only.
+// Returns exactly the lot changes of the completed trades `done`, position by position and trade by
+// trade in the order of the list; the trades of a position are executed from no lots. The trades
+// must be sorted by account, then by symbol (by bytes), then by stamp, ascending, and have prices,
+// distinct ids and distinct stamps. Fails with `Memory` only.
 fn lot_changes_of_trades(alloc: Global, done: &[&TradeRow]) -> Result<Vec<DealTouch>, Fault>
     // The trades are sorted, no two have the same id or stamp, and each has a price.
     requires order { IsSortedBy (λ one other. is_before_by_position (abstract_trade_row one.now) (abstract_trade_row other.now)) done.now }
@@ -66,7 +68,8 @@ fn lot_changes_of_trades(alloc: Global, done: &[&TradeRow]) -> Result<Vec<DealTo
     Ok(rows)
 }
 
-// Returns `Less` if and only if the first lot change is before the second, by lot, then by trade.
+// Returns `Less` if and only if the first lot change is before the second in ascending order of the
+// id of the lot, then of the id of the trade.
 fn compare_lot_changes(one: &DealTouch, other: &DealTouch) -> Ordering
     ensures { is_lt result ≡ is_row_key_less holding_history_key (abstract_deal_touch one.now) (abstract_deal_touch other.now) }
 {
@@ -75,7 +78,7 @@ fn compare_lot_changes(one: &DealTouch, other: &DealTouch) -> Ordering
     lots.then(trades)
 }
 
-// Sorts the lot changes by lot, then by trade, ascending.
+// Sorts the lot changes by the id of the lot, then by the id of the trade, ascending.
 fn sort_lot_changes(rows: &mut Vec<DealTouch>)
     ensures permutation { IsPermutation rows.old.items rows.new.items }
     ensures order { IsSortedBy (λ one other. is_row_key_less holding_history_key (abstract_deal_touch one) (abstract_deal_touch other)) rows.new.items }
@@ -109,9 +112,9 @@ fn lot_changes_equal_rows(touches: &[DealTouch], rows: &[LotChange]) -> bool
     true
 }
 
-/// Returns true if the rows, which must satisfy `Form` and `Status`, satisfy the condition
-/// `History`: the rows of HOLDING_HISTORY are exactly the lot changes of the completed trades.
-/// Fails with `Memory` only.
+/// Returns true if the rows, which must satisfy `Form` of some schema and `Status`, satisfy the
+/// condition `History`, the same in all schemas: the rows of HOLDING_HISTORY are exactly the lot
+/// changes of the completed trades. Fails with `Memory` only.
 pub(crate) fn history_condition_holds(alloc: Global, sheets: &Sheets) -> Result<bool, Fault>
     requires form { HasWellFormedRows sheets.now }
     requires status { HasValidStatuses sheets.now }

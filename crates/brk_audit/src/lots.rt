@@ -19,8 +19,9 @@ use brk_lots::Lot;
 use brk_money::Fault;
 use std::alloc::Global;
 
-// Appends to `held` the rows of HOLDING of the lots, with the account and the symbol of the trade.
-// Fails with `Memory` only; it may then have appended some of the first rows.
+// Appends to `held` the rows of HOLDING of the lots, in the order of the lots, with the account and
+// the symbol of the trade. Fails with `Memory` only; it may then have appended some of the first
+// rows.
 fn append_holding_rows(
     held: &mut Vec<HoldingRow>,
     trade: &TradeRow,
@@ -43,9 +44,11 @@ fn append_holding_rows(
     Ok(())
 }
 
-// Returns the rows of HOLDING of the lots that remain after the completed trades `done`, position
-// by position. The trades must be sorted by account, symbol and stamp, and have prices, distinct
-// ids and distinct stamps. Fails with `Memory` only.
+// Returns exactly the rows of HOLDING of the lots that remain after the completed trades `done`,
+// position by position in the order of the list, the oldest lot of a position first; the trades of
+// a position are executed from no lots. The trades must be sorted by account, then by symbol (by
+// bytes), then by stamp, ascending, and have prices, distinct ids and distinct stamps. Fails with
+// `Memory` only.
 fn lots_left_by_trades(alloc: Global, done: &[&TradeRow]) -> Result<Vec<HoldingRow>, Fault>
     // The trades are sorted, no two have the same id or stamp, and each has a price.
     requires order { IsSortedBy (λ one other. is_before_by_position (abstract_trade_row one.now) (abstract_trade_row other.now)) done.now }
@@ -95,9 +98,9 @@ fn are_holding_lists_equal(rows: &[HoldingRow], others: &[HoldingRow]) -> bool
     true
 }
 
-/// Returns true if the rows, which must satisfy `Form` and `Status`, satisfy the condition `Lots`:
-/// the rows of HOLDING are exactly the lots that remain after the completed trades. Fails with
-/// `Memory` only.
+/// Returns true if the rows, which must satisfy `Form` of some schema and `Status`, satisfy the
+/// condition `Lots`, the same in all schemas: the rows of HOLDING are exactly the lots that remain
+/// after the completed trades. Fails with `Memory` only.
 pub(crate) fn lot_condition_holds(alloc: Global, sheets: &Sheets) -> Result<bool, Fault>
     requires form { HasWellFormedRows sheets.now }
     requires status { HasValidStatuses sheets.now }

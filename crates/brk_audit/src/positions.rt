@@ -31,8 +31,8 @@ fn collect_completed_trades(alloc: Global, trades: &[TradeRow]) -> Result<Vec<&T
     Ok(done)
 }
 
-// Returns `Less` if and only if the first trade is before the second, by account, then by symbol,
-// then by stamp.
+// Returns `Less` if and only if the first trade is before the second in ascending order of account,
+// then of symbol (by bytes), then of stamp.
 fn compare_trades_by_position(one: &TradeRow, other: &TradeRow) -> Ordering
     ensures { is_lt result ≡ is_before_by_position (abstract_trade_row one.now) (abstract_trade_row other.now) }
 {
@@ -46,7 +46,7 @@ fn compare_trades_by_position(one: &TradeRow, other: &TradeRow) -> Ordering
     accounts.then(symbols.then(moments))
 }
 
-// Sorts the trades by account, then by symbol, then by stamp, ascending.
+// Sorts the trades by account, then by symbol (by bytes), then by stamp, ascending.
 fn sort_trades_by_position(done: &mut Vec<&TradeRow>)
     ensures permutation { IsPermutation done.old.items done.new.items }
     ensures order { IsSortedBy (λ one other. is_before_by_position (abstract_trade_row one.now) (abstract_trade_row other.now)) done.new.items }
@@ -54,8 +54,8 @@ fn sort_trades_by_position(done: &mut Vec<&TradeRow>)
     done.sort_unstable_by(|one, other| compare_trades_by_position(one, other));
 }
 
-/// Returns the completed trades, sorted by account, then by symbol, then by stamp, ascending. Fails
-/// with `Memory` only.
+/// Returns the completed trades, sorted by account, then by symbol (by bytes), then by stamp,
+/// ascending. Fails with `Memory` only.
 pub(crate) fn completed_trades_by_position(
     alloc: Global,
     trades: &[TradeRow],

@@ -35,7 +35,7 @@ fn has_symbol_qty_and_bid_of_trade(request: &RequestRow, trade: &TradeRow) -> bo
 }
 
 // Returns true if the request is exactly the row of TRADE_REQUEST of the pending trade, with the
-// broker `broker`.
+// broker id `broker`.
 fn request_matches_trade(request: &RequestRow, trade: &TradeRow, broker: u64) -> bool
     ensures { IsTrue result ↔ (abstract_request_row request.now ≡ request_row_of_trade (λ account. broker) (abstract_trade_row trade.now)) }
 {
@@ -54,7 +54,7 @@ fn is_pending(status: Status) -> bool
 
 // Returns the requests after the request of `trade`, or all requests if `trade` is not pending.
 // Returns `None` if `trade` is pending and `requests` does not begin with its request. The broker
-// of an account that `terms` does not contain is 0.
+// id of an account that `terms` does not contain is 0.
 fn requests_after_trade<'a>(
     requests: &'a [RequestRow],
     trade: &TradeRow,
@@ -80,7 +80,7 @@ fn requests_after_trade<'a>(
 }
 
 // Returns true if the requests are exactly the requests of the pending trades, in the order of the
-// trades. The broker of an account that `terms` does not contain is 0.
+// trades. The broker id of an account that `terms` does not contain is 0.
 fn requests_match_trades(
     requests: &[RequestRow],
     trades: &[TradeRow],
@@ -100,9 +100,9 @@ fn requests_match_trades(
     rest.is_empty()
 }
 
-/// Returns true if the rows, which must satisfy `Form` and `Status`, satisfy the condition
-/// `Requests`: the rows of TRADE_REQUEST are exactly the requests of the pending trades. Fails with
-/// `Memory` only.
+/// Returns true if the rows, which must satisfy `Form` of some schema and `Status`, satisfy the
+/// condition `Requests`, the same in all schemas: the rows of TRADE_REQUEST are exactly the
+/// requests of the pending trades. Fails with `Memory` only.
 pub(crate) fn request_condition_holds(alloc: Global, sheets: &Sheets) -> Result<bool, Fault>
     requires form { HasWellFormedRows sheets.now }
     requires status { HasValidStatuses sheets.now }

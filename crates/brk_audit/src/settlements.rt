@@ -48,8 +48,8 @@ fn settlement_matches_trade(
 
 // Returns the settlements after the settlement of `trade`, or all settlements if `trade` is not
 // completed. Returns `None` if `trade` is completed and `settlements` does not begin with its
-// settlement. Settlement texts are not compared. An account that `terms` does not contain counts as
-// `Untaxed`.
+// settlement. `rule` is the first day of one-day settlement, if it is set. Settlement texts are not
+// compared. An account that `terms` does not contain counts as `Untaxed`, and a missing price as 0.
 fn settlements_after_trade<'a>(
     settlements: &'a [SettlementRow],
     trade: &TradeRow,
@@ -82,8 +82,9 @@ fn settlements_after_trade<'a>(
 }
 
 // Returns true if the settlements are exactly the settlements of the completed trades, in the order
-// of the trades. Settlement texts are not compared. An account that `terms` does not contain counts
-// as `Untaxed`.
+// of the trades, where `rule` is the first day of one-day settlement, if it is set. Settlement
+// texts are not compared. An account that `terms` does not contain counts as `Untaxed`, and a
+// missing price as 0.
 fn settlements_match_trades(
     settlements: &[SettlementRow],
     trades: &[TradeRow],
@@ -104,9 +105,10 @@ fn settlements_match_trades(
     rest.is_empty()
 }
 
-/// Returns true if the rows, which must satisfy `Form` and `Status`, satisfy the condition
-/// `Settlement`: SETTLEMENT has exactly one row for each completed trade, with the trade's due day
-/// and settlement amount, and no other row. Fails with `Memory` only.
+/// Returns true if the rows, which must satisfy `Form` of some schema and `Status`, satisfy the
+/// condition `Settlement`, the same in all schemas: SETTLEMENT has exactly one row for each
+/// completed trade, with the trade's due day and settlement amount, and no other row. Settlement
+/// texts are not compared. Fails with `Memory` only.
 pub(crate) fn settlement_condition_holds(alloc: Global, sheets: &Sheets) -> Result<bool, Fault>
     requires form { HasWellFormedRows sheets.now }
     requires status { HasValidStatuses sheets.now }

@@ -50,7 +50,7 @@ fn has_status_and_stamp_of_row(trade: &TradeRow, row: HistoryRow) -> bool
 
 // Returns true if the rows `a` and `b` are sorted by status code and form a valid status sequence
 // in strictly ascending order of their stamps, and the trade's row has the status and the stamp of
-// the later one.
+// the one with the greater stamp.
 fn is_valid_two_row_history(trade: &TradeRow, a: HistoryRow, b: HistoryRow) -> bool
     ensures { result ≡ spec.is_valid_two_row_history (abstract_trade_row trade.now) (abstract_history_row a) (abstract_history_row b) }
 {
@@ -67,7 +67,7 @@ fn is_valid_two_row_history(trade: &TradeRow, a: HistoryRow, b: HistoryRow) -> b
 
 // Returns true if the rows `a`, `b` and `c` are sorted by status code and form a valid status
 // sequence in strictly ascending order of their stamps, and the trade's row has the status and the
-// stamp of the last one.
+// stamp of the one with the greatest stamp.
 fn is_valid_three_row_history(trade: &TradeRow, a: HistoryRow, b: HistoryRow, c: HistoryRow) -> bool
     ensures { result
         ≡ spec.is_valid_three_row_history (abstract_trade_row trade.now) (abstract_history_row a) (abstract_history_row b) (abstract_history_row c) }
@@ -84,7 +84,7 @@ fn is_valid_three_row_history(trade: &TradeRow, a: HistoryRow, b: HistoryRow, c:
 
 // Returns true if the history rows are sorted by status code and form a valid status sequence in
 // strictly ascending order of their stamps, and the trade's row has the status and the stamp of the
-// last one. Returns false if there are no rows.
+// one with the greatest stamp. Returns false if there are no rows.
 fn is_valid_trade_history(trade: &TradeRow, rows: &[HistoryRow]) -> bool
     ensures { result ≡ spec.is_valid_history (abstract_trade_row trade.now) (map abstract_history_row rows.now) }
 {
@@ -111,7 +111,8 @@ fn leading_row_count_of_trade(history: &[HistoryRow], trade: Id) -> usize
 
 // Returns true if `history` begins with the rows of the first trade, then has the rows of the
 // second, and so on, and the rows of each trade are a valid history of it
-// (`is_valid_trade_history`). Rows after those of the last trade are not checked.
+// (`is_valid_trade_history`). Rows after those of the last trade are not checked. Returns true if
+// there are no trades.
 fn all_histories_are_valid(trades: &[TradeRow], history: &[HistoryRow]) -> bool
     ensures { result ≡ spec.all_histories_are_valid (map abstract_trade_row trades.now) (map abstract_history_row history.now) }
 {
@@ -181,10 +182,10 @@ fn has_distinct_stamps(
     Ok(true)
 }
 
-/// Returns true if the rows, which must satisfy `Form`, satisfy the condition `Status`: each
-/// trade's history is a valid status sequence with strictly ascending stamps, the trade's row has
-/// the status and the stamp of the last status change, and no two completions, deposits or
-/// withdrawals have the same stamp. Fails with `Memory` only.
+/// Returns true if the rows, which must satisfy `Form` of some schema, satisfy the condition
+/// `Status`, the same in all schemas: each trade's history is a valid status sequence with strictly
+/// ascending stamps, the trade's row has the status and the stamp of the last status change, and no
+/// two completions, deposits or withdrawals have the same stamp. Fails with `Memory` only.
 pub(crate) fn status_condition_holds(alloc: Global, sheets: &Sheets) -> Result<bool, Fault>
     requires form { HasWellFormedRows sheets.now }
     ensures value { IfOk result (λ holds. (schema : Schema) → IsTrue holds ↔ ConditionHolds schema condition.Status (abstract_sheets sheets.now)) }

@@ -10,8 +10,8 @@ use Rattle.brk_model.specs.Tables.{Tables}
 abbrev pub sum_at_customer_id : BTreeMap ℕ ℕ → ℕ → ℕ
 sum_at_customer_id sums q = unwrap_or (get nat_cmp sums q) 0
 
--- The rate in the first row of the tax rate with the id `tax`, in hundred-thousandths, or 0 if
--- there is no such row.
+-- The rate, in hundred-thousandths, in the first row of TAXRATE, in the sequence of the table, with
+-- the id `tax`, or 0 if there is no such row.
 abbrev pub rate_of_tax_rate_or_zero : Tables → ℕ → ℕ
 rate_of_tax_rate_or_zero t tax = option_map_or (λ r. r.rate) (tax_rate_with_id_in_list t.tax_rates tax) 0
 

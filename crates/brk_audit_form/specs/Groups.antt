@@ -21,8 +21,9 @@ use Rattle.brk_changes.specs.Rows.{abstract_lot_change_row, abstract_settlement_
 use Rattle.brk_changes.specs.Sheets.{abstract_sheets}
 use Rattle.brk_changes.specs.declared.sheets.Sheets.{Sheets}
 
--- True if KEPT, LAST_TRADE and each table of reference data of the typed rows `s` are sorted by
--- key, ascending, and no key occurs twice in a table.
+-- True if the typed rows `s` of KEPT, BROKER, CUSTOMER, CUSTOMER_ACCOUNT, ACCOUNT_PERMISSION,
+-- SECURITY, LAST_TRADE, CHARGE, COMMISSION_RATE, TAXRATE and CUSTOMER_TAXRATE are sorted by key in
+-- each table, ascending, and no key occurs twice in a table.
 abbrev pub reference_tables_are_sorted : Sheets → Bool
 reference_tables_are_sorted s =
     is_sorted_by_unique_key (λ r. kept_key (kept_row_with_empty_texts r)) s.kept.items
@@ -37,7 +38,8 @@ reference_tables_are_sorted s =
     && is_sorted_by_unique_key (λ r. tax_rate_key (abstract_tax_rate r)) s.tax_rates.items
     && is_sorted_by_unique_key (λ r. customer_tax_key (abstract_customer_tax r)) s.customer_taxes.items
 
--- True if each table of trades, lots, settlements and cash of the typed rows `s` is sorted by key,
+-- True if the typed rows `s` of TRADE, TRADE_HISTORY, TRADE_REQUEST, HOLDING, HOLDING_SUMMARY,
+-- HOLDING_HISTORY, SETTLEMENT, CASH_TRANSACTION and CASH_MOVE are sorted by key in each table,
 -- ascending, and no key occurs twice in a table.
 abbrev pub trading_tables_are_sorted : Sheets → Bool
 trading_tables_are_sorted s =
@@ -51,8 +53,11 @@ trading_tables_are_sorted s =
     && is_sorted_by_unique_key (λ r. cash_transaction_key (abstract_cash_row r)) s.cash.items
     && is_sorted_by_unique_key (λ r. cash_move_key (abstract_move_row r)) s.moves.items
 
--- True if each of the typed rows `s` of KEPT, of LAST_TRADE and of reference data is well-formed
--- and within the limits of the schema, and each record that it refers to exists.
+-- True if each of the typed rows `s` of KEPT, BROKER, CUSTOMER, CUSTOMER_ACCOUNT,
+-- ACCOUNT_PERMISSION, SECURITY, LAST_TRADE, CHARGE, COMMISSION_RATE, TAXRATE and CUSTOMER_TAXRATE
+-- is well-formed and within the limits of the schema, each record that it refers to exists, each
+-- row of SECURITY has a row of LAST_TRADE, and the stamp of a row of LAST_TRADE is not after the
+-- last stamp, which must exist.
 abbrev pub reference_rows_are_well_formed : Schema → Sheets → Bool
 reference_rows_are_well_formed schema s =
     list_all (λ r. is_well_formed_kept_row (kept_row_with_empty_texts r)) s.kept.items
@@ -69,7 +74,9 @@ reference_rows_are_well_formed schema s =
 
 -- True if each of the typed rows `s` of TRADE, TRADE_HISTORY, TRADE_REQUEST, HOLDING,
 -- HOLDING_SUMMARY, HOLDING_HISTORY and SETTLEMENT is well-formed and within the limits of the
--- schema, and each record that it refers to exists.
+-- schema, each record that it refers to exists, the stamp of a row of TRADE, TRADE_HISTORY or
+-- HOLDING is not after the last stamp, which must exist, and a row of TRADE has a price if and only
+-- if TRADE_HISTORY has a completion of the trade.
 abbrev pub trading_rows_are_well_formed : Schema → Sheets → Bool
 trading_rows_are_well_formed schema s =
     list_all (λ r. is_well_formed_trade_row schema (abstract_sheets s) (abstract_trade_row r)) s.trades.items

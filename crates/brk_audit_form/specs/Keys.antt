@@ -6,7 +6,8 @@ use Rattle.std.specs.Ordering.{nat_cmp, ordering_then}
 use Rattle.std.specs.Cmp.Lexicographic.{slice_cmp}
 use Rattle.brk_model.specs.Keys.{KeyPart, number, word}
 
--- The order of two parts of a key: numbers by size, texts by bytes, and a number before a text.
+-- The order of two parts of a key: numbers by size, texts in the lexicographic order of bytes, and
+-- a number before a text.
 abbrev pub key_part_cmp : KeyPart → KeyPart → Ordering
 key_part_cmp (number m) (number n) = nat_cmp m n
 key_part_cmp (word s) (word t) = slice_cmp nat_cmp s t

@@ -6,7 +6,8 @@ use Rattle.brk_model.specs.Tables.{Tables, TradeRow}
 use Rattle.brk_model.specs.Joins.{security_row_with_symbol}
 use Rattle.brk_model.specs.Results.{cash_row_name_from_parts}
 
--- The name of the first security with the symbol, or the empty text if there is no such security.
+-- The name in the first row of SECURITY, in the sequence of the table, with the symbol `symbol`, or
+-- the empty text if there is no such row.
 abbrev pub security_name_or_empty : Tables → Text → Text
 security_name_or_empty t symbol = option_map_or (λ s. s.name) (security_row_with_symbol t symbol) []
 

@@ -79,9 +79,9 @@ fn is_cash_text_of_trade(
     Ok(name == second.as_str())
 }
 
-// Returns true if the trade with the id `id` exists and `name` is one of its two cash texts, with
-// ` shares of ` or with ` Shares of `. The tables must be sorted by key without a repeated key.
-// Fails with `Memory` only.
+// Returns true if the trade with the id `id` exists and `name` is one of its two cash texts
+// (`is_cash_text_of_trade`). The tables must be sorted by key without a repeated key. Fails with
+// `Memory` only.
 fn is_cash_text_of_trade_id(
     alloc: Global,
     sheets: &Sheets,
@@ -100,8 +100,9 @@ fn is_cash_text_of_trade_id(
 }
 
 // Returns true if the row of CASH_TRANSACTION is well-formed: its trade exists, its text is one of
-// the two cash texts of the trade, its stamp is at most the last stamp, and its amount is within
-// the limit. The tables must be sorted by key without a repeated key. Fails with `Memory` only.
+// the two cash texts of the trade (`is_cash_text_of_trade`), its stamp is at most the last stamp,
+// which must exist, and the absolute value of its amount, in cents, is at most the greatest amount.
+// The tables must be sorted by key without a repeated key. Fails with `Memory` only.
 fn is_cash_transaction_well_formed(
     alloc: Global,
     sheets: &Sheets,
@@ -128,9 +129,10 @@ fn is_movement_name_of_sign(name: &str, amount: Cents) -> bool
 }
 
 // Returns true if the row of CASH_MOVE has a trade, the trade exists, and the text of the row is
-// one of the two cash texts of that trade. If the row has no trade, returns true if its text is
-// `Deposit` and its amount is above 0, or its text is `Withdrawal` and its amount is below 0. The
-// tables must be sorted by key without a repeated key. Fails with `Memory` only.
+// one of the two cash texts of that trade (`is_cash_text_of_trade`). If the row has no trade,
+// returns true if its text is `Deposit` and its amount is above 0, or its text is `Withdrawal` and
+// its amount is below 0. The tables must be sorted by key without a repeated key. Fails with
+// `Memory` only.
 fn has_valid_cash_text(alloc: Global, sheets: &Sheets, row: &MoveRow) -> Result<bool, Fault>
     requires { HasSortedKeys sheets.now }
     ensures value { IfOk result (λ holds. holds
@@ -144,10 +146,11 @@ fn has_valid_cash_text(alloc: Global, sheets: &Sheets, row: &MoveRow) -> Result<
     }
 }
 
-// Returns true if the row of CASH_MOVE is well-formed: its number and its amount are within their
-// limits, its account exists, its text fits its trade or its amount (`has_valid_cash_text`), and
-// its stamp is at most the last stamp. The tables must be sorted by key without a repeated key.
-// Fails with `Memory` only.
+// Returns true if the row of CASH_MOVE is well-formed: its number is from 1 to the greatest number
+// of a cash row, both included, the absolute value of its amount, in cents, is at most the greatest
+// amount, its account exists, its text fits its trade or its amount (`has_valid_cash_text`), and
+// its stamp is at most the last stamp, which must exist. The tables must be sorted by key without a
+// repeated key. Fails with `Memory` only.
 fn is_move_row_well_formed(alloc: Global, sheets: &Sheets, row: &MoveRow) -> Result<bool, Fault>
     requires { HasSortedKeys sheets.now }
     ensures value { IfOk result (λ holds. holds ≡ form.is_well_formed_cash_move_row (abstract_sheets sheets.now) (abstract_move_row row.now)) }

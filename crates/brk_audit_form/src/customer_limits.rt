@@ -17,8 +17,9 @@ use std::collections::BTreeMap;
 // The greatest number of accounts of a customer.
 const MOST_ACCOUNTS: u128 = 10;
 
-// Adds `more` to the sum of the customer in the map; a customer that the map does not contain has
-// the sum 0. The sum must be below 2^128 - 2^32. Fails with `Memory` only.
+// Adds `more` to the sum of the customer in the map and changes no other sum; a customer that the
+// map does not contain has the sum 0. The sum before the call must be below 2^128 - 2^32. Fails
+// with `Memory` only.
 fn add_to_customer_sum(sums: &mut BTreeMap<u64, u128>, customer: Id, more: u32) -> Result<(), Fault>
     requires room { sum_at_customer_id sums.old customer + 2 ^ 32 < 2 ^ 128 }
     ensures more { OnOk result ((q : ℕ) → sum_at_customer_id sums.new q ≡ sum_at_customer_id sums.old q + cond (customer == q) more 0) }
@@ -30,8 +31,9 @@ fn add_to_customer_sum(sums: &mut BTreeMap<u64, u128>, customer: Id, more: u32) 
     Ok(())
 }
 
-// Returns a map from the id of each customer with an account to the number of its accounts. Fails
-// with `Memory` only.
+// Returns a map from customer ids to numbers of accounts: each customer's number is that of the
+// rows of `accounts` with this customer, and an id that the map does not contain has 0. Fails with
+// `Memory` only.
 fn count_accounts_by_customer(
     alloc: Global,
     accounts: &[AccountRow],
@@ -60,9 +62,9 @@ fn rate_of_tax_or_zero(sheets: &Sheets, tax: Id) -> u32
     }
 }
 
-// Returns a map from the id of each customer who pays a tax to the sum of the tax rates that the
-// customer pays, in hundred-thousandths. A tax rate that does not exist counts as 0. The tables
-// must be sorted by key without a repeated key. Fails with `Memory` only.
+// Returns a map from customer ids to the sums of the tax rates that each customer pays, in
+// hundred-thousandths; an id that the map does not contain has 0. A tax rate that does not exist
+// counts as 0. The tables must be sorted by key without a repeated key. Fails with `Memory` only.
 fn sum_tax_rates_by_customer(alloc: Global, sheets: &Sheets) -> Result<BTreeMap<u64, u128>, Fault>
     requires { HasSortedKeys sheets.now }
     ensures sums { IfOk result (λ sums. (q : ℕ) → sum_at_customer_id sums q ≡ tax_rate_sum_of_payer (abstract_sheets sheets.now) q) }

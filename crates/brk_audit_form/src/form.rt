@@ -42,8 +42,9 @@ fn is_valid_settlement_day(rule: Option<Day>) -> bool
     }
 }
 
-// Returns true if the rows have no part that the schema lacks: no rows of CASH_MOVE in a schema
-// without this table, and no first day of one-day settlement in a schema without SETTLE_RULE.
+// Returns true if, of CASH_MOVE and SETTLE_RULE, those that the schema lacks have no rows: no rows
+// of CASH_MOVE in a schema without this table, and no first day of one-day settlement in a schema
+// without SETTLE_RULE. CASH_TRANSACTION is not checked.
 fn has_no_rows_of_later_schemas(schema: Schema, sheets: &Sheets) -> bool
     ensures { result ≡ has_rows_only_in_tables_of_schema (abstract_schema schema) (abstract_sheets sheets.now) }
 {
@@ -54,7 +55,8 @@ fn has_no_rows_of_later_schemas(schema: Schema, sheets: &Sheets) -> bool
 // Returns true if the rows pass those checks of the condition `Form` that do not allocate: of keys,
 // of the columns and the references of all rows except those of CASH_TRANSACTION and CASH_MOVE, of
 // bands, of the ids of trades, of the number of movements, of the last stamp, of the first day of
-// one-day settlement, and of the tables that the schema lacks.
+// one-day settlement, and of CASH_MOVE and SETTLE_RULE, which must have no rows if the schema lacks
+// them.
 fn passes_checks_without_allocation(schema: Schema, sheets: &Sheets) -> bool
     ensures { result ≡ passes_nonallocating_form_checks (abstract_schema schema) sheets.now }
 {
@@ -79,8 +81,8 @@ fn passes_checks_without_allocation(schema: Schema, sheets: &Sheets) -> bool
 /// without a gap. No two customers have the same tax id, and each has at most 10 accounts and tax
 /// rates that sum to at most the greatest tax rate. No two rows of CASH_MOVE have the same trade,
 /// and at most `Id::GREATEST` rows of CASH_MOVE have no trade. The last stamp and the first day of
-/// one-day settlement, if they are set, are within the calendar, and tables that the schema lacks
-/// are empty.
+/// one-day settlement, if they are set, are at most 9999-12-31, and CASH_MOVE and SETTLE_RULE have
+/// no rows if the schema lacks them.
 ///
 /// Fails with `Memory` only.
 pub fn form_condition_holds(alloc: Global, schema: Schema, sheets: &Sheets) -> Result<bool, Fault>

@@ -14,7 +14,8 @@ pub(crate) trait Keyed {
     /// The sort key of a row.
     ghost key: { Self → List KeyPart };
 
-    /// Returns the order of the key of the row and the key of `other`.
+    /// Returns the order of the key of the row and the key of `other`, part by part: numbers by
+    /// value, texts in the lexicographic order of bytes.
     fn compare_keys(&self, other: &Self) -> Ordering
         ensures { result ≡ key_cmp (key self.now) (key other.now) };
 }
@@ -26,7 +27,7 @@ pub(crate) fn compare_ids(one: Id, other: Id) -> Ordering
     one.get().cmp(&other.get())
 }
 
-/// Returns the order of two texts by their bytes.
+/// Returns the lexicographic order of two texts by their bytes.
 pub(crate) fn compare_texts<F: Form>(one: &Text<F>, other: &Text<F>) -> Ordering
     ensures { result ≡ slice_cmp nat_cmp one.now other.now }
 {

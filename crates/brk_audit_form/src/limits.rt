@@ -9,35 +9,37 @@ use brk_changes::{Schema, Sheets};
 use brk_money::{Amount, Cents, Id, MoveId, Price, Qty, Stamp};
 use brk_ref::{ChargeAmount, Form, Text, Tier};
 
-/// Returns true if the id is from 1 to the greatest id.
+/// Returns true if the id is from 1 to the greatest id, both included.
 pub(crate) fn is_id_within_limits(id: Id) -> bool
     ensures { result ≡ form.is_id id }
 {
     1 <= id.get() && id.get() <= Id::GREATEST
 }
 
-/// Returns true if the number of a cash row (CM_ID) is from 1 to the greatest number of a cash row.
+/// Returns true if the number of a cash row (CM_ID) is from 1 to the greatest number of a cash row,
+/// both included.
 pub(crate) fn is_move_id_within_limits(id: MoveId) -> bool
     ensures { result ≡ form.is_cash_row_number id }
 {
     1 <= id.get() && id.get() <= MoveId::GREATEST
 }
 
-/// Returns true if the quantity, in shares, is from 1 to the greatest quantity of the schema.
+/// Returns true if the quantity, in shares, is from 1 to the greatest quantity of the schema, both
+/// included.
 pub(crate) fn is_quantity_within_limits(schema: Schema, qty: Qty) -> bool
     ensures { result ≡ form.is_quantity_in_schema (abstract_schema schema) qty }
 {
     1 <= qty.get() && qty.get() <= schema.greatest_qty()
 }
 
-/// Returns true if the price is from 1 cent to the greatest price.
+/// Returns true if the price is from 1 cent to the greatest price, both included.
 pub(crate) fn is_price_within_limits(price: Price) -> bool
     ensures { result ≡ form.is_price price }
 {
     1 <= price.get() && price.get() <= Price::GREATEST
 }
 
-/// Returns true if the customer tier is from 1 to 3.
+/// Returns true if the customer tier is from 1 to 3, both included.
 pub(crate) fn is_tier_within_limits(tier: Tier) -> bool
     ensures { result ≡ form.is_tier tier }
 {

@@ -20,7 +20,8 @@ use brk_ref::{
 impl Formed for Key {
     ghost form = { λ schema tables row. form.is_well_formed_kept_row (of.kept_row_with_empty_texts row) };
 
-    // Returns true if the batch name and the row number of the key are well-formed.
+    // Returns true if the batch name of the key is well-formed and its row number is from 1 to the
+    // greatest row number, both included.
     fn is_row_well_formed(&self, _schema: Schema, _sheets: &Sheets) -> bool {
         is_well_formed_text(&self.batch)
             && 1 <= self.row.get()
@@ -31,8 +32,8 @@ impl Formed for Key {
 impl Formed for BrokerRow {
     ghost form = { λ schema tables row. form.is_well_formed_broker_row (of.abstract_broker_row row) };
 
-    // Returns true if the id and the name are well-formed, and the commission total is at most the
-    // greatest amount. The trade count is not checked.
+    // Returns true if the id and the name are well-formed, and the commission total, in cents, is
+    // at most the greatest amount. The trade count is not checked.
     fn is_row_well_formed(&self, _schema: Schema, _sheets: &Sheets) -> bool {
         is_id_within_limits(self.broker.id)
             && is_well_formed_text(&self.broker.name)
@@ -56,8 +57,9 @@ impl Formed for Customer {
 impl Formed for AccountRow {
     ghost form = { λ schema tables row. form.is_well_formed_account_row tables (of.abstract_account_row row) };
 
-    // Returns true if the id, the name, the opening balance and the balance are well-formed, and
-    // the customer and the broker exist.
+    // Returns true if the id and the name are well-formed, the absolute values of the opening
+    // balance and of the balance, in cents, are at most the greatest amount, and the customer and
+    // the broker exist.
     fn is_row_well_formed(&self, _schema: Schema, sheets: &Sheets) -> bool {
         is_id_within_limits(self.account.id)
             && is_well_formed_text(&self.account.name)
@@ -98,8 +100,9 @@ impl Formed for Security {
 impl Formed for LastTrade {
     ghost form = { λ schema tables row. form.is_well_formed_last_trade_row tables (of.abstract_last_trade_row row) };
 
-    // Returns true if the security exists, the stamp is at most the last stamp, and the price and
-    // the volume are within their limits.
+    // Returns true if the security exists, the stamp is at most the last stamp, which must exist,
+    // the price is from 1 cent to the greatest price, both included, and the volume, in shares, is
+    // at most the greatest volume.
     fn is_row_well_formed(&self, _schema: Schema, sheets: &Sheets) -> bool {
         has_security(sheets, &self.symbol)
             && stamp_is_at_most_last_stamp(sheets, self.stamp)
@@ -111,7 +114,8 @@ impl Formed for LastTrade {
 impl Formed for Charge {
     ghost form = { λ schema tables row. form.is_well_formed_charge_row (of.abstract_charge row) };
 
-    // Returns true if the tier is from 1 to 3 and the amount is at most the greatest charge.
+    // Returns true if the tier is from 1 to 3, both included, and the amount, in cents, is at most
+    // the greatest charge.
     fn is_row_well_formed(&self, _schema: Schema, _sheets: &Sheets) -> bool {
         is_tier_within_limits(self.tier) && is_charge_within_limit(self.amount)
     }
@@ -120,8 +124,9 @@ impl Formed for Charge {
 impl Formed for Band {
     ghost form = { λ schema tables row. form.is_well_formed_band_row schema (of.abstract_band row) };
 
-    // Returns true if the tier, the exchange and the rate are well-formed, both bounds are within
-    // the limits of the schema, and the lower bound is at most the upper bound.
+    // Returns true if the tier and the exchange are well-formed, both bounds, in shares, are from 1
+    // to the greatest quantity of the schema, both included, the lower bound is at most the upper
+    // bound, and the rate, in hundredths of a percent, is at most the greatest commission rate.
     fn is_row_well_formed(&self, schema: Schema, _sheets: &Sheets) -> bool {
         is_tier_within_limits(self.tier)
             && is_well_formed_text(&self.exchange)
@@ -135,7 +140,8 @@ impl Formed for Band {
 impl Formed for Tax {
     ghost form = { λ schema tables row. form.is_well_formed_tax_rate_row (of.abstract_tax_rate row) };
 
-    // Returns true if the id, the name and the rate are well-formed.
+    // Returns true if the id and the name are well-formed, and the rate, in hundred-thousandths, is
+    // at most the greatest tax rate.
     fn is_row_well_formed(&self, _schema: Schema, _sheets: &Sheets) -> bool {
         is_id_within_limits(self.id)
             && is_well_formed_text(&self.name)

@@ -104,8 +104,8 @@ pub(crate) fn has_last_trade(sheets: &Sheets, symbol: &Symbol) -> bool
         .is_ok()
 }
 
-/// Returns true if the trade with the id has a row of TRADE_HISTORY with the status `Completed`.
-/// The tables must be sorted by key without a repeated key.
+/// Returns true if TRADE_HISTORY contains a row with the trade id `id` and the status `Completed`;
+/// TRADE need not contain the trade. The tables must be sorted by key without a repeated key.
 pub(crate) fn has_completion(sheets: &Sheets, id: Id) -> bool
     requires { HasSortedKeys sheets.now }
     ensures { result ≡ list_any (λ h. is_same_trade_status h.status Completed) (joins.history_rows_with_trade_id (abstract_sheets sheets.now) id) }

@@ -10,7 +10,8 @@ use crate::keys::has_sorted_unique_keys;
 use crate::rows::are_rows_well_formed;
 use brk_changes::{Schema, Sheets};
 
-// Returns true if KEPT, LAST_TRADE and each table of reference data are sorted by key, ascending,
+// Returns true if each of KEPT, BROKER, CUSTOMER, CUSTOMER_ACCOUNT, ACCOUNT_PERMISSION, SECURITY,
+// LAST_TRADE, CHARGE, COMMISSION_RATE, TAXRATE and CUSTOMER_TAXRATE is sorted by key, ascending,
 // and no key occurs twice in a table.
 fn has_sorted_reference_tables(sheets: &Sheets) -> bool
     ensures { result ≡ reference_tables_are_sorted sheets.now }
@@ -28,8 +29,9 @@ fn has_sorted_reference_tables(sheets: &Sheets) -> bool
         && has_sorted_unique_keys(&sheets.customer_taxes)
 }
 
-// Returns true if each table of trades, holdings, settlements and cash is sorted by key, ascending,
-// and no key occurs twice in a table.
+// Returns true if each of TRADE, TRADE_HISTORY, TRADE_REQUEST, HOLDING, HOLDING_SUMMARY,
+// HOLDING_HISTORY, SETTLEMENT, CASH_TRANSACTION and CASH_MOVE is sorted by key, ascending, and no
+// key occurs twice in a table.
 fn has_sorted_trading_tables(sheets: &Sheets) -> bool
     ensures { result ≡ trading_tables_are_sorted sheets.now }
 {
@@ -51,9 +53,11 @@ pub(crate) fn all_tables_have_sorted_keys(sheets: &Sheets) -> bool
     has_sorted_reference_tables(sheets) && has_sorted_trading_tables(sheets)
 }
 
-/// Returns true if each row of KEPT, of LAST_TRADE and of reference data is well-formed and within
-/// the limits of the schema, and each record that it refers to exists. The tables must be sorted by
-/// key without a repeated key.
+/// Returns true if each row of KEPT, BROKER, CUSTOMER, CUSTOMER_ACCOUNT, ACCOUNT_PERMISSION,
+/// SECURITY, LAST_TRADE, CHARGE, COMMISSION_RATE, TAXRATE and CUSTOMER_TAXRATE is well-formed and
+/// within the limits of the schema, each record that it refers to exists, each row of SECURITY has
+/// a row of LAST_TRADE, and the stamp of a row of LAST_TRADE is not after the last stamp, which
+/// must exist. The tables must be sorted by key without a repeated key.
 pub(crate) fn has_well_formed_reference_rows(schema: Schema, sheets: &Sheets) -> bool
     requires { HasSortedKeys sheets.now }
     ensures { result ≡ reference_rows_are_well_formed (abstract_schema schema) sheets.now }
@@ -72,8 +76,10 @@ pub(crate) fn has_well_formed_reference_rows(schema: Schema, sheets: &Sheets) ->
 }
 
 /// Returns true if each row of TRADE, TRADE_HISTORY, TRADE_REQUEST, HOLDING, HOLDING_SUMMARY,
-/// HOLDING_HISTORY and SETTLEMENT is well-formed and within the limits of the schema, and each
-/// record that it refers to exists. The tables must be sorted by key without a repeated key.
+/// HOLDING_HISTORY and SETTLEMENT is well-formed and within the limits of the schema, each record
+/// that it refers to exists, the stamp of a row of TRADE, TRADE_HISTORY or HOLDING is not after the
+/// last stamp, which must exist, and a row of TRADE has a price if and only if TRADE_HISTORY has a
+/// completion of the trade. The tables must be sorted by key without a repeated key.
 pub(crate) fn has_well_formed_trading_rows(schema: Schema, sheets: &Sheets) -> bool
     requires { HasSortedKeys sheets.now }
     ensures { result ≡ trading_rows_are_well_formed (abstract_schema schema) sheets.now }

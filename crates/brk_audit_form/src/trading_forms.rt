@@ -18,9 +18,9 @@ use brk_changes::{
 };
 use brk_money::{Day, Stamp, Status};
 
-// Returns true if the trade of the row has a completion in TRADE_HISTORY and a price from 1 cent to
-// the greatest price, or neither a completion nor a price. The tables must be sorted by key without
-// a repeated key.
+// Returns true if TRADE_HISTORY has a completion of the trade of the row and the row has a price
+// from 1 cent to the greatest price, both included, or if there is neither a completion nor a
+// price. The tables must be sorted by key without a repeated key.
 fn row_has_price_exactly_if_completed(sheets: &Sheets, row: &TradeRow) -> bool
     requires { HasSortedKeys sheets.now }
     ensures { result ≡ form.has_price_matching_completion (abstract_sheets sheets.now) (of.abstract_trade_row row.now) }
@@ -40,8 +40,8 @@ fn is_due_day_within_calendar(rule: Option<Day>, status: Status, stamp: Stamp) -
     status != Status::Completed || due_day_after_completion(rule, stamp).is_some()
 }
 
-// Returns true if the settlement text is one of the two texts of a cash trade (if `is_cash` is
-// true) or of a margin trade (if `is_cash` is false).
+// Returns true if the settlement text is `Cash Account` or `Cash`, for a cash trade (`is_cash` is
+// true), or `Margin` or `Margin Account`, for a margin trade (`is_cash` is false).
 fn is_cash_type_for_trade(is_cash: bool, word: CashType) -> bool
     ensures { result ≡ form.is_cash_type_of_trade is_cash (of.cash_type_text word) }
 {
@@ -54,10 +54,11 @@ fn is_cash_type_for_trade(is_cash: bool, word: CashType) -> bool
 impl Formed for TradeRow {
     ghost form = { λ schema tables row. form.is_well_formed_trade_row schema tables (of.abstract_trade_row row) };
 
-    // Returns true if the id, the quantity, the bid, the charge, the commission and the tax are
-    // within their limits, the stamp is at most the last stamp, the account and the security exist,
-    // and the row has a price, within its limits, if and only if its trade has a completion. The
-    // executor is not checked.
+    // Returns true if the id, the bid, the charge, the commission and the tax are within their
+    // limits, the quantity is within the limits of the schema, the stamp is at most the last stamp,
+    // which must exist, the account and the security exist, and the row has a price, within its
+    // limits, if and only if TRADE_HISTORY has a completion of its trade. The status and the
+    // executor are not checked.
     fn is_row_well_formed(&self, schema: Schema, sheets: &Sheets) -> bool {
         is_id_within_limits(self.id)
             && is_quantity_within_limits(schema, self.qty)
@@ -75,8 +76,8 @@ impl Formed for TradeRow {
 impl Formed for HistoryRow {
     ghost form = { λ schema tables row. form.is_well_formed_history_row tables (of.abstract_history_row row) };
 
-    // Returns true if the trade exists, the stamp is at most the last stamp, and, if the status is
-    // `Completed`, the due day is within the calendar.
+    // Returns true if the trade exists, the stamp is at most the last stamp, which must exist, and,
+    // if the status is `Completed`, the due day is at most the greatest day, 9999-12-31.
     fn is_row_well_formed(&self, _schema: Schema, sheets: &Sheets) -> bool {
         has_trade(sheets, self.trade)
             && stamp_is_at_most_last_stamp(sheets, self.stamp)
@@ -87,8 +88,8 @@ impl Formed for HistoryRow {
 impl Formed for RequestRow {
     ghost form = { λ schema tables row. form.is_well_formed_request_row schema tables (of.abstract_request_row row) };
 
-    // Returns true if the quantity and the bid are within their limits, and the trade, the security
-    // and the broker exist.
+    // Returns true if the quantity is within the limits of the schema, the bid is within the limits
+    // of a price, and the trade, the security and the broker exist.
     fn is_row_well_formed(&self, schema: Schema, sheets: &Sheets) -> bool {
         has_trade(sheets, self.trade)
             && has_security(sheets, &self.symbol)
@@ -101,8 +102,8 @@ impl Formed for RequestRow {
 impl Formed for HoldingRow {
     ghost form = { λ schema tables row. form.is_well_formed_holding_row tables (of.abstract_holding_row row) };
 
-    // Returns true if the price is within its limits, the stamp is at most the last stamp, and the
-    // trade, the account and the security exist. The quantity is not checked.
+    // Returns true if the price is within its limits, the stamp is at most the last stamp, which
+    // must exist, and the trade, the account and the security exist. The quantity is not checked.
     fn is_row_well_formed(&self, _schema: Schema, sheets: &Sheets) -> bool {
         has_trade(sheets, self.trade)
             && has_account(sheets, self.account)
@@ -115,8 +116,8 @@ impl Formed for HoldingRow {
 impl Formed for SummaryRow {
     ghost form = { λ schema tables row. form.is_well_formed_summary_row schema tables (of.abstract_summary_row row) };
 
-    // Returns true if the account and the security exist, and the absolute value of the quantity is
-    // at most the greatest summary of the schema.
+    // Returns true if the account and the security exist, and the absolute value of the quantity,
+    // in shares, is at most the greatest summary of the schema.
     fn is_row_well_formed(&self, schema: Schema, sheets: &Sheets) -> bool {
         has_account(sheets, self.account)
             && has_security(sheets, &self.symbol)
@@ -138,7 +139,9 @@ impl Formed for SettlementRow {
     ghost form = { λ schema tables row. form.is_well_formed_settlement_row tables (of.abstract_settlement_row row) };
 
     // Returns true if the trade exists, the settlement text is one of the two texts for the kind of
-    // the trade (cash or margin), and the due day and the amount are within their limits.
+    // the trade, cash or margin (`is_cash_type_for_trade`), the due day is at most the greatest
+    // day, 9999-12-31, and the absolute value of the amount, in cents, is at most the greatest
+    // amount.
     fn is_row_well_formed(&self, _schema: Schema, sheets: &Sheets) -> bool {
         let Some(trade) = find_trade(sheets, self.trade) else {
             return false;

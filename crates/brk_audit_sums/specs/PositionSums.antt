@@ -36,7 +36,8 @@ pub record SummariesMatchTrades (t : Tables) : Type 0 where
       → share_sum_of_completed_trades t account symbol ≡ share_sum_of_summaries t.summaries account symbol
   pub nonzero : AllByRecursion HasNonzeroQuantity t.summaries
 
--- The order of two pairs of an account and a symbol: by account, then by the bytes of the symbol.
+-- The order of two pairs of an account and a symbol: by account, then by symbol in the
+-- lexicographic order of bytes.
 abbrev pub position_cmp : ℕ × Bor (List ℕ) → ℕ × Bor (List ℕ) → Ordering
 position_cmp x y = ordering_then (nat_cmp x.0 y.0) (slice_cmp nat_cmp x.1.now y.1.now)
 

@@ -12,12 +12,13 @@ use Rattle.brk_model.specs.Joins.{account_row_with_id}
 use Rattle.brk_model.specs.Tables.{Tables, CashRow, MoveRow, RequestRow, SettlementRow, TradeRow}
 use Rattle.brk_audit_sums.specs.Completed.{is_completed_row}
 
--- The broker in the first row of the account in the tables, or 0 if the account does not exist.
+-- The broker in the first row of CUSTOMER_ACCOUNT, in the sequence of the table, with the id
+-- `account`, or 0 if there is no such row.
 abbrev pub account_broker_or_zero : Tables → ℕ → ℕ
 account_broker_or_zero t account = option_map_or (λ a. a.broker) (account_row_with_id t account) 0
 
--- The tax status in the first row of the account in the tables, or `Untaxed` if the account does
--- not exist.
+-- The tax status in the first row of CUSTOMER_ACCOUNT, in the sequence of the table, with the id
+-- `account`, or `Untaxed` if there is no such row.
 abbrev pub account_tax_status_or_untaxed : Tables → ℕ → TaxStatus
 account_tax_status_or_untaxed t account = option_map_or (λ a. a.tax_status) (account_row_with_id t account) Untaxed
 
@@ -26,15 +27,15 @@ account_tax_status_or_untaxed t account = option_map_or (λ a. a.tax_status) (ac
 abbrev pub request_row_of_trade : (ℕ → ℕ) → TradeRow → RequestRow
 request_row_of_trade brokers r = record { trade = r.id; kind = r.kind; symbol = r.symbol; qty = r.qty; bid = r.bid; broker = brokers r.account }
 
--- The settlement amount of the completed trade `r` at the tax status `status`, in cents: its signed
--- value minus charge, commission and withheld tax. It is below 0 if the account pays. A missing
--- price counts as 0.
+-- The settlement amount of the completed trade `r` at the tax status `status`, in cents: its
+-- quantity times its price, negated for a purchase, minus charge, commission and, if the status is
+-- `Withheld`, tax. It is below 0 if the account pays. A missing price counts as 0.
 abbrev pub settlement_amount_at_tax_status : TaxStatus → TradeRow → ℤ
 settlement_amount_at_tax_status status r =
     signed_proceeds (side_of_trade_type r.kind) (r.qty * unwrap_or r.price 0) -ℤ pos (r.charge + r.commission
     + (if is_withholding_status status then r.tax else 0))
 
--- The trade, the due day and the amount, in cents, of a settlement.
+-- The trade, the due day, in days since 1970-01-01, and the amount, in cents, of a settlement.
 pub record SettlementFigures : Type 0 where
   pub trade : ℕ
   pub due_day : ℕ
@@ -85,8 +86,8 @@ abbrev pub posted_figures_of_trade : (ℕ → TaxStatus) → TradeRow → MoveRo
 posted_figures_of_trade statuses r =
     record { account = r.account; trade = r.id; stamp = r.stamp; amount = settlement_amount_at_tax_status (statuses r.account) r }
 
--- True if the rows of CASH_MOVE are numbered `n`, `n` + 1 and so on, and their stamps are at least
--- `stamp` and do not decrease.
+-- True if the rows of CASH_MOVE, in the sequence of the list, are numbered `n`, `n` + 1 and so on,
+-- and their stamps are at least `stamp` and do not decrease. True for the empty list.
 abbrev pub is_numbered_by_stamp : ℕ → ℕ → List MoveRow → Bool
 is_numbered_by_stamp n stamp [] = true
 is_numbered_by_stamp n stamp (r ∷ rs) = (r.id == n) && (nat_le stamp r.stamp && is_numbered_by_stamp (n + 1) r.stamp rs)

@@ -22,7 +22,7 @@ abbrev pub broker_posting_of_row : (ℕ → ℕ) → TradeRow → ℤ → Option
 broker_posting_of_row brokers r amount = if is_completed_row r then Some (record { key = brokers r.account; amount = amount }) else None
 
 -- The trade's settlement amount, in cents, as a posting at its account, where `statuses` returns
--- the tax status of an account, or `None` if it is not a completed cash trade.
+-- the tax status of an account, or `None` if the trade is not a completed cash trade.
 abbrev pub cash_posting_of_row : (ℕ → TaxStatus) → TradeRow → Option (KeyedAmount ℕ)
 cash_posting_of_row statuses r =
     if is_completed_cash_trade r then Some (record { key = r.account; amount = settlement_amount_at_tax_status (statuses r.account) r }) else None

@@ -19,7 +19,7 @@ pub struct AccountTerms {
 }
 
 /// Returns a map from the id of each account to the broker and the tax status of the first row with
-/// this id. Fails with `Memory` only.
+/// this id, in the sequence of `accounts`. Fails with `Memory` only.
 pub fn account_terms_by_id(
     alloc: Global,
     accounts: &[AccountRow],

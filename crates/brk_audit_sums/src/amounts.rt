@@ -61,8 +61,8 @@ fn proceeds_less_deductions(side: Side, value: u64, taken_off: u64) -> i64
 }
 
 /// Returns the settlement amount of a completed trade at the tax status of its account, in cents:
-/// its value, negated for a purchase, minus charge, commission and withheld tax. It is below 0 if
-/// the account pays. A missing price counts as 0.
+/// its quantity times its price, negated for a purchase, minus charge, commission and, if the
+/// status is `Withheld`, tax. It is below 0 if the account pays. A missing price counts as 0.
 pub fn settlement_amount_of_row(trade: &TradeRow, tax_status: TaxStatus) -> i64
     ensures { result ≡ settlement_amount_at_tax_status tax_status (abstract_trade_row trade.now) }
 {

@@ -86,8 +86,8 @@ impl KeyedSum for Balances {
     ghost has_sum = { λ sums row. row.balance ≡ row.account.opening +ℤ sum_at_key nat_cmp sums row.account.id };
 
     // Returns the settlement amount, in cents, as a posting at the account of the trade, or `None`
-    // if the trade is not a completed cash trade. The tax status is `Untaxed` if the map `terms`
-    // does not contain the account.
+    // if the trade is not a completed cash trade. The tax status is that of the account in the map
+    // `terms`, or `Untaxed` if the map does not contain the account.
     fn posting_of_trade(
         terms: &BTreeMap<u64, AccountTerms>,
         trade: &TradeRow,
@@ -108,9 +108,10 @@ impl KeyedSum for Balances {
     }
 }
 
-/// Returns true if the rows, which must satisfy `Form` and `Status`, satisfy the condition
-/// `Balance`: the balance of each account is its opening balance plus the settlement amounts of its
-/// completed cash trades and the amounts of its deposits and withdrawals. Fails with `Memory` only.
+/// Returns true if the rows, which must satisfy `Form` of some schema and `Status`, satisfy the
+/// condition `Balance`, the same in all schemas: the balance of each account is its opening balance
+/// plus the settlement amounts of its completed cash trades and the amounts of its deposits and
+/// withdrawals; the amount of a withdrawal is below 0. Fails with `Memory` only.
 pub fn balance_condition_holds(alloc: Global, sheets: &Sheets) -> Result<bool, Fault>
     requires form { HasWellFormedRows sheets.now }
     requires status { HasValidStatuses sheets.now }

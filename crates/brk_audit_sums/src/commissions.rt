@@ -32,8 +32,8 @@ impl KeyedSum for Commissions {
     ghost has_sum = { λ sums row. pos row.commissions ≡ sum_at_key nat_cmp sums row.broker.id };
 
     // Returns the commission, in cents, as a posting at the broker of the trade's account, or
-    // `None` if the trade is not completed. The broker is 0 if the map `terms` does not contain the
-    // account.
+    // `None` if the trade is not completed. The broker is that of the account in the map `terms`,
+    // or 0 if the map does not contain the account.
     fn posting_of_trade(
         terms: &BTreeMap<u64, AccountTerms>,
         trade: &TradeRow,
@@ -48,9 +48,9 @@ impl KeyedSum for Commissions {
     }
 }
 
-/// Returns true if the rows, which must satisfy `Form` and `Status`, satisfy the condition
-/// `Commission`: each broker's commission total is the sum of the commissions of the completed
-/// trades of the broker's accounts. Fails with `Memory` only.
+/// Returns true if the rows, which must satisfy `Form` of some schema and `Status`, satisfy the
+/// condition `Commission`, the same in all schemas: each broker's commission total is the sum of
+/// the commissions of the completed trades of the broker's accounts. Fails with `Memory` only.
 pub fn commission_condition_holds(alloc: Global, sheets: &Sheets) -> Result<bool, Fault>
     requires form { HasWellFormedRows sheets.now }
     requires status { HasValidStatuses sheets.now }

@@ -31,7 +31,8 @@ impl KeyedSum for TradeCounts {
     ghost has_sum = { λ sums row. row.trades ≡ sum_at_key nat_cmp sums row.broker.id };
 
     // Returns 1 as a posting at the broker of the trade's account, or `None` if the trade is not
-    // completed. The broker is 0 if the map `terms` does not contain the account.
+    // completed. The broker is that of the account in the map `terms`, or 0 if the map does not
+    // contain the account.
     fn posting_of_trade(
         terms: &BTreeMap<u64, AccountTerms>,
         trade: &TradeRow,
@@ -46,9 +47,9 @@ impl KeyedSum for TradeCounts {
     }
 }
 
-/// Returns true if the rows, which must satisfy `Form` and `Status`, satisfy the condition `Count`:
-/// each broker's trade count is the number of the completed trades of the broker's accounts. Fails
-/// with `Memory` only.
+/// Returns true if the rows, which must satisfy `Form` of some schema and `Status`, satisfy the
+/// condition `Count`, the same in all schemas: each broker's trade count is the number of the
+/// completed trades of the broker's accounts. Fails with `Memory` only.
 pub fn count_condition_holds(alloc: Global, sheets: &Sheets) -> Result<bool, Fault>
     requires form { HasWellFormedRows sheets.now }
     requires status { HasValidStatuses sheets.now }

@@ -43,8 +43,9 @@ pub(crate) trait KeyedSum {
         ensures { IsTrue result ↔ has_sum sums.now row.now };
 }
 
-/// Returns the amounts that the trades post, each with its key, in the order of the trades. Fails
-/// with `Memory` only.
+/// Returns the amounts that the trades post by the terms of accounts in the map `terms`, each with
+/// its key, in the order of the trades; a trade that posts none is left out. Fails with `Memory`
+/// only.
 pub(crate) fn postings_of_trades<S: KeyedSum>(
     alloc: Global,
     terms: &BTreeMap<u64, AccountTerms>,
@@ -60,7 +61,7 @@ pub(crate) fn postings_of_trades<S: KeyedSum>(
     Ok(all)
 }
 
-/// Returns true if the total of each row follows from the sum at its key in `sums`.
+/// Returns true if the total of each row follows from the sum at its key in `sums` (`has_sum`).
 pub(crate) fn all_rows_have_sums<S: KeyedSum>(sums: &BTreeMap<u64, i128>, rows: &[S::Total]) -> bool
     ensures { IsTrue result ↔ AllByRecursion (S.has_sum sums.now) rows.now }
 {

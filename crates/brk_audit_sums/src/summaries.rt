@@ -19,7 +19,7 @@ use brk_money::{Fault, Side};
 use std::alloc::Global;
 use std::collections::BTreeMap;
 
-// Returns the quantity as a signed number: `qty` for a purchase, and `-qty` for a sale.
+// Returns the quantity `qty`, in shares, with a sign: `qty` for a purchase, and `-qty` for a sale.
 fn signed_shares(side: Side, qty: u32) -> i64
     ensures { result ≡ signed_by_side side qty }
 {
@@ -128,10 +128,10 @@ pub fn are_all_three_true(one: bool, other: bool, last: bool) -> bool
     one && other && last
 }
 
-/// Returns true if the rows, which must satisfy `Form` and `Status`, satisfy the condition
-/// `Summary`: for each account and symbol, the holding summaries sum to the quantities of the
-/// completed trades, purchases minus sales, and no summary has the quantity 0. Fails with `Memory`
-/// only.
+/// Returns true if the rows, which must satisfy `Form` of some schema and `Status`, satisfy the
+/// condition `Summary`, the same in all schemas: for each account and symbol, the holding summaries
+/// sum to the quantities of the completed trades, purchases minus sales, and no summary has the
+/// quantity 0. Fails with `Memory` only.
 pub fn summary_condition_holds(alloc: Global, sheets: &Sheets) -> Result<bool, Fault>
     requires form { HasWellFormedRows sheets.now }
     requires status { HasValidStatuses sheets.now }

@@ -13,7 +13,7 @@ use Rattle.brk_model.specs.Ways.{is_strictly_ascending, is_valid_status_sequence
 abbrev pub HasAscendingStatusStamps : Trade → Type 0
 HasAscendingStatusStamps t = is_strictly_ascending (map (λ m. m.stamp) t.marks) ≡ true
 
--- The statuses of the trade's history form a valid status sequence.
+-- The statuses of the trade's status changes, in their sequence, form a valid status sequence.
 abbrev pub HasValidStatusSequence : Trade → Type 0
 HasValidStatusSequence t = is_valid_status_sequence (map (λ m. m.status) t.marks) ≡ true
 
@@ -45,8 +45,8 @@ account_id_key a = number a.id ∷ []
 abbrev pub security_symbol_key : Security → List KeyPart
 security_symbol_key s = word s.symbol ∷ []
 
--- The base with its reference records and stored replies sorted by key. Its trades, its movements,
--- its last stamp and its first day of one-day settlement are unchanged.
+-- The base with its reference records and stored replies sorted by key, ascending. Its trades, its
+-- movements, its last stamp and its first day of one-day settlement are unchanged.
 abbrev pub base_sorted_by_keys : Base → Base
 base_sorted_by_keys b = record b {
   brokers = rows_sorted_by_key broker_id_key b.brokers;

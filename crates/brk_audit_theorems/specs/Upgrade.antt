@@ -13,9 +13,9 @@ pub record HasLimitsWithinThirdSchema (schema : Schema) : Type 0 where
   pub qty : schema.greatest_qty ≤ third_schema.greatest_qty
   pub summary : schema.greatest_summary ≤ third_schema.greatest_summary
 
--- The upgrade of the rows (`tables_with_merged_cash_rows`) equals the tables, sorted by key, of the
--- base that the rows describe. The upgraded rows describe this base too, and pass the audit of the
--- third schema.
+-- The upgrade of the rows (`tables_with_merged_cash_rows`) equals the tables in the third schema,
+-- sorted by key, of the base that the rows describe. The upgraded rows describe this base too, and
+-- pass the audit of the third schema.
 pub record UpgradedRowsMatchTheirBase (rows : Tables) : Type 0 where
   pub tables : tables_with_merged_cash_rows rows ≡ sheets (base_of_tables rows)
   pub base : base_of_tables (tables_with_merged_cash_rows rows) ≡ base_of_tables rows

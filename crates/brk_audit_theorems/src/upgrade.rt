@@ -22,8 +22,9 @@ pub fn upgraded_rows_are_tables_of_their_base()
 
 /// Proves that, for rows that pass the audit of a schema, the upgrade from that schema
 /// (`tables_upgraded_from_schema`) equals these rows with all cash rows in CASH_MOVE, sorted by
-/// stamp and numbered from 1, and with CASH_TRANSACTION empty (`tables_with_merged_cash_rows`). The
-/// upgrade also equals the tables, sorted by key, of the base that the rows describe.
+/// stamp, ascending, and numbered from 1, and with CASH_TRANSACTION empty
+/// (`tables_with_merged_cash_rows`). The upgrade also equals the tables, sorted by key, of the base
+/// that the rows describe.
 pub fn upgrade_yields_tables_of_the_base()
     ensures same { (schema : Schema) (rows : Tables) → PassesAudit schema rows → tables_upgraded_from_schema schema rows ≡ tables_with_merged_cash_rows rows }
     ensures tables { (schema : Schema) (rows : Tables) → PassesAudit schema rows → tables_upgraded_from_schema schema rows ≡ sheets (base_of_tables rows) }

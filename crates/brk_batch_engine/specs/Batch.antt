@@ -7,7 +7,8 @@
 -- row; `step`, the model's step for a row; `gives clock moment later`, a reading of the clock.
 -- `text` is the text of the batch, or `None` if it is unknown; `span` and `outside` are the desk's
 -- base, the clock and the writer's content before and after the batch. A condition that bytes were
--- written (`Appends`) is vacuous if the writer's content before is unknown.
+-- written (`Appends`) is vacuous if the writer's content before is unknown, and a condition on the
+-- records of the text if the text is unknown.
 use Rattle.std.specs.Prelude.{◌≡◌, ◌+◌, ◌<◌, ◌⊎◌, ◌∷◌, ◌++◌, [], IfErr, List, ℕ, Option, Result, Ok, Err, take, length, map}
 use Rattle.std.specs.Io.KnownBytes.{Appends}
 use Rattle.brk_money.specs.Spelling.{Text}
@@ -30,9 +31,10 @@ use Rattle.brk_io.specs.declared.batch_fault.FaultKind.{FaultKind}
 use Rattle.brk_io.specs.declared.batch_fault.FaultKind.TheVariants as kinds
 use Rattle.brk_batch_engine.specs.declared.counts.Counts.{Counts}
 
--- The batch ended with `ending` after `count` decided rows. The clock was read exactly once for
--- each of the timestamps `moments`; at these timestamps the batch of the model has the lines
--- `lines` and leads from the base before to the base after; and exactly these lines were written.
+-- The batch ended with `ending` after `count` decided rows; never with `BadHeader`. The clock was
+-- read exactly once for each of the timestamps `moments`, in order; at these timestamps the batch
+-- of the model has the lines `lines` and leads from the base before to the base after; and exactly
+-- these lines were written.
 pub record BatchEndsWith {S X C : Type 0} (form : Fields → ReadResult X) (step : RowStep S X) (gives : C → ℕ → C → Type 0)
     (text : Option Text) (span : EnvironmentChange S C) (ending : model.BatchEnding) (count : ℕ) : Type 0 where
   pub moments : List ℕ
@@ -51,11 +53,12 @@ BeginsWithWholeBatch text name rows = BeginsWithRecords text (batch_header name 
 abbrev pub HasRecordAfterRows : Option Text → Text → List Fields → Type 0
 HasRecordAfterRows text name rows = 0 < length rows → (next : Fields) × BeginsWithRecords text (batch_header name ∷ (rows ++ (next ∷ [])))
 
--- The progress of a batch that a fault ended: after the header of the batch `name`, the text begins
--- with the rows `rows`, which have the answers `answers` in the model and lead to the base after
--- the batch, and if there are rows, with one more record. The clock was read once for each of the
--- timestamps `moments` of these rows. The list `told`, of all decided answers, has `count`
--- elements; where this record is used, another condition relates `told` to `answers`.
+-- The progress of a batch that a fault ended: the text begins with the header of the batch `name`,
+-- the rows `rows` and, if there are rows, one more record. The rows have the answers `answers` in
+-- the model and lead to the base after the batch. The clock was read exactly once for each of the
+-- timestamps `moments`, in order, one for each well-formed row of `rows`. The list `told`, of all
+-- decided answers, has `count` elements; where this record is used, another condition relates
+-- `told` to `answers`.
 pub record BatchProgress {S X C : Type 0} (form : Fields → ReadResult X) (step : RowStep S X) (gives : C → ℕ → C → Type 0)
     (text : Option Text) (span : EnvironmentChange S C) (count : ℕ) : Type 0 where
   -- The name of the batch, its first rows with their answers, and all decided answers.
@@ -95,21 +98,22 @@ WritesPartOfLastLine old new told =
 abbrev pub WritesPartOfEndLine : Option Text → Option Text → List Answer → Type 0
 WritesPartOfEndLine old new told = (k : ℕ) × Appends old new (answer_lines_from 1 told ++ take k (batch_end_line told))
 
--- The answers `told` equal `answers`; or the text ends without an end record after the header of
--- the batch `name` and the rows `rows` (`EndsWithoutEndRecord`), and `told` is `answers` followed
--- by the refusal of one more row, the last of the text, or is empty if the text has only its
--- header.
+-- The answers `told` equal `answers`; or the text ends without an end record
+-- (`EndsWithoutEndRecord`). In the second case, either the text ends after the header of the batch
+-- `name`, the rows `rows` and one more row, and `told` is `answers` followed by the refusal
+-- `BadText` of this last row; or the text has only the header, and `rows` and `told` are empty. The
+-- conditions on the text are vacuous if it is unknown.
 abbrev pub MayAddLastRowRefusal : Option Text → Text → List Fields → List Answer → List Answer → Type 0
 MayAddLastRowRefusal text name rows answers told = (told ≡ answers) ⊎ model.EndsWithoutEndRecord text name rows answers told
 
 -- The batch failed with this fault after `count` decided rows. `BadHeader`: the text has no header,
--- and nothing changed. `NoEnd` and `BadEnd`: the batch ends as that of the model (`BatchEndsWith`).
--- `Read`: the lines of all decided rows were written, or no row was decided and nothing changed.
--- `Write`: all lines but the last and a part of the last one were written, or all lines and a part
--- of the end line; a part may be empty or whole. `Desk`: memory ran out, no row was decided, and
--- nothing changed; or the lines of the decided rows were written, and the clock was read at most
--- once more; or memory ran out, and the lines of the decided rows were written, or of all of them
--- but the last.
+-- no row was decided, and nothing changed. `NoEnd` and `BadEnd`: the batch ends as that of the
+-- model (`BatchEndsWith`). `Read`: the lines of all decided rows were written, or no row was
+-- decided and nothing changed. `Write`: all lines but the last and a part of the last one were
+-- written, or all lines and a part of the end line; a part may be empty or whole. `Desk`: memory
+-- ran out, no row was decided, and nothing changed; or the fault is `Memory` or `Store`, the lines
+-- of the decided rows were written, and the clock was read at most once more; or memory ran out,
+-- and the lines of the decided rows were written, or of all of them but the last.
 abbrev pub BatchFailsWith : {S X C : Type 0} → (Fields → ReadResult X) → RowStep S X → (C → ℕ → C → Type 0) → Option Text → EnvironmentChange S C → ℕ
     → FaultKind → Type 0
 BatchFailsWith form step gives text span count kinds.BadHeader =
@@ -174,10 +178,10 @@ DeskFaultIsMemory kinds.BadEnd = Unit {0}
 DeskFaultIsMemory kinds.Read = Unit {0}
 DeskFaultIsMemory kinds.Write = Unit {0}
 
--- Every call of `script` has an answer. A desk of the model that returns these answers, and records
--- its calls (`recording_step`), receives exactly the calls of `script` from the batch, and the
--- lines and the result follow from the answers. If the result is a fault of the desk, the fault is
--- `Memory`.
+-- Every outcome of `script` is an answer. A desk of the model that returns these answers, in order
+-- and all of them, and records its calls (`recording_step`), receives exactly the calls of `script`
+-- from the batch, and the lines and the result follow from the answers. If the result is a fault of
+-- the desk, the fault is `Memory`.
 abbrev pub BatchMatchesAnsweredScript : {X C : Type 0} → (Fields → ReadResult X) → (C → ℕ → C → Type 0) → Option Text → RowCallScript X → ClockAndWriterChange C
     → Result Counts BatchFault → Type 0
 BatchMatchesAnsweredScript form gives text script outside result =
@@ -185,9 +189,10 @@ BatchMatchesAnsweredScript form gives text script outside result =
     × IsBatchResult form recording_step gives text (environment_change_with_bases (answers, []) ([], script.0) outside) result
     × IfErr result (λ fault. DeskFaultIsMemory fault.kind)
 
--- The last call of `script` failed with a fault, which ended the batch. It is the call of the row
--- after the decided rows, under the key of that row. All calls before it have answers, and the
--- lines and the result follow from these answers. False if the batch completed.
+-- The last call of `script` failed with a fault, `Memory` or `Store`, which ended the batch. It is
+-- the call of the row after the decided rows, under the key of that row. All outcomes before it are
+-- answers, and the calls before it, the lines and the result follow from these answers. False if
+-- the batch completed.
 abbrev pub BatchMatchesFailedScript : {X C : Type 0} → (Fields → ReadResult X) → (C → ℕ → C → Type 0) → Option Text → RowCallScript X → ClockAndWriterChange C
     → Result Counts BatchFault → Type 0
 BatchMatchesFailedScript form gives text script outside (Ok counts) = ⊥

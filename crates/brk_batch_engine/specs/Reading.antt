@@ -8,8 +8,9 @@ use Rattle.csv.specs.declared.parser.State.TheVariants as st
 use Rattle.brk_money.specs.Spelling.{Text}
 use Rattle.brk_model.specs.Answers.{Fields}
 
--- The reader has the settings for a batch and is at the start of a record: it does not trim fields,
--- uses the default CSV format, and accepts records with any number of fields.
+-- The reader has the settings for a batch: it does not trim fields, uses the default CSV format,
+-- and accepts records with any number of fields. Its next read reads and returns one record, and
+-- takes none as a header (`Ready`).
 abbrev pub IsBatchReader : {R : Type 0} → Reader R → Type 0
 IsBatchReader reader = (reader_trim reader ≡ trim.None) × Ready reader × (reader_config reader ≡ default_config) × (is_flexible reader ≡ true)
 

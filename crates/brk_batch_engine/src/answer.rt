@@ -16,7 +16,7 @@ use csv::ByteRecord;
 use std::alloc::Global;
 
 // Returns the key of row `n` of the batch with the name `batch`: this name and `n`, which must be
-// from 1 to 67,108,864. Fails with `Memory` only.
+// from 1 to 67,108,864, both included. Fails with `Memory` only.
 fn row_key(batch: &BatchName, n: u64) -> Result<Key, Fault>
     requires first { 1 ≤ n }
     requires last { n ≤ most_input_bytes }
@@ -29,8 +29,8 @@ fn row_key(batch: &BatchName, n: u64) -> Result<Key, Fault>
 }
 
 /// Executes row `n` of `batch` on the desk and returns its answer; `n` must be from 1 to
-/// 67,108,864. A well-formed row reads the clock once and is one call of the desk, under its key; a
-/// malformed one does neither and is refused.
+/// 67,108,864, both included. A well-formed row reads the clock once and is one call of the desk,
+/// under its key; a malformed one does neither and is refused.
 ///
 /// Fails with `Memory` or `Store`; the clock was then read at most once, for the call that failed.
 /// Under the disk assumption the desk then represents every base that it represented before, but a

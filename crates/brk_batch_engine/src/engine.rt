@@ -133,7 +133,8 @@ fn read_batch_name<R: Read>(alloc: Global, records: &mut Reader<R>) -> Result<Ba
     }
 }
 
-// Reads the first record after the header, the first row or the end record, into `row`.
+// Reads the first record after the header, the first row or the end record, into `row`. The reader
+// must have the settings for a batch (`IsBatchReader`), and at `Ok` still has them.
 //
 // Fails with `NoEnd` if no record is left, `Read` if the reader fails, or `Desk(Memory)`; no row is
 // then decided.
@@ -160,7 +161,8 @@ fn read_record_after_header<R: Read>(
 }
 
 // Reads the record after row `settled + 1` into `after`, and writes nothing. If no record is left,
-// writes the line that refuses this row with `BadText`. `settled` must be less than 67,108,864.
+// writes the line that refuses this row with `BadText`. `settled` must be less than 67,108,864. The
+// reader must have the settings for a batch (`IsBatchReader`), and at `Ok` still has them.
 //
 // Fails with `Read` or `Desk(Memory)`, and nothing written, if the record could not be read; the
 // row is then not decided. If no record is left, fails with `NoEnd` after the line, with `Write`
@@ -244,7 +246,8 @@ fn execute_row_and_write_line<W: Write, C: Clock, D: Rows>(
 // Executes the rows after the header of the batch `name`, writes their lines and the end line, and
 // returns the counts of the answers. Reads one record ahead: a row is executed only after the
 // record that follows it has been read. Each record has at least one byte, which limits the number
-// of rows, and of turns of the loop, to the number of bytes.
+// of rows, and of turns of the loop, to the number of bytes. The reader must have the settings for
+// a batch (`IsBatchReader`), and the name must be well-formed.
 //
 // At an error returns the fault with the number of decided rows, whose changes remain: `NoEnd` if
 // the input ends without an end record (its last row, if it has one, is then refused with
@@ -289,8 +292,9 @@ fn execute_rows_and_write_lines<R: Read, W: Write, C: Clock, D: Rows>(
 }
 
 /// Reads a batch, executes its rows in order, and writes their lines and the end line. Returns the
-/// counts of the answers. Only the first `MAXIMUM_INPUT_BYTES` bytes are read, and a row is
-/// executed only if a record follows it.
+/// counts of the answers. Only the first `MAXIMUM_INPUT_BYTES` bytes are read, a byte order mark at
+/// their start is skipped, and records after the first end record are ignored. A row is executed
+/// only if a record follows it.
 ///
 /// At an error returns the fault with the number of decided rows, whose changes remain: `BadHeader`
 /// if the input has no header (nothing is then executed or written), `NoEnd` if there is no end

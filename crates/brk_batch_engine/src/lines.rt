@@ -11,7 +11,7 @@ use itoa::Buffer;
 use std::alloc::{AllocError, Global};
 
 // Returns the text of an answer: `ok`, `again` or `no`, a comma, and the fields of the reply, of
-// the stored reply or of the refusal. Fails only if memory runs out.
+// the stored reply or of the refusal, separated by commas. Fails only if memory runs out.
 fn answer_text<D: Rows>(alloc: Global, answer: &Answer<D::Reply>) -> Result<String, AllocError>
     ensures { IfOk result (λ text. string_bytes text ≡ answer_text (abstract_answer D.told answer.now)) }
 {

@@ -21,9 +21,9 @@ use std::io::{Read, Take};
 /// ignored.
 pub const MAXIMUM_INPUT_BYTES: u64 = 67_108_864;
 
-/// Returns a reader of the records in the first `MAXIMUM_INPUT_BYTES` bytes of `reader`. The fields
-/// of a record are separated by commas, a record has any number of fields, and the first record is
-/// not skipped as a header.
+/// Returns a reader of the records in the first `MAXIMUM_INPUT_BYTES` bytes of `reader`, without a
+/// byte order mark at their start. The fields of a record are separated by commas and not trimmed,
+/// a record has any number of fields, and the first record is not skipped as a header.
 pub fn new_record_reader<R: Read + Drop>(alloc: Global, reader: R) -> Reader<Take<R>>
     ensures setup { IsBatchReader result }
     ensures start { ReaderIsAfterRecords (option_map input_text (R.remaining reader)) [] (reader_state result) (source_of (take_remaining R.remaining) result) }
@@ -34,7 +34,8 @@ pub fn new_record_reader<R: Read + Drop>(alloc: Global, reader: R) -> Reader<Tak
         .from_reader(alloc, reader.take(MAXIMUM_INPUT_BYTES))
 }
 
-/// Reads the next record into `row` and returns true, or returns false if no record is left.
+/// Reads the next record into `row` and returns true, or returns false if no record is left. The
+/// reader must have the settings for a batch (`IsBatchReader`), and at `Ok` still has them.
 ///
 /// Fails with `Read` if the reader fails, or with `Desk(Memory)` if memory runs out. No clause
 /// states what `row` and the reader then contain.

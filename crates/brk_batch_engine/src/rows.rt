@@ -78,6 +78,8 @@ pub trait Rows {
         ensures called { acts desk.old now (asked command.now, abstract_key key.now) (abstract_command_outcome told result) desk.new }
         // If the disk assumption holds after the call, it held before.
         ensures earlier { meets_disk_assumption desk.new → meets_disk_assumption desk.old }
+        // At `Ok` the call refines `step`. If a crash before the call exposed only the represented
+        // base, a crash after it exposes only the base after the step.
         ensures ok { IfOk result (λ answer. (sure : Bool) →
             CallRefinesStep meets_disk_assumption (RepresentsDurably represents crash_exposes_only sure) step desk.old desk.new now
             (asked command.now) (abstract_key key.now) (abstract_answer told answer)) }

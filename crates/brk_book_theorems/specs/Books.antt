@@ -30,7 +30,7 @@ HasDistinctPermissions permissions = HasDistinctElements (λ q p. (q.account == 
 abbrev pub HasDistinctSymbols : List Security → Type 0
 HasDistinctSymbols securities = HasDistinctElements (λ u s. bytes_eq u.symbol s.symbol) securities
 
--- The volume of the security, in shares, is at most the greatest amount.
+-- The volume of the security, in shares, is at most 10^17 (`greatest_amount`).
 abbrev pub HasVolumeWithinLimit : Security → Type 0
 HasVolumeWithinLimit s = s.volume ≤ greatest_amount
 
@@ -54,13 +54,14 @@ IsNotCompletion m = is_same_trade_status m.status Completed ≡ false
 abbrev pub HasNoCompletionIfSubmitted : Trade → Type 0
 HasNoCompletionIfSubmitted t = has_last_status Submitted t ≡ true → AllByRecursion IsNotCompletion t.marks
 
--- The stamp of the last status change of the trade `t` is at most the last stamp `last`. False if
--- `last` is `None`.
+-- The stamp of the last status change of the trade `t`, 0 if it has none, is at most the last stamp
+-- `last`. False if `last` is `None`.
 abbrev pub TradeStampIsAtMostLastStamp : Option ℕ → Trade → Type 0
 TradeStampIsAtMostLastStamp None t = ⊥
 TradeStampIsAtMostLastStamp (Some last) t = last_status_stamp_of_trade t ≤ last
 
--- No two trades of the list have the same stamp in their last status changes.
+-- No two trades of the list have the same stamp in their last status changes. The stamp of a trade
+-- without a status change counts as 0.
 abbrev pub HasDistinctLastStatusStamps : List Trade → Type 0
 HasDistinctLastStatusStamps trades = HasDistinctElements (λ u t. last_status_stamp_of_trade u == last_status_stamp_of_trade t) trades
 
@@ -73,12 +74,12 @@ abbrev pub MovementStampIsAtMostLastStamp : Option ℕ → Movement → Type 0
 MovementStampIsAtMostLastStamp None m = ⊥
 MovementStampIsAtMostLastStamp (Some last) m = m.stamp ≤ last
 
--- The stamp of the last status change of the trade `t` is not `stamp`.
+-- The stamp of the last status change of the trade `t`, 0 if it has none, is not `stamp`.
 abbrev pub HasLastStatusAtOtherStamp : ℕ → Trade → Type 0
 HasLastStatusAtOtherStamp stamp t = (last_status_stamp_of_trade t == stamp) ≡ false
 
 -- No two movements of the list have the same stamp, and no movement has the stamp of the last
--- status change of a trade of `done`.
+-- status change of a trade of `done`, which counts as 0 if the trade has no status change.
 abbrev pub HasDistinctMovementStamps : List Trade → List Movement → Type 0
 HasDistinctMovementStamps done [] = ⊤
 HasDistinctMovementStamps done (m ∷ ms) =
@@ -158,7 +159,7 @@ pub record TradeBooksInvariant (all_accounts : List Account) (all_securities : L
   -- The account and the security of each trade exist.
   pub accounts : AllByRecursion (TradeAccountExists all_accounts) all_trades
   pub securities : AllByRecursion (TradeSecurityExists all_securities) all_trades
-  -- Trades are numbered from 1, in the order of their acceptance, so the next number is new.
+  -- Trades are numbered from 1, in the sequence of the list, so the next number is new.
   pub numbered : TradesAreNumberedFrom 1 all_trades
   -- A pending trade has one status change in its history, so its next status is new there.
   pub ways : AllByRecursion HasOneStatusChangeIfPending all_trades
@@ -182,8 +183,8 @@ pub record CompletionBooksInvariant (last : Option ℕ) (done : List Trade) : Ty
 -- volumes are within their limit; the lower bound of each band is at most its upper bound, and no
 -- two bands overlap; trades are numbered from 1; a pending trade has exactly one status change, and
 -- a submitted trade has no completion; no completion and no movement has a stamp after the last
--- stamp; the last stamp, if it is set, is at most the greatest stamp. Each part concerns only the
--- fields of the base that it names.
+-- stamp, and there are none if no last stamp is set; the last stamp, if it is set, is at most the
+-- greatest stamp. Each part concerns only the fields of the base that it names.
 pub record BooksInvariant (base : Base) : Type 0 where
   pub parties : AccountBooksInvariant base.brokers base.customers base.accounts base.permissions
   pub open parties use *

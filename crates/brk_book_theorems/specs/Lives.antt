@@ -8,7 +8,7 @@ use Rattle.brk_model.specs.Tables.{HoldingHistoryRow, Tables}
 use Rattle.brk_lots.specs.HistoryRows.{touch_of_row}
 
 -- The rows of HOLDING_HISTORY of the lot `lot`, sorted by the stamp of the trade that changed the
--- lot, ascending.
+-- lot (0 if this trade does not exist), ascending; the sort is stable.
 abbrev pub lot_changes_by_stamp : Tables → ℕ → List HoldingHistoryRow
 lot_changes_by_stamp t lot = sort_by (λ a b. nat_lt (stamp_of_touching_trade t a) (stamp_of_touching_trade t b)) (filter (λ h. h.lot == lot) t.holding_history)
 
@@ -25,14 +25,16 @@ BeginsWithTradeOfLot lot (row ∷ rows) = row.trade ≡ lot
 
 -- The rows of HOLDING_HISTORY of the lot `lot`, sorted by stamp, form a chain. The first row is a
 -- change by the trade that opened the lot and starts at 0. Each later row starts where the row
--- before it ended and ends strictly nearer to 0. The last row ends at the quantity of the lot in
--- HOLDING. If there are no rows, that quantity is 0.
+-- before it ended and ends strictly nearer to 0, at 0 or with the same sign. The last row ends at
+-- the quantity of the lot in HOLDING, 0 if the lot has no row there. If there are no rows of
+-- HOLDING_HISTORY, that quantity is 0.
 pub record LotChangesFormChain (t : Tables) (lot : ℕ) : Type 0 where
   pub opened : BeginsWithTradeOfLot lot (lot_changes_by_stamp t lot)
   pub life : IsLotHistory (map touch_of_row (lot_changes_by_stamp t lot)) (remaining_lot_quantity t lot)
 
--- For every lot, its rows of HOLDING_HISTORY form a chain from 0 to its quantity in HOLDING: the
--- first row is by the trade that opened the lot, and each later row starts where the row before it
--- ended and ends strictly nearer to 0.
+-- For every lot, its rows of HOLDING_HISTORY, sorted by stamp, form a chain from 0 to its quantity
+-- in HOLDING, 0 if it has no row there: the first row is by the trade that opened the lot, and each
+-- later row starts where the row before it ended and ends strictly nearer to 0, at 0 or with the
+-- same sign. Without rows of HOLDING_HISTORY its quantity in HOLDING is 0.
 abbrev pub AllLotChangesFormChains : Tables → Type 0
 AllLotChangesFormChains t = (lot : ℕ) → LotChangesFormChain t lot

@@ -13,13 +13,13 @@ use Rattle.brk_book_theorems.specs.TradeReads.{lots_of_position}
 
 -- ---- lookups
 
--- The price in the first row of LAST_TRADE of the symbol, in cents, or `None` if the symbol has no
--- such row.
+-- The price in the first row of LAST_TRADE, in the order of the table, of the symbol, in cents, or
+-- `None` if the symbol has no such row.
 abbrev pub last_price_of_symbol : Tables → Text → Option ℕ
 last_price_of_symbol t symbol = option_map (λ r. r.price) (find (λ r. bytes_eq r.symbol symbol) t.last_trades)
 
--- The amount, in cents, of the first charge for the trade type `kind` and the customer tier `tier`,
--- or `None` if there is no such charge.
+-- The amount, in cents, of the first charge, in the order of the table, for the trade type `kind`
+-- and the customer tier `tier`, or `None` if there is no such charge.
 abbrev pub charge_of_type_and_tier : Tables → TradeType → ℕ → Option ℕ
 charge_of_type_and_tier t kind tier = option_map (λ r. r.amount) (find (λ r. is_same_trade_type r.kind kind && (r.tier == tier)) t.charges)
 

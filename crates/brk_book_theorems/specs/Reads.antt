@@ -36,7 +36,7 @@ commission_bands_of_tier_type_and_exchange t tier kind exchange =
 abbrev pub overlaps_some_band : Tables → Band → Bool
 overlaps_some_band t b = list_any (bands_overlap b) (commission_bands_of_tier_type_and_exchange t b.tier b.kind b.exchange)
 
--- The first row of the tax rate with the id `id`, or `None` if there is none.
+-- The first tax rate, in the order of the table, with the id `id`, or `None` if there is none.
 abbrev pub tax_rate_with_id : Tables → ℕ → Option TaxRate
 tax_rate_with_id t id = tax_rate_with_id_in_list t.tax_rates id
 

@@ -21,17 +21,18 @@ use Rattle.brk_book_theorems.specs.Trading.{history_row_of_status}
 pub record ResultRows : Type 0 where
   -- The row of the trade after its completion.
   pub trade : TradeRow
-  -- The lots that the trade closes or reduces, in the sequence in which it closes them, and the lot
-  -- that it opens, if it opens one.
+  -- The changes of the lots that the trade closes or reduces, in the sequence of the lots' first
+  -- shares, reversed if the trade closes the newest lots first, and the lot that the trade opens,
+  -- if it opens one.
   pub touched : List Touch
   pub opened : List Lot
-  -- The quantity of the position's summary before the result and after it.
+  -- The quantity of the position's summary before the result and after it, 0 if it has no row.
   pub before : ℤ
   pub after : ℤ
-  -- The settlement of the trade, and the cash row that the result adds if it is a cash trade.
+  -- The settlement of the trade, and the cash row that the result adds if `trade` is a cash trade.
   pub settlement : SettlementRow
   pub cash : MoveRow
-  -- The balance of the account after the result.
+  -- The balance of the account after the result; a result of a margin trade does not set it.
   pub balance : ℤ
   -- The broker of the account, and its trade count and commission total after the result.
   pub broker : ℕ
@@ -41,7 +42,8 @@ pub record ResultRows : Type 0 where
 -- ---- the trade
 
 -- The tables with the trade of the row `r` completed at the stamp, price, commission and tax of
--- `r`, and with its completion added to TRADE_HISTORY. A missing price counts as 0.
+-- `r`, and with its completion added to TRADE_HISTORY. A missing price counts as 0. If the tables
+-- have no such trade, only the row of TRADE_HISTORY is added.
 abbrev pub tables_with_trade_completed_and_history : TradeRow → Tables → Tables
 tables_with_trade_completed_and_history r t =
     tables_with_history_row (history_row_of_status r.id Completed r.stamp) (tables_with_trade_completed r.id r.stamp (unwrap_or r.price 0) r.commission r.tax t)
@@ -53,13 +55,13 @@ tables_with_trade_completed_and_history r t =
 abbrev pub holding_history_row_of_touch : ℕ → Touch → HoldingHistoryRow
 holding_history_row_of_touch trade touch = record { lot = touch.lot; trade = trade; before = touch.before; after = touch.after }
 
--- The tables with the quantity of the touched lot set to `touch.after`, or without the lot if
--- `touch.after` is 0.
+-- The tables with the quantity of the touched lot in HOLDING set to `touch.after`, or without the
+-- lot if `touch.after` is 0. They are unchanged if there is no such lot.
 abbrev pub tables_with_touched_holding : Touch → Tables → Tables
 tables_with_touched_holding touch t = if is_zero touch.after then tables_without_lot touch.lot t else tables_with_lot_quantity touch.lot touch.after t
 
--- The tables with each lot of `touched`, one after the other, reduced or deleted, and a row of
--- HOLDING_HISTORY by the trade `trade` added for it.
+-- The tables with each lot of `touched`, one after the other, set to its new quantity or deleted
+-- (`tables_with_touched_holding`), and a row of HOLDING_HISTORY by the trade `trade` added for it.
 abbrev pub tables_with_lots_touched : ℕ → List Touch → Tables → Tables
 tables_with_lots_touched trade touched t =
     fold (λ t touch. tables_with_lot_change (holding_history_row_of_touch trade touch) (tables_with_touched_holding touch t)) t touched
@@ -81,9 +83,10 @@ tables_with_lots_opened r opened t =
 
 -- ---- its summary, which has no row if it is 0
 
--- The tables with a holding summary changed from the quantity `before` to the quantity `after`. The
--- row of the account and the symbol of `row` is deleted if `after` is 0; `row` is added if only
--- `before` is 0; otherwise the quantity of `row` is set.
+-- The tables with the holding summary of the account and the symbol of `row` changed; `before` and
+-- `after` are its quantities. Its row is deleted if `after` is 0; `row` is added if only `before`
+-- is 0; otherwise the quantity of its row is set to that of `row`. A row that does not exist is
+-- neither deleted nor set.
 abbrev pub tables_with_summary_changed : (before after : ℤ) → SummaryRow → Tables → Tables
 tables_with_summary_changed before after row t =
     if is_zero after then tables_without_summary row.account row.symbol t

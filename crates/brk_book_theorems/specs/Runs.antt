@@ -29,7 +29,7 @@ pub record TradeRowHasTax (t : Tables) (id tax : ℕ) : Type 0 where
 
 -- The tax, in cents, of the trade `t` if it is completed at the clock reading `now` and the price
 -- `price`, in cents. It is the tax on the gain of exactly the shares that the trade then closes, at
--- the rates of the base.
+-- the rates of the base; 0 if there is no gain or the account is not taxable.
 abbrev pub tax_at_completion : Base → ℕ → ℕ → Trade → ℕ
 tax_at_completion base now price t =
     tax_on_deal base t.account (deal_of_result (stamp_of_next_command base now) price t)

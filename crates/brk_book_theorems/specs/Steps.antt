@@ -30,8 +30,8 @@ HasTableEffect base now command change =
     BooksInvariant base → refusal_of_command base now command ≡ None
     → sheets (base_after_command base now command) ≡ tables_with_last_stamp (stamp_of_next_command base now) (change (sheets base))
 
--- The tables with the row of SECURITY of the listing `l` added, and its row of LAST_TRADE with the
--- stamp `stamp`.
+-- The tables with the rows of SECURITY and of LAST_TRADE of the listing `l` added, the latter with
+-- the listing's price, the volume 0 and the stamp `stamp`.
 abbrev pub tables_with_listing : ℕ → Listing → Tables → Tables
 tables_with_listing stamp l t =
     tables_with_last_trade (last_trade_row (security_of_listing stamp l)) (tables_with_security (security_row (security_of_listing stamp l)) t)

@@ -35,7 +35,8 @@ lot_row_quantity_sum_of_position t account symbol = total_by (λ h. h.qty) (filt
 -- ---- all rows of a kind
 
 -- The trade count and the commission total of the broker's row `b` equal the number of completed
--- trades of the broker's accounts and the sum of their commissions, in cents.
+-- trades of the broker's accounts and the sum of their commissions, in cents. An account that does
+-- not exist counts as one of broker 0.
 pub record BrokerTotalsMatchTrades (t : Tables) (b : BrokerRow) : Type 0 where
   pub trades : b.trades ≡ pos (length (completed_trade_rows_of_broker t b.id))
   pub commissions : b.commissions ≡ sum_by (λ r. r.commission) (completed_trade_rows_of_broker t b.id)
@@ -55,9 +56,10 @@ pub record SummaryMatchesLots (t : Tables) (s : SummaryRow) : Type 0 where
 abbrev pub LotHasSummary : Tables → HoldingRow → Type 0
 LotHasSummary t h = is_some (summary_row_of_position t h.account h.symbol) ≡ true
 
--- The broker totals, balances and summaries in the tables equal the sums of the rows that they
--- count. No summary is 0, each lot has a summary, the lots of an account in a symbol form a
--- position, and the changes of each lot form a chain.
+-- The broker totals and the summaries in the tables equal the sums of the rows that they count, and
+-- each balance equals the opening balance plus the amounts of the account's cash rows. No summary
+-- is 0, each lot has a summary, the lots of an account in a symbol form a position, and the changes
+-- of each lot form a chain.
 pub record TableSumsMatchTheirRows (t : Tables) : Type 0 where
   pub brokers : AllByRecursion (BrokerTotalsMatchTrades t) t.brokers
   pub balances : AllByRecursion (BalanceMatchesCashRows t) t.accounts

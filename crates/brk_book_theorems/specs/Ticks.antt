@@ -14,7 +14,7 @@ tick_quantity_sum_of_symbol symbol ticks = sum_by (λ tick. tick.qty) (filter (�
 abbrev pub is_tick_of_unknown_symbol : Tables → Tick → Bool
 is_tick_of_unknown_symbol t tick = is_none (find (λ r. bytes_eq r.symbol tick.symbol) t.last_trades)
 
--- True if the volume of the tick's symbol plus the quantities of all `ticks` of this symbol, in
--- shares, exceeds the greatest amount.
+-- True if the volume of the tick's symbol (0 if it has no row of LAST_TRADE) plus the quantities of
+-- all `ticks` of this symbol, in shares, exceeds `greatest_amount`, 10^17.
 abbrev pub is_symbol_volume_above_limit : Tables → List Tick → Tick → Bool
 is_symbol_volume_above_limit t ticks tick = nat_lt greatest_amount (volume_of_symbol t tick.symbol + tick_quantity_sum_of_symbol tick.symbol ticks)

@@ -14,11 +14,12 @@ use Rattle.brk_lots.specs.declared.lot.Lot.{Lot}
 use Rattle.brk_model.specs.Tables.{Tables, HoldingRow, LastTradeRow, RequestRow, SummaryRow}
 use Rattle.brk_book_theorems.specs.Reads.{commission_bands_of_tier_type_and_exchange}
 
--- The id in the last row of TRADE, or 0 if there are no trades.
+-- The id in the last row of TRADE, in the order of the table, or 0 if there are no trades.
 abbrev pub trade_id_in_last_row_or_zero : Tables → ℕ
 trade_id_in_last_row_or_zero t = unwrap_or (option_map (λ r. r.id) (slice_get (reverse t.trades) 0)) 0
 
--- The number in the last row of CASH_MOVE, or 0 if there are no cash rows.
+-- The number in the last row of CASH_MOVE, in the order of the table, or 0 if there are no cash
+-- rows.
 abbrev pub last_cash_row_number_or_zero : Tables → ℕ
 last_cash_row_number_or_zero t = unwrap_or (option_map (λ r. r.id) (slice_get (reverse t.moves) 0)) 0
 
@@ -26,24 +27,25 @@ last_cash_row_number_or_zero t = unwrap_or (option_map (λ r. r.id) (slice_get (
 abbrev pub permissions_of_account : Tables → ℕ → List Permission
 permissions_of_account t account = filter (λ r. r.account == account) t.permissions
 
--- The first permission of the account for the tax id `tax_id`, as a list of one element, or the
--- empty list if there is none.
+-- The first permission, in the order of the table, of the account for the tax id `tax_id`, as a
+-- list of one element, or the empty list if there is none.
 abbrev pub permission_list_for_tax_id : Tables → ℕ → Text → List Permission
 permission_list_for_tax_id t account tax_id = option_to_list (find (λ r. (r.account == account) && bytes_eq r.tax_id tax_id) t.permissions)
 
 -- The first commission band, in the order of the table, of the customer tier `tier`, the trade type
--- `kind` and the exchange `exchange` that contains the quantity `qty`, both bounds included, or
--- `None` if there is none.
+-- `kind` and the exchange `exchange` that contains the quantity `qty`, in shares, both bounds
+-- included, or `None` if there is none.
 abbrev pub commission_band_of_quantity : Tables → ℕ → TradeType → Text → ℕ → Option Band
 commission_band_of_quantity t tier kind exchange qty =
     find (λ r. nat_le r.from_qty qty && nat_le qty r.to_qty) (commission_bands_of_tier_type_and_exchange t tier kind exchange)
 
--- The volume in the first row of LAST_TRADE of the symbol, in shares, or 0 if the symbol has no row
--- there.
+-- The volume, in shares, in the first row of LAST_TRADE, in the order of the table, of the symbol,
+-- or 0 if the symbol has no row there.
 abbrev pub volume_of_symbol : Tables → Text → ℕ
 volume_of_symbol t symbol = option_map_or (λ r. r.volume) (find (λ r. bytes_eq r.symbol symbol) t.last_trades) 0
 
--- The first row of LAST_TRADE of the symbol, or `None` if there is none.
+-- The first row of LAST_TRADE, in the order of the table, of the symbol, or `None` if there is
+-- none.
 abbrev pub last_trade_row_of_symbol : Tables → Text → Option LastTradeRow
 last_trade_row_of_symbol t symbol = find (λ r. bytes_eq r.symbol symbol) t.last_trades
 
@@ -58,7 +60,8 @@ holding_rows_of_position t account symbol =
     rows_sorted_by_key (λ r. number r.stamp ∷ number r.trade ∷ []) (filter (λ r. (r.account == account) && bytes_eq r.symbol symbol) t.holdings)
 
 -- The single shares of the row `r` of HOLDING: as many equal shares as the absolute value of its
--- quantity.
+-- quantity, with its trade, price and stamp, sold short if the quantity is below 0 and otherwise
+-- bought.
 abbrev pub shares_of_lot_row : HoldingRow → List Share
 shares_of_lot_row r = replicate (unsigned_abs r.qty) (record { side = side_of_qty r.qty; trade = r.trade; price = r.price; stamp = r.stamp })
 
@@ -66,15 +69,18 @@ shares_of_lot_row r = replicate (unsigned_abs r.qty) (record { side = side_of_qt
 abbrev pub lot_of_row : HoldingRow → Lot
 lot_of_row r = record { trade = r.trade; price = r.price; qty = r.qty; stamp = r.stamp }
 
--- The lots of the account in the symbol, the oldest first.
+-- The lots of the account in the symbol, sorted by stamp, then by trade, ascending: the oldest
+-- first.
 abbrev pub lots_of_position : Tables → ℕ → Text → List Lot
 lots_of_position t account symbol = map lot_of_row (holding_rows_of_position t account symbol)
 
--- The first row of HOLDING_SUMMARY of the account in the symbol, or `None` if there is none.
+-- The first row of HOLDING_SUMMARY, in the order of the table, of the account in the symbol, or
+-- `None` if there is none.
 abbrev pub summary_row_of_position : Tables → ℕ → Text → Option SummaryRow
 summary_row_of_position t account symbol = find (λ r. (r.account == account) && bytes_eq r.symbol symbol) t.summaries
 
--- The quantity of the holding summary `row`, in shares, or 0 if it is `None`.
+-- The quantity of the holding summary `row`, in shares, below 0 if they were sold short, or 0 if
+-- `row` is `None`.
 abbrev pub summary_quantity_or_zero : Option SummaryRow → ℤ
 summary_quantity_or_zero row = option_map_or (λ r. r.qty) row (pos 0)
 

@@ -35,13 +35,15 @@ tables_after_order r waits broker t =
 -- ---- a trade that is no longer pending
 
 -- The tables with the status of the trade `id` set to `status` and its stamp to `stamp`, a row of
--- TRADE_HISTORY added for this status, and the trade's row of TRADE_REQUEST deleted.
+-- TRADE_HISTORY added for this status, and the trade's row of TRADE_REQUEST deleted. The row of
+-- TRADE_HISTORY is added even if there is no such trade or no such request.
 abbrev pub tables_after_change_from_pending : ℕ → Status → ℕ → Tables → Tables
 tables_after_change_from_pending id status stamp t =
     tables_without_request id (tables_with_history_row (history_row_of_status id status stamp) (tables_with_trade_status id status stamp t))
 
--- The tables with the trade `id` canceled at the stamp `stamp`: its status and its stamp set, a row
--- of TRADE_HISTORY added, and its row of TRADE_REQUEST deleted.
+-- The tables with the trade `id` canceled at the stamp `stamp`
+-- (`tables_after_change_from_pending`): its status and its stamp set, a row of TRADE_HISTORY added,
+-- and its row of TRADE_REQUEST deleted.
 abbrev pub tables_after_cancel : ℕ → ℕ → Tables → Tables
 tables_after_cancel stamp id t = tables_after_change_from_pending id Canceled stamp t
 
@@ -67,8 +69,8 @@ abbrev pub trade_ids_triggered_by_tick : Tick → Tables → List ℕ
 trade_ids_triggered_by_tick tick t = map (λ r. r.trade) (filter (is_triggered_request tick) t.requests)
 
 -- The tables with the trades whose ids are in `trades` submitted at the stamp `stamp`, one after
--- the other: the status and the stamp of each set, a row of TRADE_HISTORY added, and its row of
--- TRADE_REQUEST deleted.
+-- the other (`tables_after_change_from_pending`): the status and the stamp of each set, a row of
+-- TRADE_HISTORY added, and its row of TRADE_REQUEST deleted.
 abbrev pub tables_with_trades_submitted : ℕ → List ℕ → Tables → Tables
 tables_with_trades_submitted stamp trades t = fold (λ t id. tables_after_change_from_pending id Submitted stamp t) t trades
 

@@ -74,8 +74,8 @@ pub fn cancels_change_only_their_rows()
 /// the row of LAST_TRADE of the tick's symbol and submits the trades whose requests the tick's
 /// price triggers, and then sets the last stamp. To submit a trade is to set its status and stamp,
 /// to add a row of TRADE_HISTORY and to delete its row of TRADE_REQUEST. No other row changes
-/// (`rows`). The ids of the submitted trades equal those of the triggered trades of the model
-/// (`triggered`).
+/// (`rows`). The ids of the submitted trades equal those of the triggered trades of the model, in
+/// the same sequence (`triggered`).
 pub fn feeds_change_only_their_rows()
     ensures rows { (base : Base) (now : ℕ) (ticks : List Tick)
         → HasTableEffect base now (FeedTicks ticks) (tables_after_feed (stamp_of_next_command base now) ticks) }
@@ -85,10 +85,11 @@ pub fn feeds_change_only_their_rows()
 
 /// Proves, if the base satisfies the books invariant and the trade exists, that an accepted result
 /// sets the status, stamp, price, commission and tax of its trade and adds the completion to
-/// TRADE_HISTORY. It reduces or deletes the lots that the trade closes and adds the lot that the
-/// trade opens, each with a row of HOLDING_HISTORY. It adds, sets or deletes the summary, adds the
-/// settlement, adds the cash row of a cash trade and sets the balance of its account, sets the
-/// broker totals, and sets the last stamp. No other row changes.
+/// TRADE_HISTORY. It sets the quantities of the lots that the trade reduces, deletes the lots that
+/// it closes, and adds the lot that it opens, if any, each with a new row of HOLDING_HISTORY. It
+/// adds, sets or deletes the summary, sets the broker totals and adds the settlement. For a cash
+/// trade it adds the cash row and sets the balance of the account. It sets the last stamp. No other
+/// row changes.
 pub fn results_change_only_their_rows()
     ensures { (base : Base) (now id price : ℕ) (t : Trade) → trade_with_id base id ≡ Some t
         → HasTableEffect base now (CompleteTrade id price) (tables_after_result (result_rows_of_trade base (stamp_of_next_command base now) price t)) }

@@ -35,9 +35,9 @@ ghost use Rattle.brk_book_theorems.specs.TradeReads.{holding_rows_of_position, p
 ghost use Rattle.brk_book_theorems.specs.TradeReads.{summary_row_if_nonzero, summary_quantity_or_zero, summary_row_of_position};
 ghost use Rattle.brk_book_theorems.specs.Trading.{trade_ids_triggered_by_tick};
 
-/// Proves that the first row of a broker, a customer, an account or a tax rate with an id is the
-/// row of the base's first record with this id, and that there is no such row if and only if the
-/// base has no such record.
+/// Proves that the first row of a broker, a customer, an account or a tax rate with an id, in the
+/// order of the table, is the row of the base's first record with this id, in the order of the
+/// base, and that there is no such row if and only if the base has no such record.
 pub fn rows_by_id_match_records()
     ensures broker { (base : Base) (id : ℕ)
         → find (λ r. r.id == id) (sheets base).brokers ≡ option_map (broker_row base.accounts (completed_trades base)) (broker_with_id base id) }
@@ -47,10 +47,11 @@ pub fn rows_by_id_match_records()
     ensures tax_rate { (base : Base) (id : ℕ) → find (λ r. r.id == id) (sheets base).tax_rates ≡ tax_rate_record_with_id base id }
 {}
 
-/// Proves that the first row with a key is the row of the base's first record with this key, and
-/// that there is no such row if and only if the base has no such record. The key is the account and
-/// the tax id of a permission, the symbol of a security or a last trade, the trade type and the
-/// tier of a charge, and the customer and the tax rate of a customer's tax.
+/// Proves that the first row with a key, in the order of the table, is the row of the base's first
+/// record with this key, in the order of the base, and that there is no such row if and only if the
+/// base has no such record. The key is the account and the tax id of a permission, the symbol of a
+/// security or a last trade, the trade type and the tier of a charge, and the customer and the tax
+/// rate of a customer's tax.
 pub fn rows_by_key_match_records()
     // Permissions by account and tax id.
     ensures permission { (base : Base) (account : ℕ) (tax_id : Text)
@@ -110,28 +111,30 @@ pub fn last_stamp_matches_the_base()
     ensures { (base : Base) → (sheets base).last ≡ base.last }
 {}
 
-/// Proves that the first row of KEPT with a key is the first row that the base stores under this
-/// key, and that there is no such row if and only if the base stores none.
+/// Proves that the first row of KEPT with a key, in the order of the table, is the first row that
+/// the base stores under this key, in the order of the base, and that there is no such row if and
+/// only if the base stores none.
 pub fn stored_replies_match_the_base()
     ensures { (base : Base) (key : Key)
         → find (λ k. bytes_eq k.key.batch key.batch && (k.key.row == key.row)) (sheets base).kept ≡ stored_row_with_key base key }
 {}
 
-/// Proves that the first row of TRADE with an id is the row of the base's first trade with this id,
-/// and that there is no such row if and only if the base has no such trade.
+/// Proves that the first row of TRADE with an id, in the order of the table, is the row of the
+/// base's first trade with this id, in the order of the base, and that there is no such row if and
+/// only if the base has no such trade.
 pub fn trade_rows_match_trades()
     ensures { (base : Base) (id : ℕ) → trade_row_with_id (sheets base) id ≡ option_map trade_row (trade_with_id base id) }
 {}
 
-/// Proves that the id in the last row of TRADE, or 0 if there are no trades, equals the number of
-/// trades of the base, if the base satisfies the books invariant.
+/// Proves that the id in the last row of TRADE, in the order of the table, or 0 if there are no
+/// trades, equals the number of trades of the base, if the base satisfies the books invariant.
 pub fn trade_id_in_last_row_is_trade_count()
     ensures { (base : Base) → BooksInvariant base → trade_id_in_last_row_or_zero (sheets base) ≡ length base.trades }
 {}
 
-/// Proves that the number in the last row of CASH_MOVE, or 0 if there are no cash rows, equals the
-/// number of postings of the base, and that as many cash rows have no trade as the base has
-/// movements.
+/// Proves that the number in the last row of CASH_MOVE, in the order of the table, or 0 if there
+/// are no cash rows, equals the number of postings of the base, and that as many cash rows have no
+/// trade as the base has movements.
 pub fn cash_row_counts_match_the_base()
     ensures rows { (base : Base) → last_cash_row_number_or_zero (sheets base) ≡ length (postings_of_base base) }
     ensures movements { (base : Base) → length (filter (λ r. is_none r.trade) (sheets base).moves) ≡ length base.movements }

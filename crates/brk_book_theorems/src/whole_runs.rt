@@ -81,9 +81,9 @@ pub fn table_sums_match_their_rows()
 /// Proves that an accepted result, with or without a key, records the tax on the gain of exactly
 /// the shares that it closes, at the rates of the base before it, if that base satisfies the books
 /// invariant. Any run from a base that satisfies the invariant preserves the tax of a completed
-/// trade, and the trade's row of TRADE has this tax. After any run from a base that satisfies the
-/// invariant, the row of the trade of each result that the run accepted has the tax of its
-/// completion.
+/// trade. In the tables of any base, the row of TRADE of a completed trade has the tax of the
+/// trade. After any run from a base that satisfies the invariant, the row of the trade of each
+/// result that the run accepted has the tax of its completion.
 pub fn results_are_taxed_on_closed_shares()
     // An accepted result records the tax, as a command and as a call with or without a key.
     ensures taxed { (base : Base) (now id price : ℕ) (t : Trade)

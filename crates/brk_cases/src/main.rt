@@ -31,7 +31,8 @@ impl Failed {
 
 // Reads a transcript from standard input and writes its replay to standard output. Fails with
 // `Input` if the input cannot be read, is not UTF-8 or does not fit in memory, with `Memory` if
-// memory runs out during the replay, and with `Output` if the replay cannot be written.
+// memory runs out during the replay, and with `Output` if the replay cannot be written, perhaps
+// after a part of it.
 fn replay_standard_input(rt: &HostRuntime) -> Result<(), Failed> {
     let Ok(text) = io::read_to_string(rt.alloc(), rt.reader()) else {
         return Err(Failed::Input);

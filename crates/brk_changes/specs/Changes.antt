@@ -1,4 +1,5 @@
--- The effect of each row change on the tables, whose rows are sorted by key.
+-- The effect of each row change on the tables, whose rows are sorted by key. A row that is inserted
+-- replaces none: it stands before the first row whose key is not less than its own, or at the end.
 use Rattle.std.specs.Prelude.{ℕ, ℤ, ◌==◌, ◌&&◌, not, filter, bytes_eq, pos, List, fold, Some, string_bytes}
 use Rattle.brk_money.specs.Spelling.{Text}
 use Rattle.brk_money.specs.declared.status.Status.{Status}
@@ -112,8 +113,8 @@ tables_with_trade_completed id stamp price commission tax t = record t {
 abbrev pub tables_with_lot : HoldingRow → Tables → Tables
 tables_with_lot r t = record t { holdings = insert_row_by_key holding_key r t.holdings }
 
--- The tables `t` with the quantity of the lot that `trade` opened set to `qty`. They are unchanged
--- if there is no such lot.
+-- The tables `t` with the quantity of the lot that `trade` opened set to `qty`, in shares, below 0
+-- for shares sold short. They are unchanged if there is no such lot.
 abbrev pub tables_with_lot_quantity : ℕ → ℤ → Tables → Tables
 tables_with_lot_quantity trade qty t = record t { holdings = update_where (λ r. r.trade == trade) (λ r. record r { qty = qty }) t.holdings }
 
@@ -191,7 +192,8 @@ abbrev pub tables_with_last_stamp : ℕ → Tables → Tables
 tables_with_last_stamp stamp t = record t { last = Some stamp }
 
 -- The function that returns the tables after one typed row change: a row is inserted, updated or
--- deleted, or the first day of one-day settlement or the last stamp is set.
+-- deleted, or the first day of one-day settlement or the last stamp is set. To update or delete a
+-- row that does not exist changes nothing.
 abbrev pub tables_after_change : Change → Tables → Tables
 tables_after_change (AddBroker broker) = tables_with_broker (abstract_broker broker)
 tables_after_change (AddCustomer customer) = tables_with_customer (abstract_customer customer)

@@ -25,7 +25,8 @@ fn command_line_arguments(rt: &HostRuntime) -> Result<Vec<String>, UsageFault> {
 }
 
 // Executes the job that the command-line arguments request, from standard input to standard output,
-// and returns its outcome, or `Usage` with the fault if the arguments cannot be read.
+// and returns the outcome (`execute_requested_job`), or `Usage` with the fault if the arguments
+// cannot be read.
 fn execute_command_line(rt: &HostRuntime) -> Ending {
     match command_line_arguments(rt) {
         Ok(words) => execute_requested_job(rt, words, rt.reader(), &mut rt.stdout()),

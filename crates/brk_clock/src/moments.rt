@@ -56,8 +56,9 @@ impl<'a, R: rt::Clock> ProgramClock<'a, R> {
 impl<R: rt::Clock> Clock for ProgramClock<'_, R> {
     ghost gives = { ReturnsReading };
 
-    /// Returns the fixed timestamp, or a reading of the machine's clock, which is 0 if this clock
-    /// cannot be read or is set before 1970.
+    /// Returns the fixed timestamp, or the stamp of the time of the machine's clock
+    /// (`stamp_of_system_time`), which is 0 if this clock cannot be read or is set before 1970.
+    /// Does not change the clock.
     fn now(&mut self) -> Stamp {
         match self {
             ProgramClock::At(stamp) => *stamp,

@@ -77,8 +77,9 @@ fn append_trade_id_after_comma(line: &mut String, trade: Id) -> Result<(), Alloc
     write!(line, ",{}", trade.get())
 }
 
-// Returns the line of a `Ticked` reply: the stamp and the ids of the triggered trades, joined by
-// commas; only the stamp if there are none. Fails if memory runs out.
+// Returns the line of a `Ticked` reply: the stamp and the ids of the triggered trades, in the
+// sequence of `triggered`, joined by commas; only the stamp if there are none. Fails if memory runs
+// out.
 fn ticked_reply_text(alloc: Global, stamp: Stamp, triggered: &[Id]) -> Result<String, AllocError>
     ensures { IfOk result (λ line. string_bytes line ≡ model.line_text (replies.Ticked stamp triggered.now)) }
 {

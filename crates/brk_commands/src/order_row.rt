@@ -31,7 +31,7 @@ pub fn lifo_or_fifo_word(is_lifo: bool) -> &'static str
 }
 
 // Returns the first five fields of the row of an order, joined by byte 31: the kind `order`, the
-// account, the type, the symbol and the quantity. Fails if memory runs out.
+// account, the code of the type, the symbol and the quantity. Fails if memory runs out.
 fn first_order_fields_text(alloc: Global, order: &Order) -> Result<String, AllocError>
     ensures { IfOk result (λ row. string_bytes row ≡ join_with_byte 31 (codes "order" ∷ take 4 (model.order_fields (abstract_order order.now)))) }
 {
@@ -57,8 +57,8 @@ fn append_price_field(row: &mut String, order_type: OrderType) -> Result<(), All
 }
 
 // Appends the last five fields of the row of an order, each after byte 31: `cash` or `margin`,
-// `lifo` or `fifo`, and the names and the tax id of its executor. Fails if memory runs out. A part
-// of this text may then be appended.
+// `lifo` or `fifo`, and the first name, the last name and the tax id of its executor. Fails if
+// memory runs out. A part of this text may then be appended.
 fn append_last_order_fields(row: &mut String, order: &Order) -> Result<(), AllocError>
     ensures { OnOk result (string_bytes row.new ≡ string_bytes row.old ++ fields_after_separators 31 (drop 5 (model.order_fields (abstract_order order.now)))) }
 {
@@ -73,10 +73,10 @@ fn append_last_order_fields(row: &mut String, order: &Order) -> Result<(), Alloc
     )
 }
 
-/// Returns the row of an order, as it is stored under a key: `order`, the account, the type, the
-/// symbol, the quantity, the price, such as `10.00`, `cash` or `margin`, `lifo` or `fifo`, and the
-/// names and the tax id of the executor, joined by byte 31. The price is empty if the type has
-/// none. Fails if memory runs out.
+/// Returns the row of an order, as it is stored under a key: `order`, the account, the code of the
+/// type, the symbol, the quantity, the price, such as `10.00`, `cash` or `margin`, `lifo` or
+/// `fifo`, and the first name, the last name and the tax id of the executor, joined by byte 31. The
+/// price is empty if the type has none. Fails if memory runs out.
 pub fn order_row_text(alloc: Global, order: &Order) -> Result<String, AllocError>
     ensures { IfOk result (λ row. string_bytes row ≡ model.row_text (PlaceOrder (abstract_order order.now))) }
 {
@@ -100,9 +100,9 @@ fn append_tick_fields(row: &mut String, tick: &Tick) -> Result<(), AllocError>
     )
 }
 
-/// Returns the row of a feed with the ticks `ticks`, as it is stored under a key: `feed`, and the
-/// symbol, the price, such as `10.00`, and the quantity of each tick, joined by byte 31. Fails if
-/// memory runs out.
+/// Returns the row of a feed with the ticks `ticks`, as it is stored under a key: `feed`, and for
+/// each tick, in sequence, the symbol, the price, such as `10.00`, and the quantity, joined by
+/// byte 31; only `feed` if there are no ticks. Fails if memory runs out.
 pub fn feed_row_text(alloc: Global, ticks: &[Tick]) -> Result<String, AllocError>
     ensures { IfOk result (λ row. string_bytes row ≡ model.row_text (FeedTicks (abstract_ticks ticks.now))) }
 {

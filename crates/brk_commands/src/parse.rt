@@ -131,9 +131,8 @@ fn parse_customer_tax_command(fields: &[&[u8]]) -> Result<Command, Refusal>
 }
 
 // Parses a command of the kind `kind`, other than `broker`, `customer` and `account`, from the
-// fields after the kind. Refuses an unknown kind, these three, a wrong number of fields, or an id
-// that occurs twice, with `BadText`, malformed fields with the refusal of their format check, and
-// otherwise more than 20 ticks or ids with `TooMany`. Fails with `Memory` only.
+// fields after the kind. Refuses an unknown kind, and these three, with `BadText`, and otherwise
+// refuses as `parse_row` does. Fails with `Memory` only.
 fn parse_command_except_parties(alloc: Global, kind: &[u8], fields: &[&[u8]]) -> Planned<Command>
     ensures read { IfOk result (λ read. ParsesAs abstract_command read (parse_by_first_field (other_reference_row_parsers ++ order_row_parsers
         ++ result_row_parsers ++ update_row_parsers ++ movement_and_settlement_day_row_parsers) (kind.now
@@ -161,10 +160,8 @@ fn parse_command_except_parties(alloc: Global, kind: &[u8], fields: &[&[u8]]) ->
     parse_trade_or_cash_command(alloc, kind, fields)
 }
 
-// Parses a command of the kind `kind` from the fields after it. Refuses an unknown kind, a wrong
-// number of fields, or an id that occurs twice, with `BadText`, malformed fields with the refusal
-// of their format check, and otherwise more than 20 ticks or ids with `TooMany`. Fails with
-// `Memory` only.
+// Parses a command of the kind `kind` from the fields after it. Refuses as `parse_row` does. Fails
+// with `Memory` only.
 fn parse_command_of_kind(alloc: Global, kind: &[u8], fields: &[&[u8]]) -> Planned<Command>
     ensures read { IfOk result (λ read. ParsesAs abstract_command read (parse_by_first_field row_parsers (kind.now ∷ texts_of_fields fields.now))) }
     ensures fault { OnErr result (result ≡ Err Memory) }
@@ -185,9 +182,9 @@ fn parse_command_of_kind(alloc: Global, kind: &[u8], fields: &[&[u8]]) -> Planne
 ///
 /// Refuses an unknown kind, or no field at all, with `BadText` (18). Refuses a wrong number of
 /// fields, or malformed fields, with the first that applies of `BadText` (18), also for a wrong
-/// number and for an id that occurs twice, `BadQty` (8), also if FROM of a band is greater than TO,
-/// `BadPrice` (9), also for a price that does not fit the type of an order, `BadType` (7), and
-/// `TooMany` (20) for more than 20 ticks or ids. Fails with `Memory` only.
+/// number and for a trade id that `upname` names twice; `BadQty` (8), also if FROM of a band is
+/// greater than TO; `BadPrice` (9), also for a price that does not fit the type of an order;
+/// `BadType` (7); and `TooMany` (20) for more than 20 ticks or trade ids. Fails with `Memory` only.
 pub fn parse_row(alloc: Global, fields: &[&[u8]]) -> Planned<Command>
     ensures read { IfOk result (λ read. ParsesAs abstract_command read (parse_by_first_field row_parsers (texts_of_fields fields.now))) }
     ensures fault { OnErr result (result ≡ Err Memory) }

@@ -67,9 +67,8 @@ fn parse_completion_command(fields: &[&[u8]]) -> Result<Command, Refusal>
 
 // Parses a command of a kind that adds no reference record from the fields after the kind: `order`,
 // `feed`, `cancel`, `result`, `upname`, `upcash`, `uptext`, `deposit`, `withdraw` or `oneday`.
-// Refuses any other kind, a wrong number of fields, or an id that occurs twice, with `BadText`,
-// malformed fields with the refusal of their format check, and otherwise more than 20 ticks or ids
-// with `TooMany`. Fails with `Memory` only.
+// Refuses any other kind with `BadText`, and otherwise refuses as `parse_row` does. Fails with
+// `Memory` only.
 pub(crate) fn parse_trade_or_cash_command(
     alloc: Global,
     kind: &[u8],

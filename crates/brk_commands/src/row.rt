@@ -92,8 +92,8 @@ fn listing_row_text(alloc: Global, listing: &Listing) -> Result<String, AllocErr
     )
 }
 
-// Returns the row that adds a charge, as it is stored under a key: `charge`, the trade type, the
-// tier and the amount, such as `10.00`, joined by byte 31. Fails if memory runs out.
+// Returns the row that adds a charge, as it is stored under a key: `charge`, the code of the trade
+// type, the tier and the amount, such as `10.00`, joined by byte 31. Fails if memory runs out.
 fn charge_row_text(alloc: Global, charge: &Charge) -> Result<String, AllocError>
     ensures { IfOk result (λ row. string_bytes row ≡ model.row_text (AddCharge (abstract_charge charge.now))) }
 {
@@ -106,8 +106,8 @@ fn charge_row_text(alloc: Global, charge: &Charge) -> Result<String, AllocError>
 }
 
 // Returns the row that adds a commission band, as it is stored under a key: `band`, the tier, the
-// trade type, the exchange, the first and the last quantity and the rate, in hundredths of a
-// percent, joined by byte 31. Fails if memory runs out.
+// code of the trade type, the exchange, the least and the greatest quantity and the rate, in
+// hundredths of a percent, joined by byte 31. Fails if memory runs out.
 fn band_row_text(alloc: Global, band: &Band) -> Result<String, AllocError>
     ensures { IfOk result (λ row. string_bytes row ≡ model.row_text (AddBand (abstract_band band.now))) }
 {

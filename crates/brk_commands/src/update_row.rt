@@ -20,7 +20,8 @@ fn append_trade_id_after_separator(row: &mut String, trade: Id) -> Result<(), Al
 }
 
 // Returns the row that updates the executors' names of trades, as it is stored under a key:
-// `upname` and the ids of the trades, joined by byte 31. Fails if memory runs out.
+// `upname` and the ids of the trades, in the sequence of `trades`, joined by byte 31. Fails if
+// memory runs out.
 fn executor_update_row_text(alloc: Global, trades: &[Id]) -> Result<String, AllocError>
     ensures { IfOk result (λ row. string_bytes row ≡ model.row_text (ChangeExecutors trades.now)) }
 {
@@ -31,9 +32,10 @@ fn executor_update_row_text(alloc: Global, trades: &[Id]) -> Result<String, Allo
     Ok(row)
 }
 
-// Returns the row that updates the settlement texts of the first 20 completed trades of an account
-// between two stamps, both included, as it is stored under a key: `upcash`, the account and the two
-// stamps, in milliseconds since 1970-01-01 UTC, joined by byte 31. Fails if memory runs out.
+// Returns the row that updates the settlement texts of at most 20 trades, the oldest first, of an
+// account that were completed between two stamps, both included, as it is stored under a key:
+// `upcash`, the account and the first and the last stamp, in milliseconds since 1970-01-01 UTC,
+// joined by byte 31. Fails if memory runs out.
 fn cash_type_update_row_text(alloc: Global, account: Id, span: Span) -> Result<String, AllocError>
     ensures { IfOk result (λ row. string_bytes row ≡ model.row_text (ChangeCashTypes account span.first span.last)) }
 {
@@ -45,9 +47,10 @@ fn cash_type_update_row_text(alloc: Global, account: Id, span: Span) -> Result<S
     )
 }
 
-// Returns the row that updates the cash texts of the first 20 completed cash trades of a symbol
-// between two stamps, both included, as it is stored under a key: `uptext`, the symbol and the two
-// stamps, in milliseconds since 1970-01-01 UTC, joined by byte 31. Fails if memory runs out.
+// Returns the row that updates the cash texts of at most 20 cash trades, the oldest first, of a
+// symbol that were completed between two stamps, both included, as it is stored under a key:
+// `uptext`, the symbol and the first and the last stamp, in milliseconds since 1970-01-01 UTC,
+// joined by byte 31. Fails if memory runs out.
 fn cash_name_update_row_text(
     alloc: Global,
     symbol: &Symbol,

@@ -9,8 +9,8 @@ use Rattle.brk_ref.specs.Answers.{abstract_answer}
 use Rattle.brk_ref.specs.declared.answer.Answer as code
 use Rattle.brk_ref.specs.declared.answer.Answer.TheVariants as given
 
--- The type of the answer of a call to a command: `Done` with a reply, `Again` with a stored reply,
--- or `Refused` with a refusal.
+-- The type of the answer of a call that executes a command: `Done` with a reply, `Again` with a
+-- stored reply, or `Refused` with a refusal.
 abbrev pub CommandAnswer : Type 0
 CommandAnswer = code.Answer Reply
 

@@ -17,8 +17,8 @@ use Rattle.brk_changes.specs.Changes.{tables_with_stored_reply}
 abbrev pub optional_model_key : Option given.Key → Option Key
 optional_model_key key = option_map abstract_key key
 
--- The first row of KEPT with the batch name and the row number of the key, or `None` if there is no
--- key or no such row.
+-- The first row of KEPT, in the order of the table, with the batch name and the row number of the
+-- key, or `None` if there is no key or no such row.
 abbrev pub kept_row_under_key : Tables → Option Key → Option Kept
 kept_row_under_key t None = None
 kept_row_under_key t (Some key) = find (λ k. bytes_eq k.key.batch key.batch && (k.key.row == key.row)) t.kept

@@ -40,7 +40,7 @@ fn prove_command_and_key_meet_formats(command: &Command, key: Option<&Key>)
 /// - `Done` with the reply, after the commit, if the command is accepted;
 /// - `Again` with the stored reply, if this same command was accepted before under `key`;
 /// - `Refused` with refusal 19, if another command was accepted before under `key`;
-/// - `Refused` with the first reason that applies, if the command is refused.
+/// - otherwise `Refused`, with the first reason in the order of the model's checks.
 ///
 /// Fails with `Memory` or `Store` only; with `Store` also if the `sqlite` crate runs out of memory,
 /// a row that it reads is malformed, a row that another row requires does not exist, a lot has no

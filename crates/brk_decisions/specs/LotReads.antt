@@ -10,6 +10,7 @@ use Rattle.brk_store.specs.declared.pages.Page.{Page}
 use Rattle.brk_store.specs.declared.pages.Pages.{Pages}
 
 -- `ls` are the lots that the source of pages still has to return in its state `old`, before some
--- reads, and the disk assumption holds for its store in the state `new`, after them.
+-- reads, and the disk assumption holds for its store in the state `new`, after them. If the store
+-- is closed in the state `old`, `ls` may be the lots of any rows (`AreRemainingLots`).
 abbrev pub AreLotsBeforeReads : {S : Type 0} → Ghosts S → (old new : Pages S Page) → List Lot → Type 0
 AreLotsBeforeReads g old new ls = AreLotsOfFaithfulSource (HasCleanDisk (state g (borrowed_store new).now)) (AreRemainingLots g old) ls

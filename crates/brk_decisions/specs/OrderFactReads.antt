@@ -18,13 +18,16 @@ use Rattle.brk_decisions.specs.declared.tested.OrderCheckFacts.{OrderCheckFacts}
 use Rattle.brk_decisions.specs.declared.amounts.Amounts.{Amounts}
 use Rattle.brk_store.specs.Valuation.{market_value_of_account}
 
--- The customer with the id `id` exists in the tables `t`, and its row equals `customer`.
+-- The customer with the id `id` exists in the tables `t`, and its first row, in the order of the
+-- table, equals `customer`.
 abbrev pub IsCustomerWithId : Tables → ℕ → Customer → Type 0
 IsCustomerWithId t id customer = find (λ r. r.id == id) t.customers ≡ Some (abstract_customer customer)
 
 -- The facts `tested` that the checks of the order `order` of the customer `customer` test agree
--- with the tables `t`: the last price of its symbol, whether its executor is permitted, the charge
--- and the commission rate. The rate is specified only if the security of the order exists.
+-- with the tables `t`: the last price of its symbol in cents, whether its executor is the customer
+-- or has a permission of the account, the charge in cents and the commission rate in hundredths of
+-- a percent. A price, charge or rate that the tables do not have is `None`. The rate is specified
+-- only if the security of the order exists.
 pub record CustomerOrderFactsMatchTables (t : Tables) (order : Order) (customer : Customer) (tested : OrderCheckFacts) : Type 0 where
   pub last_price : tested.last_price ≡ last_price_of_symbol t order.symbol
   pub is_permitted : tested.is_permitted
@@ -36,7 +39,8 @@ pub record CustomerOrderFactsMatchTables (t : Tables) (order : Order) (customer 
 
 -- `assets` is the balance in the row `account` plus the market value of the account's holdings in
 -- the tables `t`, in cents. `shares` is the account's number of shares of the security with the
--- symbol `symbol`, or `None` if the account has no summary of the security.
+-- symbol `symbol`, below 0 if they were sold short, or `None` if the account has no summary of the
+-- security.
 pub record AreAssetsAndSharesOfAccount (t : Tables) (account : AccountRow) (symbol : Text) (assets : ℤ) (shares : Option ℤ) : Type 0 where
   pub assets_total : assets ≡ account.balance +ℤ market_value_of_account t account.account.id
   pub shares_held : shares ≡ option_map (λ r. r.qty) (summary_row_of_position t account.account.id symbol)
@@ -44,7 +48,8 @@ pub record AreAssetsAndSharesOfAccount (t : Tables) (account : AccountRow) (symb
 -- The amounts `amounts` for the estimate of the order `order` of the account `account` agree with
 -- the tables `t`: the sum of the tax rates of the account's customer in hundred-thousandths, the
 -- account's balance plus the market value of its holdings in cents, and the account's number of
--- shares of the order's security, or `None` if it has no summary of the security.
+-- shares of the order's security, below 0 if they were sold short, or `None` if the account has no
+-- summary of the security.
 pub record EstimateAmountsMatchTables (t : Tables) (account : AccountRow) (order : Order) (amounts : Amounts) : Type 0 where
   pub rates : amounts.rates ≡ customer_tax_rate_sum t account.account.customer
   pub held : AreAssetsAndSharesOfAccount t account order.symbol amounts.assets amounts.summary

@@ -20,23 +20,26 @@ use Rattle.brk_decisions.specs.declared.parties.PartyFacts.{PartyFacts}
 use Rattle.brk_decisions.specs.declared.result_finding.SecurityFacts.{SecurityFacts}
 use Rattle.brk_decisions.specs.declared.result_finding.Posting.{Posting}
 
--- The account with the id `id` exists in the tables `t`, and its row equals `account`.
+-- The account with the id `id` exists in the tables `t`, and its first row, in the order of the
+-- table, equals `account`.
 abbrev pub IsAccountWithId : Tables → ℕ → ref.AccountRow → Type 0
 IsAccountWithId t id account = account_row_with_id t id ≡ Some (abstract_account_row account)
 
--- The security with the symbol `symbol` exists in the tables `t`, and its row equals `security`.
+-- The security with the symbol `symbol` exists in the tables `t`, and its first row, in the order
+-- of the table, equals `security`.
 abbrev pub IsSecurityWithSymbol : Tables → Text → Security → Type 0
 IsSecurityWithSymbol t symbol security = security_row_with_symbol t symbol ≡ Some (abstract_security_row security)
 
 -- The totals `numbers`, a number of completed trades and a sum of commissions in cents, equal the
--- totals in the row of the broker with the id `id`. Vacuous if this broker does not exist.
+-- totals in the first row, in the order of the table, of the broker with the id `id` in the tables
+-- `t`. Vacuous if this broker does not exist.
 abbrev pub AreTotalsOfBroker : Tables → ℕ → BrokerTotals → Type 0
 AreTotalsOfBroker t id numbers = IfSome (find (λ r. r.id == id) t.brokers) (λ b. (pos numbers.trades ≡ b.trades) × (numbers.commissions ≡ b.commissions))
 
 -- The facts `parties` of the account in the row `row` agree with the tables `t`: the broker, the
--- tax status and the balance in the row, the tier and the sum of the tax rates of the account's
--- customer, and the totals of its broker. The tier is specified only if the customer exists, and
--- the totals only if the broker exists.
+-- tax status and the balance in the row, the tier of the account's customer and the sum of this
+-- customer's tax rates in hundred-thousandths, and the totals of the account's broker. The tier is
+-- specified only if the customer exists, and the totals only if the broker exists.
 pub record PartyFactsMatchTables (t : Tables) (row : AccountRow) (parties : PartyFacts) : Type 0 where
   pub account : parties.account ≡ result_account_of_row row
   pub tier : IfSome (find (λ r. r.id == row.customer) t.customers) (λ c. parties.tier ≡ c.tier)
@@ -44,15 +47,16 @@ pub record PartyFactsMatchTables (t : Tables) (row : AccountRow) (parties : Part
   pub broker : AreTotalsOfBroker t row.broker parties.broker
 
 -- The facts `listed` of the trade's security, whose row is `row`, agree with the tables `t`: the
--- name in the row, and the commission rate of the band for the trade's quantity, type and exchange
--- at the customer tier `tier`, or `None` if there is no such band.
+-- name in the row, and the commission rate, in hundredths of a percent, of the first band, in the
+-- order of the table, for the trade's quantity and type, the security's exchange and the customer
+-- tier `tier`, or `None` if there is no such band.
 pub record SecurityFactsMatchTables (t : Tables) (trade : TradeRow) (tier : ℕ) (row : SecurityRow) (listed : SecurityFacts) : Type 0 where
   pub name : listed.name ≡ row.name
   pub rate : listed.rate ≡ option_map (λ b. b.rate) (commission_band_of_quantity t tier trade.kind row.exchange trade.qty)
 
 -- The facts `posting` for the cash row of a result agree with the tables `t`: the first day of
 -- one-day settlement, or `None` if none is set, and the number of the next cash row: one more than
--- the greatest number, or 1 if there is no cash row.
+-- that of the last row of CASH_MOVE, in the order of the table, or 1 if there is no cash row.
 pub record PostingFactsMatchTables (t : Tables) (posting : Posting) : Type 0 where
   pub rule : posting.rule ≡ t.rule
   pub next : posting.next ≡ last_cash_row_number_or_zero t + 1

@@ -24,11 +24,12 @@ use sqlite::Alter;
 use std::alloc::Global;
 
 // Plans an order from the facts `found` in the tables and from `lots`, the lots of the position:
-// returns its plan, or the refusal. Under the disk assumption, if these lots form a position that
-// other trades opened, it reads at most 16 lots more than the order would close or reduce, also if
-// it fails. It reads no lot if it refuses the order or the order closes no held shares. Fails with
-// `Memory` or `Store` only; with `Store` also if one of the lots that it reads has no shares, or if
-// the number of lots read exceeds 32 bits.
+// returns its plan, or the refusal. `last` is the stamp of the last accepted command, or `None` if
+// there is none, and `now` the clock reading. Under the disk assumption, if these lots form a
+// position that other trades opened, it reads at most 16 lots more than the order would close or
+// reduce, also if it fails. It reads no lot if it refuses the order or the order closes no held
+// shares. Fails with `Memory` or `Store` only; with `Store` also if one of the lots that it reads
+// has no shares, or if the number of lots read exceeds 32 bits.
 fn plan_order_over_lots<S: Alter>(
     alloc: Global,
     order: &Order,

@@ -30,10 +30,11 @@ pub struct PartyFacts {
 }
 
 // Returns the facts of the account in the row `row`, its customer and its broker that decide on a
-// result: fields of the row, the customer's tier and sum of tax rates, and the broker's totals. If
-// the database is still open, it is unchanged. Fails with `Memory` or `Store` only; with `Store`
-// also if the customer, one of the customer's taxes or the broker does not exist, the tax rates
-// total more than the greatest rate, or a total of the broker is out of range.
+// result: the broker, the tax status and the balance in the row, the customer's tier and sum of tax
+// rates, and the broker's totals. If the database is still open, it is unchanged. Fails with
+// `Memory` or `Store` only; with `Store` also if the customer, one of the customer's taxes or the
+// broker does not exist, the tax rates total more than the greatest rate, or a total of the broker
+// is out of range.
 fn read_party_facts_of_account_row<S: Alter>(
     alloc: Global,
     store: &mut Store<S>,

@@ -25,11 +25,12 @@ use sqlite::Alter;
 use std::alloc::Global;
 
 // Plans the result of a trade, completed at `price`, from the facts `found` in the tables and from
-// `lots`, the lots of its position: returns its plan, or the refusal. Under the disk assumption, if
-// these lots match the account's holding summary (`AreLotsBeforeTrade`), it reads at most 16 lots
-// more than the trade closes or reduces, also if it fails. It reads no lot if the trade closes no
-// held shares. Fails with `Memory` or `Store` only; with `Store` also if one of the lots that it
-// reads has no shares, or if the number of lots read exceeds 32 bits.
+// `lots`, the lots of its position: returns its plan, or the refusal. `last` is the stamp of the
+// last accepted command, or `None` if there is none, and `now` the clock reading. Under the disk
+// assumption, if these lots match the account's holding summary (`AreLotsBeforeTrade`), it reads at
+// most 16 lots more than the trade closes or reduces, also if it fails. It reads no lot if the
+// trade closes no held shares. Fails with `Memory` or `Store` only; with `Store` also if one of the
+// lots that it reads has no shares, or if the number of lots read exceeds 32 bits.
 fn plan_result_over_lots<S: Alter>(
     alloc: Global,
     found: &ResultPlanFacts,
@@ -61,10 +62,11 @@ fn plan_result_over_lots<S: Alter>(
 }
 
 // Plans the result of the trade in `found`, completed at `price`, from these facts and from the
-// lots of its position: returns its plan, or the refusal. If `found` is `None`, the trade does not
-// exist, and the function returns the refusal `NoTrade` (5). If the database is still open, it is
-// unchanged. Fails with `Memory` or `Store` only; with `Store` also if one of the lots that it
-// reads has no shares, or if the number of lots read exceeds 32 bits.
+// lots of its position: returns its plan, or the refusal. `last` is the stamp of the last accepted
+// command, or `None` if there is none, and `now` the clock reading. If `found` is `None`, the trade
+// does not exist, and the function returns the refusal `NoTrade` (5). If the database is still
+// open, it is unchanged. Fails with `Memory` or `Store` only; with `Store` also if one of the lots
+// that it reads has no shares, or if the number of lots read exceeds 32 bits.
 fn plan_result_from_facts<S: Alter>(
     alloc: Global,
     store: &mut Store<S>,

@@ -23,14 +23,14 @@ pub struct SecurityFacts {
     /// The name of the security.
     pub name: Name,
     /// The commission rate of the band of the trade's quantity, in hundredths of a percent, or
-    /// `None` if no band has this quantity.
+    /// `None` if there is no such band.
     pub rate: Option<Rate>,
 }
 
 // Returns the facts of a trade's security that decide on its result: the name, and the commission
-// rate of the trade for the customer tier `tier`, or `None` if no band has the trade's quantity. If
-// the database is still open, it is unchanged. Fails with `Memory` or `Store` only; with `Store`
-// also if the security does not exist.
+// rate of the trade for the customer tier `tier`, or `None` if no band of this tier, the trade's
+// type and the security's exchange has the trade's quantity. If the database is still open, it is
+// unchanged. Fails with `Memory` or `Store` only; with `Store` also if the security does not exist.
 fn read_security_facts<S: Alter>(
     alloc: Global,
     store: &mut Store<S>,
@@ -80,12 +80,13 @@ fn read_posting_facts<S: Alter>(store: &mut Store<S>) -> Result<Posting, Fault>
 }
 
 // Returns the facts that decide on a result of the trade `trade`: the trade, whose quantity is at
-// least 1 share, and what the tables have on its account, customer, broker, security and cash row.
-// If a check of the result fails, the facts that are needed only after it may have any value. If
-// the database is still open, it is unchanged. Fails with `Memory` or `Store` only; with `Store`
-// also if the trade's account, customer, broker or security or one of the customer's taxes does not
-// exist, the tax rates total more than the greatest rate, a total of the broker is out of range, or
-// no number is left for a cash row.
+// least 1 share, and what the tables have on its account, customer, broker, security and position,
+// the settlement day, and the number of the next cash row. If a check of the result fails, the
+// facts that are needed only after it may have any value. If the database is still open, it is
+// unchanged. Fails with `Memory` or `Store` only; with `Store` also if the trade's account,
+// customer, broker or security or one of the customer's taxes does not exist, the tax rates total
+// more than the greatest rate, a total of the broker is out of range, or no number is left for a
+// cash row.
 fn read_result_facts_of_trade<S: Alter>(
     alloc: Global,
     store: &mut Store<S>,

@@ -93,8 +93,8 @@ pub(crate) fn read_tax_rate_sum_within_limit<S: Alter>(
 }
 
 // Returns the facts that decide on a new permission: whether its account exists, and whether this
-// account has a permission for its tax id. If the database is still open, it is unchanged. Fails
-// with `Memory` or `Store` only.
+// account already has a permission for the same tax id. If the database is still open, it is
+// unchanged. Fails with `Memory` or `Store` only.
 pub(crate) fn read_permission_facts<S: Alter>(
     store: &mut Store<S>,
     permission: &Permission,

@@ -32,7 +32,7 @@ pub struct OrderCheckFacts {
     /// is none.
     pub charge: Option<ChargeAmount>,
     /// The commission rate of the band of the order's quantity, in hundredths of a percent, or
-    /// `None` if no band has this quantity.
+    /// `None` if there is no such band.
     pub rate: Option<Rate>,
 }
 
@@ -49,8 +49,8 @@ fn read_last_price<S: Alter>(store: &mut Store<S>, symbol: &Symbol) -> Result<Op
 }
 
 // Returns true if an executor may order for an account of a customer: the executor has the names
-// and the tax id of the customer, or those of the account's permission for this tax id. If the
-// database is still open, it is unchanged. Fails with `Memory` or `Store` only.
+// and the tax id of the customer, or those of the account's permission for the executor's tax id.
+// If the database is still open, it is unchanged. Fails with `Memory` or `Store` only.
 fn is_executor_permitted<S: Alter>(
     store: &mut Store<S>,
     account: Id,
@@ -83,9 +83,10 @@ fn read_charge_of_type_and_tier<S: Alter>(
     }
 }
 
-// Returns the commission rate of the band of a quantity for a customer tier, a trade type and an
-// exchange, in hundredths of a percent, or `None` if no band has this quantity. If the database is
-// still open, it is unchanged. Fails with `Memory` or `Store` only.
+// Returns the commission rate, in hundredths of a percent, of the first band, in the order of the
+// table, of a customer tier, a trade type and an exchange that contains a quantity, both bounds
+// included, or `None` if there is no such band. If the database is still open, it is unchanged.
+// Fails with `Memory` or `Store` only.
 pub(crate) fn read_commission_rate_of_band<S: Alter>(
     alloc: Global,
     store: &mut Store<S>,
@@ -103,8 +104,9 @@ pub(crate) fn read_commission_rate_of_band<S: Alter>(
 }
 
 // Returns the commission rate of an order for a customer tier, in hundredths of a percent, or
-// `None` if no band has its quantity. If its security does not exist, the result may have any
-// value. If the database is still open, it is unchanged. Fails with `Memory` or `Store` only.
+// `None` if no band of this tier, the order's trade type and its security's exchange has its
+// quantity. If the security does not exist, the result may have any value. If the database is still
+// open, it is unchanged. Fails with `Memory` or `Store` only.
 fn read_commission_rate_of_order<S: Alter>(
     alloc: Global,
     store: &mut Store<S>,

@@ -150,8 +150,9 @@ pub record RunPost {S : Type 0} (g : Ghosts S) (old new : Held S) (calls : List 
 -- schema 3. The calls with their outcomes are a run of the model from `base` to `after`; the broker
 -- totals, balances (with the opening balance) and holding summaries of `after` equal the sums over
 -- the completed trades, cash rows and lots from which they are computed; and the row of each trade
--- that an accepted command `Complete` completed has the tax of its completion, on exactly the
--- shares that it closed (`IsRunWithSumsAndTaxes`).
+-- that an accepted command `CompleteTrade` completed has the tax of its completion, on exactly the
+-- shares that it closed (`IsRunWithSumsAndTaxes`, which also states the books invariant of `after`
+-- and conditions on its lots).
 abbrev pub ReachesBasePassingAudit : {S : Type 0} → Ghosts S → Held S → Base → List (ℕ × Call) → List Outcome → Type 0
 ReachesBasePassingAudit g new base calls outcomes =
     (after : Base) × Represents g new after × PassesAudit third_schema (sheets after)
@@ -175,12 +176,13 @@ pub record RunGuarantee {S : Type 0} (g : Ghosts S) (old new : Held S) (calls : 
 
 -- The postcondition of an audit of the desk's store, which writes nothing: the audit satisfies
 -- `AuditPost`, the postcondition of an audit of a store; the store represents every base that it
--- represented before; and under the disk assumption, if it represents a base, the result is not
--- `Damaged`.
+-- represented before; and under the disk assumption, if the store represented a base before, the
+-- result is not `Damaged`.
 pub record DeskAuditPost {S : Type 0} (g : Ghosts S) (old new : Held S) (result : Result (Unit {0}) Fault) : Type 0 where
   -- It satisfies the postcondition of an audit of a store.
   pub audited : AuditPost g old new result
-  -- Under the disk assumption, if the store represents a base, the result is not `Damaged`.
+  -- Under the disk assumption, if the store represented a base before the audit, the result is not
+  -- `Damaged`.
   pub passes : HasCleanDisk (state g new) → (base : Base) → Represents g old base → AuditAnswerSatisfies result (λ failing. failing ≡ None)
   -- The store represents every base that it represented before the audit.
   pub same_bases : PreservesRepresentation g old new

@@ -8,11 +8,12 @@ use brk_view::{Query, View};
 use sqlite::Alter;
 use std::alloc::Global;
 
-// Executes a query on a store: returns its view, or its refusal. Fails with `Memory` or `Store`
-// only; with `Store` also if a row that another row requires does not exist, a lot has no shares,
-// the number of lots read exceeds 32 bits, or a sum overflows or exceeds its limit. If the database
-// is still open, it is unchanged, whatever the result. A crash after the call exposes only states
-// that a crash before the call could expose.
+// Executes a query on a store: returns its view, or its refusal. The result equals that of the
+// model for each base that the store represents. Fails with `Memory` or `Store` only; with `Store`
+// also if a row that another row requires does not exist, a lot has no shares, the number of lots
+// read exceeds 32 bits, or a sum overflows or exceeds its limit. If the database is still open, it
+// is unchanged, whatever the result. A crash after the call exposes only states that a crash before
+// the call could expose.
 pub(crate) fn answer_query<S: Alter>(
     alloc: Global,
     store: &mut Store<S>,

@@ -98,7 +98,7 @@ impl<S: Alter> Desk<S> {
     /// - `Done` with the reply, after the commit, if the command is accepted;
     /// - `Again` with the stored reply, if this same command was accepted before under `key`;
     /// - `Refused` with refusal 19, if another command was accepted before under `key`;
-    /// - `Refused` with the first reason that applies, if the command is refused.
+    /// - otherwise `Refused`, with the first reason in the order of the model's checks.
     ///
     /// Fails with `Memory` or `Store` only. `Memory` means that an allocation of the desk's own
     /// code was refused. `Store` may also mean that the `sqlite` crate ran out of memory, that a
@@ -178,7 +178,7 @@ impl<S: Alter> Desk<S> {
     // Executes the call `call`, a command at the clock reading `now` or a query, which does not use
     // `now`, and returns its outcome: the answer to a command, the view or the refusal of a query,
     // or the fault of the call, `Memory` or `Store`. Any outcome but `Done` changes nothing in a
-    // store that is still open.
+    // store that is still open. For what a crash may expose after it, see `call` and `ask`.
     fn execute_call(&mut self, alloc: Global, now: Stamp, call: &Call) -> Outcome
         ensures executed { OutcomePost S.Store self.old self.new now call.now result }
     {
@@ -246,7 +246,7 @@ impl<S: Alter> Desk<S> {
     }
 
     /// Returns the row of an account and its holding summaries, sorted by symbol, ascending, each
-    /// with the last price of its symbol, or `None` if the account does not exist.
+    /// with the last price of its symbol, in cents, or `None` if the account does not exist.
     ///
     /// Fails with `Memory` or `Store` only; `Store` may also mean that one of these symbols has no
     /// last price. If the database is still open, it is unchanged, whatever the result.
@@ -265,10 +265,11 @@ impl<S: Alter> Desk<S> {
 
     /// Returns the facts that the explanation of the holding of an account in a security reads: the
     /// rows of the account and of the security; the completed trades of the account in the
-    /// security; every lot that these trades opened, also if it was closed, each with the changes
-    /// made after its opening; the number of shares held, 0 if there is no holding summary; and the
-    /// last price. Refuses with `NoAccount` if the account does not exist, and with `NoSecurity` if
-    /// the account exists and the security does not.
+    /// security, in the order of completion; every lot that these trades opened, also if it was
+    /// closed, in the same order, each with its changes by other trades, in the order of their
+    /// completion; the number of shares held, below 0 if they were sold short, and 0 if there is no
+    /// holding summary; and the last price, in cents. Refuses with `NoAccount` if the account does
+    /// not exist, and with `NoSecurity` if the account exists and the security does not.
     ///
     /// Fails with `Memory` or `Store` only; `Store` may also mean that the security has no last
     /// price, or that a trade that changed one of these lots after its opening does not exist or
@@ -362,7 +363,7 @@ impl<S: Alter> Desk<S> {
     }
 
     /// Passes the lots of an account to a visitor, sorted by symbol, then by opening stamp, then by
-    /// trade, ascending. Returns `Ok` only after the visitor has taken the last lot.
+    /// trade id, ascending. Returns `Ok` only after the visitor has taken the last lot.
     ///
     /// Fails with `Cause` and the visitor's error, or with `Failed` and the fault `Memory` or
     /// `Store` after a prefix of the lots. If the database is still open, it is unchanged, whatever
@@ -414,7 +415,7 @@ impl<S: Alter> Desk<S> {
     }
 
     /// Calls a closure with each lot of an account and its symbol, sorted by symbol, then by
-    /// opening stamp, then by trade, ascending. Returns `Ok` only after the last lot.
+    /// opening stamp, then by trade id, ascending. Returns `Ok` only after the last lot.
     ///
     /// Fails with the closure's first error, or with a fault (`Memory` or `Store`) as an error of
     /// type `E`, after a prefix of the lots. If the database is still open, it is unchanged,

@@ -34,8 +34,8 @@ use sqlite::Alter;
 /// `crash_after_run`); after a crash that follows an adoption of rows that pass their audit
 /// (`crash_after_adoption`); and after a crash that follows a creation, except for states that were
 /// possible before it (`crash_after_creation`). The adoption may fail with `Memory` or `Store`.
-/// After a creation or an adoption, a crash exposes only the tables of the represented base
-/// (`created`, `adopted`).
+/// After a creation or an adoption that succeeded, a crash exposes only the tables of the
+/// represented base (`created`, `adopted`).
 ///
 /// All clauses are under the disk assumption: every read so far returned what was written. They are
 /// on a crash after a call has returned, not on one within a call.

@@ -41,13 +41,13 @@ fn view_of_estimate<S: Alter>(alloc: Global, store: &mut Store<S>, order: &Order
 }
 
 // Executes a query of any kind: reads the rows that it needs and returns its view, or its refusal.
-// The result equals that of the model if the tables equal those of a base that satisfies the books
-// invariant and the audit invariant.
+// The result equals that of the model, and a view has the rows that `HasRowsOfQuery` specifies, if
+// the tables equal those of a base that satisfies the books invariant and the audit invariant.
 //
 // Fails with `Memory` or `Store` only; with `Store` also if a row that another row requires does
 // not exist, a lot that was read has no shares, the number of lots read exceeds 32 bits, or a sum
 // overflows or exceeds its limit. If the database is still open, it is unchanged, whatever the
-// result.
+// result. A crash after the call exposes only states that a crash before the call could expose.
 pub(crate) fn view_of_query<S: Alter>(
     alloc: Global,
     store: &mut Store<S>,

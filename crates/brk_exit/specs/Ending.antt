@@ -39,10 +39,11 @@ exit_status_of_report_fault (report.Refused refusal) = 1
 exit_status_of_report_fault (report.Desk fault) = exit_status_of_fault fault
 exit_status_of_report_fault report.Write = 3
 
--- The exit status of an ending: 0 if the job is done or help was requested, 2 if the arguments are
--- wrong, 3 if a stream ended early, the port could not be opened, a stream could not be accepted,
--- the output could not be written, also to a closed pipe, or memory ran out while the arguments
--- were parsed, and otherwise the exit status of the fault of the open, the batch or the report.
+-- The exit status of an ending: 0 if the job is done or help or the version was requested, 2 if the
+-- arguments are wrong, 3 if a stream ended early, the port could not be opened, a stream could not
+-- be accepted, the output could not be written, also to a closed pipe, or memory ran out while the
+-- arguments were read or parsed, and otherwise the exit status of the fault of `Open`, `Batch` or
+-- `Report`.
 abbrev pub exit_status : Ending → ℕ
 exit_status ending.Done = 0
 exit_status (ending.Open fault) = exit_status_of_fault fault
@@ -65,7 +66,8 @@ ending_after_close ending.Done (Err fault) = ending.Open fault
 ending_after_close ending closed = ending
 
 -- The bytes of the error line of a batch that ended early, with its line feed: `brk: batch: ` and
--- the cause for a missing or wrong header or end record, otherwise the error line of the fault.
+-- the cause for a missing or wrong header or end record, `brk: fault: ` and `read` or `write` if
+-- reading or writing failed, and otherwise the error line of the desk's fault.
 abbrev pub error_line_of_batch : FaultKind → List ℕ
 error_line_of_batch kind.BadHeader = codes "brk: batch: bad header\n"
 error_line_of_batch kind.NoEnd = codes "brk: batch: no end\n"
@@ -90,8 +92,8 @@ error_line_of_report (report.Desk fault) = error_line_of_fault fault
 error_line_of_report report.Write = codes "brk: fault: write\n"
 
 -- The bytes that are sent to standard error if the arguments request no job: the error text of
--- wrong arguments, the error line of a malformed day or of memory that ran out, with its line feed,
--- or no byte for help.
+-- wrong arguments, which may be empty, the error line of a malformed day or of memory that ran out,
+-- with its line feed, or no byte for help and for the version.
 abbrev pub error_line_of_usage : UsageFault → List ℕ
 error_line_of_usage (usage.Words text) = string_bytes text
 error_line_of_usage (usage.Help text) = []
@@ -99,7 +101,8 @@ error_line_of_usage usage.Day = codes "brk: usage: day\n"
 error_line_of_usage usage.Memory = codes "brk: fault: memory\n"
 
 -- The bytes that an ending sends to standard error: the error line or the error text of its fault,
--- or no byte for a job that is done, for help and for a closed pipe.
+-- `brk: fault: net` or `brk: fault: write` with a line feed for `Net` or `Output`, which have no
+-- fault, or no byte for a job that is done, for help, for the version and for a closed pipe.
 abbrev pub error_line : Ending → List ℕ
 error_line ending.Done = []
 error_line (ending.Open fault) = error_line_of_fault fault

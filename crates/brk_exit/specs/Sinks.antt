@@ -8,11 +8,12 @@ abbrev pub ReceivesPrefix : Option (List ℕ) → Option (List ℕ) → List ℕ
 ReceivesPrefix old new text = (prefix : List ℕ) × (left : List ℕ) × Appends old new prefix × (text ≡ prefix ++ left)
 
 -- The sink received a prefix of `text`, perhaps empty or all of it, between the states `old` and
--- `new`, and its last step, to the state `new`, was a failure.
+-- `new`, and its last step, to the state `new`, was a failure. The condition on what it received is
+-- vacuous if its content before is unknown.
 abbrev pub SinkFailsWithinText : {S : Type 0} → (S → Option (List ℕ)) → (S → S → Type 0) → S → S → List ℕ → Type 0
 SinkFailsWithinText {S} contents fails old new text = (last : S) × fails last new × ReceivesPrefix (contents old) (contents new) text
 
 -- The sink received all of `text` between the states `old` and `new`, or it received a prefix of
--- `text` and then failed.
+-- `text`, perhaps empty or all of it, and then failed. Vacuous if its content before is unknown.
 abbrev pub ReceivesTextOrFails : {S : Type 0} → (S → Option (List ℕ)) → (S → S → Type 0) → S → S → List ℕ → Type 0
 ReceivesTextOrFails contents fails old new text = Appends (contents old) (contents new) text ⊎ SinkFailsWithinText contents fails old new text

@@ -100,11 +100,11 @@ fn report_exit_status(fault: &ReportFault) -> u8
     }
 }
 
-// Returns the exit status of an ending: 0 if the job is done or help was requested, 2 if the
-// arguments are wrong, 3 if a stream ended early, the port could not be opened, a stream could not
-// be accepted, the output could not be written, also to a closed pipe, or memory ran out while the
-// arguments were parsed, and otherwise the exit status of the fault of the open, the batch or the
-// report.
+// Returns the exit status of an ending: 0 if the job is done or help or the version was requested,
+// 2 if the arguments are wrong, 3 if a stream ended early, the port could not be opened, a stream
+// could not be accepted, the output could not be written, also to a closed pipe, or memory ran out
+// while the arguments were read or parsed, and otherwise the exit status of the fault of `Open`,
+// `Batch` or `Report`.
 fn ending_exit_status(ending: &Ending) -> u8
     ensures { result ≡ spec.exit_status ending.now }
 {
@@ -134,9 +134,9 @@ pub fn ending_after_close(ending: Ending, closed: Result<(), Fault>) -> Ending
     }
 }
 
-// Sends to `errors` the error line of a report that is refused or ended early: the number of the
-// refusal, or the error line of the fault of the desk or of the writer. Fails only if the sink
-// fails, which has then received a prefix of the line, perhaps all of it.
+// Sends to `errors` the error line of a report that is refused or ended early: `brk: refused: ` and
+// the number of the refusal, the error line of the fault of the desk, or `brk: fault: write`. Fails
+// only if the sink fails, which has then received a prefix of the line, perhaps all of it.
 fn send_report_error_line<S: Sink>(fault: &ReportFault, errors: &mut S) -> Result<(), NotWritten>
     ensures ok { OnOk result (Appends (S.contents errors.old) (S.contents errors.new) (spec.error_line_of_report fault.now)) }
     ensures err { OnErr result (SinkFailsWithinText S.contents S.fails errors.old errors.new (spec.error_line_of_report fault.now)) }
@@ -151,8 +151,9 @@ fn send_report_error_line<S: Sink>(fault: &ReportFault, errors: &mut S) -> Resul
     }
 }
 
-// Sends to `errors` the error text or line of arguments that request no job, or nothing for help.
-// Fails only if the sink fails, which has then received a prefix of the text, perhaps all of it.
+// Sends to `errors` the error text or line of arguments that request no job, or nothing for help
+// and for the version. Fails only if the sink fails, which has then received a prefix of the text
+// or line, perhaps all of it.
 fn send_usage_error_text<S: Sink>(fault: &UsageFault, errors: &mut S) -> Result<(), NotWritten>
     ensures ok { OnOk result (Appends (S.contents errors.old) (S.contents errors.new) (spec.error_line_of_usage fault.now)) }
     ensures err { OnErr result (SinkFailsWithinText S.contents S.fails errors.old errors.new (spec.error_line_of_usage fault.now)) }
@@ -166,8 +167,8 @@ fn send_usage_error_text<S: Sink>(fault: &UsageFault, errors: &mut S) -> Result<
 }
 
 /// Sends to `errors` the error line or text of an ending, or nothing for a job that is done, for
-/// help and for a closed pipe. Fails only if the sink fails, which has then received a prefix of
-/// the line, perhaps all of it.
+/// help, for the version and for a closed pipe. Fails only if the sink fails, which has then
+/// received a prefix of the line or text, perhaps all of it.
 pub fn send_error_line<S: Sink>(ending: &Ending, errors: &mut S) -> Result<(), NotWritten>
     ensures ok { OnOk result (Appends (S.contents errors.old) (S.contents errors.new) (spec.error_line ending.now)) }
     ensures err { OnErr result (SinkFailsWithinText S.contents S.fails errors.old errors.new (spec.error_line ending.now)) }
@@ -185,9 +186,9 @@ pub fn send_error_line<S: Sink>(ending: &Ending, errors: &mut S) -> Result<(), N
     }
 }
 
-/// Sends the error line of an ending to `errors`, if the ending has one, and returns the exit
-/// status of the ending, also if the sink fails. The sink has then received a prefix of the line,
-/// perhaps all of it.
+/// Sends the error line or text of an ending to `errors`, if the ending has one, and returns the
+/// exit status of the ending, also if the sink fails. A sink that fails has received a prefix of
+/// the line or text, perhaps all of it.
 pub fn end_with<S: Sink>(ending: &Ending, errors: &mut S) -> u8
     ensures status { result ≡ spec.exit_status ending.now }
     ensures line { ReceivesTextOrFails S.contents S.fails errors.old errors.new (spec.error_line ending.now) }

@@ -12,7 +12,7 @@ use brk_money::Fault;
 pub type ErrorLineParts<'a> = (&'a str, &'a str);
 
 /// Returns the error line of a fault of a desk, in two parts: `brk: fault: ` and `memory` or
-/// `store`, or `brk: damaged: ` and the word for the first condition that fails.
+/// `store`, or `brk: damaged: ` and the word for the condition that fails.
 pub fn fault_error_line(fault: Fault) -> ErrorLineParts<'static>
     ensures { spec.bytes_of_error_line result ≡ spec.error_line_of_fault fault }
 {

@@ -15,8 +15,8 @@ use brk_money::{Day, Fault, Wide, write_day};
 use brk_report_lines::append_left_aligned;
 use std::alloc::Global;
 
-/// Appends to `out` a label, padded with spaces to 15 bytes (a longer one whole), and a space.
-/// Fails with `Memory` only; a part of these bytes may then be appended.
+/// Appends to `out` a label, left-aligned in 15 places (a longer one whole), and a space. Fails
+/// with `Memory` only; a part of these bytes may then be appended.
 pub fn put_label(out: &mut Vec<u8>, label: &str) -> Result<(), Fault>
     ensures ok { OnOk result (out.new.items ≡ out.old.items ++ left_aligned_text 15 label.now ++ 32 ∷ []) }
     ensures fault { OnErr result (result ≡ Err Memory) }

@@ -126,8 +126,8 @@ pub fn balance_header_text(alloc: Global, row: &AccountRow) -> Result<Vec<u8>, F
     Ok(text)
 }
 
-// Appends to `out` the word `Lot`, padded with spaces to 6 bytes, a space, and the text `lot`.
-// Fails with `Memory` only; a part of these bytes may then be appended.
+// Appends to `out` the word `Lot`, left-aligned in 6 places, a space, and the text `lot`. Fails
+// with `Memory` only; a part of these bytes may then be appended.
 fn put_word_before_lot(out: &mut Vec<u8>, lot: &[u8]) -> Result<(), Fault>
     ensures ok { OnOk result (out.new.items ≡ out.old.items ++ left_aligned_text 6 (codes "Lot") ++ 32 ∷ lot.now) }
     ensures fault { OnErr result (result ≡ Err Memory) }
@@ -136,8 +136,9 @@ fn put_word_before_lot(out: &mut Vec<u8>, lot: &[u8]) -> Result<(), Fault>
     put_spaced_text(out, lot)
 }
 
-/// Returns the line of a lot of an account: the word `Lot`, its symbol, the trade that opened it,
-/// its quantity and its price, with a line feed. Fails with `Memory` only.
+/// Returns the line of a lot of an account: the word `Lot`, its symbol, the id of the trade that
+/// opened it, its quantity, below 0 if it was sold short, and its price, with a line feed. Fails
+/// with `Memory` only.
 #[tactic(auto, unfolding(brk_explain_model::specs::AccountLines::open_lot_line))]
 pub fn open_lot_text(alloc: Global, row: &HoldingRow) -> Result<Vec<u8>, Fault>
     ensures line { IfOk result (λ line. line.items ≡ line_with_line_feed (lines.open_lot_line (abstract_holding_row row.now))) }
@@ -172,7 +173,8 @@ fn market_value_of_holdings(all: &[PricedHolding]) -> Result<Wide, Fault>
     Ok(total)
 }
 
-// Appends to `out` the first columns of the line of a holding: the word `Held`, its symbol, and an
+// Appends to `out` the first columns of the line of a holding, separated by spaces: the word
+// `Held`, left-aligned in 6 places, its symbol, left-aligned in 15 (a longer one whole), and an
 // empty column of 13 places. Fails with `Memory` only; a part of these bytes may then be appended.
 #[tactic(auto, unfolding(brk_explain_model::specs::AccountLines::holding_line_start))]
 fn put_holding_line_start(out: &mut Vec<u8>, symbol: &[u8]) -> Result<(), Fault>
@@ -184,8 +186,9 @@ fn put_holding_line_start(out: &mut Vec<u8>, symbol: &[u8]) -> Result<(), Fault>
     put_column(out, 13, b"")
 }
 
-// Appends to `out` a quantity, right-aligned in 11 places, and a price, right-aligned in 10 places,
-// each after a space. Fails with `Memory` only; a part of these bytes may then be appended.
+// Appends to `out`, each after a space and right-aligned, a quantity, which may be below 0, in 11
+// places, and a price with two decimal places in 10 places. A longer one is appended whole. Fails
+// with `Memory` only; a part of these bytes may then be appended.
 #[tactic(auto, unfolding(brk_explain_model::specs::AccountLines::quantity_and_price_columns))]
 fn put_quantity_and_price(
     alloc: Global,
@@ -200,9 +203,9 @@ fn put_quantity_and_price(
     put_cents_column(alloc, out, 10, Wide::from(price))
 }
 
-// Appends to `out` the line of a holding, with a line feed: the word `Held`, its symbol, its
-// quantity, its last price and its market value. Fails with `Memory` or `Store`; with `Store` if
-// the market value overflows. After an error a part of the line may be appended.
+// Appends to `out` the line of a holding, with a line feed: the word `Held`, its symbol, an empty
+// column, its quantity, its last price and its market value. Fails with `Memory` or `Store`; with
+// `Store` if the market value overflows. After an error a part of the line may be appended.
 #[tactic(auto, unfolding(brk_explain_model::specs::AccountLines::holding_line))]
 fn put_holding_line(alloc: Global, out: &mut Vec<u8>, held: &PricedHolding) -> Result<(), Fault>
     ensures ok { OnOk result (out.new.items ≡ out.old.items ++ line_with_line_feed (lines.holding_line (abstract_priced_holding held.now))) }
@@ -245,10 +248,10 @@ fn put_account_counts_line(
     end_line(out)
 }
 
-// Appends to `out` the lines of the market value of the holdings, of the assets, and of the numbers
-// of cash rows (`cash`), lots and symbols. The assets are the balance plus the market value, in
-// cents. Fails with `Memory` or `Store`; with `Store` if the assets overflow. After an error a part
-// of the lines may be appended.
+// Appends to `out` the lines of `holdings`, which is the market value of the holdings, of the
+// assets, and of the numbers of cash rows (`cash`), lots and symbols. The assets are `balance` plus
+// `holdings`, in cents. Fails with `Memory` or `Store`; with `Store` if the assets overflow. After
+// an error a part of the lines may be appended.
 #[tactic(auto, unfolding(brk_explain_model::specs::AccountLines::account_total_lines))]
 fn put_account_total_lines(
     alloc: Global,
@@ -268,10 +271,10 @@ fn put_account_total_lines(
     put_account_counts_line(out, cash, lots, symbols)
 }
 
-// Appends to `out` the last lines of the explanation of an account: one for each holding, the
-// market value of the holdings, the assets, and the numbers of cash rows (`cash`), of lots (`lots`)
-// and of held symbols. Fails with `Memory` or `Store`; with `Store` if an amount overflows. After
-// an error a part of the lines may be appended.
+// Appends to `out` the last lines of the explanation of an account: one for each holding, in the
+// order of `held`, the market value of the holdings, the assets (the balance plus this value), and
+// the numbers of cash rows (`cash`), of lots (`lots`) and of held symbols. Fails with `Memory` or
+// `Store`; with `Store` if an amount overflows. After an error a part of the lines may be appended.
 fn put_holdings_and_totals(
     alloc: Global,
     out: &mut Vec<u8>,
@@ -289,9 +292,10 @@ fn put_holdings_and_totals(
     put_account_total_lines(alloc, out, row.balance, holdings, cash, lots, held.len())
 }
 
-/// Returns the last lines of the explanation of an account: one for each holding, the market value
-/// of the holdings, the assets, and the numbers of cash rows (`cash`), of lots (`lots`) and of held
-/// symbols. Fails with `Memory` or `Store`; with `Store` if an amount overflows.
+/// Returns the last lines of the explanation of an account: one for each holding, in the order of
+/// `held`, the market value of the holdings, the assets (the balance plus this value), and the
+/// numbers of cash rows (`cash`), of lots (`lots`) and of held symbols. Fails with `Memory` or
+/// `Store`; with `Store` if an amount overflows.
 pub fn holding_and_total_text(
     alloc: Global,
     row: &AccountRow,

@@ -181,10 +181,10 @@ fn put_realised_gain_lines(
 }
 
 /// Appends to `out` the lines of the price of a completed trade, of the column headings of its
-/// lots, of its closings, of the lot that it opened, if any, of the numbers of closed and opened
-/// shares, and of the buy value, the sell value and the realised gain. Fails with `Memory` or
-/// `Store`; with `Store` if a number of shares or an amount overflows. After an error a part of the
-/// lines may be appended.
+/// lots, of each of its closings, in their order, of the lot that it opened, if any, of the numbers
+/// of closed and opened shares, and of the buy value, the sell value and the realised gain. Fails
+/// with `Memory` or `Store`; with `Store` if a number of shares or an amount overflows. After an
+/// error a part of the lines may be appended.
 #[tactic(auto, unfolding(brk_explain_model::specs::TradeLines::lot_and_gain_lines, brk_explain_model::specs::TradeLines::closed_lot_lines))]
 pub(crate) fn put_lot_and_gain_lines(
     alloc: Global,

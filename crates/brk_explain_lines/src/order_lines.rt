@@ -111,9 +111,9 @@ fn lot_closing_sequence_text(is_lifo: bool) -> &'static str
     }
 }
 
-// Appends to `out` the lines of the terms of an order: its type, security, quantity and price,
-// whether it settles in cash or on margin, and the sequence in which it closes lots. Fails with
-// `Memory` only; a part of the lines may then be appended.
+// Appends to `out` the lines of the terms of an order: its type, security, quantity and requested
+// price, whether it settles in cash or on margin, and the sequence in which it closes lots. Fails
+// with `Memory` only; a part of the lines may then be appended.
 #[tactic(auto, unfolding(brk_explain_model::specs::TradeLines::order_terms_lines))]
 fn put_order_terms_lines(
     alloc: Global,
@@ -142,8 +142,8 @@ fn put_order_terms_lines(
 }
 
 /// Appends to `out` the lines of the title of the explanation of a trade, of its parties, of the
-/// terms of its order, and of its status changes. Fails with `Memory` only; a part of the lines may
-/// then be appended.
+/// terms of its order, and of each of its status changes, in their order. Fails with `Memory` only;
+/// a part of the lines may then be appended.
 #[tactic(auto, unfolding(brk_explain_model::specs::TradeLines::order_and_status_lines))]
 pub(crate) fn put_order_and_status_lines(
     alloc: Global,

@@ -19,9 +19,9 @@ use brk_explain_rows::{OrderDetails, ResultDetails};
 use brk_money::{Day, Fault, Wide, day_of};
 use std::alloc::Global;
 
-/// Appends to `out` the lines of the signed value of a completed trade, of its negated charge,
-/// commission and withheld tax, of its settlement amount, and of its cash type. Fails with `Memory`
-/// only; a part of the lines may then be appended.
+/// Appends to `out` the lines of the value of a completed trade, negated for a purchase, of its
+/// charge, its commission and its withheld tax, each negated, of its recorded settlement amount,
+/// and of its cash type. Fails with `Memory` only; a part of the lines may then be appended.
 #[tactic(auto, unfolding(brk_explain_model::specs::TradeLines::trade_settlement_lines))]
 pub(crate) fn put_settlement_lines(
     alloc: Global,
@@ -51,8 +51,9 @@ pub(crate) fn put_settlement_lines(
     Ok(())
 }
 
-// Appends to `out` the line of a label and a day in the format YYYY-MM-DD, or of the label and
-// `none` if `day` is `None`. Fails with `Memory` only; a part of the line may then be appended.
+// Appends to `out` the line of a label, left-aligned in 15 places (a longer one whole), a space,
+// and a day in the format YYYY-MM-DD, or `none` if `day` is `None`. Fails with `Memory` only; a
+// part of the line may then be appended.
 fn put_day_or_none_line(out: &mut Vec<u8>, label: &str, day: Option<Day>) -> Result<(), Fault>
     ensures ok { OnOk result (out.new.items ≡ out.old.items ++ line_with_line_feed (labeled_text label.now (option_map_or day_text day (codes "none")))) }
     ensures fault { OnErr result (result ≡ Err Memory) }
@@ -63,9 +64,10 @@ fn put_day_or_none_line(out: &mut Vec<u8>, label: &str, day: Option<Day>) -> Res
     }
 }
 
-/// Appends to `out` the lines of the day of completion of a trade, of the first day whose
-/// completions settle after one day, or `none`, of the number of days to settle by this day, and of
-/// the recorded due day. Fails with `Memory` only; a part of the lines may then be appended.
+/// Appends to `out` the lines of the UTC day of completion of a trade, of the current first day of
+/// one-day settlement (`none` if it is not set), of the number of days to settle that follows from
+/// these two days, and of the recorded due day. Fails with `Memory` only; a part of the lines may
+/// then be appended.
 #[tactic(auto, unfolding(brk_explain_model::specs::TradeLines::due_day_lines))]
 pub(crate) fn put_due_day_lines(
     out: &mut Vec<u8>,

@@ -43,8 +43,8 @@ pub(crate) fn sell_value_of_closing(side: Side, price: Price, closing: &Closing)
     }
 }
 
-/// Returns the sum of the numbers of shares that the closings closed. Fails with `Store` if the sum
-/// overflows.
+/// Returns the sum of the numbers of shares that the closings closed, 0 if there are none. Fails
+/// with `Store` if the sum overflows.
 pub(crate) fn total_closed_shares(closings: &[Closing]) -> Result<u64, Fault>
     ensures total { IfOk result (λ total. total ≡ trades.total_closed_shares (map abstract_closing closings.now)) }
     ensures fault { IfErr result IsCallFault }
@@ -59,8 +59,8 @@ pub(crate) fn total_closed_shares(closings: &[Closing]) -> Result<u64, Fault>
     Ok(total)
 }
 
-/// Returns the sum of the buy values of closings by a trade on `side` at `price`, in cents. Fails
-/// with `Store` if the sum overflows.
+/// Returns the sum of the buy values of closings by a trade on `side` at `price`, in cents, 0 if
+/// there are none. Fails with `Store` if the sum overflows.
 pub(crate) fn buy_value_of_closings(
     side: Side,
     price: Price,
@@ -79,8 +79,8 @@ pub(crate) fn buy_value_of_closings(
     wide_amount_of_cents(total)
 }
 
-/// Returns the sum of the sell values of closings by a trade on `side` at `price`, in cents. Fails
-/// with `Store` if the sum overflows.
+/// Returns the sum of the sell values of closings by a trade on `side` at `price`, in cents, 0 if
+/// there are none. Fails with `Store` if the sum overflows.
 pub(crate) fn sell_value_of_closings(
     side: Side,
     price: Price,
@@ -138,9 +138,9 @@ fn is_taxable_status(status: TaxStatus) -> bool
     }
 }
 
-// Returns the tax, in cents, on the gain `gain`, in cents, at the sum of tax rates `rates`; 0 if
-// gains are not taxable at the tax status. Fails with `Store` if gains are taxable and the absolute
-// value of `gain` exceeds the greatest amount.
+// Returns the tax, in whole cents, rounded half up, on the gain `gain`, in cents, at the sum of tax
+// rates `rates`; 0 if the gain is negative or gains are not taxable at the tax status. Fails with
+// `Store` if gains are taxable and the absolute value of `gain` exceeds the greatest amount.
 fn tax_on_gain(status: TaxStatus, gain: Wide, rates: TaxRate) -> Result<Wide, Fault>
     ensures tax { IfOk result (λ tax. tax ≡ pos (if base.is_taxable_status status then amounts.tax gain rates else 0)) }
     ensures fault { IfErr result IsCallFault }
@@ -152,10 +152,10 @@ fn tax_on_gain(status: TaxStatus, gain: Wide, rates: TaxRate) -> Result<Wide, Fa
     Ok(Wide::from(tax(gain, rates)))
 }
 
-/// Returns the tax, in cents, on the realised gain of a trade at its customer's current tax rates;
-/// 0 if the account is not taxable. Fails with `Store` if a sum overflows, if the tax rates total
-/// more than the greatest rate, or if the account is taxable and the absolute value of the gain
-/// exceeds the greatest amount.
+/// Returns the tax, in whole cents, rounded half up, on the realised gain of a trade at the sum of
+/// its customer's current tax rates; 0 if the account is not taxable or the gain is negative. Fails
+/// with `Store` if a sum overflows, if the tax rates total more than the greatest rate, or if the
+/// account is taxable and the absolute value of the gain exceeds the greatest amount.
 pub(crate) fn tax_at_current_rates(
     order: &OrderDetails,
     details: &ResultDetails,
@@ -172,8 +172,8 @@ pub(crate) fn tax_at_current_rates(
     tax_on_gain(order.account.account.tax_status, gain, rates)
 }
 
-/// Returns the commission of a completed trade at the rate of its current commission band, in
-/// cents, or `None` if there is no band.
+/// Returns the commission of a completed trade at the rate of its current commission band, in whole
+/// cents, rounded half up, or `None` if there is no band.
 pub(crate) fn commission_in_current_band(
     order: &OrderDetails,
     details: &ResultDetails,
@@ -193,7 +193,8 @@ fn value_at_price(qty: Qty, price: Price) -> i128
     i128::from(u64::from(qty.get()) * u64::from(price.get()))
 }
 
-/// Returns the quantity of a trade times its price, in cents, negated if it is a purchase.
+/// Returns the quantity of a trade times its completion price, in cents, negated if it is a
+/// purchase.
 pub(crate) fn signed_trade_value(order: &OrderDetails, details: &ResultDetails) -> Wide
     ensures { result ≡ trades.signed_trade_value (abstract_order_details order.now) (abstract_result_details details.now) }
 {

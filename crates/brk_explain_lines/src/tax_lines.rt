@@ -70,10 +70,11 @@ fn put_tax_rate_sum_line(out: &mut Vec<u8>, rates: TaxRate) -> Result<(), Fault>
 }
 
 // Appends to `out` the lines of the sum of the customer's current tax rates, of the tax on the
-// trade's realised gain at this sum, and of the tax that the trade records. Fails with `Memory` or
-// `Store`; with `Store` if a sum overflows, if the tax rates total more than the greatest rate, or
-// if the account is taxable and the absolute value of the gain exceeds the greatest amount. After
-// an error a part of the lines may be appended.
+// trade's realised gain at this sum (0 if the account is not taxable or the gain is negative), and
+// of the tax that the trade records. Fails with `Memory` or `Store`; with `Store` if a sum
+// overflows, if the tax rates total more than the greatest rate, or if the account is taxable and
+// the absolute value of the gain exceeds the greatest amount. After an error a part of the lines
+// may be appended.
 #[tactic(auto, unfolding(brk_explain_model::specs::TradeLines::current_and_recorded_tax_lines))]
 fn put_current_and_recorded_tax_lines(
     alloc: Global,
@@ -93,10 +94,10 @@ fn put_current_and_recorded_tax_lines(
 }
 
 /// Appends to `out` the lines of the tax status of a trade's account, of each current tax rate of
-/// its customer, and of the current and the recorded tax. Fails with `Memory` or `Store`; with
-/// `Store` if a sum overflows, if the tax rates total more than the greatest rate, or if the
-/// account is taxable and the absolute value of the gain exceeds the greatest amount. After an
-/// error a part of the lines may be appended.
+/// its customer, in their order, of the sum of these rates, and of the current and the recorded
+/// tax. Fails with `Memory` or `Store`; with `Store` if a sum overflows, if the tax rates total
+/// more than the greatest rate, or if the account is taxable and the absolute value of the gain
+/// exceeds the greatest amount. After an error a part of the lines may be appended.
 #[tactic(auto, unfolding(brk_explain_model::specs::TradeLines::trade_tax_lines))]
 pub(crate) fn put_tax_lines(
     alloc: Global,
@@ -113,8 +114,9 @@ pub(crate) fn put_tax_lines(
     put_current_and_recorded_tax_lines(alloc, out, order, details)
 }
 
-// Appends to `out` the text after the rate of a commission band: ` of 10000 for `, its lower bound,
-// ` to ` and its upper bound. Fails with `Memory` only; a part of these bytes may then be appended.
+// Appends to `out` the text after the rate of a commission band: ` of 10000 for `, its least
+// quantity, ` to ` and its greatest quantity, in shares. Fails with `Memory` only; a part of these
+// bytes may then be appended.
 #[tactic(auto, unfolding(brk_explain_model::specs::TradeLines::band_unit_and_bounds_text))]
 fn put_band_bounds(out: &mut Vec<u8>, band: &Band) -> Result<(), Fault>
     ensures ok { OnOk result (out.new.items ≡ out.old.items ++ lines.band_unit_and_bounds_text (abstract_band band.now)) }
@@ -124,8 +126,8 @@ fn put_band_bounds(out: &mut Vec<u8>, band: &Band) -> Result<(), Fault>
     put_text_and_number(out, " to ", u64::from(band.to_qty.get()))
 }
 
-// Appends to `out` the text after the bounds of a commission band: `, tier `, its tier, `, ` and
-// its exchange. Fails with `Memory` only; a part of these bytes may then be appended.
+// Appends to `out` the text after the quantities of a commission band: `, tier `, its tier, `, `
+// and its exchange. Fails with `Memory` only; a part of these bytes may then be appended.
 #[tactic(auto, unfolding(brk_explain_model::specs::TradeLines::band_tier_and_exchange_text))]
 fn put_band_tier_and_exchange(out: &mut Vec<u8>, band: &Band) -> Result<(), Fault>
     ensures ok { OnOk result (out.new.items ≡ out.old.items ++ lines.band_tier_and_exchange_text (abstract_band band.now)) }
@@ -136,9 +138,9 @@ fn put_band_tier_and_exchange(out: &mut Vec<u8>, band: &Band) -> Result<(), Faul
     put_text(out, band.exchange.as_str().as_bytes())
 }
 
-// Appends to `out` the line of the current commission band: its rate in ten-thousandths, its
-// bounds, its tier and its exchange, or `none` if there is no band. Fails with `Memory` only; a
-// part of the line may then be appended.
+// Appends to `out` the line of the current commission band: its rate in ten-thousandths, its least
+// and its greatest quantity, its tier and its exchange, or `none` if there is no band. Fails with
+// `Memory` only; a part of the line may then be appended.
 #[tactic(auto, unfolding(brk_explain_model::specs::TradeLines::commission_band_line))]
 fn put_commission_band_line(out: &mut Vec<u8>, band: &Option<Band>) -> Result<(), Fault>
     ensures ok { OnOk result (out.new.items ≡ out.old.items ++ line_with_line_feed (lines.commission_band_line (option_map abstract_band band.now))) }

@@ -99,9 +99,10 @@ fn put_awaited_event_line(out: &mut Vec<u8>, trade: &TradeRow) -> Result<(), Fau
     end_line(out)
 }
 
-// Appends to `out` the line of a label, an amount in cents, written with two decimal places and
-// right-aligned in 22 places, a space, and the text `words`. Fails with `Memory` only; a part of
-// these bytes may then be appended.
+// Appends to `out` the line of a label, left-aligned in 15 places, a space, an amount in cents,
+// written with two decimal places and right-aligned in 22 places, a space, and the text `words`. A
+// longer label or amount is appended whole. Fails with `Memory` only; a part of these bytes may
+// then be appended.
 fn put_amount_line_with_remark(
     alloc: Global,
     out: &mut Vec<u8>,

@@ -73,13 +73,13 @@ market_value_of_holding held = held.summary.qty *ℤ pos held.price
 abbrev pub market_value_of_holdings : List PricedHolding → ℤ
 market_value_of_holdings all = total_by market_value_of_holding all
 
--- The first columns of the line of a holding: the word `Held`, `symbol`, and an empty column of 13
--- places.
+-- The first columns of the line of a holding, separated by spaces: the word `Held`, left-aligned in
+-- 6 places, `symbol`, left-aligned in 15, and an empty column of 13 places.
 unfoldable pub holding_line_start : Text → Text
 holding_line_start symbol = left_aligned_text 6 (codes "Held") ++ 32 ∷ left_aligned_text 15 symbol ++ 32 ∷ right_aligned_text 13 []
 
 -- The columns of the quantity `qty` and of the last price `price`, which is given in cents, each
--- after a space.
+-- after a space and right-aligned, in 11 and 10 places.
 unfoldable pub quantity_and_price_columns : ℤ → ℕ → Text
 quantity_and_price_columns qty price = 32 ∷ right_aligned_text 11 (signed_decimal qty) ++ 32 ∷ right_aligned_text 10 (nonnegative_cents_text price)
 
@@ -95,7 +95,7 @@ abbrev pub priced_holding : Tables → SummaryRow → PricedHolding
 priced_holding tables row = record { summary = row; price = last_price_in_tables tables row.symbol }
 
 -- The holding summaries of `account`, in the order of the table HOLDING_SUMMARY, each with the last
--- price of its symbol.
+-- price of its symbol, or with the price 0 if `tables` has no LAST_TRADE row of the symbol.
 abbrev pub priced_holdings_of_account : Tables → ℕ → List PricedHolding
 priced_holdings_of_account tables account = map (priced_holding tables) (filter (λ row. row.account == account) tables.summaries)
 
@@ -120,8 +120,9 @@ account_total_lines balance holdings cash lots symbols =
 abbrev pub holding_and_total_lines : AccountRow → List PricedHolding → ℕ → ℕ → List Text
 holding_and_total_lines a held cash lots = map holding_line held ++ account_total_lines a.balance (market_value_of_holdings held) cash lots (length held)
 
--- All lines of the explanation of the account `a`: the first lines, its cash rows, balance, lots
--- and holdings, and the last lines.
+-- All lines of the explanation of the account `a`: the first lines, its cash rows
+-- (`account_cash_rows_by_stamp`) with the balance after each, its balance, its lots, sorted by
+-- symbol, then by stamp, its holdings, in the order of HOLDING_SUMMARY, and the last lines.
 unfoldable pub account_explanation_lines : Tables → AccountRow → List Text
 account_explanation_lines tables a =
     account_header_lines a

@@ -11,7 +11,7 @@ use Rattle.brk_explain_model.specs.Texts.{amount_column, labeled_value, timestam
 use Rattle.brk_explain_model.specs.Running.{lines_with_running_total}
 use Rattle.brk_explain_model.specs.Trades.{has_completed_status}
 
--- The row of the table BROKER with the id `broker`, or `None` if there is none.
+-- The first row of the table BROKER with the id `broker`, or `None` if there is none.
 abbrev pub broker_row_with_id : Tables → ℕ → Option BrokerRow
 broker_row_with_id tables broker = find (λ b. b.id == broker) tables.brokers
 
@@ -24,6 +24,7 @@ abbrev pub broker_of_account_or_zero : Tables → ℕ → ℕ
 broker_of_account_or_zero tables account = option_map_or (λ a. a.broker) (account_row_with_id tables account) 0
 
 -- The completed trades of the accounts of `broker`, sorted by the stamp of completion, ascending.
+-- If `broker` is 0, they include those whose account does not exist.
 abbrev pub completed_trades_of_broker : Tables → ℕ → List TradeRow
 completed_trades_of_broker tables broker =
     sort_by_key (λ u. u.stamp) (filter (λ u. has_completed_status u && (broker_of_account_or_zero tables u.account == broker)) tables.trades)
@@ -67,7 +68,8 @@ unfoldable pub broker_lines_from_trades : BrokerRow → ℕ → List TradeRow �
 broker_lines_from_trades b accounts done = broker_header_lines b ++ trade_commission_lines done ++ broker_total_lines b accounts (length done)
 
 -- All lines of the explanation of the broker `b`: the title, its name, the column headings, a line
--- for each of its completed trades with the running total of commissions, the totals that the row
--- `b` records, and the numbers of its accounts and of these trades.
+-- for each of its completed trades, sorted by the stamp of completion, ascending, with the running
+-- total of commissions, the totals that the row `b` records, and the numbers of its accounts and of
+-- these trades.
 unfoldable pub broker_explanation_lines : Tables → BrokerRow → List Text
 broker_explanation_lines tables b = broker_lines_from_trades b (length (accounts_with_broker tables b.id)) (completed_trades_of_broker tables b.id)

@@ -29,8 +29,9 @@ holding_header_lines a s =
     ∷ codes "#      completed                       trade      shares      price            value        held type"
     ∷ []
 
--- The line of the completed trade `u`: the word `Trade`, its timestamp, id, signed quantity, price
--- and signed value, `held`, the quantity of the holding after it, and the code of its type.
+-- The line of the completed trade `u`: the word `Trade`, its timestamp, id, quantity, price (0 if
+-- it has none) and value, `held`, the quantity of the holding after it, and the code of its type.
+-- Its quantity and value are negated if it is a sale.
 unfoldable pub holding_trade_line : TradeRow → ℤ → Text
 holding_trade_line u held =
     leading_row_columns (codes "Trade") (timestamp_text u.stamp) u.id (signed_quantity_of_trade u) (completion_price_or_zero u)
@@ -57,24 +58,25 @@ lot_change_line price c =
     ++ shares_column c.after
 
 -- The line of the remaining shares of `lot`: the word `Left`, a blank timestamp, the id of the
--- trade that opened it, the remaining quantity, the opening price, and their product, the cost
--- basis.
+-- trade that opened it, the remaining quantity, which is 0 if the lot is closed, the opening price,
+-- and their product, the cost basis.
 unfoldable pub lot_remainder_line : LotDetails → Text
 lot_remainder_line lot =
     leading_row_columns (codes "Left") blank_timestamp_text lot.trade.id (remaining_quantity_of_lot lot) (completion_price_or_zero lot.trade)
     ++ value_column (remaining_cost_of_lot lot)
 
--- A line for each of the `changes` of a lot that was opened at `price`, by trades other than the
--- trade that opened it.
+-- A line for each of the `changes` of a lot that was opened at `price`, which is given in cents, by
+-- trades other than the trade that opened it.
 abbrev pub lot_change_lines : ℕ → List LotChange → List Text
 lot_change_lines price changes = map (lot_change_line price) changes
 
--- The lines of `lot`: its opening, each change by another trade, and its remaining shares.
+-- The lines of `lot`: its opening, each change by another trade, and its remaining shares, even if
+-- none remain.
 unfoldable pub lot_history_lines : LotDetails → List Text
 lot_history_lines lot = lot_opening_line lot ∷ lot_change_lines (completion_price_or_zero lot.trade) lot.changes ++ lot_remainder_line lot ∷ []
 
 -- The lines of the total purchases `bought`, the total sales `sold`, the realised gain `gain` and
--- the cost basis `cost` of a holding, in cents.
+-- the cost basis `cost` of a holding, which are all given in cents.
 unfoldable pub purchase_sale_gain_and_cost_lines : ℤ → ℤ → ℤ → ℤ → List Text
 purchase_sale_gain_and_cost_lines bought sold gain cost =
     labeled_amount (codes "Purchases") bought ∷ labeled_amount (codes "Sales") sold ∷ labeled_amount (codes "Realised gain") gain
@@ -99,9 +101,9 @@ holding_counts_line trades lots open_count changes =
     codes "Trades " ++ decimal trades ++ codes ", lots " ++ decimal lots ++ codes ", open lots " ++ decimal open_count ++ codes ", changes " ++ decimal changes
 
 -- The last lines of the explanation of a holding, from its completed trades `done`, its `lots`, its
--- quantity `shares` and the last price `price`, in cents: the total purchases and sales, the
--- realised gain, the cost basis, the shares, the last price, the market value, the unrealised gain,
--- and the counts.
+-- quantity `shares` and the last price `price`, which is given in cents: the total purchases, the
+-- total sales, negated, the realised gain, the cost basis, the shares, the last price, the market
+-- value, the unrealised gain, and the counts.
 unfoldable pub holding_total_lines : List TradeRow → List LotDetails → ℤ → ℕ → List Text
 holding_total_lines done lots shares price =
     purchase_sale_gain_and_cost_lines (total_purchase_value done) (total_sale_value done) (realised_gain_of_lots lots) (remaining_cost_of_lots lots)
@@ -114,14 +116,17 @@ abbrev pub holding_trade_lines : List TradeRow → List Text
 holding_trade_lines done = lines_with_running_total signed_quantity_of_trade holding_trade_line (pos 0) done
 
 -- All lines of the explanation of the holding of the account `a` in the security `s`: the first
--- lines, a line for each of its completed trades `done`, the lines of its `lots`, and the last
--- lines, from its quantity `shares` and the last price `price`, which is given in cents.
+-- lines, a line for each of its completed trades `done`, the column headings of the lots, the lines
+-- of its `lots`, and the last lines, from its quantity `shares` and the last price `price`, which
+-- is given in cents.
 unfoldable pub holding_lines_from_trades_and_lots : AccountRow → SecurityRow → List TradeRow → List LotDetails → ℤ → ℕ → List Text
 holding_lines_from_trades_and_lots a s done lots shares price =
     holding_header_lines a s ++ holding_trade_lines done ++ lot_columns_header ∷ flat_map lot_history_lines lots ++ holding_total_lines done lots shares price
 
 -- All lines of the explanation of the holding of the account `a` in the security `s`: the first
--- lines, its completed trades, its lots with their changes, and the last lines.
+-- lines, its completed trades, the column headings of the lots, its lots with their changes, and
+-- the last lines. Trades, lots and changes are each sorted by stamp, ascending. The quantity is
+-- that of HOLDING_SUMMARY, and it and the last price are 0 if they have no row.
 unfoldable pub holding_explanation_lines : Tables → AccountRow → SecurityRow → List Text
 holding_explanation_lines tables a s =
     holding_lines_from_trades_and_lots a s (completed_trades_in_symbol tables a.id s.symbol) (lots_opened_in_symbol tables a.id s.symbol)

@@ -20,8 +20,8 @@ completed_trades_in_symbol tables account symbol =
 abbrev pub signed_quantity_of_trade : TradeRow → ℤ
 signed_quantity_of_trade u = signed_by_side (side_of_trade_type u.kind) u.qty
 
--- The quantity of the trade `u` times its price, in cents, negated if the trade is a sale; 0 if the
--- trade has no price.
+-- The quantity of the trade `u` times its completion price, in cents, negated if the trade is a
+-- sale; 0 if it has no completion price.
 abbrev pub signed_value_of_trade : TradeRow → ℤ
 signed_value_of_trade u = signed_quantity_of_trade u *ℤ pos (completion_price_or_zero u)
 
@@ -47,35 +47,36 @@ recorded_lot_change tables row = record {
   after = row.after;
 }
 
--- True if the HOLDING_HISTORY row `row` records a change of the lot `lot` by another trade than the
--- one that opened it.
+-- True if the HOLDING_HISTORY row `row` records a change, by another trade, of the lot that the
+-- trade with the id `lot` opened.
 abbrev pub is_later_change_of_lot : ℕ → HoldingHistoryRow → Bool
 is_later_change_of_lot lot row = (row.lot == lot) && not (row.trade == lot)
 
--- The changes of `lot` by other trades than the one that opened it, sorted by the stamps of these
--- trades, ascending.
+-- The changes, by other trades, of the lot that the trade with the id `lot` opened, sorted by the
+-- stamps of these other trades, ascending.
 abbrev pub later_changes_of_lot : Tables → ℕ → List LotChange
 later_changes_of_lot tables lot = sort_by_key (λ c. c.stamp) (map (recorded_lot_change tables) (filter (is_later_change_of_lot lot) tables.holding_history))
 
--- The realised gain, in cents, of the change `c` of a lot that was opened at `price`: the product
--- of the quantity before minus the quantity after the change, and of the price of `c` minus
--- `price`. The first factor is below 0 if `c` closes shares that were sold short.
+-- The realised gain, in cents, of the change `c` of a lot that was opened at `price`, also given in
+-- cents: the product of the quantity before minus the quantity after the change, and of the price
+-- of `c` minus `price`. The first factor is below 0 if `c` closes shares that were sold short.
 abbrev pub realised_gain_of_change : ℕ → LotChange → ℤ
 realised_gain_of_change price c = (c.before -ℤ c.after) *ℤ (pos c.price -ℤ pos price)
 
 -- A lot that a completed trade opened: the trade, the quantity that it opened, below 0 if it sold
--- short, and the changes of the lot by other trades.
+-- short, and the changes of the lot by other trades, the oldest first.
 pub record LotDetails : Type 0 where
   pub trade : TradeRow
   pub opened : ℤ
   pub changes : List LotChange
 
--- The quantity of the lot that `trade` opened, below 0 if it sold short; 0 if it opened no lot.
+-- The quantity of the lot that the trade with the id `trade` opened, below 0 if it sold short; 0 if
+-- it opened no lot.
 abbrev pub quantity_opened_by_trade : Tables → ℕ → ℤ
 quantity_opened_by_trade tables trade = option_map_or (λ row. row.after) (opened_lot_row tables trade) (pos 0)
 
 -- The lot that the trade `u` opened: the trade, the opened quantity (0 if the trade opened no lot),
--- and the changes of the lot by other trades.
+-- and the changes of the lot by other trades, sorted by the stamps of these trades, ascending.
 abbrev pub lot_with_later_changes : Tables → TradeRow → LotDetails
 lot_with_later_changes tables u = record { trade = u; opened = quantity_opened_by_trade tables u.id; changes = later_changes_of_lot tables u.id }
 
@@ -85,8 +86,8 @@ abbrev pub lots_opened_in_symbol : Tables → ℕ → Text → List LotDetails
 lots_opened_in_symbol tables account symbol =
     map (lot_with_later_changes tables) (filter (λ u. is_some (opened_lot_row tables u.id)) (completed_trades_in_symbol tables account symbol))
 
--- The remaining quantity of `lot`: its quantity after the last change, or the opened quantity if it
--- has no change.
+-- The remaining quantity of `lot`, below 0 if it was sold short: its quantity after the last of
+-- `lot.changes`, or the opened quantity if there is no change.
 abbrev pub remaining_quantity_of_lot : LotDetails → ℤ
 remaining_quantity_of_lot lot = unwrap_or (last_or None (map (λ c. c.after) lot.changes)) lot.opened
 
@@ -129,7 +130,8 @@ total_purchase_value done = total_by signed_value_of_trade (filter (λ u. int_lt
 abbrev pub total_sale_value : List TradeRow → ℤ
 total_sale_value done = total_by signed_value_of_trade (filter (λ u. int_lt (signed_value_of_trade u) (pos 0)) done)
 
--- The quantity of `account` in `symbol` that HOLDING_SUMMARY records; 0 if there is no such row.
+-- The net quantity of `account` in `symbol`, in shares, that HOLDING_SUMMARY records, below 0 if
+-- they were sold short; 0 if there is no such row.
 abbrev pub summary_quantity_in_symbol : Tables → ℕ → Text → ℤ
 summary_quantity_in_symbol tables account symbol =
     option_map_or (λ row. row.qty) (find (λ row. (row.account == account) && bytes_eq row.symbol symbol) tables.summaries) (pos 0)

@@ -55,12 +55,12 @@ title_and_party_lines o =
 abbrev pub trade_type_line : OrderDetails → Text
 trade_type_line o = labeled_text (codes "Type") (trade_type_code o.trade.kind) ++ 32 ∷ trade_type_name o.trade.kind
 
--- The line of the security of the trade: its symbol in 15 places, and its name.
+-- The line of the security of the trade: its symbol, left-aligned in 15 places, and its name.
 abbrev pub trade_security_line : OrderDetails → Text
 trade_security_line o = labeled_text (codes "Security") (left_aligned_text 15 o.trade.symbol) ++ 32 ∷ o.security_name
 
--- The lines of the terms of the order: its type, security, quantity and price, `cash` or `margin`,
--- and the order in which it closes lots.
+-- The lines of the terms of the order: its type, security, quantity and requested price, `cash` or
+-- `margin`, and the sequence in which it closes lots.
 unfoldable pub order_terms_lines : OrderDetails → List Text
 order_terms_lines o =
     trade_type_line o
@@ -133,12 +133,13 @@ closed_lot_line side price c =
     ++ value_column (pos (sell_value_of_closing side price c)) ++ shares_column c.after
 
 -- The line of the lot that the trade `u` opened at `price`, which is given in cents: the word
--- `Opened`, the timestamp and the id of the trade, the quantity and the price.
+-- `Opened`, the timestamp and the id of the trade, the quantity of the lot that `row` records,
+-- below 0 if it was sold short, and the price.
 unfoldable pub opened_lot_line : TradeRow → ℕ → HoldingHistoryRow → Text
 opened_lot_line u price row = leading_row_columns (codes "Opened") (timestamp_text u.stamp) u.id row.after price
 
--- The line of the lot that the trade `u` opened at `price`, as a list of one, or the empty list if
--- the trade opened no lot.
+-- The line of the lot that the trade `u` opened at `price`, which is given in cents, as a list of
+-- one, or the empty list if the trade opened no lot.
 unfoldable pub opened_lot_lines : TradeRow → ℕ → Option HoldingHistoryRow → List Text
 opened_lot_lines u price None = []
 opened_lot_lines u price (Some row) = opened_lot_line u price row ∷ []
@@ -185,7 +186,8 @@ unfoldable pub account_tax_status_lines : OrderDetails → List Text
 account_tax_status_lines o = labeled_number (codes "Tax status") (tax_status_number o.tax_status) ∷ []
 
 -- The lines of the sum of the customer's current tax rates, of the tax on the realised gain at this
--- sum (0 if the account is not taxable), and of the tax that the trade records.
+-- sum (0 if the account is not taxable or the gain is negative), and of the tax that the trade
+-- records.
 unfoldable pub current_and_recorded_tax_lines : OrderDetails → ResultDetails → List Text
 current_and_recorded_tax_lines o r =
     (labeled_number (codes "Rates now") (sum_of_tax_rates r.rates) ++ codes " of 100000")
@@ -223,8 +225,8 @@ current_commission_line (Some amount) = labeled_amount (codes "Commission now") 
 unfoldable pub band_and_commission_lines : OrderDetails → ResultDetails → List Text
 band_and_commission_lines o r = commission_band_line r.band ∷ current_commission_line (commission_in_current_band o r) ∷ []
 
--- The lines of the settlement: the signed value, the negated charge, commission and withheld tax,
--- the settlement amount, and the cash type.
+-- The lines of the settlement: the value of the trade, negated for a purchase, the negated charge,
+-- commission and withheld tax, the recorded settlement amount, and the cash type.
 unfoldable pub trade_settlement_lines : OrderDetails → ResultDetails → List Text
 trade_settlement_lines o r =
     labeled_amount (codes "Value") (signed_trade_value o r)
@@ -235,8 +237,9 @@ trade_settlement_lines o r =
     ∷ labeled_text (codes "Cash type") r.settlement.cash_type
     ∷ []
 
--- The lines of the day of completion, of the first day of one-day settlement (`none` if it is not
--- set), of the number of days to settle by this day, and of the recorded due day.
+-- The lines of the UTC day of completion, of the current first day of one-day settlement (`none` if
+-- it is not set), of the number of days from completion to settlement that follows from these two
+-- days, and of the recorded due day.
 unfoldable pub due_day_lines : OrderDetails → ResultDetails → List Text
 due_day_lines o r =
     labeled_text (codes "Completed on") (day_text (day_of o.trade.stamp))
@@ -251,9 +254,9 @@ unfoldable pub trade_cash_row_line : Option MoveRow → Text
 trade_cash_row_line None = labeled_value (codes "Cash row") (codes "none")
 trade_cash_row_line (Some row) = labeled_number (codes "Cash row") row.id ++ 32 ∷ row.name
 
--- The lines of the trade's cash row, of the account's opening balance, of the sum of the cash rows
--- before the trade, of the balance before it, of the amount of its cash row (0 if it has none), and
--- of the balance after it.
+-- The lines of the trade's cash row, of the account's opening balance, of the sum of the account's
+-- cash rows before the completion of the trade, of the balance before the completion, of the amount
+-- of the trade's cash row (0 if it has none), and of the balance after the completion.
 unfoldable pub trade_balance_lines : OrderDetails → ResultDetails → List Text
 trade_balance_lines o r =
     trade_cash_row_line r.cash

@@ -116,8 +116,8 @@ recorded_closing tables row =
 abbrev pub reversed_if_lifo : {X : Type 0} → Bool → List X → List X
 reversed_if_lifo is_lifo xs = if is_lifo then reverse xs else xs
 
--- True if the HOLDING_HISTORY row `row` records a change by `trade` of a lot that another trade
--- opened.
+-- True if the HOLDING_HISTORY row `row` records a change, by the trade with the id `trade`, of a
+-- lot that another trade opened.
 abbrev pub is_closing_by_trade : ℕ → HoldingHistoryRow → Bool
 is_closing_by_trade trade row = (row.trade == trade) && not (row.lot == trade)
 
@@ -127,8 +127,8 @@ abbrev pub closings_of_trade : Tables → TradeRow → List Closing
 closings_of_trade tables u =
     reversed_if_lifo u.is_lifo (sort_by_key (λ c. c.stamp) (map (recorded_closing tables) (filter (is_closing_by_trade u.id) tables.holding_history)))
 
--- The HOLDING_HISTORY row that records the opening of a lot by `trade`, or none if `trade` opened
--- no lot.
+-- The first HOLDING_HISTORY row that records the opening of a lot by the trade with the id `trade`;
+-- none if there is no such row.
 abbrev pub opened_lot_row : Tables → ℕ → Option HoldingHistoryRow
 opened_lot_row tables trade = find (λ row. (row.trade == trade) && (row.lot == trade)) tables.holding_history
 
@@ -138,8 +138,9 @@ abbrev pub tax_rates_of_customer : Tables → ℕ → List TaxRate
 tax_rates_of_customer tables customer =
     flat_map (λ x. option_to_list (find (λ r. r.id == x.tax) tables.tax_rates)) (filter (λ x. x.customer == customer) tables.customer_taxes)
 
--- The first commission band of `tier`, of the type of the trade `u` and of `exchange` whose bounds,
--- both included, contain the quantity of the trade, or none.
+-- The first commission band, in the order of the table, of `tier`, of the type of the trade `u` and
+-- of `exchange` whose bounds, both included, contain the quantity of the trade; none if there is no
+-- such band.
 abbrev pub band_for_tier_and_exchange : Tables → TradeRow → ℕ → Text → Option Band
 band_for_tier_and_exchange tables u tier exchange =
     find (λ b. (b.tier == tier) && is_same_trade_type b.kind u.kind && bytes_eq b.exchange exchange && nat_le b.from_qty u.qty
@@ -163,8 +164,8 @@ band_of_trade tables u =
 abbrev pub zero_settlement_row : SettlementRow
 zero_settlement_row = record { trade = 0; cash_type = []; due_day = 0; amount = pos 0 }
 
--- The SETTLEMENT row of the trade with the id `trade`, or `zero_settlement_row` if there is no such
--- row.
+-- The first SETTLEMENT row of the trade with the id `trade`, or `zero_settlement_row` if there is
+-- no such row.
 abbrev pub settlement_of_trade_or_zeros : Tables → ℕ → SettlementRow
 settlement_of_trade_or_zeros tables trade = unwrap_or (find (λ s. s.trade == trade) tables.settlements) zero_settlement_row
 
@@ -238,16 +239,16 @@ opened_quantity r = option_map_or (λ row. row.after) r.own_lot (pos 0)
 abbrev pub sum_of_tax_rates : List TaxRate → ℕ
 sum_of_tax_rates rates = sum_by (λ rate. rate.rate) rates
 
--- The tax, in cents, on the realised gain of the trade at the current tax rates of its customer; 0
--- if the account is not taxable.
+-- The tax, in whole cents, rounded half up, on the realised gain of the trade at the sum of the
+-- current tax rates of its customer; 0 if the account is not taxable or the gain is negative.
 abbrev pub tax_at_current_rates : OrderDetails → ResultDetails → ℕ
 tax_at_current_rates o r =
     if is_taxable_status o.tax_status
     then tax (realised_gain_of_closings (side_of_trade_type o.trade.kind) r.price r.closings) (sum_of_tax_rates r.rates)
     else 0
 
--- The commission of the trade, in cents, at the rate of its current commission band; none if there
--- is no such band.
+-- The commission of the trade, in whole cents, rounded half up, at the rate of its current
+-- commission band; none if there is no such band.
 abbrev pub commission_in_current_band : OrderDetails → ResultDetails → Option ℕ
 commission_in_current_band o r = option_map (λ b. commission b.rate o.trade.qty r.price) r.band
 

@@ -14,16 +14,18 @@ use Rattle.brk_explain_reads.specs.declared.holding_trades.TradeAndLot.{TradeAnd
 use Rattle.brk_explain_reads.specs.declared.holdings.QuantityAndPrice.{QuantityAndPrice}
 use Rattle.brk_explain_reads.specs.declared.lot_changes.OpeningAndLaterChanges.{OpeningAndLaterChanges}
 
--- `all` has the change with which `lot` was opened, if any, and the lot's changes by other trades,
--- in the order of the table HOLDING_HISTORY, as the tables `t` record them.
+-- `all` has the change with which the lot with the id `lot` was opened, or `None` if there is none,
+-- and exactly the lot's changes by trades other than the one that opened it, in the order of the
+-- table HOLDING_HISTORY, as the tables `t` record them.
 abbrev pub AreLotChangesByTradeId : Tables → ℕ → OpeningAndLaterChanges → Type 0
 AreLotChangesByTradeId t lot all =
     (option_map rows.abstract_lot_change_row all.opening ≡ opened_lot_row t lot)
     × (map abstract_priced_lot_change all.later_changes.items
     ≡ map (recorded_lot_change t) (filter (λ h. not (h.trade == lot)) (filter (λ h. h.lot == lot) t.holding_history)))
 
--- `all` has the change with which `lot` was opened, if any, and the lot's changes by other trades,
--- sorted by the stamps of these trades, ascending, as the tables `t` record them.
+-- `all` has the change with which the lot with the id `lot` was opened, or `None` if there is none,
+-- and exactly the lot's changes by trades other than the one that opened it, sorted by the stamps
+-- of these other trades, ascending, as the tables `t` record them.
 abbrev pub AreLotChangesByCompletion : Tables → ℕ → OpeningAndLaterChanges → Type 0
 AreLotChangesByCompletion t lot all =
     (option_map rows.abstract_lot_change_row all.opening ≡ opened_lot_row t lot)
@@ -35,13 +37,15 @@ abbrev pub lot_if_opened : Option HoldingHistoryRow → Option LotDetails → Op
 lot_if_opened None lot = None
 lot_if_opened (Some row) lot = lot
 
--- The lot that the trade with the id `trade` opened, with its changes by other trades, as the
--- tables `t` record them, or `None` if the trade opened no lot or does not exist.
+-- The lot that the trade with the id `trade` opened, with the lot's changes by other trades, sorted
+-- by the stamps of these other trades, ascending, as the tables `t` record them, or `None` if the
+-- trade opened no lot or does not exist.
 abbrev pub lot_opened_by_trade : Tables → ℕ → Option LotDetails
 lot_opened_by_trade t trade = lot_if_opened (opened_lot_row t trade) (option_map (lot_with_later_changes t) (trade_row_with_id t trade))
 
--- `one` has the row of the trade with the id `trade` in the tables `t`, and the lot that this trade
--- opened, with its changes by other trades, or `None` if it opened none.
+-- `one` has the row of the trade with the id `trade`, which exists in the tables `t`, and the lot
+-- that this trade opened, with the lot's changes by other trades (`lot_opened_by_trade`), or `None`
+-- if the trade opened none.
 abbrev pub IsTradeWithLot : Tables → ℕ → TradeAndLot → Type 0
 IsTradeWithLot t trade one =
     (trade_row_with_id t trade ≡ Some (abstract_trade_row one.trade)) × (option_map abstract_lot_details one.lot ≡ lot_opened_by_trade t trade)
@@ -54,8 +58,8 @@ AreTradesAndLotsOfHolding t account symbol held =
     (map abstract_trade_row held.done.items ≡ completed_trades_in_symbol t account symbol)
     × (map abstract_lot_details held.lots.items ≡ lots_opened_in_symbol t account symbol)
 
--- `held` has the quantity of the holding summary of `account` in the security `symbol` (0 if there
--- is none), and the last price of this security, in cents (0 if there is none), as the tables `t`
--- record them.
+-- `held` has the quantity of the holding summary of `account` in the security `symbol`, in shares,
+-- below 0 if they were sold short (0 if there is no summary), and the last price of this security,
+-- in cents (0 if there is none), as the tables `t` record them.
 abbrev pub AreQuantityAndPrice : Tables → ℕ → Text → QuantityAndPrice → Type 0
 AreQuantityAndPrice t account symbol held = (held.shares ≡ summary_quantity_in_symbol t account symbol) × (held.price ≡ last_price_in_tables t symbol)

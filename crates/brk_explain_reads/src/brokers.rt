@@ -84,8 +84,8 @@ impl<E, V: Visitor<TradeRow, E>> Visitor<TradeRow, E> for AccountFilter<'_, V> {
 }
 
 /// Passes the completed trades of a broker's accounts to a visitor, sorted by the stamp of
-/// completion and then by id, both ascending. Returns `Ok` only after the visitor has taken the
-/// last trade.
+/// completion and then by id, both ascending. Whether the broker exists is not checked. Returns
+/// `Ok` only after the visitor has taken the last trade.
 ///
 /// Fails with `Cause` and the visitor's error, or with `Failed` and the fault `Memory` or `Store`
 /// after a prefix of the trades. If the database is still open, it is unchanged, whatever the

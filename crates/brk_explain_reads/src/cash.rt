@@ -72,7 +72,7 @@ impl Visitor<MoveRow, Fault> for EarlierCashSum {
 }
 
 // Returns the fault for a failed walk: `Memory` if the walk failed with `Memory`, otherwise
-// `Store`, also if the visitor stopped the walk.
+// `Store`, also if the visitor stopped the walk. The clause states only that it is one of the two.
 fn fault_of_failed_walk(stop: WalkError<Fault>) -> Fault
     ensures { IsCallFault result }
 {

@@ -142,8 +142,8 @@ fn read_lot_changes_by_trade_id<S: Alter>(
     })
 }
 
-// Returns `later_changes`, sorted by the stamps of the trades that made them, ascending. Fails with
-// `Memory` only.
+// Returns `later_changes`, sorted by the stamps of the trades that made them, ascending; the sort
+// is stable. Fails with `Memory` only.
 fn sort_changes_by_stamp(
     alloc: Global,
     later_changes: Vec<PricedLotChange>,

@@ -50,7 +50,8 @@ fn band_contains_quantity(band: &Band, qty: Qty) -> bool
     band.from_qty.get() <= qty.get() && qty.get() <= band.to_qty.get()
 }
 
-// Returns `band` if its bounds contain the quantity, otherwise `other`, which may be `None`.
+// Returns `band` if its bounds, both included, contain the quantity, otherwise `other`, which may
+// be `None`.
 fn band_for_quantity_or_other(band: Band, qty: Qty, other: Option<Band>) -> Option<Band>
     ensures { option_map abstract_band result
         ≡ (if nat_le band.from_qty qty && nat_le qty band.to_qty then Some (abstract_band band) else option_map abstract_band other) }
@@ -62,7 +63,8 @@ fn band_for_quantity_or_other(band: Band, qty: Qty, other: Option<Band>) -> Opti
     }
 }
 
-// Returns the first band whose bounds contain the quantity, or `None` if no band does.
+// Returns the first of `bands` whose bounds, both included, contain the quantity, or `None` if
+// there is none.
 fn first_band_with_quantity(bands: Vec<Band>, qty: Qty) -> Option<Band>
     ensures { option_map abstract_band result ≡ find (λ b. nat_le b.from_qty qty && nat_le qty b.to_qty) (map abstract_band bands.items) }
 {
@@ -74,9 +76,10 @@ fn first_band_with_quantity(bands: Vec<Band>, qty: Qty) -> Option<Band>
     found
 }
 
-// Returns the first commission band of the customer tier `tier`, of the type of the order's trade
-// and of the exchange of its security, whose bounds contain the quantity of the trade, or `None` if
-// there is none. If the database is still open, it is unchanged. Fails with `Memory` or `Store`.
+// Returns the first commission band, in the order of the table, of the customer tier `tier`, of the
+// type of the order's trade and of the exchange of the order's security, whose bounds, both
+// included, contain the quantity of the trade, or `None` if there is none. If the database is still
+// open, it is unchanged. Fails with `Memory` or `Store`.
 fn read_band_for_tier<S: Alter>(
     alloc: Global,
     store: &mut Store<S>,
@@ -91,10 +94,10 @@ fn read_band_for_tier<S: Alter>(
     Ok(first_band_with_quantity(bands, order.trade.qty))
 }
 
-// Returns the tax rates of the customer of the order's account, and the commission band of the
-// order's trade, if any, as the tables have them now. If the database is still open, it is
-// unchanged. Fails with `Memory` or `Store`; with `Store` also if the customer or one of the rates
-// does not exist.
+// Returns the tax rates of the customer of the order's account, sorted by id, ascending, and the
+// commission band of the order's trade, if any, as the tables have them now. If the database is
+// still open, it is unchanged. Fails with `Memory` or `Store`; with `Store` also if the customer or
+// one of the rates does not exist.
 pub(crate) fn read_tax_rates_and_band<S: Alter>(
     alloc: Global,
     store: &mut Store<S>,

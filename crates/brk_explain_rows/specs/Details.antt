@@ -89,10 +89,10 @@ abstract_lot_details l = record { trade = abstract_trade_row l.trade; opened = l
 
 -- The facts `s` are exactly the facts that the explanation of the holding of `account` in the
 -- security `symbol` reads from the tables `t`: the rows of the account and of the security, the
--- completed trades of the account in the security, the lots that these trades opened, the quantity
--- in the holding summary, 0 without one, and the last price, 0 without one. A refusal is
--- `NoAccount` if the account does not exist, and `NoSecurity` if the account exists and the
--- security does not.
+-- completed trades of the account in the security, the lots that these trades opened, both sorted
+-- by the stamp of completion, ascending, the quantity, in shares, in the holding summary, 0 without
+-- one, and the last price, in cents, 0 without one. A refusal is `NoAccount` if the account does
+-- not exist, and `NoSecurity` if the account exists and the security does not.
 abbrev pub AreDetailsOfHolding : ℕ → Text → Result holding_details.HoldingDetails Refusal → Tables → Type 0
 AreDetailsOfHolding account symbol (Err refusal) t =
     ((account_row_with_id t account ≡ None) × (refusal ≡ NoAccount))

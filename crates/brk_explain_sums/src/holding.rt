@@ -66,10 +66,10 @@ fn put_lot_columns_header(out: &mut Vec<u8>) -> Result<(), Fault>
     )
 }
 
-// Appends to `out` all lines of the explanation of a holding: its header, its completed trades, its
-// lots with their changes, and its totals. Fails with `Memory` or `Store`; with `Store` if an
-// amount, a quantity or a number of lots or changes overflows, or if a trade has no price. After an
-// error a part of the lines may be appended.
+// Appends to `out` all lines of the explanation of a holding: its header, its completed trades, the
+// column headings of the lots, its lots with their changes, and its totals. Fails with `Memory` or
+// `Store`; with `Store` if an amount, a quantity or a number of lots or changes overflows, or if a
+// trade has no price. After an error a part of the lines may be appended.
 #[tactic(auto, unfolding(brk_explain_model::specs::HoldingLines::holding_lines_from_trades_and_lots))]
 fn put_holding_lines(
     alloc: Global,

@@ -43,10 +43,10 @@ fn put_purchase_sale_and_cost_lines(
     put_labeled_amount_line(alloc, out, "Cost basis", cost)
 }
 
-// Appends to `out` the lines of the quantity `shares`, the last price `price`, the market value and
-// the unrealised gain of a holding; the gain is the market value minus the cost basis `cost`, in
-// cents. Fails with `Memory` or `Store`; with `Store` if an amount overflows. After an error a part
-// of the lines may be appended.
+// Appends to `out` the lines of the quantity `shares`, the last price `price`, the market value,
+// which is `shares` times `price`, and the unrealised gain of a holding, which is the market value
+// minus the cost basis `cost`; `price` and `cost` are given in cents. Fails with `Memory` or
+// `Store`; with `Store` if an amount overflows. After an error a part of the lines may be appended.
 #[tactic(auto, unfolding(brk_explain_model::specs::HoldingLines::holding_value_lines))]
 fn put_holding_value_lines(
     alloc: Global,
@@ -66,9 +66,9 @@ fn put_holding_value_lines(
     put_labeled_amount_line(alloc, out, "Unrealised gain", gain)
 }
 
-// Appends to `out` the last line of the explanation of a holding: the numbers of its trades, of its
-// lots, of the lots that are not fully closed, and of the changes of its lots after their opening.
-// Fails with `Memory` only; a part of the line may then be appended.
+// Appends to `out` the last line of the explanation of a holding: the numbers of its completed
+// trades, of its lots, of the lots that are not fully closed, and of the changes of its lots after
+// their opening. Fails with `Memory` only; a part of the line may then be appended.
 fn put_holding_counts_line(
     out: &mut Vec<u8>,
     trades: usize,
@@ -86,11 +86,12 @@ fn put_holding_counts_line(
     end_line(out)
 }
 
-/// Appends to `out` the last lines of the explanation of a holding: purchases, sales, realised
-/// gain, cost basis, the quantity `shares`, the last price `price`, the market value, the
-/// unrealised gain, and the numbers of trades, lots, open lots and changes. Fails with `Memory` or
-/// `Store`; with `Store` if an amount or a number of lots or changes overflows, or if a trade has
-/// no price. After an error a part of the lines may be appended.
+/// Appends to `out` the last lines of the explanation of a holding, from its completed trades
+/// `done`, its `lots`, its quantity `shares` and the last price `price`: the total purchases, the
+/// total sales, negated, the realised gain, the cost basis, the quantity, the last price, the
+/// market value, the unrealised gain, and the numbers of trades, lots, open lots and changes. Fails
+/// with `Memory` or `Store`; with `Store` if an amount or a number of lots or changes overflows, or
+/// if a trade has no price. After an error a part of the lines may be appended.
 #[tactic(auto, unfolding(brk_explain_model::specs::HoldingLines::holding_total_lines))]
 pub(crate) fn put_holding_total_lines(
     alloc: Global,

@@ -50,8 +50,8 @@ pub(crate) fn realised_gain_of_change(price: Price, change: &PricedLotChange) ->
     }
 }
 
-// Returns the quantity of a lot after the last of its changes, or the quantity `opened` if there is
-// no change.
+// Returns the quantity of a lot, in shares, after the last of `changes`, in the order of the list,
+// or `opened`, the quantity at its opening, if there is no change.
 fn quantity_after_changes(opened: i64, changes: &[PricedLotChange]) -> i64
     ensures { result ≡ quantity_after_changes opened (map abstract_priced_lot_change changes.now) }
 {
@@ -62,8 +62,8 @@ fn quantity_after_changes(opened: i64, changes: &[PricedLotChange]) -> i64
     left
 }
 
-/// Returns the quantity of a lot after its last change, or the opened quantity if it has no change;
-/// below 0 if it was sold short.
+/// Returns the quantity of a lot, in shares, after the last of its `changes`, or the opened
+/// quantity if it has no change; below 0 if shares that were sold short remain.
 pub(crate) fn remaining_quantity_of_lot(lot: &LotDetails) -> i64
     ensures { result ≡ holdings.remaining_quantity_of_lot (abstract_lot_details lot.now) }
 {
@@ -71,8 +71,8 @@ pub(crate) fn remaining_quantity_of_lot(lot: &LotDetails) -> i64
 }
 
 /// Returns the remaining quantity of a lot times the price at which it was opened, in cents: below
-/// 0 if it was sold short. Fails with `Store` if the product overflows, or if the trade that opened
-/// the lot has no price.
+/// 0 if shares that were sold short remain. Fails with `Store` if the product overflows, or if the
+/// trade that opened the lot has no price.
 pub(crate) fn remaining_cost_of_lot(lot: &LotDetails) -> Result<Wide, Fault>
     ensures cost { IfOk result (λ cost. cost ≡ holdings.remaining_cost_of_lot (abstract_lot_details lot.now)) }
     ensures fault { IfErr result IsCallFault }
@@ -82,7 +82,7 @@ pub(crate) fn remaining_cost_of_lot(lot: &LotDetails) -> Result<Wide, Fault>
 }
 
 // Returns the sum of the realised gains, in cents, of changes of a lot that was opened at `price`;
-// 0 if there are none. Fails with `Store` if a gain or the sum overflows.
+// 0 if there are none. Fails with `Store` if a gain or a sum overflows.
 fn realised_gain_of_changes(price: Price, changes: &[PricedLotChange]) -> Result<Wide, Fault>
     ensures total { IfOk result (λ total. total ≡ total_by (holdings.realised_gain_of_change price) (map abstract_priced_lot_change changes.now)) }
     ensures fault { IfErr result IsCallFault }
@@ -96,7 +96,7 @@ fn realised_gain_of_changes(price: Price, changes: &[PricedLotChange]) -> Result
 }
 
 // Returns the sum of the realised gains of the changes of a lot, in cents; 0 if it has none. Fails
-// with `Store` if a gain or the sum overflows, or if the trade that opened the lot has no price.
+// with `Store` if a gain or a sum overflows, or if the trade that opened the lot has no price.
 fn realised_gain_of_lot(lot: &LotDetails) -> Result<Wide, Fault>
     ensures gain { IfOk result (λ gain. gain ≡ holdings.realised_gain_of_lot (abstract_lot_details lot.now)) }
     ensures fault { IfErr result IsCallFault }
@@ -106,7 +106,7 @@ fn realised_gain_of_lot(lot: &LotDetails) -> Result<Wide, Fault>
 }
 
 /// Returns the sum of the realised gains of all lots, in cents; 0 if there are none. Fails with
-/// `Store` if a gain or the sum overflows, or if a trade that opened a lot has no price.
+/// `Store` if a gain or a sum overflows, or if a trade that opened a lot has no price.
 pub(crate) fn realised_gain_of_lots(lots: &[LotDetails]) -> Result<Wide, Fault>
     ensures total { IfOk result (λ total. total ≡ holdings.realised_gain_of_lots (map abstract_lot_details lots.now)) }
     ensures fault { IfErr result IsCallFault }
@@ -120,7 +120,7 @@ pub(crate) fn realised_gain_of_lots(lots: &[LotDetails]) -> Result<Wide, Fault>
 }
 
 /// Returns the sum of the costs of the remaining shares of all lots, in cents; 0 if there are none.
-/// Fails with `Store` if a cost or the sum overflows, or if a trade that opened a lot has no price.
+/// Fails with `Store` if a cost or a sum overflows, or if a trade that opened a lot has no price.
 pub(crate) fn remaining_cost_of_lots(lots: &[LotDetails]) -> Result<Wide, Fault>
     ensures total { IfOk result (λ total. total ≡ holdings.remaining_cost_of_lots (map abstract_lot_details lots.now)) }
     ensures fault { IfErr result IsCallFault }

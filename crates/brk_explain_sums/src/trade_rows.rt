@@ -18,10 +18,10 @@ use brk_explain_columns::{
 use brk_money::Fault;
 use std::alloc::Global;
 
-// Appends to `out` the line of a completed trade: the word `Trade`, its stamp, its id, its signed
-// quantity, its price, its signed value, the quantity `held` after it, and the code of its type.
-// Fails with `Memory` or `Store`; with `Store` if the value overflows or the trade has no price.
-// After an error a part of the line may be appended.
+// Appends to `out` the line of a completed trade: the word `Trade`, its stamp, its id, its
+// quantity, its price, its value, `held`, the quantity of the holding after it, and the code of its
+// type. Quantity and value are below 0 for a sale. Fails with `Memory` or `Store`; with `Store` if
+// the value overflows or the trade has no price. After an error a part of the line may be appended.
 #[tactic(auto, unfolding(brk_explain_model::specs::HoldingLines::holding_trade_line))]
 fn put_holding_trade_line(
     alloc: Global,
@@ -42,9 +42,9 @@ fn put_holding_trade_line(
 }
 
 /// Appends to `out` a line for each completed trade of a holding, in the order of `done`, with the
-/// quantity of the holding after this trade. Fails with `Memory` or `Store`; with `Store` if a
-/// quantity or a value overflows or a trade has no price. After an error a part of the lines may be
-/// appended.
+/// quantity of the holding after this trade; before the first one it is 0. Fails with `Memory` or
+/// `Store`; with `Store` if a quantity or a value overflows or a trade has no price. After an error
+/// a part of the lines may be appended.
 pub(crate) fn put_holding_trade_lines(
     alloc: Global,
     out: &mut Vec<u8>,

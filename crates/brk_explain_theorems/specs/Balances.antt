@@ -23,8 +23,8 @@ postings_before_stamp stamp posted = filter (λ p. nat_lt p.stamp stamp) posted
 abbrev pub postings_up_to_stamp : ℕ → List Posting → List Posting
 postings_up_to_stamp stamp posted = filter (λ p. nat_le p.stamp stamp) posted
 
--- The balance of the account `account`, in cents: its opening balance plus the amounts of its
--- postings in the base whose stamp is at most `stamp`.
+-- The balance of the account `account`, in cents: its opening balance (0 if the base has no such
+-- account) plus the amounts of its postings in the base whose stamp is at most `stamp`.
 abbrev pub balance_at_stamp : Base → ℕ → ℕ → ℤ
 balance_at_stamp base stamp account = balance_of_account base.accounts (postings_up_to_stamp stamp (postings_of_base base)) account
 
@@ -32,24 +32,24 @@ balance_at_stamp base stamp account = balance_of_account base.accounts (postings
 abbrev pub last_number_or_default : ℤ → List ℤ → ℤ
 last_number_or_default from zs = unwrap_or (last_or None zs) from
 
--- The amount, in cents, that the explanation of the trade `t` prints as "Balance before", computed
--- from the tables.
+-- The amount, in cents, that the explanation of the completed trade `t` prints as "Balance before",
+-- computed from the tables.
 abbrev pub printed_balance_before_trade : Tables → Trade → ℤ
 printed_balance_before_trade tables t = balance_before_trade (order_details_of_trade tables (trade_row t)) (result_details_of_trade tables (trade_row t))
 
--- The amount, in cents, that the explanation of the trade `t` prints as "Balance after", computed
--- from the tables.
+-- The amount, in cents, that the explanation of the completed trade `t` prints as "Balance after",
+-- computed from the tables.
 abbrev pub printed_balance_after_trade : Tables → Trade → ℤ
 printed_balance_after_trade tables t = balance_after_trade (order_details_of_trade tables (trade_row t)) (result_details_of_trade tables (trade_row t))
 
 -- The last running balance, in cents, that the explanation of the account `a` prints, or the
--- opening balance if the account has no cash rows.
+-- opening balance if it prints no cash row.
 abbrev pub last_printed_balance : Tables → AccountRow → ℤ
 last_printed_balance tables a = last_number_or_default a.opening (running_totals (λ row. row.amount) a.opening (account_cash_rows_by_stamp tables a.id))
 
--- The printed balance before the trade `t` is the balance of the trade's account by the postings
--- before the stamp of the trade's completion. The printed balance after the trade also counts the
--- postings at this stamp.
+-- The printed balance before the completed trade `t` is the balance of the trade's account by the
+-- postings of the base before the stamp of the trade's last status change, its completion. The
+-- printed balance after the trade also counts the postings at this stamp.
 pub record PrintedBalancesMatchBase (base : Base) (t : Trade) : Type 0 where
   pub before : printed_balance_before_trade (sheets base) t
       ≡ balance_of_account base.accounts (postings_before_stamp (last_status_stamp_of_trade t) (postings_of_base base)) t.account
@@ -67,9 +67,10 @@ RunsPreservePrintedBalanceAfterTrade base now id price =
     ≡ balance_of_account (base_after_command base now (CompleteTrade id price)).accounts
     (postings_of_base (base_after_command base now (CompleteTrade id price))) u.account
 
--- The explanation of the account `a` lists all cash rows of the account. The last running balance
--- that it prints, or the opening balance if the account has no cash rows, is the account's balance,
--- and this balance plus the market values of the account's holdings equals the account's assets.
+-- The explanation of the account `a` lists exactly the cash rows of the account, sorted by stamp,
+-- ascending. The last running balance that it prints, or the opening balance if the account has no
+-- cash rows, is the balance in the row `a`, and this balance plus the market values of the
+-- account's holdings equals the account's assets in the base.
 pub record PrintedAccountMatchesBase (base : Base) (a : AccountRow) : Type 0 where
   pub posted : account_cash_rows_by_stamp (sheets base) a.id ≡ sorted_cash_rows_of_account (sheets base) a.id
   pub last : last_printed_balance (sheets base) a ≡ a.balance

@@ -14,8 +14,8 @@ ghost use Rattle.brk_explain_theorems.specs.Gains.{PrintedHoldingMatchesDeals, L
 /// a holding prints equals the sum of the gains of its deals. The printed cost basis equals the
 /// cost basis of its lots, and equals realised gain + purchases + sales, where sales count below 0.
 /// The printed numbers of shares equal the quantity of the holding, as does its HOLDING_SUMMARY
-/// quantity if the account and the security exist. The lot changes of a completed trade sum to its
-/// quantity, negated for a sale.
+/// quantity, or 0 without a row, if the account and the security exist. The lot changes of a
+/// completed trade sum to its quantity, negated for a sale.
 pub fn printed_gains_match_the_deals()
     ensures holding { (base : Base) (account : ℕ) (symbol : Text) → BooksInvariant base → PrintedHoldingMatchesDeals base account symbol }
     ensures trade { (base : Base) (t : Trade) → BooksInvariant base → trade_with_id base t.id ≡ Some t → is_completed t ≡ true

@@ -12,10 +12,11 @@ use Rattle.sqlite.specs.Closing.{IsCopied}
 pub record IsNewConnectionToFile {D : Type 0} {g : Ghosts D} (conn : Held (FileStore D g)) : Type 0 where
   -- The connection is open. Vacuous if the disk assumption fails.
   pub opened : HasCleanDisk (file_state conn) → IsOpened conn
-  -- The connection is new: it is in no transaction, has changed no row, and has no step limit.
+  -- The connection is new: it is in no transaction, has changed no row, has the last row id 0, and
+  -- has no step limit.
   pub fresh : IsNew conn
 
--- The last commit of the connection `conn` is in a database file, also without its log, and a crash
--- exposes only this commit. Vacuous if the disk assumption fails.
+-- The connection `conn` was open, its last commit is in a database file, also without its log, and
+-- a crash exposes only this commit. Vacuous if the disk assumption fails.
 abbrev pub HasLastCommitInFile : {D : Type 0} {g : Ghosts D} → Held (FileStore D g) → Type 0
 HasLastCommitInFile {D} {g} conn = (files : Files D) × (AreClean g files.log files.db → IsCopied conn files)

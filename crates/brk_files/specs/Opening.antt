@@ -29,7 +29,7 @@ pub record FollowsCreationOfDesk {D : Type 0} {g : Ghosts D} (conn : Held (FileS
   pub opened : IsNewConnectionToFile conn
 
 -- The creation of a desk over a new connection failed with `Damaged(NotEmpty)`, the fault for a
--- database that has one of the tables of a desk, and `conn` is the connection after it.
+-- database that has a table with the name of a desk's table, and `conn` is the connection after it.
 pub record FollowsFailedCreation {D : Type 0} {g : Ghosts D} (conn : Held (FileStore D g)) : Type 0 where
   pub first : Held (FileStore D g)
   pub began : IsNewConnectionToFile first
@@ -46,15 +46,15 @@ OpenPost (Err fault.Memory) = Unit {0}
 OpenPost (Err fault.Store) = Unit {0}
 
 -- The connection `conn` was opened after a desk was created and closed (`FollowsCreationOfDesk`),
--- or it is the connection on which the creation of a desk failed because its database has one of
--- the tables of a desk (`FollowsFailedCreation`).
+-- or it is the connection on which the creation of a desk failed because its database has a table
+-- with the name of a desk's table (`FollowsFailedCreation`).
 abbrev pub HasNewDeskOrDeskTable : {D : Type 0} {g : Ghosts D} → Held (FileStore D g) → Type 0
 HasNewDeskOrDeskTable conn = FollowsCreationOfDesk conn ⊎ FollowsFailedCreation conn
 
 -- The postcondition of opening a desk that is created if there is none. `Ok` and `Damaged`: the
 -- result is the result of adopting the database of a connection that was opened after a desk was
--- created and closed, or on which the creation failed because its database has one of the tables of
--- a desk (`HasNewDeskOrDeskTable`). Nothing is specified for `Memory` and `Store`.
+-- created and closed, or on which the creation failed because its database has a table with the
+-- name of a desk's table (`HasNewDeskOrDeskTable`). Nothing is specified for `Memory` and `Store`.
 abbrev pub OpenOrCreatePost : {D : Type 0} {g : Ghosts D} → Result (Held (FileStore D g)) Fault → Type 0
 OpenOrCreatePost {D} {g} (Ok store) = (conn : Held (FileStore D g)) × HasNewDeskOrDeskTable conn × IsAdoptionResult conn (Ok store)
 OpenOrCreatePost {D} {g} (Err (fault.Damaged c)) = (conn : Held (FileStore D g)) × HasNewDeskOrDeskTable conn × IsAdoptionResult conn (Err (fault.Damaged c))

@@ -60,7 +60,9 @@ fn open_connection(rt: &HostRuntime, path: &str) -> Result<Connection<FileStore<
 // Audits the database of a connection by the conditions of its own schema and, if it passes,
 // returns it as a store, upgraded to schema 3. Fails with the connection and the fault: `Damaged`
 // with the first condition that fails, `Memory` or `Store`; a database that is still open is then
-// unchanged.
+// unchanged. At `Ok`, under the disk assumption and the premise of `Store::adopt`, the store, while
+// it is open, represents the base that the audited rows determine, and a crash exposes only the
+// tables of this base.
 fn adopt_connection<S: Alter>(
     alloc: Global,
     conn: Connection<S>,
@@ -74,8 +76,9 @@ fn adopt_connection<S: Alter>(
 // Adopts the database of a connection as a store, upgraded to schema 3. If the adoption fails,
 // closes the file, ignores an error of the close, and fails with the fault of the adoption:
 // `Damaged` with the first condition that fails, `Memory` or `Store`. A database that was still
-// open after the adoption failed is unchanged; a crash then exposes a prior crash state or, if the
-// rows of an older schema pass their audit, the tables after the upgrade.
+// open after the adoption failed is unchanged. Under the premise of `Store::adopt`, a crash between
+// this failure and the close exposes a prior crash state or, if the rows of an older schema pass
+// their audit, the tables after the upgrade.
 fn adopt_or_close_connection(
     rt: &HostRuntime,
     conn: Connection<FileStore<File>>,

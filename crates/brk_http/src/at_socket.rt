@@ -66,11 +66,11 @@ impl<C: Clock, S: Alter> StreamServer for SocketServer<C, S> {
     /// Serves the requests of a TCP stream, and returns the number of replies. Fails with the fault
     /// that ended the stream, `Read`, `Write` or `Memory`, and the number of replies before it.
     ///
-    /// The contract says only that the desk changed by a sequence of its calls, how many calls
-    /// there are at most, and that there are at most 1,000 replies, fewer before a fault
-    /// (`ServesStreamByCalls`). Tested only: the time limits of the socket, the fault `Read` before
-    /// any request if these limits cannot be set, and the draining of the socket after the last
-    /// reply, whose failure is ignored.
+    /// The contract says only that the desk changed by a sequence of its calls, at most one for
+    /// each reply and one more after `Write` or `Memory`, and that there are at most 1,000 replies,
+    /// fewer before a fault (`ServesStreamByCalls`). Tested only: the time limits of the socket,
+    /// the fault `Read` before any request if these limits cannot be set, and the draining of the
+    /// socket after the last reply, whose failure is ignored.
     fn serve_accepted_stream(
         alloc: Global,
         stream: TcpStream,

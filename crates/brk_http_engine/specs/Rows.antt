@@ -6,8 +6,8 @@ use Rattle.brk_http_engine.specs.declared.router.RouteKind.{RouteKind}
 use Rattle.brk_http_engine.specs.declared.router.RouteKind.TheVariants.{Row, KeyedRow, View}
 
 -- The row of the router for a route: its pattern `pattern`, paired with this pattern, the text
--- `text` of the route, the start and the end of the name of each parameter in this text (`names`),
--- and the kind `kind` of the route.
+-- `text` of the route, the start (included) and the end (excluded), in bytes, of the name of each
+-- parameter in this text (`names`), and the kind `kind` of the route.
 abbrev pub router_row : List ℕ → List ℕ → List (ℕ × ℕ) → RouteKind → List ℕ × RouteOf RouteKind
 router_row pattern text names kind = (pattern, record { pattern = pattern; text = text; names = names; value = kind })
 

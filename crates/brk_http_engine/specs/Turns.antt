@@ -24,9 +24,10 @@ use Rattle.brk_http_engine.specs.declared.turning.FaultKind.TheVariants as kinds
 use Rattle.brk_http_engine.specs.declared.stream.ServeFault.{ServeFault}
 
 -- After `n` replies the request at the front of `input` has the reply `reply`: the request was
--- executed, or it could not be read. After this reply the stream has the state `next`: it is
--- finished, or it continues with the rest of the input. The clock was read once for each of the
--- timestamps `taken`. It is not stated that the reply was written.
+-- executed, or answered without a call of the desk because a check of it failed, or it could not be
+-- read. After this reply the stream has the state `next`: it is finished, or it continues with the
+-- rest of the input. The clock was read once for each of the timestamps `taken`. It is not stated
+-- that the reply was written.
 pub record ExchangeHasReply {B C : Type 0} (forms : RequestParsers) (does : CallRelation B) (gives : C → ℕ → C → Type 0) (n : ℕ) (input : Text)
     (span : EnvironmentChange B C) (reply : Text) (next : StreamState) : Type 0 where
   pub taken : List ℕ
@@ -35,17 +36,19 @@ pub record ExchangeHasReply {B C : Type 0} (forms : RequestParsers) (does : Call
   -- In the model it is the effect of the first request of the input.
   pub one : IsEffectOfFirstRequest forms does n input (record { base = span.base; moments = taken; reply = reply; next = next; after = span.after })
 
--- After `n` replies the request `request` was executed, and `reply` is its reply. The reply is the
--- last of its stream (`closes`) if it reaches the limit of replies, if the request asks to close
--- the stream, or if the desk failed. The clock was read once for each of the timestamps `taken`. It
--- is not stated that the reply was written.
+-- After `n` replies the request `request` was executed, or answered without a call of the desk
+-- because a check of it failed, and `reply` is its reply. The reply is the last of its stream
+-- (`closes`) if it reaches the limit of replies, if the request asks to close the stream, or if the
+-- desk failed. The clock was read once for each of the timestamps `taken`. It is not stated that
+-- the reply was written.
 pub record ExecutesRequest {B C : Type 0} (forms : RequestParsers) (does : CallRelation B) (gives : C → ℕ → C → Type 0) (n : ℕ) (request : Request)
     (span : EnvironmentChange B C) (closes : Bool) (reply : Text) : Type 0 where
   pub taken : List ℕ
   pub response : Response
   -- The clock returned these timestamps, in order.
   pub moments : ClockReturnsInOrder gives span.clock taken span.later
-  -- In the model `response` is the response to the call that the request makes, if it makes one.
+  -- In the model `response` is the response to the call that the request makes or, if it makes
+  -- none, the response that it has without a call.
   pub responds : IsResponseToDemand does (demand_of_request forms request) span.base taken response span.after
   pub last : closes ≡ ((n + 1 == most_requests_per_stream) || request.closes || is_fault_response response)
   pub bytes : reply ≡ reply_text response closes
@@ -64,9 +67,9 @@ ExchangeCompletesWith forms does gives n input span left turn.Open =
 
 -- The exchange after `n` replies failed with this fault. `Read`: the desk, the clock and what was
 -- written are unchanged. `Memory`: nothing was written, and either nothing changed, or the request
--- was executed or could not be read. `Write`: the request was executed or could not be read, and a
--- prefix of its reply was written, perhaps all of it. The conditions on what was written are
--- vacuous if the writer's content before is unknown.
+-- at the front of the input has a reply (`ExchangeHasReply`). `Write`: this request has a reply
+-- (`ExchangeHasReply`), and a prefix of the reply was written, perhaps empty or all of it. The
+-- conditions on what was written are vacuous if the writer's content before is unknown.
 abbrev pub ExchangeFailsWith : {B C : Type 0} → RequestParsers → CallRelation B → (C → ℕ → C → Type 0) → ℕ → Text → EnvironmentChange B C → FaultKind → Type 0
 ExchangeFailsWith forms does gives n input span kinds.Read = IsUnchangedEnvironment span
 ExchangeFailsWith forms does gives n input span kinds.Memory =

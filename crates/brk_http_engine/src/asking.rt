@@ -56,11 +56,11 @@ fn parse_call_of_route<D: Service>(
     }
 }
 
-/// Returns the call that a request makes, or the first reason why it makes none: its target has no
-/// route (`NotFound`), its method is not POST (`NotAllowed`), its body is not a JSON list of texts
-/// (`BadRequest`), or its row or query is malformed (`BadRow`, `BadQuery`). The result does not
-/// depend on the close flag of the request. The router must have exactly the three routes, and no
-/// view may have an empty name. Fails with `Memory` only.
+/// Returns the call that a request makes, or the first reason, in this order, why it makes none:
+/// its target has no route (`NotFound`), its method is not POST (`NotAllowed`), its body is not a
+/// JSON list of strings in UTF-8 (`BadRequest`), or its row or query is malformed (`BadRow`,
+/// `BadQuery`). The result does not depend on the close flag of the request. The router must have
+/// exactly the three routes, and no view may have an empty name. Fails with `Memory` only.
 #[tactic(auto, unfolding(brk_http_model::specs::Asked::demand_of_request), using(crate::proofs::AskLemmas::demand_checks))]
 pub fn parse_call_of_request<D: Service>(
     alloc: Global,

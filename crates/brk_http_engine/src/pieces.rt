@@ -6,7 +6,8 @@ ghost use Rattle.brk_http_engine.specs.Codes.{bytes_of_texts};
 use std::alloc::{AllocError, Global};
 
 /// Returns the parts of `text` before, between and after the occurrences of the ASCII character
-/// `cut`, in order. Fails only if memory runs out.
+/// `cut`, in order. A part may be empty; without an occurrence the text, also if it is empty, is
+/// the only part. Fails only if memory runs out.
 #[tactic(auto, unfolding(brk_http_model::specs::Routes::split_at_byte))]
 pub fn split_at_byte(alloc: Global, cut: char, text: &str) -> Result<Vec<&str>, AllocError>
     requires ascii { cut < 128 }

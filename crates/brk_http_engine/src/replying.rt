@@ -46,8 +46,8 @@ fn text_of_problem(problem: RequestProblem) -> &'static str
     }
 }
 
-// Returns the text in the body of the error reply for a fault of the desk: `memory` if memory ran
-// out, otherwise `store`.
+// Returns the text in the body of the error reply for a fault of the desk: `memory` for `Memory`,
+// and `store` for `Store` and `Damaged`.
 fn fault_word(fault: Fault) -> &'static str
     ensures { result.now ≡ fault_word fault }
 {
@@ -94,8 +94,8 @@ pub fn is_fault_response<R, V>(response: &ServiceResponse<R, V>) -> bool
     }
 }
 
-/// Returns copies of the fields of a line, split at its commas, in order. Fails only if memory runs
-/// out.
+/// Returns copies of the fields of a line, split at its commas, in order; a line without a comma is
+/// one field. Fails only if memory runs out.
 pub fn fields_between_commas(alloc: Global, line: &str) -> Result<Vec<String>, AllocError>
     ensures { IfOk result (λ fields. bytes_of_texts fields ≡ split_at_byte 44 line.now) }
 {
@@ -174,8 +174,8 @@ fn status_phrase(code: StatusCode) -> &'static str
     }
 }
 
-// Returns the three digits of an HTTP status, a space, and its reason phrase. Fails only if memory
-// runs out.
+// Returns the three digits of an HTTP status, a space, and its reason phrase, which is empty if it
+// has none. Fails only if memory runs out.
 fn status_digits_and_phrase(alloc: Global, code: StatusCode) -> Result<String, AllocError>
     ensures { IfOk result (λ s. string_bytes s ≡ status_text code) }
 {
@@ -202,9 +202,9 @@ fn decimal_digits(alloc: Global, n: usize) -> Result<String, AllocError>
     format!(in alloc; "{n}")
 }
 
-// Returns the first three lines of the head of a reply: the status line with the text `status`, the
-// content type `application/json`, and the content length `len` in bytes. Fails only if memory runs
-// out.
+// Returns the first three lines of the head of a reply, each ended by CR LF: the status line with
+// the text `status`, the content type `application/json`, and the content length `len` in bytes.
+// Fails only if memory runs out.
 fn first_head_lines(alloc: Global, status: &str, len: usize) -> Result<String, AllocError>
     ensures { IfOk result (λ s. string_bytes s ≡ first_head_lines status.now len) }
 {

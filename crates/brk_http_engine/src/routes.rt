@@ -25,8 +25,9 @@ pub enum Route<V> {
     ToView(V),
 }
 
-// Parses `batch` as a batch name and `n` as a row number. Returns the key with both, or `None` if
-// one of them is malformed or the number is out of range. Fails with `Memory` only.
+// Parses `batch` as a batch name and `n` as a row number, from 1 to 10^12, both included. Returns
+// the key with both, or `None` if one of them is malformed or the number is out of range. Fails
+// with `Memory` only.
 fn key_of_batch_row(alloc: Global, batch: &[u8], n: &[u8]) -> Result<Option<Key>, Fault>
     ensures key { IfOk result (λ key. option_map abstract_key key ≡ key_of_batch_row batch.now (read_id n.now)) }
     ensures fault { OnErr result (result ≡ Err Memory) }
@@ -41,8 +42,8 @@ fn key_of_batch_row(alloc: Global, batch: &[u8], n: &[u8]) -> Result<Option<Key>
     Ok(Some(Key { batch, row }))
 }
 
-// Returns true if a target that was split at `/` has the first segment `name`: the part `first`,
-// before the first `/`, is empty, and the part `word`, after it, equals `name`.
+// Returns true if a target that was split at `/` has the first segment `name`: its first part,
+// `first`, is empty, and its second part, `word`, equals `name`.
 fn has_first_segment(first: &str, word: &str, name: &str) -> bool
     ensures { result ≡ has_first_segment first.now word.now name.now }
 {

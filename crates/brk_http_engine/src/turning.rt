@@ -124,15 +124,15 @@ fn execute_and_format_reply<C: Clock, D: Service>(
 }
 
 /// Reads the next request, after `done` replies, executes it and writes its reply. Returns `Ended`
-/// if no input is left, `Closed` if the reply is the last of the stream, otherwise `Open`; the
-/// buffer is then without the request. A request that cannot be read is not executed: the reply
-/// names its problem and is the last.
+/// if no input is left, `Closed` if the reply is the last of the stream, otherwise `Open`; at
+/// `Open` the buffer is without the request. A request that cannot be read is not executed: the
+/// reply names its problem and is the last.
 ///
 /// Fails with `Read` if the reader fails, with `Memory` if memory runs out, or with `Write` if the
 /// writer fails or accepts no byte. If the content of the reader is specified: at `Read` no request
 /// was executed and nothing was written; at `Memory` nothing was written, and the request may have
-/// been executed; at `Write` the request was executed or could not be read, and a prefix of its
-/// reply was written, perhaps all of it.
+/// been executed; at `Write` the request has a reply, and a prefix of this reply was written,
+/// perhaps empty or all of it.
 pub fn serve_next_request<R: Read, W: Write, C: Clock, D: Service>(
     alloc: Global,
     router: &Router<RouteKind>,

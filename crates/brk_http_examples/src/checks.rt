@@ -14,9 +14,9 @@ ghost use Rattle.brk_http_model.specs.declared.problem.RequestProblem.TheVariant
 ghost use Rattle.brk_http_examples.specs.Streams.{get_request, post_request};
 
 /// Shows four heads that end with their first empty line, whose lines end with CR LF or with a line
-/// feed alone; one of them ends exactly at its limit. No bytes are `Nothing`, and bytes that end
-/// before an empty line are `Cut`. A head whose empty line ends beyond the limit is `TooLong`, and
-/// so are as many bytes as the limit without an empty line.
+/// feed alone; one of them ends exactly at its limit. Empty input is `Nothing`, and other input
+/// without an empty line is `Cut` if it is shorter than the limit, and `TooLong` if its length is
+/// the limit. A head whose empty line ends beyond the limit is `TooLong`.
 pub fn head_ends_at_first_empty_line()
     ensures first { head_end (codes "GET / HTTP/1.1\r\n\r\nGET") ≡ At 18 }
     ensures line_feeds { head_end (codes "a\n\nb\r\n\r\n") ≡ At 3 }
@@ -28,11 +28,11 @@ pub fn head_ends_at_first_empty_line()
     ensures no_empty_line { head_end_within 4 (codes "\0\0\0\0") ≡ TooLong }
 {}
 
-/// Shows that the length of a body is 0 without Content-Length, and otherwise the number that this
-/// field states: 12 for `000000012` in a field `content-LENGTH`, and 65536, the greatest length.
-/// The number 65537 and a number of ten digits are `TooLarge`, a number with a sign, a value
-/// without bytes and a second Content-Length are `BadRequest`, and a Transfer-Encoding after a
-/// malformed Content-Length is `NotImplemented`.
+/// Shows that the length of a body, in bytes, is 0 without Content-Length, and otherwise the number
+/// that this field states: 12 for `000000012` in a field `content-LENGTH`, and 65536, the greatest
+/// length. The number 65537 and a number of ten digits are `TooLarge`, a number with a sign, a
+/// value without bytes and a second Content-Length are `BadRequest`, and a Transfer-Encoding after
+/// a malformed Content-Length is `NotImplemented`.
 pub fn content_length_states_body_length()
     ensures no_field { body_length_of_fields ((codes "Host", codes "x") ∷ []) ≡ Ok 0 }
     ensures leading_zeros { body_length_of_fields ((codes "content-LENGTH", codes "000000012") ∷ []) ≡ Ok 12 }
@@ -67,9 +67,10 @@ pub fn routes_of_request_targets()
     ensures split_text { split_at_byte 44 (codes "1,SBMT,,") ≡ codes "1" ∷ codes "SBMT" ∷ [] ∷ [] ∷ [] }
 {}
 
-/// Shows that two JSON lists are read, an empty one with white space and one of two texts with
-/// escaped characters, and that seven other bodies are not: no bytes, a list with a number or a
-/// list in it, an object, a lone surrogate, bytes that are not UTF-8, and a byte order mark.
+/// Shows that two JSON lists are read, an empty one with white space, and one of a text with two
+/// escaped characters and an empty text. Seven other bodies are not read: an empty body, a list
+/// with a number in it, a list with a list in it, an object, and three lists, one with a lone
+/// surrogate, one with bytes that are not UTF-8, and one after a byte order mark.
 pub fn json_lists_of_texts_are_read()
     ensures empty_list { texts_of_body (codes " [ ] ") ≡ Some [] }
     ensures escaped_characters { texts_of_body (codes "[\"\\u0041\\n\",\"\"]") ≡ Some ((65 ∷ 10 ∷ []) ∷ [] ∷ []) }

@@ -31,8 +31,10 @@ pub data RequestDemand : Type 0 where
   ResponseOnly : Response → RequestDemand
   DeskCall : Call → RequestDemand
 
--- The demand of a request with the given route, from the texts of its body: the call of the command
--- or the query that the texts parse as by `forms`, or the response with the refusal of the parser.
+-- The demand of a request with the given route, from the texts of its body: for a row, the call of
+-- the command that the texts parse as by `forms`, with the key of the route if it has one; for a
+-- view, the call of the query that they parse as by `forms`; or, if the parser refuses the texts,
+-- the response with its refusal.
 abbrev pub demand_of_texts : RequestParsers → Route → Fields → RequestDemand
 demand_of_texts forms (ToRow key) texts =
     elim (forms.row texts) [
@@ -45,9 +47,10 @@ demand_of_texts forms (ToView view) texts =
       | Ok query ↦ DeskCall (Ask query)
     ]
 
--- The demand of the request: the response to the first check that fails, otherwise the demand of
--- the texts of its body. The checks are, in sequence: the target has a route, the method is POST,
--- and the body is a JSON list of texts. Rows and queries are parsed by `forms`.
+-- The demand of the request: the response with the problem of the first check that fails, otherwise
+-- the demand of the texts of its body. The checks are, in sequence: the target has a route
+-- (`NotFound`), the method is POST (`NotAllowed`), and the body is a JSON array of strings in UTF-8
+-- (`BadRequest`). Rows and queries are parsed by `forms`.
 unfoldable pub demand_of_request : RequestParsers → Request → RequestDemand
 demand_of_request forms request =
     elim (route_of_target forms.views request.target) [

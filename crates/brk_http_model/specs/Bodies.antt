@@ -39,8 +39,8 @@ texts_of_body body = if is_utf8 body then option_and_then texts_of_json_array (r
 abbrev pub json_array_of_texts : List Text → Data
 json_array_of_texts texts = array (items_of (map string texts))
 
--- The JSON text, without white space, of an object with one member, whose name is `word` and whose
--- value is `value`.
+-- The JSON text, without white space outside strings, of an object with one member, whose name is
+-- `word` and whose value is `value`.
 abbrev pub json_object_text : Text → Data → Text
 json_object_text word value = compact_text (object (member word value no_members))
 

@@ -31,8 +31,9 @@ outcome_of_query_result (Ok view) = Saw view
 outcome_of_query_result (Err refusal) = NoView refusal
 
 -- The response to a demand on `base`, the clock readings that remain after it, and the base after
--- it, computed by the model. No call fails in the model, except that a command for which no clock
--- reading remains fails with `Store` and leaves the base unchanged.
+-- it, computed by the model. The call of a command takes the first clock reading, any other demand
+-- takes none. No call fails in the model, except that a command for which no clock reading remains
+-- fails with `Store` and leaves the base unchanged.
 abbrev pub response_to_demand : Base → List ℕ → RequestDemand → ResponseAndBase
 response_to_demand base moments (ResponseOnly said) = record { response = said; moments = moments; base = base }
 response_to_demand base moments (DeskCall (Ask query)) =

@@ -40,7 +40,7 @@ most_body_bytes = 65536
 abbrev pub has_only_digits : Text → Bool
 has_only_digits value = nat_lt 0 (length value) && list_all is_ascii_digit value
 
--- The length `n` if it is at most `most_body_bytes`, otherwise the problem `TooLarge`.
+-- The length `n`, in bytes, if it is at most `most_body_bytes`, otherwise the problem `TooLarge`.
 abbrev pub body_length_within_limit : ℕ → Result ℕ RequestProblem
 body_length_within_limit n = if nat_lt most_body_bytes n then Err TooLarge else Ok n
 
@@ -62,7 +62,9 @@ body_length_of_values (value ∷ []) = body_length_of_value value
 body_length_of_values (value ∷ other ∷ more) = Err BadRequest
 
 -- The length of a body, in bytes, by the fields of its head: the problem `NotImplemented` if there
--- is a Transfer-Encoding, otherwise the length or the problem that the Content-Length fields state.
+-- is a Transfer-Encoding field, otherwise the length or the problem by the values of the
+-- Content-Length fields, 0 if there is none. The case of ASCII letters in names of fields is
+-- ignored.
 abbrev pub body_length_of_fields : List HeadField → Result ℕ RequestProblem
 body_length_of_fields pairs =
     if has_field_named (codes "transfer-encoding") pairs then Err NotImplemented else body_length_of_values (values_of_field (codes "content-length") pairs)

@@ -31,11 +31,12 @@ pub data RequestReading : Type 0 where
 abbrev pub most_head_fields : ℕ
 most_head_fields = 100
 
--- The result of reading a request with the head `h`, whose body has the given length or problem,
--- from the bytes `rest` after the head. The request cannot be read because of the problem of the
--- length if there is one, or because of `BadRequest` if `rest` is shorter than the body. The
--- request asks to close the stream if its HTTP version is 1.0 or a field `Connection` has the value
--- `close`.
+-- The result of reading a request with the head `h`, whose body has the given length, in bytes, or
+-- problem, from the bytes `rest` after the head. The request cannot be read because of the problem
+-- of the length if there is one, or because of `BadRequest` if `rest` is shorter than the body.
+-- Otherwise the body is the front of `rest`, and the bytes after it are left. The request asks to
+-- close the stream exactly if its HTTP version is 1.0 or `has_connection_close` is true of its
+-- fields.
 abbrev pub reading_with_body_length : RequestHead → Text → Result ℕ RequestProblem → RequestReading
 reading_with_body_length h rest (Err problem) = Unreadable problem
 reading_with_body_length h rest (Ok n) =
@@ -53,12 +54,14 @@ reading_with_body_length h rest (Ok n) =
 abbrev pub reading_after_head : RequestHead → Text → RequestReading
 reading_after_head h rest = reading_with_body_length h rest (body_length_of_fields (map name_and_value h.fields))
 
--- The bytes `front` are exactly the request head `h`, which has at most `most_head_fields` fields.
+-- The bytes `front` are exactly those of the request head `h`, which is valid in the grammar of
+-- `httparse` and has at most `most_head_fields` fields.
 abbrev pub IsRequestHead : Text → RequestHead → Type 0
 IsRequestHead front h = ReadsRequest front h [] × (length h.fields ≤ most_head_fields)
 
--- Either `front` is a request head and `found` is the result of reading its body from `rest`, or
--- `front` is no request head and `found` is the problem `BadRequest`.
+-- Either `front` is a request head (`IsRequestHead`) and `found` is the result of reading the
+-- request with its body from `rest`, or `front` is no request head, for instance because it has too
+-- many fields, and `found` is the problem `BadRequest`.
 abbrev pub ReadsHeadAndBody : Text → Text → RequestReading → Type 0
 ReadsHeadAndBody front rest found =
     ((h : RequestHead) × IsRequestHead front h × (found ≡ reading_after_head h rest))

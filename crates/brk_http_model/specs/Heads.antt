@@ -8,15 +8,15 @@ use Rattle.brk_http_model.specs.declared.head_end.HeadEnd.TheVariants.{Nothing, 
 abbrev pub most_head_bytes : ℕ
 most_head_bytes = 16384
 
--- The length of the line end (LF or CR LF) with which the bytes begin; none if they begin with no
--- line end.
+-- The length, in bytes, of the line end (LF or CR LF) with which the bytes begin; none if they
+-- begin with no line end.
 abbrev pub leading_line_end_length : Text → Option ℕ
 leading_line_end_length [] = None
 leading_line_end_length (b ∷ []) = if b == 10 then Some 1 else None
 leading_line_end_length (b ∷ c ∷ bytes) = if b == 10 then Some 1 else (if b == 13 && c == 10 then Some 2 else None)
 
--- The length of the line end (LF or CR LF) with which `bytes` begin, if the byte `b` before them is
--- an LF; none if `b` is no LF or `bytes` begin with no line end.
+-- The length, in bytes, of the line end (LF or CR LF) with which `bytes` begin, if the byte `b`
+-- before them is an LF; none if `b` is no LF or `bytes` begin with no line end.
 abbrev pub line_end_length_after_line_feed : ℕ → Text → Option ℕ
 line_end_length_after_line_feed b bytes = if b == 10 then leading_line_end_length bytes else None
 

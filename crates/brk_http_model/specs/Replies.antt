@@ -40,13 +40,14 @@ fault_word fault.Memory = codes "memory"
 fault_word fault.Store = codes "store"
 fault_word (fault.Damaged condition) = codes "store"
 
--- The HTTP status of an answer: 409 if it is a refusal, otherwise 200.
+-- The HTTP status of an answer, number and phrase: 409 if it is a refusal, otherwise 200.
 abbrev pub http_status_of_answer : Answer → Text
 http_status_of_answer (Done reply) = codes "200 OK"
 http_status_of_answer (Again line) = codes "200 OK"
 http_status_of_answer (Refused refusal) = codes "409 Conflict"
 
--- The HTTP status of the outcome of a call: 409 for a refusal, 503 for a fault, otherwise 200.
+-- The HTTP status of the outcome of a call, number and phrase: 409 for the refusal of a command or
+-- a query, 503 for a fault, otherwise 200.
 abbrev pub http_status_of_outcome : Outcome → Text
 http_status_of_outcome (Did answer) = http_status_of_answer answer
 http_status_of_outcome (Saw view) = codes "200 OK"

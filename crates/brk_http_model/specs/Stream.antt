@@ -23,8 +23,10 @@ TakesClockReadings (Do command key) now taken = taken ≡ now ∷ []
 TakesClockReadings (Ask query) now taken = taken ≡ []
 
 -- The demand on `base` has the response `response`, takes the clock readings `taken`, and the base
--- after it is `after`. The response to a call is an outcome that the relation `does` allows. A
--- demand without a call takes no clock reading and leaves the base unchanged.
+-- after it is `after`. The response to a call is an outcome that the relation `does` allows
+-- together with `after`, for a command at the clock reading that it takes, for a query, which takes
+-- none, at some clock reading. A demand without a call has the response that it states, takes no
+-- clock reading and leaves the base unchanged.
 abbrev pub IsResponseToDemand : {B : Type 0} → CallRelation B → RequestDemand → B → List ℕ → Response → B → Type 0
 IsResponseToDemand does (ResponseOnly said) base taken response after = (response ≡ said) × (taken ≡ []) × (after ≡ base)
 IsResponseToDemand does (DeskCall call) base taken response after =
@@ -73,15 +75,17 @@ IsEffectOfReading forms does n (Unreadable problem) effect =
 IsEffectOfReading forms does n (CompleteRequest request rest) effect = IsEffectOfRequest forms does n request rest effect
 
 -- The request at the front of `input`, or the problem for which it cannot be read, has the effect
--- `effect`, after `n` earlier requests of the stream.
+-- `effect`, after `n` earlier requests of the stream. False if `input` is empty.
 pub record IsEffectOfFirstRequest {B : Type 0} (forms : RequestParsers) (does : CallRelation B) (n : ℕ) (input : Text)
     (effect : RequestEffect B) : Type 0 where
   pub found : RequestReading
   pub finds : ReadsFirstRequest input found
   pub replied : IsEffectOfReading forms does n found effect
 
--- The list contains exactly the replies to the rest of a stream in the given state, after `n`
--- earlier requests. They take the clock readings `moments` and lead from `base` to `after`.
+-- The list of texts consists of exactly the replies to the rest of a stream in the given state,
+-- after `n` earlier requests, in the sequence of the requests; it is empty if the stream is
+-- finished or no byte is left. The requests take the clock readings `moments`, in sequence, and
+-- lead from `base` to `after`.
 abbrev pub AreRepliesOfStream : {B : Type 0} → RequestParsers → CallRelation B → ℕ → StreamState → B → List ℕ → List Text → B → Type 0
 AreRepliesOfStream forms does n Finished base moments replies after = (replies ≡ []) × (moments ≡ []) × (after ≡ base)
 AreRepliesOfStream forms does n (Continues input) base moments [] after = ReadsFirstRequest input NoBytesLeft × (moments ≡ []) × (after ≡ base)
@@ -91,9 +95,10 @@ AreRepliesOfStream {B} forms does n (Continues input) base moments (reply ∷ re
     × IsEffectOfFirstRequest forms does n input (record { base = base; moments = taken; reply = reply; next = next; after = mid })
     × AreRepliesOfStream forms does (n + 1) next mid more replies after
 
--- The list contains the first replies to `input`, after `n` earlier requests, and the stream then
--- continues with the bytes `rest`. They take the clock readings `moments` and lead from `base` to
--- `after`.
+-- The list of texts consists of the replies to the first requests of `input`, after `n` earlier
+-- requests, in the sequence of the requests. None of them ends the stream, which then continues
+-- with the bytes `rest`; after an empty list, `rest` equals `input`. The requests take the clock
+-- readings `moments`, in sequence, and lead from `base` to `after`.
 abbrev pub AreFirstReplies : {B : Type 0} → RequestParsers → CallRelation B → ℕ → Text → B → List ℕ → List Text → Text → B → Type 0
 AreFirstReplies forms does n input base moments [] rest after = (rest ≡ input) × (moments ≡ []) × (after ≡ base)
 AreFirstReplies {B} forms does n input base moments (reply ∷ replies) rest after =

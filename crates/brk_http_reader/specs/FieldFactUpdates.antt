@@ -10,7 +10,7 @@ use Rattle.brk_http_reader.specs.declared.fields.FieldFactsSoFar.{FieldFactsSoFa
 -- to close the stream (`closes`), whether there is a `Content-Length` (`any_length`), and the body
 -- length in bytes, or the problem with it (`len`). If `p` is a `Content-Length`, `len` is the
 -- result of parsing its value, or `BadRequest` if there was a `Content-Length` before; otherwise
--- `len` equals that of `s`.
+-- `len` equals that of `s`. The case of ASCII letters in names and in `close` is ignored.
 abbrev pub facts_with_field : FieldFactsSoFar → HeadField → FieldFactsSoFar
 facts_with_field s p = record {
   chunked = s.chunked || is_equal_ignoring_case p.0 (codes "transfer-encoding");
@@ -22,7 +22,7 @@ facts_with_field s p = record {
 -- The facts of all fields `ps` of a head: whether there is a `Transfer-Encoding` (`chunked`),
 -- whether `Connection: close` asks to close the stream (`closes`), whether there is a
 -- `Content-Length` (`any_length`), and the body length in bytes, 0 without a `Content-Length`, or
--- the problem with it (`len`).
+-- the problem with it (`len`). The case of ASCII letters in names and in `close` is ignored.
 abbrev pub facts_of_fields : List HeadField → FieldFactsSoFar
 facts_of_fields ps = record {
   chunked = has_field_named (codes "transfer-encoding") ps;

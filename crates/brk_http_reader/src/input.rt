@@ -91,9 +91,9 @@ pub fn read_into_buffer<R: Read>(reader: &mut R, buffer: &mut Vec<u8>) -> Result
 
 /// Reads until the buffer begins with a whole head, has 16,384 bytes without the end of a head, or
 /// the input has ended. Returns `At` with the position at which the head ends, which is within the
-/// buffer, or the reason why it has no end: `Nothing` if no byte was left, `TooLong` if there are
-/// at least 16,384 bytes and the first 16,384 do not contain its end, or `Cut` if the input ended
-/// earlier.
+/// buffer, or the reason why it has no end: `Nothing` if the buffer was empty and the input had no
+/// byte left, `TooLong` if there are at least 16,384 bytes and the first 16,384 do not contain its
+/// end, or `Cut` if the input ended earlier.
 ///
 /// Fails with `Read` if the reader fails, or with `Memory` if memory runs out. No clause states
 /// what the buffer and the reader then contain.

@@ -20,9 +20,9 @@ pub fn reply_line_splits_into_its_fields()
 {}
 
 /// Proves that batches and requests share keys. If a batch accepted a row, a request with the row
-/// under its key returns the stored reply, unless the call fails. If a request accepted a row, a
-/// batch answers the row under its key with the stored reply. Any calls may be executed between the
-/// acceptance and the retry, and the retry leaves the base unchanged.
+/// under its key returns the stored reply, unless the call fails. If a request accepted a row, the
+/// step of a batch for the row under its key returns the stored reply. Any calls may be executed
+/// between the acceptance and the retry, and the retry leaves the base unchanged.
 pub fn key_is_idempotent_across_interfaces()
     ensures accepted_in_batch { (base mid after : Base) (now later : ℕ) (command : Command) (key : Key) (reply : Reply) (calls : List (ℕ
         × Call)) (outcomes : List Outcome)

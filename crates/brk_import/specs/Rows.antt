@@ -34,8 +34,9 @@ pub record RowCallHasOutcome {S : Type 0} (g : Ghosts S) (old : Held S) (now : �
   pub outcome_is : model_outcome came ≡ outcome
   pub is_made : OutcomePost g old new now made came
 
--- The calls `calls` are exactly the calls of the rows of the batch, each with its command under its
--- key, and the lines and the result of the batch follow from their outcomes (`BatchMatchesScript`).
+-- The calls `calls` are exactly those that the batch makes for its rows, in order, each with its
+-- command under its key, and the lines and the result of the batch follow from their outcomes
+-- (`BatchMatchesScript`).
 abbrev pub BatchMatchesRowCalls : {C : Type 0} → (C → ℕ → C → Type 0) → Option Text → List (ℕ × Call) → List Outcome → ClockAndWriterChange C
     → Result Counts BatchFault → Type 0
 BatchMatchesRowCalls gives text calls outcomes outside result =

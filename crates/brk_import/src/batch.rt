@@ -41,9 +41,9 @@ use std::io::{Read, Write};
 /// `Memory` or `Store`. The changes of the decided rows remain. To continue, retry the batch under
 /// its name.
 ///
-/// If a crash before the batch exposes only the tables that the desk then has, a crash after it
-/// exposes only the tables after the decided rows or, after a fault of the desk, perhaps those with
-/// the next row committed too.
+/// Under the disk assumption, if a crash before the batch exposes only the tables that the desk
+/// then has, a crash after it exposes only the tables after the decided rows or, after a fault of
+/// the desk, perhaps those with the next row committed too.
 pub fn run_batch<R: Read + Drop, W: Write, C: Clock, S: Alter>(
     alloc: Global,
     reader: R,
@@ -64,9 +64,10 @@ pub fn run_batch<R: Read + Drop, W: Write, C: Clock, S: Alter>(
         (λ desk. Represents S.Store desk) (parse_by_first_field row_parsers) step_of_row C.gives
         (option_map input_text (R.remaining reader)) desk.old desk.new
         (record { clock = clock.old; later = clock.new; old = W.contents writer.old; new = W.contents writer.new }) result }
-    // Crash safety: if a crash before the batch exposes only the tables of a base that the desk
-    // represented, a crash after the batch exposes only the tables of the base after the batch. If
-    // the call of a row failed, a crash may also expose the tables after the command of this row.
+    // Crash safety, under the disk assumption: if a crash before the batch exposes only the tables
+    // of a base that the desk represented, a crash after the batch exposes only the tables of the
+    // base after the batch. If the call of a row failed, a crash may also expose the tables after
+    // the command of this row.
     ensures crash_safe { IsBatchCrashSafe (λ desk. HasCleanDisk (state S.Store desk))
         (λ desk. Represents S.Store desk) (CrashExposesOnlyOneOf S.Store) (parse_by_first_field row_parsers) step_of_row
         C.gives (option_map input_text (R.remaining reader)) desk.old desk.new

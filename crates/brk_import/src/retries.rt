@@ -26,7 +26,8 @@ use sqlite::Alter;
 /// equivalent to one run, whatever rows they refused: first the rows that the first run accepted,
 /// then the rows of the retry that were not stored by then (`RunAndRetryEqualOneRun`). If the first
 /// run refused none of the rows that it answered, both runs equal one uninterrupted run of the
-/// batch (`RetryCompletesBatch`). Both include a row that was committed but not answered.
+/// batch (`RetryCompletesBatch`). Both statements also cover a row that was committed but not
+/// answered.
 pub fn an_interrupted_batch_can_be_retried<S: Alter, C: Clock>()
     ensures { (input : List ℕ) (base : Base) (first left conn store last : Held S) (one two : ClockAndWriterChange C)
         (ended : Result counted.Counts faults.BatchFault)

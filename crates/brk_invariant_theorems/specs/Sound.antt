@@ -34,18 +34,18 @@ customer_tax_id_key c = word c.tax_id ∷ []
 abbrev pub is_well_formed_broker : Broker → Bool
 is_well_formed_broker b = are_well_formed_id_and_name b.id b.name
 
--- True if the id and the name of the account are well-formed and its opening balance is within the
--- limit of amounts.
+-- True if the id and the name of the account are well-formed and the absolute value of its opening
+-- balance, in cents, is at most the greatest amount.
 abbrev pub is_well_formed_account : Account → Bool
 is_well_formed_account a = are_well_formed_account_fields a.id a.name a.opening
 
 -- True if the symbol, name, exchange and sector of the security are well-formed and its last price
--- is from 1 cent to the greatest price.
+-- is from 1 cent to the greatest price, both included.
 abbrev pub is_well_formed_security : Security → Bool
 is_well_formed_security s = are_well_formed_listing_texts s.symbol s.name s.exchange s.sector && is_price s.last_price
 
--- True if the trade's id, quantity, bid, charge, commission and tax are within the limits of the
--- third schema.
+-- True if the trade's id, quantity, bid, charge, commission and tax are within their limits
+-- (`are_trade_numbers_in_range`); the limit of the quantity is that of the third schema.
 abbrev pub has_trade_numbers_in_range : Trade → Bool
 has_trade_numbers_in_range t = are_trade_numbers_in_range third_schema t.id t.qty t.bid t.charge t.commission t.tax
 
@@ -55,13 +55,13 @@ has_trade_numbers_in_range t = are_trade_numbers_in_range third_schema t.id t.qt
 abbrev pub StatusStampIsAtMostLastStamp : Option ℕ → StatusChange → Type 0
 StatusStampIsAtMostLastStamp last m = is_up_to_last_stamp last m.stamp ≡ true
 
--- If the status change is a completion, its due day is within the calendar, where `rule` is the
--- first day of one-day settlement, if it is set. Vacuous for other statuses.
+-- If the status change is a completion, its due day is at most the greatest day, 9999-12-31, where
+-- `rule` is the first day of one-day settlement, if it is set. Vacuous for other statuses.
 abbrev pub HasDueDayInCalendar : SettleRule → StatusChange → Type 0
 HasDueDayInCalendar rule m = is_due_within_calendar rule m.status m.stamp ≡ true
 
--- True if the trade is completed and has a price from 1 cent to the greatest price, or is not
--- completed and has no price.
+-- True if the trade is completed and has a price from 1 cent to the greatest price, both included,
+-- or is not completed and has no price.
 abbrev pub has_price_exactly_if_completed : Trade → Bool
 has_price_exactly_if_completed t = has_price_exactly_if (is_completed t) t.price
 
@@ -80,35 +80,37 @@ has_cash_text_of_security securities t = has_cash_text_with_security_name t (sec
 
 -- The trade satisfies those conditions of the audit invariant that depend on the trade alone: its
 -- numbers are within their limits, its statuses are a valid status sequence with strictly ascending
--- stamps, it has a price if and only if it is completed, it has a settlement text only if it is
--- completed and a cash text only if it is a completed cash trade, and if it is completed, its
--- settlement text is one of the two texts for its kind (cash or margin).
+-- stamps, it has a price if and only if it is completed, this price is within its limits, it has a
+-- settlement text only if it is completed and a cash text only if it is a completed cash trade, and
+-- if it is completed, its settlement text is one of the two texts for its kind (cash or margin).
 pub record TradeOnlyAuditInvariant (t : Trade) : Type 0 where
   pub fields : has_trade_numbers_in_range t ≡ true
-  -- Its statuses are a valid status sequence, with stamps in ascending order.
+  -- Its statuses are a valid status sequence, with stamps in strictly ascending order.
   pub stamps : HasAscendingStatusStamps t
   pub way : HasValidStatusSequence t
-  -- It has a price if and only if it is completed, a settlement or cash text only if it may have
-  -- one (`HasTextsOnlyIfCompleted`), and one of the two settlement texts if it is completed.
+  -- It has a price, within its limits, if and only if it is completed, a settlement or cash text
+  -- only if it may have one (`HasTextsOnlyIfCompleted`), and one of the two settlement texts if it
+  -- is completed.
   pub priced : has_price_exactly_if_completed t ≡ true
   pub words : HasTextsOnlyIfCompleted t
   pub cash_type : is_completed t ≡ true → is_cash_type_of_trade t.is_cash t.cash_type ≡ true
 
 -- The trade satisfies the conditions of the audit invariant on a trade: the conditions that depend
--- on the trade alone, no stamp after the last stamp `last`, and a due day within the calendar by
--- `rule`, the first day of one-day settlement, if it is set. If the trade is completed, its
--- settlement amount is within the limit and, if it is also a cash trade, its cash text is one of
--- the two cash texts with the name of its security.
+-- on the trade alone, and no stamp after the last stamp `last`, which must exist. If the trade is
+-- completed, its due day by `rule`, the first day of one-day settlement, if it is set, is at most
+-- 9999-12-31, and the absolute value of its settlement amount, in cents, is at most the greatest
+-- amount. If it is also a cash trade, its cash text is one of the two cash texts with the name of
+-- its security in `securities`, or with the empty text as name if the security is not one of them.
 pub record TradeAuditInvariant (last : Option ℕ) (rule : SettleRule) (accounts : List Account) (securities : List Security) (t : Trade) : Type 0 where
   pub alone : TradeOnlyAuditInvariant t
   pub open alone use *
   -- Its stamps are at most the last stamp.
   pub past : AllByRecursion (StatusStampIsAtMostLastStamp last) t.marks
-  -- The due day of its completion is within the calendar.
+  -- The due day of its completion, if it is completed, is at most 9999-12-31.
   pub due : AllByRecursion (HasDueDayInCalendar rule) t.marks
   -- A completed cash trade has one of the two cash texts for its security.
   pub cash_name : is_completed t && t.is_cash ≡ true → has_cash_text_of_security securities t ≡ true
-  -- Its settlement amount is within the limit.
+  -- The absolute value of its settlement amount, if it is completed, is within the limit.
   pub amount : is_completed t ≡ true → is_within_amount_limit (settlement_amount accounts t) ≡ true
 
 -- The trade satisfies the conditions of the audit invariant on a trade (`TradeAuditInvariant`),
@@ -120,22 +122,22 @@ BaseTradeAuditInvariant base t = TradeAuditInvariant base.last base.rule base.ac
 -- ---- movements, and the settlement day
 
 -- True if the text of the movement is `Deposit` and its amount is above 0, or the text is
--- `Withdrawal` and the amount is below 0, and the absolute value of the amount, in cents, is within
--- the limit.
+-- `Withdrawal` and the amount is below 0, and the absolute value of the amount, in cents, is at
+-- most the greatest amount.
 abbrev pub is_well_formed_movement : Movement → Bool
 is_well_formed_movement m = is_movement_name_and_amount m.name m.amount && is_within_amount_limit m.amount
 
 -- The part of the audit invariant that concerns the movements and the first day of one-day
 -- settlement `rule`: the texts and amounts of the movements are well-formed, their stamps are
--- strictly ascending, their number is at most the greatest id, and `rule`, if it is set, is within
--- the calendar.
+-- strictly ascending, their number is at most the greatest id, and `rule`, if it is set, is at most
+-- the greatest day, 9999-12-31.
 pub record MovementAuditInvariant (movements : List Movement) (rule : SettleRule) : Type 0 where
   pub fields : AllByRecursion (λ m. is_well_formed_movement m ≡ true) movements
-  -- The movements are in ascending order of their stamps, and their number is within the limit of
-  -- ids.
+  -- The movements are in strictly ascending order of their stamps, and their number is within the
+  -- limit of ids.
   pub risen : is_strictly_ascending (map (λ m. m.stamp) movements) ≡ true
   pub few : length movements ≤ greatest_id
-  -- The first day of one-day settlement, if it is set, is within the calendar.
+  -- The first day of one-day settlement, if it is set, is at most 9999-12-31.
   pub day : is_settlement_day_in_calendar rule ≡ true
 
 -- ---- references
@@ -162,7 +164,8 @@ pub record StoredReplyAuditInvariant (all_kept : List Kept) : Type 0 where
 
 -- The part of the audit invariant that concerns brokers, customers, accounts and permissions: their
 -- fields are well-formed, ids of brokers and ids and tax ids of customers are unique, the account
--- of each permission exists, and each customer has at most 10 accounts.
+-- of each permission exists, and at most 10 accounts have the same customer id, whether or not that
+-- customer exists.
 pub record PartyAuditInvariant (all_brokers : List Broker) (all_customers : List Customer) (all_accounts : List Account)
     (all_permissions : List Permission) : Type 0 where
   pub brokers : AllByRecursion (λ b. is_well_formed_broker b ≡ true) all_brokers
@@ -174,11 +177,12 @@ pub record PartyAuditInvariant (all_brokers : List Broker) (all_customers : List
   pub tax_ids : HasDistinctKeys customer_tax_id_key all_customers
   -- The account of each permission exists.
   pub permitted : AllByRecursion (PermissionAccountIsListed all_accounts) all_permissions
-  -- A customer has at most `most_accounts_per_customer` accounts.
+  -- At most `most_accounts_per_customer` accounts have the same customer id.
   pub owned : (customer : ℕ) → length (filter (λ a. a.customer == customer) all_accounts) ≤ most_accounts_per_customer
 
 -- The part of the audit invariant that concerns charges, bands, tax rates and customers' taxes: the
--- fields of charges, bands and tax rates are well-formed, the keys of charges, tax rates and
+-- fields of charges, bands (by the limits of the third schema) and tax rates are well-formed, the
+-- lower bound of each band is at most its upper bound, the keys of charges, tax rates and
 -- customers' taxes are unique, the customer and the tax rate of each customer's tax exist, and the
 -- rates of each customer sum to at most the greatest tax rate.
 pub record RateAuditInvariant (all_customers : List Customer) (all_charges : List Charge) (all_bands : List Band) (all_tax_rates : List TaxRate)
@@ -197,14 +201,16 @@ pub record RateAuditInvariant (all_customers : List Customer) (all_charges : Lis
 
 -- The part of the audit invariant that concerns securities: their fields are well-formed, and the
 -- stamp of the last tick of each, or of its listing before the first tick, is at most the last
--- stamp `last`.
+-- stamp `last`, which must exist if there is a security.
 pub record SecurityAuditInvariant (last : Option ℕ) (all_securities : List Security) : Type 0 where
   pub securities : AllByRecursion (λ s. is_well_formed_security s ≡ true) all_securities
   pub moments : AllByRecursion (λ s. is_up_to_last_stamp last s.moment ≡ true) all_securities
 
 -- The part of the audit invariant that concerns sums over the completed trades `done` and the
--- movements: the holding summaries and balances of all accounts, and the commission totals of all
--- brokers, are within their limits.
+-- movements: the absolute value of each holding summary, in shares, is at most the greatest
+-- summary, and the absolute value of each account's balance and the commission total of each
+-- broker, in cents, are at most the greatest amount. The limits hold for every account, symbol and
+-- broker, existing or not.
 pub record SumAuditInvariant (accounts : List Account) (done : List Trade) (movements : List Movement) : Type 0 where
   pub summaries : (account : ℕ) → (symbol : Text) → nat_abs (holding_summary_quantity done account symbol) ≤ greatest_summary
   pub balances : (account : ℕ) → nat_abs (balance_of_account accounts (postings accounts done movements) account) ≤ greatest_amount
@@ -213,14 +219,14 @@ pub record SumAuditInvariant (accounts : List Account) (done : List Trade) (move
 -- The base satisfies the audit invariant. The fields of its records are well-formed. The keys of
 -- stored replies, brokers, customers, charges, tax rates and customers' taxes are unique, and no
 -- two customers have the same tax id. The records that permissions and customers' taxes refer to
--- exist. The stamps of securities and status changes are at most the last stamp, and the stamps of
--- movements are strictly ascending. Each trade has a valid status sequence with strictly ascending
--- stamps, and the price and the texts that its status and its kind (cash or margin) require. Due
--- days and the first day of one-day settlement are within the calendar. The accounts and the tax
--- rates of customers, the number and the amounts of movements, and the summaries, balances,
--- commission totals and settlement amounts are within their limits. Each part depends only on the
--- fields of the base that it names, and the part on trades also on those that
--- `BaseTradeAuditInvariant` names.
+-- exist. The stamps of securities and status changes are at most the last stamp, which exists if
+-- there is a security or a trade, and the stamps of movements are strictly ascending. Each trade
+-- has a valid status sequence with strictly ascending stamps, and the price and the texts that its
+-- status and its kind (cash or margin) require. Due days and the first day of one-day settlement,
+-- if it is set, are at most 9999-12-31. The accounts and the tax rates of customers, the number and
+-- the amounts of movements, and the summaries, balances, commission totals and settlement amounts
+-- are within their limits. Each part depends only on the fields of the base that it names, and the
+-- part on trades also on those that `BaseTradeAuditInvariant` names.
 pub record AuditInvariant (base : Base) : Type 0 where
   pub keyed : StoredReplyAuditInvariant base.kept
   pub open keyed use *

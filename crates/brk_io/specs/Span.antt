@@ -17,7 +17,7 @@ pub record EnvironmentChange (S C : Type 0) : Type 0 where
 
 -- The change `span` changes nothing: the desk's base after it equals the base before it, the clock
 -- after it equals the clock before it, and nothing was written. The condition on the writer is
--- vacuous if its content before is unknown (`None`).
+-- vacuous if its content before is unknown (`None`), and false if only its content after is `None`.
 pub record IsUnchangedEnvironment {S C : Type 0} (span : EnvironmentChange S C) : Type 0 where
   pub base : span.after ≡ span.base
   pub clock : span.later ≡ span.clock

@@ -11,8 +11,8 @@ use std::io::Write;
 /// Executes the query for the view `view` with these arguments on a desk, and writes its view to
 /// `output` in the format `form`. Returns `Done`, `Report` with the refusal or the fault,
 /// `ClosedPipe` if the reader of the output closed its pipe, or `Open(Memory)` if memory runs out
-/// before the query is parsed. After any other outcome than `Done` a prefix of the output is
-/// written, perhaps empty or all of it. If the database is still open, it is unchanged.
+/// before the parsing of the query begins. After any other outcome than `Done` a prefix of the
+/// output is written, perhaps empty or all of it. If the database is still open, it is unchanged.
 pub(crate) fn execute_ask_job<S: Alter, W: Write>(
     alloc: Global,
     desk: &mut Desk<S>,

@@ -60,9 +60,9 @@ fn execute_job_at_desk<R: Read + Drop, W: Write, S: Alter>(
     }
 }
 
-// Executes a job on the desk of a store, and returns the outcome of the job, `Done` or its fault or
-// refusal, and the store. No other function over stores of any type is called with a store over
-// files in this crate, because each such call takes the prover some twenty seconds.
+// Executes a job on the desk of a store, and returns the outcome of the job
+// (`execute_job_at_desk`) and the store. No other function over stores of any type is called with a
+// store over files in this crate, because each such call takes the prover some twenty seconds.
 fn execute_job_at_store<R: Read + Drop, W: Write, S: Alter>(
     rt: &HostRuntime,
     store: Store<S>,

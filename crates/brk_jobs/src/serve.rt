@@ -9,9 +9,11 @@ use sqlite::Alter;
 use std::net::TcpListener;
 
 /// Serves `streams` streams of HTTP requests on a desk, in sequence, on `port` of 127.0.0.1. Each
-/// clock reading is `at`, or a reading of the machine's clock if `at` is `None`. Returns `Done`,
-/// `Serve` with the fault if memory ran out in a stream, or `Net` if the port cannot be opened or a
-/// stream cannot be accepted. The changes of the requests that were executed before a fault remain.
+/// clock reading is `at`, or a reading of the machine's clock if `at` is `None`. A stream that its
+/// peer broke off, also before it was accepted, or whose reading or writing failed counts as one.
+/// Returns `Done`, `Serve` with the fault if memory ran out in a stream, or `Net` if the port
+/// cannot be opened or a stream cannot be accepted for another reason. The changes of the requests
+/// that were executed before a fault remain.
 pub(crate) fn execute_serve_job<S: Alter>(
     rt: &HostRuntime,
     port: u16,

@@ -7,9 +7,9 @@ use Rattle.brk_lots.specs.HistoryRows.{has_quantity_change, lot_history_rows_per
 use Rattle.brk_lots.specs.declared.replay.DealTouch.{DealTouch}
 use Rattle.brk_lots.specs.Lots.{list_reversed_if_lifo}
 
--- The changes of the lot that the trade `trade` opens, by the deals `ds`, which are applied in
--- sequence to the position with the shares `us`. A deal that does not change the quantity of the
--- lot has no element in the list.
+-- The changes of the lot that the trade with the id `trade` opens, by the deals `ds`, which are
+-- applied in sequence to the position with the shares `us`: one change for each deal that changes
+-- the quantity of the lot, in the sequence of the deals.
 abbrev pub changes_of_lot : ℕ → List Deal → List Share → List Touch
 changes_of_lot trade ds us = map touch_of_row (filter has_quantity_change (lot_history_rows_per_deal trade us ds))
 
@@ -24,9 +24,9 @@ abbrev pub ShrinksTowardZero : ℤ → List Touch → ℤ → Type 0
 ShrinksTowardZero from [] to = from ≡ to
 ShrinksTowardZero from (row ∷ rows) to = (row.before ≡ from) × IsNearerToZero row.after row.before × ShrinksTowardZero row.after rows to
 
--- The changes are the history of a lot that ends at `to`: the first starts at 0, each later one
--- starts where the one before it ended and ends strictly nearer to 0, and the last ends at `to`.
--- Without changes `to` is 0.
+-- The changes are the history of a lot that ends at `to`: the first starts at 0 and ends at any
+-- quantity, each later one starts where the one before it ended and ends strictly nearer to 0, at 0
+-- or with the sign with which it starts, and the last ends at `to`. Without changes `to` is 0.
 abbrev pub IsLotHistory : List Touch → ℤ → Type 0
 IsLotHistory [] to = pos 0 ≡ to
 IsLotHistory (row ∷ rows) to = (row.before ≡ pos 0) × ShrinksTowardZero row.after rows to
@@ -35,9 +35,9 @@ IsLotHistory (row ∷ rows) to = (row.before ≡ pos 0) × ShrinksTowardZero row
 abbrev pub opening_touch : Lot → Touch
 opening_touch l = record { lot = l.trade; before = pos 0; after = l.qty }
 
--- The HOLDING_HISTORY rows of the deal `d` on the shares `us`: a row for each lot that it closes or
--- reduces, in the sequence in which it closes them, and then a row for the lot that it opens, if it
--- opens any share.
+-- The HOLDING_HISTORY rows of the deal `d` on the shares `us`: a row for each lot of `us` whose
+-- quantity it changes, in the sequence of the lots' first shares, reversed if `d.is_lifo`, and then
+-- a row for the lot that it opens, if it opens any share.
 abbrev pub lot_changes_of_deal : Deal → List Share → List HoldingHistoryRow
 lot_changes_of_deal d us =
     map (holding_history_row d.trade) (list_reversed_if_lifo d.is_lifo (touches_of_existing_lots d us)

@@ -14,8 +14,9 @@ touch_of_row row = record { lot = row.lot; before = row.before; after = row.afte
 abbrev pub has_quantity_change : HoldingHistoryRow → Bool
 has_quantity_change row = changes_lot_quantity (touch_of_row row)
 
--- One HOLDING_HISTORY row of the lot `lot` for each deal, also for a deal that does not change the
--- lot. The deals are applied in sequence to the position with the shares `shares`.
+-- One HOLDING_HISTORY row, of the lot that the trade with the id `lot` opened, for each deal, in
+-- the sequence of the deals, also for a deal that does not change the lot. The deals are applied in
+-- sequence to the position with the shares `shares`.
 abbrev pub lot_history_rows_per_deal : ℕ → List Share → List Deal → List HoldingHistoryRow
 lot_history_rows_per_deal lot shares [] = []
 lot_history_rows_per_deal lot shares (d ∷ deals) =
@@ -23,6 +24,6 @@ lot_history_rows_per_deal lot shares (d ∷ deals) =
 
 -- The HOLDING_HISTORY rows of the lot that the trade `t` opened: one row for each deal of the
 -- account and the symbol of `t`, over the completed trades `done`, that changes the quantity of the
--- lot.
+-- lot, sorted by completion stamp, ascending; none if `t` opened no share.
 abbrev pub changing_rows_of_lot : List Trade → Trade → List HoldingHistoryRow
 changing_rows_of_lot done t = filter has_quantity_change (lot_history_rows_per_deal t.id [] (deals_of_position done t.account t.symbol))

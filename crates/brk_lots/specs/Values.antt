@@ -17,10 +17,12 @@ closing_values_of_deal d shares = record { buy_value = buy_value d shares; sell_
 abbrev pub closing_values_by_side : Side → ℕ → ℕ → Values
 closing_values_by_side side closed opened = record { buy_value = buy_value_by_side side closed opened; sell_value = sell_value_by_side side closed opened }
 
--- The values `taken`, `over` and `worth` are the result of a trade of `qty` shares at `price` on
--- `side` against the lots `ls`, which have one side: `taken` is the list of the changes of the lots
--- that the trade closes or reduces, `over` the quantity that closes no share, and `worth` the buy
--- value and the sell value of the closed shares, in cents.
+-- The values `taken`, `over` and `worth` are the result of a trade of `qty` shares at `price` cents
+-- each on `side` that closes shares of the lots `ls`, if they have the other side, from the first
+-- lot on: `taken` is the list of the changes of the lots that it closes or reduces, in the sequence
+-- of `ls`, `over` the part of `qty` that closes no share, and `worth` the buy value and the sell
+-- value of the closed shares, in cents. Supposes that all lots have one side, and none has 0
+-- shares.
 pub record IsResultOfTradeAgainstLots (side : Side) (qty price : ℕ) (ls : List Lot) (taken : List Touch) (over : ℕ) (worth : Values) : Type 0 where
   pub left : over + closed_share_count side qty ls ≡ qty
   pub rows : taken ≡ touches_of_first_shares (closed_share_count side qty ls) ls

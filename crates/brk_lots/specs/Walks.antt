@@ -19,8 +19,8 @@ closed_share_count side q [] = 0
 closed_share_count side q (l ∷ ls) = if is_same_side (side_of_qty l.qty) side then 0 else min q (length (shares_of_lots (l ∷ ls)))
 
 -- The lot changes that close the first `k` shares of the lots, or all shares if there are fewer:
--- one for each lot that loses a share, with its quantity before and after. Supposes that each lot
--- has at least one share.
+-- one for each lot that loses a share, in the sequence of the lots, with its signed quantity before
+-- and after. Supposes that each lot has at least one share.
 abbrev pub touches_of_first_shares : ℕ → List Lot → List Touch
 touches_of_first_shares k [] = []
 touches_of_first_shares k (l ∷ ls) =
@@ -34,23 +34,24 @@ abbrev pub cost_of_first_shares : ℕ → List Lot → ℕ
 cost_of_first_shares k [] = 0
 cost_of_first_shares k (l ∷ ls) = min k (unsigned_abs l.qty) * l.price + cost_of_first_shares (k - unsigned_abs l.qty) ls
 
--- The values `taken`, `over` and `cost` are the result of closing shares of the lots `ls`, which
--- have one side, by a trade of `qty` shares on `side`: `taken` is the list of the changes of the
--- lots that the trade closes or reduces, `over` the quantity that closes no share, and `cost` the
--- value, in cents, at which the closed shares were opened.
+-- The values `taken`, `over` and `cost` are the result of a trade of `qty` shares on `side` that
+-- closes shares of the lots `ls`, if they have the other side, from the first lot on: `taken` is
+-- the list of the changes of the lots that it closes or reduces, in the sequence of `ls`, `over`
+-- the part of `qty` that closes no share, and `cost` the value, in cents, at which the closed
+-- shares were opened. Supposes that all lots have one side, and none has 0 shares.
 pub record IsResultOfClosingLots (side : Side) (qty : ℕ) (ls : List Lot) (taken : List Touch) (over cost : ℕ) : Type 0 where
   pub left : over + closed_share_count side qty ls ≡ qty
   pub rows : taken ≡ touches_of_first_shares (closed_share_count side qty ls) ls
   pub shares : cost ≡ cost_of_first_shares (closed_share_count side qty ls) ls
 
--- The buy value of closed shares, in cents: the traded value if the trade is a purchase, the
--- opening value if it is a sale.
+-- The buy value of closed shares, in cents: `traded`, their value at the trade's price, if the
+-- trade is a purchase, and `opened`, their value at opening prices, if it is a sale.
 abbrev pub buy_value_by_side : Side → ℕ → ℕ → ℕ
 buy_value_by_side Buy traded opened = traded
 buy_value_by_side Sell traded opened = opened
 
--- The sell value of closed shares, in cents: the opening value if the trade is a purchase, the
--- traded value if it is a sale.
+-- The sell value of closed shares, in cents: `opened`, their value at opening prices, if the trade
+-- is a purchase, and `traded`, their value at the trade's price, if it is a sale.
 abbrev pub sell_value_by_side : Side → ℕ → ℕ → ℕ
 sell_value_by_side Buy traded opened = opened
 sell_value_by_side Sell traded opened = traded

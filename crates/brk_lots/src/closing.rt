@@ -65,10 +65,11 @@ pub(crate) fn opened_lot(
 }
 
 /// Closes lots of the other side until the quantity is used up, the source has no further lot, or
-/// the next lot has the side of the trade, and opens a lot with the remaining shares
-/// (Trade-Result). Returns the changes of the lots, the opened lot, and the buy value and the sell
-/// value of the closed shares as `Amount`s. They are specified as the effect of the trade only over
-/// the lots of a position, none of which `trade` opened, and only under the disk assumption.
+/// the next lot has the side of the trade, and opens a lot with the remaining shares, if any
+/// (Trade-Result). Returns the changes of the lots, the opened lot, if any, and the buy value and
+/// the sell value of the closed shares as `Amount`s. They are specified as the effect of the trade
+/// only over the lots of a position, none of which `trade` opened, and only under the disk
+/// assumption.
 ///
 /// Requests at most one lot for each share of the trade. At `Ok` it requests at most one lot more
 /// than it closes or reduces. Over the lots of a position, none of which `trade` opened, under the
@@ -120,11 +121,11 @@ pub fn close_with_amounts<L: LotSource>(
 }
 
 /// Closes lots of the other side until the quantity is used up, the source has no further lot, or
-/// the next lot has the side of the trade, and opens a lot with the remaining shares
-/// (Trade-Result). Returns the changes of the lots, the opened lot, and the buy value and the sell
-/// value of the closed shares as `Wide` (`close_with_amounts` returns them as `Amount`s). They are
-/// specified as the effect of the trade only over the lots of a position, none of which `trade`
-/// opened, and only under the disk assumption.
+/// the next lot has the side of the trade, and opens a lot with the remaining shares, if any
+/// (Trade-Result). Returns the changes of the lots, the opened lot, if any, and the buy value and
+/// the sell value of the closed shares as `Wide` (`close_with_amounts` returns them as `Amount`s).
+/// They are specified as the effect of the trade only over the lots of a position, none of which
+/// `trade` opened, and only under the disk assumption.
 ///
 /// Requests at most one lot for each share of the trade. At `Ok` it requests at most one lot more
 /// than it closes or reduces. Over the lots of a position, none of which `trade` opened, under the

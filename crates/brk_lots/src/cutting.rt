@@ -54,8 +54,8 @@ fn remove_back_lots(lots: &mut Vec<Lot>, last: usize, qty: i64)
 
 // Applies the lot changes `touched` to the lots from the index `first` on, which must form a
 // position. `touched` must have one change for each of the first, or of the last, of these lots, in
-// sequence from that end; each change closes its lot, except that the last change may only reduce
-// its lot. Returns the index of the first remaining lot, or the length of the vector if no lot
+// sequence from that end; each change closes its lot, except that the last change may reduce its
+// lot instead. Returns the index of the first remaining lot, or the length of the vector if no lot
 // remains; closed lots before this index are not removed from the vector.
 pub(crate) fn apply_touches_to_lots(lots: &mut Vec<Lot>, first: usize, touched: &[Touch]) -> usize
     // The lots from `first` on form a position; the changes close its first or last `k` shares.

@@ -13,9 +13,10 @@ ghost use Rattle.brk_lots.specs.Lots.{shares_of_lots, abstract_lot};
 ghost use Rattle.brk_lots.specs.Position.{AreOpenedByOtherTrades, IsPosition};
 
 /// Proves three properties of the shares that are open after any deals, applied from the empty
-/// position on: they have one side; the signed quantities of lots of exactly these shares total the
-/// signed quantities of the deals; and the cost basis of these lots equals the sum of the realised
-/// gains plus the value of the purchases minus the value of the sales, in cents.
+/// position on: they have one side; the signed quantities of lots of exactly these shares have the
+/// same sum as the quantities of the deals, where a sale counts below 0; and the cost basis of
+/// these lots equals the sum of the realised gains plus the value of the purchases minus the value
+/// of the sales, in cents.
 pub fn replayed_lots_match_their_deals()
     ensures one_side { (deals : List Deal) → (side : Side) × AllByRecursion (λ u. u.side ≡ side) (replay deals) }
     ensures quantities { (deals : List Deal) (ls : List Lot) → shares_of_lots ls ≡ replay deals → lot_quantity_sum ls ≡ deal_quantity_sum deals }
@@ -25,11 +26,11 @@ pub fn replayed_lots_match_their_deals()
 
 /// Proves for deals of distinct trades with strictly ascending stamps, applied from the empty
 /// position on, that the changes of each lot form a chain. The first change starts at 0, each later
-/// one starts where the one before it ended and ends strictly nearer to 0, and the last ends at the
-/// quantity of the lot after the deals, which is 0 if there is no change. Proves also for a deal
-/// whose trade opened no lot of the position that the signed quantity of the lot of this trade
-/// after the deal is the quantity of the deal minus the number of shares that the deal closes,
-/// negated for a sale.
+/// one starts where the one before it ended and ends strictly nearer to 0, at 0 or with the sign
+/// with which it starts, and the last ends at the quantity of the lot after the deals, which is 0
+/// if there is no change. Proves also for a deal whose trade opened no lot of the position that the
+/// signed quantity of the lot of this trade after the deal is the quantity of the deal minus the
+/// number of shares that the deal closes, negated for a sale.
 pub fn lot_histories_are_chains()
     ensures history { (deals : List Deal) (trade : ℕ) → AreDistinctAscendingDeals deals
         → IsLotHistory (changes_of_lot trade deals []) (lot_quantity (replay deals) trade) }

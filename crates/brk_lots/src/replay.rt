@@ -40,8 +40,8 @@ fn append_closing_changes(
     Ok(())
 }
 
-// Appends to `rows` the change by which `trade` opened a lot, from 0 to its quantity, or nothing if
-// `opened` is `None`. Fails with `Memory` only; `rows` is then unchanged.
+// Appends to `rows` the change by which `trade` opened the lot `opened`, from 0 to its quantity, or
+// nothing if `opened` is `None`. Fails with `Memory` only.
 fn append_opening_change(
     rows: &mut Vec<DealTouch>,
     trade: Id,
@@ -90,9 +90,9 @@ impl Position {
     /// Returns the position after `deals`, applied in sequence from the empty position on. They
     /// must have distinct trades and strictly ascending stamps.
     ///
-    /// Appends to `rows`, for each deal, the changes of the lots that it closed or reduced, in the
-    /// sequence in which it closed them, and then the change by which it opened a lot, if it opened
-    /// one. Fails with `Memory` only; some of the changes may then be appended.
+    /// Appends to `rows`, for each deal in sequence, the changes of the lots that it closed or
+    /// reduced, in the sequence in which it did so, and then the change by which it opened a lot,
+    /// if it opened one. Fails with `Memory` only; some of the changes may then be appended.
     pub fn replay_with_lot_changes(
         alloc: Global,
         deals: &[Deal],

@@ -28,7 +28,7 @@ impl TouchReceiver for Vec<Touch> {
 
     ghost fails = { λ fault. fault ≡ Memory };
 
-    // Appends the lot change to the vector. Fails with `Memory` only; the vector is then unchanged.
+    // Appends the lot change to the vector. Fails with `Memory` only.
     fn add(&mut self, row: Touch) -> Result<(), Fault> {
         self.push(row)?;
         Ok(())

@@ -20,8 +20,9 @@ pub struct Values {
 }
 
 // Returns the buy value and the sell value, in cents, of shares that a trade of the side closes at
-// the value `traded` and that were opened at the value `opened`. Both values must be at most the
-// greatest `Amount`.
+// the value `traded` and that were opened at the value `opened`: for a purchase the buy value is
+// `traded` and the sell value `opened`, and for a sale the reverse. `traded` and `opened` must be
+// at most the greatest `Amount`, 10^17 cents.
 pub(crate) fn closing_values(side: Side, traded: u64, opened: u64) -> Values
     requires traded { traded ≤ greatest_amount }
     requires opened { opened ≤ greatest_amount }

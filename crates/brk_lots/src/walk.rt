@@ -32,8 +32,10 @@ pub(crate) struct CloseValues {
 // Closes lots of the other side until the quantity is used up, the source has no further lot, or
 // the next lot has the side of the trade. Adds the change of each lot to `rows`, which must be
 // empty. Returns the quantity that closed no share, and the value, in cents, at which the closed
-// shares were opened. Fails with a fault of the source or of `rows`; the changes of some lots may
-// then be in `rows`. Requests at most one lot for each share of the quantity, also if it fails.
+// shares were opened. The changes and these values are specified as those of the trade only over
+// the lots of a position under the disk assumption. Fails with a fault of the source or of `rows`;
+// the changes of some lots may then be in `rows`. Requests at most one lot for each share of the
+// quantity, also if it fails.
 fn close_lots_with_cost<L: LotSource, R: TouchReceiver>(
     source: &mut L,
     side: Side,
@@ -79,9 +81,10 @@ fn close_lots_with_cost<L: LotSource, R: TouchReceiver>(
 // Closes lots of the other side until the quantity is used up, the source has no further lot, or
 // the next lot has the side of the trade. Adds the change of each lot to `rows`, which must be
 // empty. Returns the quantity that closed no share, and the buy value and the sell value, in cents,
-// of the shares that were closed at `price`. Fails with a fault of the source or of `rows`; the
-// changes of some lots may then be in `rows`. Requests at most one lot for each share of the
-// quantity, also if it fails.
+// of the shares that were closed at `price`. The changes and these values are specified as those of
+// the trade only over the lots of a position under the disk assumption. Fails with a fault of the
+// source or of `rows`; the changes of some lots may then be in `rows`. Requests at most one lot for
+// each share of the quantity, also if it fails.
 pub(crate) fn close_lots_with_values<L: LotSource, R: TouchReceiver>(
     source: &mut L,
     side: Side,

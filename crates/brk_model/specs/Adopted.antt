@@ -13,13 +13,14 @@ use Rattle.brk_model.specs.Joins.{history_rows_with_trade_id, trade_row_with_id,
 abbrev pub account_of_row : AccountRow → Account
 account_of_row a = record { id = a.id; customer = a.customer; broker = a.broker; name = a.name; tax_status = a.tax_status; opening = a.opening }
 
--- The status changes of the trade with the id `trade` in TRADE_HISTORY, sorted by stamp, ascending.
+-- The status changes of the trade with the id `trade` in TRADE_HISTORY, sorted by stamp, ascending;
+-- the sort is stable.
 abbrev pub status_changes_of_trade : Tables → ℕ → List StatusChange
 status_changes_of_trade tables trade =
     sort_by_key (λ m. m.stamp) (map (λ h. record { stamp = h.stamp; status = h.status }) (history_rows_with_trade_id tables trade))
 
--- The posting of a CASH_TRANSACTION row to the account of its trade; the account is 0 if the trade
--- does not exist.
+-- The posting that a CASH_TRANSACTION row describes: its trade, stamp, amount and name, and the
+-- account of its trade, which is 0 if the trade does not exist.
 abbrev pub posting_of_cash_transaction_row : Tables → CashRow → Posting
 posting_of_cash_transaction_row tables c = record {
   account = option_map_or (λ t. t.account) (trade_row_with_id tables c.trade) 0;
@@ -46,8 +47,9 @@ is_posting_of_trade trade p = is_id_of_trade trade p.trade
 abbrev pub movement_of_row : MoveRow → Movement
 movement_of_row r = record { account = r.account; stamp = r.stamp; amount = r.amount; name = r.name }
 
--- The trade that a TRADE row describes, with its status changes, its cash type of SETTLEMENT and
--- the name of its cash row; the last two are empty if these rows do not exist.
+-- The trade that a TRADE row describes, with its status changes of TRADE_HISTORY, the cash type of
+-- its first SETTLEMENT row and the name of its first cash row (`postings_of_tables`); the last two
+-- are empty if these rows do not exist. The status and the stamp of the TRADE row are not used.
 abbrev pub trade_of_row : Tables → TradeRow → Trade
 trade_of_row tables t = record {
   id = t.id;
@@ -68,7 +70,8 @@ trade_of_row tables t = record {
   cash_name = option_map_or (λ p. p.name) (find (is_posting_of_trade t.id) (postings_of_tables tables)) [];
 }
 
--- The security that a SECURITY row and a LAST_TRADE row describe.
+-- The security that a SECURITY row and a LAST_TRADE row describe; the symbol of the LAST_TRADE row
+-- is not used.
 abbrev pub security_of_rows : SecurityRow → LastTradeRow → Security
 security_of_rows s l =
     record { symbol = s.symbol; name = s.name; exchange = s.exchange; sector = s.sector; last_price = l.price; volume = l.volume; moment = l.stamp }
@@ -77,8 +80,8 @@ security_of_rows s l =
 abbrev pub zero_last_trade_row : Text → LastTradeRow
 zero_last_trade_row symbol = record { symbol = symbol; stamp = 0; price = 0; volume = 0 }
 
--- The security that a SECURITY row and the LAST_TRADE row of its symbol describe; the price, the
--- volume and the stamp are 0 if there is no such LAST_TRADE row.
+-- The security that a SECURITY row and the first LAST_TRADE row of its symbol describe; the price,
+-- the volume and the stamp are 0 if there is no such LAST_TRADE row.
 abbrev pub security_of_row : Tables → SecurityRow → Security
 security_of_row tables s =
     option_map_or (security_of_rows s) (find (λ l. bytes_eq l.symbol s.symbol) tables.last_trades) (security_of_rows s (zero_last_trade_row s.symbol))

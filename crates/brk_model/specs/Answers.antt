@@ -42,17 +42,20 @@ result_of_row_and_later_rows step (Ok command) key base (now ∷ moments) more =
 result_of_row_and_later_rows step (Ok command) key base [] more = record { answers = []; base = base; moments = [] }
 
 -- The result of the rows of a batch, parsed by `form` and executed by `step` in sequence, from
--- `base` on with the clock readings `moments`. The first row has the number `n`, and the key of a
--- row consists of the batch name `batch` and the row's number.
+-- `base` on with the clock readings `moments`. A malformed row and a missing clock reading have the
+-- effects that `result_of_row_and_later_rows` specifies. The first row has the number `n`, and the
+-- key of a row consists of the batch name `batch` and the row's number.
 abbrev pub result_of_rows : {B C : Type 0} → (Fields → ReadResult C) → RowStep B C → Text → ℕ → B → List ℕ → List Fields → ResultOfRows B
 result_of_rows form step batch n base moments [] = record { answers = []; base = base; moments = moments }
 result_of_rows form step batch n base moments (row ∷ rows) =
     result_of_row_and_later_rows step (form row) (record { batch = batch; row = n }) base moments
     (λ after left. result_of_rows form step batch (n + 1) after left rows)
 
--- The rows of the batch, numbered from 1 and executed from `base` on, have exactly the answers
--- `answers`, use all clock readings `moments`, and result in the base `after`. A well-formed row
--- for which no clock reading is left, and each row after it, has no answer.
+-- The rows of the batch `batch`, numbered from 1, parsed by `form` and executed by `step` from
+-- `base` on, have exactly the answers `answers`, in the sequence of the rows, use all clock
+-- readings `moments`, and result in the base `after`. A malformed row is answered with its refusal
+-- and uses no clock reading. A well-formed row for which no clock reading is left, and each row
+-- after it, has no answer.
 abbrev pub RowsAreAnswered : {B C : Type 0} → (Fields → ReadResult C) → RowStep B C → Text → B → List ℕ → List Fields → List Answer → B → Type 0
 RowsAreAnswered form step batch base moments rows answers after =
     result_of_rows form step batch 1 base moments rows ≡ record { answers = answers; base = after; moments = [] }

@@ -19,8 +19,9 @@ use Rattle.brk_model.specs.Rows.{estimate_fields}
 use Rattle.brk_model.specs.Step.{value_unless_refused}
 
 -- The checks of a query on `base`, in the sequence in which they are made: that the account, the
--- customer, the security or the trades of the query exist, or the checks of the order of an
--- estimate. The queries for submitted trades and for broker volumes have none.
+-- customer, the security or all trades of the query exist, with the refusal `NoAccount`,
+-- `NoCustomer`, `NoSecurity` or `NoTrade`, or the checks of the order of an estimate
+-- (`checks_of_order`). The queries for submitted trades and for broker volumes have none.
 unfoldable pub checks_of_query : Base → Query → List RefusalCheck
 checks_of_query base (PositionOf customer) = customer_exists_check base customer ∷ []
 checks_of_query base (PositionOfTaxId tax_id) = (is_none (find (λ c. bytes_eq c.tax_id tax_id) base.customers), NoCustomer) ∷ []
@@ -34,8 +35,8 @@ checks_of_query base (TradesOfSymbol symbol first last) = security_exists_check 
 checks_of_query base (LotsTouched account first) = account_exists_check base account ∷ []
 checks_of_query base (VolumeOf sector names) = []
 
--- The view of the query on `base`: the records that it selects from the tables, or one record with
--- the figures of an estimate.
+-- The view of the query on `base`: one record with the figures of the estimate if the query asks
+-- for one, otherwise the view of the query over the tables of `base` (`view_of_tables`).
 unfoldable pub view_of_base : Base → Query → View
 view_of_base base (EstimateOf order) = estimate_fields (estimate base order) ∷ []
 view_of_base base query = unwrap_or (view_of_tables (tables_of_base base) query) []
@@ -64,8 +65,8 @@ abbrev pub read_value_and_stamps : {A : Type 0} → (Text → ReadResult A) → 
 read_value_and_stamps read query (what ∷ first ∷ last ∷ []) = Ok query ⊛ read what ⊛ read_stamp first ⊛ read_stamp last
 read_value_and_stamps read query _ = Err BadText
 
--- The query for touched lots that two arguments parse as, an account and a stamp, or the refusal of
--- a malformed argument; the refusal `BadText` if there are fewer or more arguments.
+-- The query for touched lots that exactly two arguments parse as (account, first stamp), otherwise
+-- the refusal `BadText`.
 abbrev pub read_lots_query : List Text → ReadResult Query
 read_lots_query (account ∷ first ∷ []) = Ok (λ a f. LotsTouched a f) ⊛ read_id account ⊛ read_stamp first
 read_lots_query _ = Err BadText

@@ -47,6 +47,6 @@ IsFirstFailingCondition schema (c ∷ cs) t answer =
     (ConditionHolds schema c t × IsFirstFailingCondition schema cs t answer) ⊎ ((¬ ConditionHolds schema c t) × (answer ≡ Some c))
 
 -- The answer is the result of an audit of the tables `t` of the schema `schema`, sorted by key: the
--- first condition on rows that they do not satisfy, or none.
+-- first condition of `row_conditions` that they do not satisfy, or none if they satisfy all.
 abbrev pub IsAuditResult : Schema → Tables → Option Condition → Type 0
 IsAuditResult schema t answer = IsFirstFailingCondition schema row_conditions t answer

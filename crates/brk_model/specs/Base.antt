@@ -106,57 +106,60 @@ trade_with_id base id = find (λ t. t.id == id) base.trades
 abbrev pub charge_for_type_and_tier : Base → TradeType → ℕ → Option Charge
 charge_for_type_and_tier base kind tier = find (λ c. is_same_trade_type c.kind kind && (c.tier == tier)) base.charges
 
--- The first commission band of `base` for the tier `tier`, the trade type `kind` and the exchange
--- `exchange` whose bounds contain the quantity `qty`, both bounds included; none if there is no
--- such band.
+-- The first commission band of `base` for the customer tier `tier`, the trade type `kind` and the
+-- exchange `exchange` whose bounds contain the quantity `qty`, in shares, both bounds included;
+-- none if there is no such band.
 abbrev pub commission_band_for_quantity : Base → ℕ → TradeType → Text → ℕ → Option Band
 commission_band_for_quantity base tier kind exchange qty =
     find (λ b. (b.tier == tier) && is_same_trade_type b.kind kind && bytes_eq b.exchange exchange && nat_le b.from_qty qty && nat_le qty b.to_qty) base.bands
 
--- The id of the broker of the account `account` in the list `accounts`; 0 if the list has no such
--- account.
+-- The id of the broker of the first account with the id `account` in the list `accounts`; 0 if the
+-- list has no such account.
 abbrev pub broker_id_in_accounts : List Account → ℕ → ℕ
 broker_id_in_accounts accounts account = option_map_or (λ a. a.broker) (account_with_id_in_list accounts account) 0
 
--- The tax status of the account `account` in the list `accounts`; `Untaxed` if the list has no such
--- account.
+-- The tax status of the first account with the id `account` in the list `accounts`; `Untaxed` if
+-- the list has no such account.
 abbrev pub tax_status_in_accounts : List Account → ℕ → TaxStatus
 tax_status_in_accounts accounts account = option_map_or (λ a. a.tax_status) (account_with_id_in_list accounts account) Untaxed
 
--- The opening balance, in cents, of the account `account` in the list `accounts`; 0 if the list has
--- no such account.
+-- The opening balance, in cents, of the first account with the id `account` in the list `accounts`;
+-- 0 if the list has no such account.
 abbrev pub opening_balance_in_accounts : List Account → ℕ → ℤ
 opening_balance_in_accounts accounts account = option_map_or (λ a. a.opening) (account_with_id_in_list accounts account) (pos 0)
 
--- The id of the broker of the account `account` in `base`; 0 if the account does not exist.
+-- The id of the broker of the first account of `base` with the id `account`; 0 if there is no such
+-- account.
 abbrev pub broker_id_of_account : Base → ℕ → ℕ
 broker_id_of_account base account = broker_id_in_accounts base.accounts account
 
--- The id of the customer of the account `account` in `base`; 0 if the account does not exist.
+-- The id of the customer of the first account of `base` with the id `account`; 0 if there is no
+-- such account.
 abbrev pub customer_id_of_account : Base → ℕ → ℕ
 customer_id_of_account base account = option_map_or (λ a. a.customer) (account_with_id base account) 0
 
--- The tier of the customer of the account `account` in `base`, by the id that
--- `customer_id_of_account` returns; 0 if there is no customer with this id.
+-- The tier of the first customer of `base` with the id that `customer_id_of_account` returns for
+-- the account `account`; 0 if there is no such customer.
 abbrev pub tier_of_account : Base → ℕ → ℕ
 tier_of_account base account = option_map_or (λ c. c.tier) (customer_with_id base (customer_id_of_account base account)) 0
 
--- The exchange of the security with the symbol `symbol` in `base`; empty if there is no such
+-- The exchange of the first security of `base` with the symbol `symbol`; empty if there is no such
 -- security.
 abbrev pub exchange_of_security : Base → Text → Text
 exchange_of_security base symbol = option_map_or (λ s. s.exchange) (security_with_symbol base symbol) []
 
--- The name of the security with the symbol `symbol` in the list `securities`; empty if there is no
--- such security.
+-- The name of the first security with the symbol `symbol` in the list `securities`; empty if there
+-- is no such security.
 abbrev pub security_name_in_list : List Security → Text → Text
 security_name_in_list securities symbol = option_map_or (λ s. s.name) (security_with_symbol_in_list securities symbol) []
 
--- The name of the security with the symbol `symbol` in `base`; empty if there is no such security.
+-- The name of the first security of `base` with the symbol `symbol`; empty if there is no such
+-- security.
 abbrev pub security_name : Base → Text → Text
 security_name base symbol = security_name_in_list base.securities symbol
 
--- The last market price, in cents, of the security with the symbol `symbol` in `base`; 0 if there
--- is no such security.
+-- The last market price, in cents, of the first security of `base` with the symbol `symbol`; 0 if
+-- there is no such security.
 abbrev pub last_price : Base → Text → ℕ
 last_price base symbol = option_map_or (λ s. s.last_price) (security_with_symbol base symbol) 0
 
@@ -188,11 +191,12 @@ is_withholding_status Reported = false
 abbrev pub is_taxable_account : Base → ℕ → Bool
 is_taxable_account base account = is_taxable_status (tax_status_in_accounts base.accounts account)
 
--- The last status change of the trade `t`; none if it has no status change.
+-- The last status change of the trade `t`, in the sequence of its `marks`; none if it has no status
+-- change.
 abbrev pub last_status_change : Trade → Option StatusChange
 last_status_change t = last_or None t.marks
 
--- True if the last status of the trade `t` is `status`; false if it has no status.
+-- True if the last status change of the trade `t` is to `status`; false if it has no status change.
 abbrev pub has_last_status : Status → Trade → Bool
 has_last_status status t = option_map_or (λ m. is_same_trade_status m.status status) (last_status_change t) false
 
@@ -200,7 +204,8 @@ has_last_status status t = option_map_or (λ m. is_same_trade_status m.status st
 abbrev pub last_status_stamp_of_trade : Trade → ℕ
 last_status_stamp_of_trade t = option_map_or (λ m. m.stamp) (last_status_change t) 0
 
--- True if the last status of the trade `t` is `Completed`.
+-- True if the last status change of the trade `t` is to `Completed`; false if it has no status
+-- change.
 abbrev pub is_completed : Trade → Bool
 is_completed t = has_last_status Completed t
 

@@ -15,8 +15,9 @@ use Rattle.brk_model.specs.Answers.{Fields, RowStep, RowsAreAnswered}
 use Rattle.brk_model.specs.Input.{input_text, BeginsWithRecords, HasExactlyRecords, IsBatchName, IsEndRecord, batch_header, correct_end_record}
 use Rattle.brk_model.specs.Lines.{answer_lines_from, batch_end_line}
 
--- The ways in which a batch ends: complete (`CorrectEnd`), without a header (`BadHeader`), without
--- an end record (`NoEnd`), or with a wrong end record (`BadEnd`).
+-- The ways in which a batch ends: with a correct end record (`CorrectEnd`), without a header that
+-- has a well-formed batch name (`BadHeader`), without an end record (`NoEnd`), or with a wrong end
+-- record (`BadEnd`).
 pub data BatchEnding : Type 0 where
   CorrectEnd : BatchEnding
   BadHeader : BatchEnding
@@ -34,7 +35,8 @@ pub record BatchResult (B : Type 0) : Type 0 where
 -- The batch name is well-formed, none of the rows is an end record, and the rows, executed from
 -- `base` on, have exactly the answers `answers`, one each, and result in the base `after`. Rows
 -- that `form` refuses are answered with their refusals; `step` executes the others in sequence,
--- each at the next of the clock readings `moments`, all of which are used.
+-- each at the next of the clock readings `moments`, all of which are used, and under its key,
+-- `name` and the number of the row, counted from 1 over all rows.
 pub record BatchRowsAreDecided {B C : Type 0} (form : Fields → ReadResult C) (step : RowStep B C) (name : Text) (base : B) (moments : List ℕ)
     (rows : List Fields) (answers : List Answer) (after : B) : Type 0 where
   pub named : IsBatchName name
@@ -57,18 +59,20 @@ EndsWithoutEndRecord text name rows answers told =
     ((rows ≡ []) × HasExactlyRecords text (batch_header name ∷ []) × (told ≡ []))
     ⊎ ((last : Fields) × ¬ (IsEndRecord last) × HasExactlyRecords text (batch_header name ∷ (rows ++ (last ∷ []))) × (told ≡ answers ++ (Refused BadText ∷ [])))
 
--- The text has, after the header of the batch `name` and the records `rows`, an end record that is
--- not the correct one for the number of `rows`. An unknown text always satisfies this.
+-- The records of the text begin with the header of the batch `name`, the records `rows` and an end
+-- record that is not the correct one for the number of `rows`. An unknown text always satisfies
+-- this.
 abbrev pub EndsWithWrongEndRecord : Option Text → Text → List Fields → Type 0
 EndsWithWrongEndRecord text name rows =
     (last : Fields) × IsEndRecord last × (last ≡ correct_end_record (length rows) → ⊥) × BeginsWithRecords text (batch_header name ∷ (rows ++ (last ∷ [])))
 
--- The text has the header of the batch `name`, then the records `rows`, and then an end record,
--- correct for `CorrectEnd` and wrong for `BadEnd`; for `NoEnd` it satisfies `EndsWithoutEndRecord`.
--- An unknown text always satisfies the part about its records. The printed answers `told` are
--- `answers` for `CorrectEnd` and `BadEnd`; for `NoEnd` they are empty, or `answers` followed by the
--- refusal of the last record. The output `out` has one line for each printed answer, and the `end`
--- line for `CorrectEnd` only. `BadHeader` never satisfies this.
+-- The records of the text begin with the header of the batch `name`, the records `rows` and an end
+-- record, correct for `CorrectEnd` and wrong for `BadEnd`; for `NoEnd` the text satisfies
+-- `EndsWithoutEndRecord`. An unknown text always satisfies the part about its records. The printed
+-- answers `told` are `answers` for `CorrectEnd` and `BadEnd`; for `NoEnd` they are empty, or
+-- `answers` followed by the refusal of the last record. The output `out` has one line for each
+-- printed answer, numbered from 1, followed by the `end` line for `CorrectEnd` only. `BadHeader`
+-- never satisfies this.
 abbrev pub MatchesEnding : Option Text → BatchEnding → Text → List Fields → List Answer → List Answer → Text → Type 0
 MatchesEnding text CorrectEnd name rows answers told out =
     BeginsWithRecords text (batch_header name ∷ (rows ++ (correct_end_record (length rows) ∷ []))) × (told ≡ answers)
@@ -77,9 +81,11 @@ MatchesEnding text NoEnd name rows answers told out = EndsWithoutEndRecord text 
 MatchesEnding text BadEnd name rows answers told out = EndsWithWrongEndRecord text name rows × (told ≡ answers) × (out ≡ answer_lines_from 1 answers)
 MatchesEnding text BadHeader name rows answers told out = ⊥
 
--- The batch is the result of a text with a header: its output, its ending, its base and its number
--- of decided rows follow from the rows of the text and their answers, executed by `step` from
--- `base` on with the clock readings `moments`.
+-- The batch is the result of a text with a header of the batch `name`: the records `rows`, parsed
+-- by `form` and executed by `step` from `base` on with the clock readings `moments`, have the
+-- answers `answers` and result in the base of the batch (`BatchRowsAreDecided`). Its ending and its
+-- output match the text, `rows` and `answers` (`MatchesEnding`), and its number of decided rows is
+-- the number of the printed answers `told`.
 pub record IsResultOfTextWithHeader {B C : Type 0} (form : Fields → ReadResult C) (step : RowStep B C) (base : B) (moments : List ℕ) (text : Option Text)
     (batch : BatchResult B) : Type 0 where
   pub name : Text
@@ -90,8 +96,9 @@ pub record IsResultOfTextWithHeader {B C : Type 0} (form : Fields → ReadResult
   pub ends : MatchesEnding text batch.ending name rows answers told batch.text
   pub counted : batch.rows ≡ length told
 
--- The batch is the result of a text without a header: its ending is `BadHeader`, no clock reading
--- is used, the base is unchanged, the output is empty, and no row was decided.
+-- The batch is the result of a text without a header that has a well-formed batch name: its ending
+-- is `BadHeader`, `moments` is empty (no clock reading is used), the base is unchanged, the output
+-- is empty, and no row was decided. An unknown text may have this result.
 pub record IsResultOfTextWithoutHeader {B : Type 0} (base : B) (moments : List ℕ) (text : Option Text) (batch : BatchResult B) : Type 0 where
   pub headless : HasNoHeader text
   pub ending : batch.ending ≡ BadHeader
@@ -100,13 +107,16 @@ pub record IsResultOfTextWithoutHeader {B : Type 0} (base : B) (moments : List �
   pub told : batch.text ≡ []
   pub counted : batch.rows ≡ 0
 
--- The batch is the result of the bytes `input`, whose rows `form` parses and `step` executes from
--- `base` on, with `moments` as the clock readings of the executed rows, one each.
+-- The batch is the result of the text of the bytes `input` (`input_text`: at most their first
+-- `most_input_bytes`), with or without a header. Its rows are answered by `form` and `step` from
+-- `base` on (`BatchRowsAreDecided`), with `moments` as the clock readings of the executed rows, one
+-- each.
 abbrev pub IsResultOfBatch : {B C : Type 0} → (Fields → ReadResult C) → RowStep B C → B → List ℕ → Text → BatchResult B → Type 0
 IsResultOfBatch form step base moments input batch =
     IsResultOfTextWithHeader form step base moments (Some (input_text input)) batch ⊎ IsResultOfTextWithoutHeader base moments (Some (input_text input)) batch
 
--- The answer to the command of a row under its key at the clock reading `now`, and the base after
--- it.
+-- The answer to the command of a row under the key `key` at the clock reading `now` on `base`, and
+-- the base after it: by the row that is stored under the key if there is one, otherwise by the step
+-- (`keyed_step`).
 abbrev pub step_of_row : Base → ℕ → Command → Key → Answer × Base
 step_of_row base now command key = keyed_step base now command (Some key)

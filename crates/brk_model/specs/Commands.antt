@@ -14,10 +14,10 @@ pub record Listing : Type 0 where
   pub sector : Text
   pub price : ℕ
 
--- An order of `qty` shares of `symbol` for `account`, placed by `executor`. `order_type` includes
--- the requested price unless it is a market type. The order creates a cash trade if `is_cash` is
--- true, otherwise a margin trade. The trade closes the last shares of its position first if
--- `is_lifo` is true, otherwise the first ones.
+-- An order of `qty` shares of `symbol` for the account with the id `account`, placed by `executor`.
+-- `order_type` includes the requested price unless it is a market type. The order creates a cash
+-- trade if `is_cash` is true, otherwise a margin trade. The trade closes the last opened shares of
+-- its position first if `is_lifo` is true, otherwise the first opened ones.
 pub record Order : Type 0 where
   pub account : ℕ
   pub order_type : OrderType
@@ -35,8 +35,9 @@ pub record Tick : Type 0 where
 
 -- A command: one of nine kinds of reference records, an order, a feed, a cancel, a result (the
 -- completion of a trade at a price), one of three text updates, a deposit, a withdrawal, or the
--- first day of one-day settlement. `price` and `amount` are in cents; `first` and `last` are
--- stamps, both included, in milliseconds since 1970-01-01 UTC; `day` is in days since 1970-01-01.
+-- first day of one-day settlement. `account`, `trade` and `trades` are ids; `price` and `amount`
+-- are in cents; `first` and `last` are stamps, both included, in milliseconds since 1970-01-01 UTC;
+-- `day` is in days since 1970-01-01.
 pub data Command : Type 0 where
   AddBroker : Broker → Command
   AddCustomer : Customer → Command
@@ -89,7 +90,8 @@ pub data Reply : Type 0 where
   Booked : (stamp : ℕ) → Reply
   -- The reply to an order: the id of its trade, the first status and the estimate.
   Ordered : (stamp trade : ℕ) → Status → Estimate → Reply
-  -- The reply to a feed: the ids of the trades that it triggered.
+  -- The reply to a feed: the ids of the trades that it triggered, in the sequence of
+  -- `triggered_trade_ids`.
   Ticked : (stamp : ℕ) → (triggered : List ℕ) → Reply
   -- The reply to a cancel: the stamp only.
   CanceledTrade : (stamp : ℕ) → Reply

@@ -20,10 +20,10 @@ AnswersAndBase B = List Answer × B
 abbrev pub answers_and_base_of_result : {B : Type 0} → ResultOfRows B → AnswersAndBase B
 answers_and_base_of_result result = (result.answers, result.base)
 
--- The answers to the rows of the batch `name`, numbered from 1 and executed in sequence from `base`
--- on, and the base after the last. Each well-formed row uses the next of the clock readings
--- `moments`; if none is left, neither it nor a row after it has an answer. Malformed rows are
--- refused.
+-- The answers to the rows of the batch `name`, numbered from 1, parsed by `form` and executed by
+-- `step` in sequence from `base` on, and the base after the last answer. Each well-formed row uses
+-- the next of the clock readings `moments`; if none is left, neither it nor a row after it has an
+-- answer. Malformed rows are refused and use no clock reading.
 abbrev pub answers_and_base_of_rows : {B C : Type 0} → (Fields → ReadResult C) → RowStep B C → Text → B → List ℕ → List Fields → AnswersAndBase B
 answers_and_base_of_rows form step name base moments rows = answers_and_base_of_result (result_of_rows form step name 1 base moments rows)
 
@@ -58,29 +58,34 @@ has_correct_row_count n (word ∷ count ∷ []) = bytes_eq count (decimal n)
 has_correct_row_count n _ = false
 
 -- The result of a batch with the answers and the base of `run` and the ending `ending`: its output
--- is one line for each answer, without an `end` line, and each answer counts as a decided row.
+-- is one line for each answer, numbered from 1, without an `end` line, and each answer counts as a
+-- decided row.
 abbrev pub result_without_end_line : {B : Type 0} → AnswersAndBase B → BatchEnding → BatchResult B
 result_without_end_line run ending = record { text = answer_lines_from 1 run.0; base = run.1; ending = ending; rows = length run.0 }
 
--- The result of a complete batch with the answers and the base of `run`: its output is one line for
--- each answer and the `end` line, and each answer counts as a decided row.
+-- The result, with the ending `CorrectEnd`, of a complete batch with the answers and the base of
+-- `run`: its output is one line for each answer, numbered from 1, and the `end` line, and each
+-- answer counts as a decided row.
 abbrev pub result_of_complete_batch : {B : Type 0} → AnswersAndBase B → BatchResult B
 result_of_complete_batch run = record { text = answer_lines_from 1 run.0 ++ batch_end_line run.0; base = run.1; ending = CorrectEnd; rows = length run.0 }
 
 -- The result, with the ending `NoEnd`, of a batch without an end record: the answers of `run`,
--- followed by the refusal `BadText` of the last row, which is not executed.
+-- followed by the refusal `BadText` of the last row, which is not executed but counts as a decided
+-- row, and the base of `run`.
 abbrev pub result_with_refused_last_row : {B : Type 0} → AnswersAndBase B → BatchResult B
 result_with_refused_last_row run = result_without_end_line (run.0 ++ Refused BadText ∷ [], run.1) NoEnd
 
--- The result of a batch whose rows are followed by the end record `last`: complete if this record
--- has the number of the rows (`has_correct_row_count`), otherwise with the ending `BadEnd`.
+-- The result of a batch whose rows, answered by `answers_and_base_of_rows`, are followed by the end
+-- record `last`: complete if this record has the number of the rows (`has_correct_row_count`),
+-- otherwise with the ending `BadEnd`.
 abbrev pub result_with_end_record : {B C : Type 0} → (Fields → ReadResult C) → RowStep B C → Text → B → List ℕ → List Fields → Fields → BatchResult B
 result_with_end_record form step name base moments rows last =
     if has_correct_row_count (length rows) last then result_of_complete_batch (answers_and_base_of_rows form step name base moments rows)
     else result_without_end_line (answers_and_base_of_rows form step name base moments rows) BadEnd
 
--- The result, with the ending `NoEnd`, of a batch without an end record: its last row, if it has
--- rows, is refused with `BadText` and not executed.
+-- The result, with the ending `NoEnd`, of a batch without an end record: its last row is refused
+-- with `BadText` and not executed, after the rows before it are answered by
+-- `answers_and_base_of_rows`. If it has no rows, the output is empty and the base is unchanged.
 abbrev pub result_without_end_record : {B C : Type 0} → (Fields → ReadResult C) → RowStep B C → Text → B → List ℕ → List Fields → BatchResult B
 result_without_end_record form step name base moments [] = result_without_end_line (answers_and_base_of_rows form step name base moments []) NoEnd
 result_without_end_record form step name base moments (row ∷ rows) =
@@ -92,19 +97,21 @@ abbrev pub result_of_batch_rows : {B C : Type 0} → (Fields → ReadResult C) �
 result_of_batch_rows form step name base moments (rows, Some last) = result_with_end_record form step name base moments rows last
 result_of_batch_rows form step name base moments (rows, None) = result_without_end_record form step name base moments rows
 
--- The result of a batch with the records `rows` after its header; without a batch name nothing is
--- executed and the ending is `BadHeader`.
+-- The result of a batch with the records `rows` after its header; records after the first end
+-- record are ignored. Without a batch name the ending is `BadHeader`, the base is unchanged, the
+-- output is empty, and no row is decided.
 abbrev pub result_with_optional_name : {B C : Type 0} → (Fields → ReadResult C) → RowStep B C → Option Text → B → List ℕ → List Fields → BatchResult B
 result_with_optional_name form step None base moments rows = record { text = []; base = base; ending = BadHeader; rows = 0 }
 result_with_optional_name form step (Some name) base moments rows = result_of_batch_rows form step name base moments (split_at_end_record rows)
 
--- The result of a batch with the given records. If the first is no header, or there is none,
--- nothing is executed and the ending is `BadHeader`.
+-- The result of a batch with the given records; records after the first end record are ignored. If
+-- there is no record, or the first is no header with a well-formed batch name, the ending is
+-- `BadHeader`, the base is unchanged, the output is empty, and no row is decided.
 abbrev pub result_of_batch_records : {B C : Type 0} → (Fields → ReadResult C) → RowStep B C → B → List ℕ → List Fields → BatchResult B
 result_of_batch_records form step base moments [] = result_with_optional_name form step None base moments []
 result_of_batch_records form step base moments (header ∷ rows) = result_with_optional_name form step (batch_name_of_header header) base moments rows
 
--- The result of a batch with the bytes `input`, executed from `base` on with the clock readings
--- `moments`.
+-- The result of a batch with the text of the bytes `input` (`input_text`: at most their first
+-- `most_input_bytes`), executed from `base` on with the clock readings `moments`.
 unfoldable pub result_of_batch_input : Base → List ℕ → Text → BatchResult Base
 result_of_batch_input base moments input = result_of_batch_records parse_row step_of_row base moments (records default_config (input_text input))

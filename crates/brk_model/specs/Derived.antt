@@ -29,21 +29,22 @@ deal_of_trade t = record {
   is_lifo = t.is_lifo;
 }
 
--- The trades of the list `done` that belong to the account `account`.
+-- The trades of the list `done` that belong to the account `account`, in the sequence of the list.
 abbrev pub trades_of_account : List Trade → ℕ → List Trade
 trades_of_account done account = filter (λ t. t.account == account) done
 
--- The trades of the list `done` that belong to the account `account` and the symbol `symbol`.
+-- The trades of the list `done` that belong to the account `account` and the symbol `symbol`, in
+-- the sequence of the list.
 abbrev pub trades_of_position : List Trade → ℕ → Text → List Trade
 trades_of_position done account symbol = filter (λ t. bytes_eq t.symbol symbol) (trades_of_account done account)
 
 -- The deals of the trades of `done` in the account `account` and the symbol `symbol`, sorted by
--- completion stamp, ascending.
+-- completion stamp, ascending; the sort is stable.
 abbrev pub deals_of_position : List Trade → ℕ → Text → List Deal
 deals_of_position done account symbol = map deal_of_trade (sort_by_key last_status_stamp_of_trade (trades_of_position done account symbol))
 
 -- The open shares of the account `account` in the symbol `symbol`, bought or sold short, after the
--- completed trades `done` (HOLDING).
+-- completed trades `done`, in the sequence in which they were opened (HOLDING).
 unfoldable pub shares_of_position : List Trade → ℕ → Text → List Share
 shares_of_position done account symbol = replay (deals_of_position done account symbol)
 
@@ -57,13 +58,13 @@ abbrev pub signed_proceeds : Side → ℕ → ℤ
 signed_proceeds Sell value = pos value
 signed_proceeds Buy value = neg_ℤ (pos value)
 
--- The tax that is withheld from the settlement of the trade `t`, in cents; 0 unless the tax status
--- of its account is `Withheld`.
+-- The tax that is withheld from the settlement of the trade `t`, in cents: its tax if the tax
+-- status of its account is `Withheld`; 0 otherwise, also if `accounts` has no such account.
 abbrev pub withheld_tax : List Account → Trade → ℕ
 withheld_tax accounts t = if is_withholding_status (tax_status_in_accounts accounts t.account) then t.tax else 0
 
--- The settlement amount of the completed trade `t`, in cents: its proceeds less charge, commission
--- and withheld tax (SE_AMT, Trade-Result).
+-- The settlement amount of the completed trade `t`, in cents: its proceeds (`signed_proceeds`,
+-- negated for a purchase) less charge, commission and withheld tax (SE_AMT, Trade-Result).
 abbrev pub settlement_amount : List Account → Trade → ℤ
 settlement_amount accounts t =
     signed_proceeds (side_of_trade_type t.kind) (t.qty * completion_price t) -ℤ pos (t.charge + t.commission + withheld_tax accounts t)
@@ -85,12 +86,14 @@ due_day_of_completion_stamp rule stamp = day_of stamp + days_to_settlement rule 
 abbrev pub due_day : SettleRule → Trade → ℕ
 due_day rule t = due_day_of_completion_stamp rule (last_status_stamp_of_trade t)
 
--- The trades of the list `done` that are cash trades, not margin trades.
+-- The trades of the list `done` that are cash trades, not margin trades, in the sequence of the
+-- list.
 abbrev pub cash_trades : List Trade → List Trade
 cash_trades done = filter (λ t. t.is_cash) done
 
--- An amount, in cents, that is posted to an account's cash at a stamp: by a trade, or by a movement
--- if `trade` is none. `name` is the text of its cash row.
+-- An amount, in cents and below 0 if it is paid out, that is posted to the cash of the account with
+-- the id `account` at a stamp: by the trade with the id `trade`, or by a movement if `trade` is
+-- none. `name` is the text of its cash row.
 pub record Posting : Type 0 where
   pub account : ℕ
   pub trade : Option ℕ
@@ -99,16 +102,18 @@ pub record Posting : Type 0 where
   pub name : Text
 
 -- The posting of the completed cash trade `t`: its settlement amount, to its account, at its
--- completion stamp.
+-- completion stamp, with the name of its cash row.
 abbrev pub posting_of_trade : List Account → Trade → Posting
 posting_of_trade accounts t =
     record { account = t.account; trade = Some t.id; stamp = last_status_stamp_of_trade t; amount = settlement_amount accounts t; name = t.cash_name }
 
--- The posting of the movement `m`, which belongs to no trade.
+-- The posting of the movement `m`: its amount, to its account, at its stamp, with its name and
+-- without a trade.
 abbrev pub posting_of_movement : Movement → Posting
 posting_of_movement m = record { account = m.account; trade = None; stamp = m.stamp; amount = m.amount; name = m.name }
 
--- The postings of the cash trades in `done`, followed by the postings of `movements`.
+-- The postings of the cash trades in `done`, followed by the postings of `movements`, each in the
+-- sequence of its list.
 abbrev pub postings : List Account → List Trade → List Movement → List Posting
 postings accounts done movements = map (posting_of_trade accounts) (cash_trades done) ++ map posting_of_movement movements
 
@@ -116,16 +121,17 @@ postings accounts done movements = map (posting_of_trade accounts) (cash_trades 
 abbrev pub postings_sorted_by_stamp : List Posting → List Posting
 postings_sorted_by_stamp posted = sort_by_key (λ p. p.stamp) posted
 
--- The postings of all completed cash trades and all movements of `base`.
+-- The postings of all completed cash trades of `base`, followed by those of all its movements, each
+-- in the sequence of the base.
 abbrev pub postings_of_base : Base → List Posting
 postings_of_base base = postings base.accounts (completed_trades base) base.movements
 
--- The postings of the list `posted` to the account `account`.
+-- The postings of the list `posted` to the account `account`, in the sequence of the list.
 abbrev pub postings_to_account : List Posting → ℕ → List Posting
 postings_to_account posted account = filter (λ p. p.account == account) posted
 
--- The balance of the account `account`, in cents: its opening balance in `accounts`, 0 if the list
--- has no such account, plus the amounts of its postings in `posted` (CA_BAL).
+-- The balance of the account `account`, in cents: its opening balance in `accounts` (0 if the list
+-- has no such account) plus the amounts of its postings in `posted` (CA_BAL).
 unfoldable pub balance_of_account : List Account → List Posting → ℕ → ℤ
 balance_of_account accounts posted account = opening_balance_in_accounts accounts account +ℤ total_by (λ p. p.amount) (postings_to_account posted account)
 
@@ -134,20 +140,23 @@ balance_of_account accounts posted account = opening_balance_in_accounts account
 unfoldable pub holdings_market_value : List Security → List Trade → ℕ → ℤ
 holdings_market_value securities done account = total_by (λ s. holding_summary_quantity done account s.symbol *ℤ pos s.last_price) securities
 
--- The trades of the list `done` whose accounts have the broker `broker`; an account that is not in
--- `accounts` counts as one with the broker 0.
+-- The trades of the list `done` whose accounts have the broker `broker`, in the sequence of the
+-- list; an account that is not in `accounts` counts as one with the broker 0.
 abbrev pub trades_of_broker : List Account → List Trade → ℕ → List Trade
 trades_of_broker accounts done broker = filter (λ t. broker_id_in_accounts accounts t.account == broker) done
 
--- The number of the completed trades `done` whose accounts have the broker `broker` (B_NUM_TRADES).
+-- The number of the completed trades `done` whose accounts have the broker `broker` (B_NUM_TRADES);
+-- an account that is not in `accounts` counts as one with the broker 0.
 unfoldable pub trade_count_of_broker : List Account → List Trade → ℕ → ℕ
 trade_count_of_broker accounts done broker = length (trades_of_broker accounts done broker)
 
 -- The sum of the commissions, in cents, of the completed trades `done` whose accounts have the
--- broker `broker` (B_COMM_TOTAL).
+-- broker `broker` (B_COMM_TOTAL); an account that is not in `accounts` counts as one with the
+-- broker 0.
 unfoldable pub commission_total_of_broker : List Account → List Trade → ℕ → ℕ
 commission_total_of_broker accounts done broker = sum_by (λ t. t.commission) (trades_of_broker accounts done broker)
 
--- The trades of the list whose last status is `Pending` (TRADE_REQUEST).
+-- The trades of the list whose last status is `Pending`, in the sequence of the list
+-- (TRADE_REQUEST).
 abbrev pub pending_trades : List Trade → List Trade
 pending_trades trades = filter (has_last_status Pending) trades

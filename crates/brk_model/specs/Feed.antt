@@ -8,9 +8,9 @@ use Rattle.brk_model.specs.Records.{Security, Trade}
 use Rattle.brk_model.specs.Base.{Base, has_last_status, trade_with_status_change, base_with_updated_trades}
 use Rattle.brk_model.specs.Commands.{Tick}
 
--- True if a market price `price` triggers a trade of this type with the bid price `bid`: at or
--- below the bid for a stop-loss and a limit buy, at or above it for a limit sell, and never for a
--- market type.
+-- True if a market price `price` triggers a trade of this type with the bid price `bid`, both in
+-- cents: at or below the bid for a stop-loss and a limit buy, at or above it for a limit sell, and
+-- never for a market type.
 abbrev pub is_triggering_price : TradeType → ℕ → ℕ → Bool
 is_triggering_price StopLoss bid price = nat_le price bid
 is_triggering_price LimitSell bid price = nat_le bid price
@@ -46,8 +46,9 @@ base_after_tick stamp base tick =
 unfoldable pub base_after_ticks : ℕ → Base → List Tick → Base
 base_after_ticks stamp base ticks = fold (base_after_tick stamp) base ticks
 
--- The ids of the trades that the ticks `ticks` trigger if they are executed in sequence on `base`:
--- in the sequence of the ticks, and for one tick in the sequence of the trades of the base.
+-- The ids of the trades that the ticks `ticks` trigger if they are executed in sequence on `base`,
+-- each at `stamp`: in the sequence of the ticks, and for one tick in the sequence of the trades of
+-- the base.
 unfoldable pub triggered_trade_ids : ℕ → Base → List Tick → List ℕ
 triggered_trade_ids stamp base [] = []
 triggered_trade_ids stamp base (tick ∷ ticks) =

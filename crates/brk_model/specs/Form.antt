@@ -27,19 +27,20 @@ use Rattle.brk_model.specs.Keys.{KeyPart, is_key_less, kept_key, broker_key, cus
 use Rattle.brk_model.specs.Keys.{charge_key, band_key, tax_rate_key, customer_tax_key, trade_key, history_key, request_key, holding_key, summary_key}
 use Rattle.brk_model.specs.Keys.{holding_history_key, settlement_key, cash_transaction_key, cash_move_key}
 
--- True if `n` is an id: from 1 to the greatest id.
+-- True if `n` is an id: from 1 to `greatest_id`, both included.
 abbrev pub is_id : ℕ → Bool
 is_id n = is_in_range 1 greatest_id n
 
--- True if `n` is the number of a cash row: from 1 to the greatest number of a cash row.
+-- True if `n` is the number of a cash row: from 1 to `greatest_cash_row_number`, both included.
 abbrev pub is_cash_row_number : ℕ → Bool
 is_cash_row_number n = is_in_range 1 greatest_cash_row_number n
 
--- True if the quantity `n` is from 1 to the greatest quantity of the schema `schema`.
+-- True if the quantity `n`, in shares, is from 1 to the greatest quantity of the schema `schema`,
+-- both included.
 abbrev pub is_quantity_in_schema : Schema → ℕ → Bool
 is_quantity_in_schema schema n = is_in_range 1 schema.greatest_qty n
 
--- True if the price `n` is from 1 cent to the greatest price.
+-- True if the price `n`, in cents, is from 1 to `greatest_price`, both included.
 abbrev pub is_price : ℕ → Bool
 is_price n = is_in_range 1 greatest_price n
 
@@ -84,11 +85,13 @@ has_customer tables id = is_some (customer_with_id_in_list tables.customers id)
 abbrev pub has_broker : Tables → ℕ → Bool
 has_broker tables id = is_some (find (λ b. b.id == id) tables.brokers)
 
--- True if the batch name of the key is well-formed and its row number is from 1 to the greatest id.
+-- True if the batch name of the key is well-formed and its row number is from 1 to `greatest_id`,
+-- both included.
 abbrev pub is_well_formed_key : Key → Bool
 is_well_formed_key key = is_batch_name key.batch && is_id key.row
 
--- True if the key of a row of KEPT is well-formed; the texts of the row are not checked.
+-- True if the key of a row of KEPT is well-formed; the text of the row and the line of its reply
+-- are not checked.
 abbrev pub is_well_formed_kept_row : Kept → Bool
 is_well_formed_kept_row k = is_well_formed_key k.key
 
@@ -96,8 +99,8 @@ is_well_formed_kept_row k = is_well_formed_key k.key
 abbrev pub are_well_formed_id_and_name : ℕ → Text → Bool
 are_well_formed_id_and_name id name = is_id id && is_name name
 
--- True if the id and the name of a row of BROKER are well-formed and its commission total is within
--- its limit; the trade count is not checked.
+-- True if the id and the name of a row of BROKER are well-formed and its commission total is at
+-- most `greatest_amount` cents; the trade count is not checked.
 abbrev pub is_well_formed_broker_row : BrokerRow → Bool
 is_well_formed_broker_row b = are_well_formed_id_and_name b.id b.name && nat_le b.commissions greatest_amount
 
@@ -110,12 +113,14 @@ is_well_formed_customer_row c =
     && is_name c.last_name
     && is_name c.first_name
 
--- True if the id, the name and the opening balance of an account are well-formed.
+-- True if the id and the name of an account are well-formed, and the absolute value of its opening
+-- balance `opening`, in cents, is at most `greatest_amount`.
 abbrev pub are_well_formed_account_fields : ℕ → Text → ℤ → Bool
 are_well_formed_account_fields id name opening = are_well_formed_id_and_name id name && is_within_amount_limit opening
 
--- True if the id, the name, the opening balance and the balance of a row of CUSTOMER_ACCOUNT are
--- well-formed, and its customer and broker exist.
+-- True if the id and the name of a row of CUSTOMER_ACCOUNT are well-formed, the absolute values of
+-- its opening balance and of its balance, in cents, are at most `greatest_amount`, and its customer
+-- and broker exist.
 abbrev pub is_well_formed_account_row : Tables → AccountRow → Bool
 is_well_formed_account_row t a =
     are_well_formed_account_fields a.id a.name a.opening
@@ -148,8 +153,9 @@ is_well_formed_security_row t s =
     are_well_formed_listing_texts s.symbol s.name s.exchange s.sector
     && list_any (λ l. bytes_eq l.symbol s.symbol) t.last_trades
 
--- True if the security of a row of LAST_TRADE exists, its stamp is not after the last stamp, and
--- its price and volume are within their limits.
+-- True if the security of a row of LAST_TRADE exists, its stamp is not after the last stamp, which
+-- must exist, its price is within its limits (`is_price`), and its volume, in shares, is at most
+-- `greatest_amount`.
 abbrev pub is_well_formed_last_trade_row : Tables → LastTradeRow → Bool
 is_well_formed_last_trade_row t l =
     has_security t l.symbol
@@ -157,12 +163,14 @@ is_well_formed_last_trade_row t l =
     && is_price l.price
     && nat_le l.volume greatest_amount
 
--- True if the tier and the amount of a row of CHARGE are within their limits.
+-- True if the tier of a row of CHARGE is from 1 to 3, both included, and its amount is at most
+-- `greatest_charge` cents.
 abbrev pub is_well_formed_charge_row : Charge → Bool
 is_well_formed_charge_row c = is_tier c.tier && nat_le c.amount greatest_charge
 
--- True if the tier and the exchange of the band are well-formed, and both bounds are within the
--- limits of the schema `schema`.
+-- True if the tier and the exchange of the band are well-formed, and both bounds, in shares, are
+-- from 1 to the greatest quantity of the schema `schema`, both included. Their order is not
+-- checked.
 abbrev pub has_well_formed_tier_exchange_and_bounds : Schema → Band → Bool
 has_well_formed_tier_exchange_and_bounds schema b =
     is_tier b.tier
@@ -170,15 +178,17 @@ has_well_formed_tier_exchange_and_bounds schema b =
     && is_quantity_in_schema schema b.from_qty
     && is_quantity_in_schema schema b.to_qty
 
--- True if the tier, the exchange, the bounds and the rate of a row of COMMISSION_RATE are
--- well-formed in the schema `schema`, and its lower bound is at most its upper bound.
+-- True if the tier, the exchange and the bounds of a row of COMMISSION_RATE are well-formed in the
+-- schema `schema`, its lower bound is at most its upper bound, and its rate, in hundredths of a
+-- percent, is at most `greatest_commission_rate`.
 abbrev pub is_well_formed_band_row : Schema → Band → Bool
 is_well_formed_band_row schema b =
     has_well_formed_tier_exchange_and_bounds schema b
     && nat_le b.from_qty b.to_qty
     && nat_le b.rate greatest_commission_rate
 
--- True if the id and the name of a row of TAXRATE are well-formed and its rate is within its limit.
+-- True if the id and the name of a row of TAXRATE are well-formed and its rate, in
+-- hundred-thousandths, is at most `greatest_tax_rate`.
 abbrev pub is_well_formed_tax_rate_row : TaxRate → Bool
 is_well_formed_tax_rate_row r = are_well_formed_id_and_name r.id r.name && nat_le r.rate greatest_tax_rate
 
@@ -197,8 +207,9 @@ abbrev pub has_price_matching_completion : Tables → TradeRow → Bool
 has_price_matching_completion t row =
     has_price_exactly_if (list_any (λ h. is_same_trade_status h.status Completed) (history_rows_with_trade_id t row.id)) row.price
 
--- True if the numbers of a trade are within their limits in the schema `schema`: its id, its
--- quantity, its bid, its charge, its commission and its tax.
+-- True if the numbers of a trade are within their limits: its id (`is_id`), its quantity in shares
+-- (`is_quantity_in_schema`), and, in cents, its bid (`is_price`), its charge (at most
+-- `greatest_charge`), and its commission and its tax (each at most `greatest_amount`).
 abbrev pub are_trade_numbers_in_range : Schema → (id qty bid charge commission tax : ℕ) → Bool
 are_trade_numbers_in_range schema id qty bid charge commission tax =
     is_id id
@@ -209,8 +220,9 @@ are_trade_numbers_in_range schema id qty bid charge commission tax =
     && nat_le tax greatest_amount
 
 -- True if the id, the quantity, the bid, the charge, the commission and the tax of a row of TRADE
--- are within their limits, its stamp is not after the last stamp, its security and account exist,
--- and it passes `has_price_matching_completion`. The executor is not checked.
+-- are within their limits in the schema `schema` (`are_trade_numbers_in_range`), its stamp is not
+-- after the last stamp, which must exist, its security and account exist, and it passes
+-- `has_price_matching_completion`. The status and the executor are not checked.
 abbrev pub is_well_formed_trade_row : Schema → Tables → TradeRow → Bool
 is_well_formed_trade_row schema t row =
     are_trade_numbers_in_range schema row.id row.qty row.bid row.charge row.commission row.tax
@@ -219,21 +231,21 @@ is_well_formed_trade_row schema t row =
     && has_account t row.account
     && has_price_matching_completion t row
 
--- True if the status is not `Completed`, or a completion with this stamp settles at the latest on
--- the greatest day, 9999-12-31.
+-- True if the status is not `Completed`, or a completion at the stamp settles, by the settlement
+-- day `rule`, at the latest on the greatest day, 9999-12-31.
 abbrev pub is_due_within_calendar : SettleRule → Status → ℕ → Bool
 is_due_within_calendar rule status stamp = not (is_same_trade_status status Completed) || nat_le (due_day_of_completion_stamp rule stamp) greatest_day
 
--- True if the trade of a row of TRADE_HISTORY exists, its stamp is not after the last stamp, and,
--- for a completion, the due day is within the calendar.
+-- True if the trade of a row of TRADE_HISTORY exists, its stamp is not after the last stamp, which
+-- must exist, and, for a completion, the due day is at most the greatest day, 9999-12-31.
 abbrev pub is_well_formed_history_row : Tables → HistoryRow → Bool
 is_well_formed_history_row t h =
     has_trade t h.trade
     && is_at_most_last_stamp t h.stamp
     && is_due_within_calendar t.rule h.status h.stamp
 
--- True if the quantity and the bid of a row of TRADE_REQUEST are within their limits, and its
--- trade, security and broker exist.
+-- True if the quantity of a row of TRADE_REQUEST is within the limits of the schema `schema`, its
+-- bid is within the limits of a price (`is_price`), and its trade, security and broker exist.
 abbrev pub is_well_formed_request_row : Schema → Tables → RequestRow → Bool
 is_well_formed_request_row schema t r =
     has_trade t r.trade
@@ -242,8 +254,9 @@ is_well_formed_request_row schema t r =
     && is_price r.bid
     && has_broker t r.broker
 
--- True if the price of a row of HOLDING is within its limit, its stamp is not after the last stamp,
--- and its trade, account and security exist. The quantity is not checked.
+-- True if the price of a row of HOLDING is within its limits (`is_price`), its stamp is not after
+-- the last stamp, which must exist, and its trade, account and security exist. The quantity is not
+-- checked.
 abbrev pub is_well_formed_holding_row : Tables → HoldingRow → Bool
 is_well_formed_holding_row t h =
     has_trade t h.trade
@@ -252,8 +265,8 @@ is_well_formed_holding_row t h =
     && is_at_most_last_stamp t h.stamp
     && is_price h.price
 
--- True if the quantity of a row of HOLDING_SUMMARY is within the limit of the schema `schema`, and
--- its account and security exist.
+-- True if the absolute value of the quantity of a row of HOLDING_SUMMARY, in shares, is at most the
+-- greatest summary of the schema `schema`, and its account and security exist.
 abbrev pub is_well_formed_summary_row : Schema → Tables → SummaryRow → Bool
 is_well_formed_summary_row schema t s =
     has_account t s.account
@@ -272,8 +285,8 @@ is_cash_type_of_trade is_cash word =
     else bytes_eq word (codes "Margin") || bytes_eq word (codes "Margin Account")
 
 -- True if the trade of a row of SETTLEMENT exists, the cash type of the row is one of the two that
--- this trade may have (`is_cash_type_of_trade`), and the due day and the amount are within their
--- limits.
+-- this trade may have (`is_cash_type_of_trade`), the due day is at most the greatest day,
+-- 9999-12-31, and the absolute value of the amount, in cents, is at most `greatest_amount`.
 abbrev pub is_well_formed_settlement_row : Tables → SettlementRow → Bool
 is_well_formed_settlement_row t s =
     option_map_or (λ row. is_cash_type_of_trade row.is_cash s.cash_type) (trade_row_with_id t s.trade) false
@@ -289,15 +302,16 @@ is_cash_row_name_of_trade t name row =
 
 -- True if the trade of a row of CASH_TRANSACTION exists, the name of the row is one of the two that
 -- a cash row of this trade may have (`is_cash_row_name_of_trade`), the stamp is not after the last
--- stamp, and the amount is within its limit.
+-- stamp, which must exist, and the absolute value of the amount, in cents, is at most
+-- `greatest_amount`.
 abbrev pub is_well_formed_cash_transaction_row : Tables → CashRow → Bool
 is_well_formed_cash_transaction_row t c =
     option_map_or (is_cash_row_name_of_trade t c.name) (trade_row_with_id t c.trade) false
     && is_at_most_last_stamp t c.stamp
     && is_within_amount_limit c.amount
 
--- True if a movement may have this name and amount: `Deposit` and above 0, or `Withdrawal` and
--- below 0.
+-- True if a movement may have this name and this amount in cents: `Deposit` and above 0, or
+-- `Withdrawal` and below 0.
 abbrev pub is_movement_name_and_amount : Text → ℤ → Bool
 is_movement_name_and_amount name amount =
     (bytes_eq name (codes "Deposit") && int_lt (pos 0) amount) || (bytes_eq name (codes "Withdrawal") && int_lt amount (pos 0))
@@ -307,9 +321,10 @@ is_movement_name_and_amount name amount =
 abbrev pub has_cash_row_name_of_trade : Tables → MoveRow → ℕ → Bool
 has_cash_row_name_of_trade t r trade = option_map_or (is_cash_row_name_of_trade t r.name) (trade_row_with_id t trade) false
 
--- True if the number and the amount of a row of CASH_MOVE are within their limits, its account
--- exists, and its stamp is not after the last stamp. If the row has a trade, this trade exists and
--- the name of the row is one of the two that a cash row of this trade may have; otherwise a
+-- True if the number of a row of CASH_MOVE is within its limits (`is_cash_row_number`), the
+-- absolute value of its amount, in cents, is at most `greatest_amount`, its account exists, and its
+-- stamp is not after the last stamp, which must exist. If the row has a trade, this trade exists
+-- and the name of the row is one of the two that a cash row of this trade may have; otherwise a
 -- movement may have the name and the amount (`is_movement_name_and_amount`).
 abbrev pub is_well_formed_cash_move_row : Tables → MoveRow → Bool
 is_well_formed_cash_move_row t r =
@@ -339,14 +354,15 @@ are_equal_number_lists [] [] = true
 are_equal_number_lists (m ∷ ms) (n ∷ ns) = (m == n) && are_equal_number_lists ms ns
 are_equal_number_lists _ _ = false
 
--- True if the customer `c` has at most ten accounts, and its tax rates total at most the greatest
--- tax rate.
+-- True if the customer `c` has at most ten accounts, and its tax rates, in hundred-thousandths,
+-- total at most `greatest_tax_rate`; a tax whose TAXRATE row does not exist counts as 0.
 abbrev pub is_within_customer_limits : Tables → Customer → Bool
 is_within_customer_limits t c =
     nat_le (length (filter (λ a. a.customer == c.id) t.accounts)) most_accounts_per_customer
     && nat_le (tax_rate_sum_of_customer (base_of_tables t) c.id) greatest_tax_rate
 
--- True if the rows are sorted by `key`, strictly ascending, so that no key occurs twice.
+-- True if the rows are sorted by the key that `key` returns for each, strictly ascending
+-- (`is_key_less`), so that no key occurs twice.
 abbrev pub is_sorted_by_unique_key : {Row : Type 0} → (Row → List KeyPart) → List Row → Bool
 is_sorted_by_unique_key key [] = true
 is_sorted_by_unique_key key (a ∷ []) = true

@@ -60,7 +60,8 @@ read_number_in_range low high refusal text = value_if_valid (λ n. is_in_range l
 abbrev pub read_id : Text → ReadResult ℕ
 read_id = read_number_in_range 1 greatest_id BadText
 
--- The stamp that a text parses as, from 0 to `greatest_stamp`; otherwise the refusal `BadText`.
+-- The stamp that a text parses as, from 0 to `greatest_stamp`, in milliseconds since 1970-01-01
+-- UTC; otherwise the refusal `BadText`.
 abbrev pub read_stamp : Text → ReadResult ℕ
 read_stamp = read_number_in_range 0 greatest_stamp BadText
 
@@ -154,7 +155,7 @@ read_exchange = read_valid_text is_exchange
 abbrev pub is_batch_name : Text → Bool
 is_batch_name = is_word_up_to_length 40 (λ c. is_ascii_alphanumeric c || (c == 46) || (c == 45) || (c == 95))
 
--- True if the text is the ACL of a permission: four characters, each 0 or 1.
+-- True if the text is the ACL of a permission: four characters, each the digit 0 or the digit 1.
 abbrev pub is_acl : Text → Bool
 is_acl text = (length text == 4) && list_all (λ c. (c == 48) || (c == 49)) text
 
@@ -178,7 +179,8 @@ trade_type_with_code text = find (λ kind. bytes_eq (trade_type_code kind) text)
 abbrev pub read_trade_type : Text → ReadResult TradeType
 read_trade_type text = value_if_valid (λ kind. Bool.true) BadType (trade_type_with_code text)
 
--- True if the text is `yes_word`, false if it is `no_word`, otherwise the refusal `BadText`.
+-- True if the text is `yes_word`; if not, false if it is `no_word`, otherwise the refusal
+-- `BadText`.
 abbrev pub read_word_as_boolean : Text → Text → Text → ReadResult Bool
 read_word_as_boolean yes_word no_word text =
     if bytes_eq text yes_word then Ok Bool.true else if bytes_eq text no_word then Ok Bool.false else Err BadText
@@ -220,14 +222,14 @@ order_type_with_price (Some StopLoss) = priced_order_type (λ price. asked.StopL
 order_type_with_price (Some LimitSell) = priced_order_type (λ price. asked.LimitSell price)
 order_type_with_price (Some LimitBuy) = priced_order_type (λ price. asked.LimitBuy price)
 
--- The order type that two texts parse as, the code of the trade type and the price; otherwise a
--- refusal, `BadType` if the code is unknown and the price is empty or well-formed, and `BadPrice`
--- in any other case.
+-- The order type that two texts parse as, the code of the trade type and the price, which must be
+-- empty for a market type and well-formed for any other; otherwise a refusal, `BadType` if the code
+-- is unknown and the price is empty or well-formed, and `BadPrice` in any other case.
 abbrev pub read_order_type : Text → Text → ReadResult OrderType
 read_order_type type_text price_text = order_type_with_price (trade_type_with_code type_text) price_text
 
--- The values that the texts parse as by `read`, one each, or, if any text is malformed, the refusal
--- with the lowest `format_refusal_rank`, the first of these in the list.
+-- The values that the texts parse as by `read`, one each, in their sequence, or, if any text is
+-- malformed, the refusal with the lowest `format_refusal_rank`, the first of these in the list.
 abbrev pub read_each_text : {A : Type 0} → (Text → ReadResult A) → List Text → ReadResult (List A)
 read_each_text read [] = Ok []
 read_each_text read (text ∷ texts) = Ok (λ x xs. x ∷ xs) ⊛ read text ⊛ read_each_text read texts

@@ -13,22 +13,24 @@ use Rattle.brk_model.specs.Step.{step}
 abbrev pub stored_row_with_key : Base → Key → Option Kept
 stored_row_with_key base key = find (λ k. bytes_eq k.key.batch key.batch && (k.key.row == key.row)) base.kept
 
--- The base `base` with the row of the command and the line of its reply stored under the key;
--- unchanged without a key.
+-- The base `base` with the row of the command and the line of its reply stored under the key, after
+-- all rows stored before; unchanged without a key.
 abbrev pub base_with_stored_reply : Option Key → Command → Reply → Base → Base
 base_with_stored_reply None command reply base = base
 base_with_stored_reply (Some key) command reply base =
     record base { kept = base.kept ++ record { key = key; row_text = row_text command; line = line_text reply } ∷ [] }
 
 -- The answer to a command, and the base after it, by the result of its step on `base`. If the step
--- accepts the command, the base after it also stores the row and the reply under the key if there
--- is one; if it refuses the command, the base is unchanged.
+-- accepts the command, the answer is `Done` with its reply, and the base is that of the step with
+-- the row and the reply also stored under the key if there is one; otherwise the answer is
+-- `Refused` with the refusal, and the base is unchanged.
 abbrev pub answer_and_base_of_step : Base → Option Key → Command → Result (Reply × Base) Refusal → Answer × Base
 answer_and_base_of_step base key command (Ok booked) = (Done booked.0, base_with_stored_reply key command booked.0 booked.1)
 answer_and_base_of_step base key command (Err refusal) = (Refused refusal, base)
 
--- The answer to a command whose key is recorded, and the unchanged base: the stored reply if the
--- stored row `k` has the text of the command's row, otherwise the refusal 19 (`KeyReused`).
+-- The answer to a command whose key is recorded, and the unchanged base: `Again` with the stored
+-- reply if the stored row `k` has the text of the command's row, otherwise the refusal 19
+-- (`KeyReused`).
 abbrev pub answer_and_base_of_retry : Base → Command → Kept → Answer × Base
 answer_and_base_of_retry base command k = (if bytes_eq k.row_text (row_text command) then Again k.line else Refused KeyReused, base)
 

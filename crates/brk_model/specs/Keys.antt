@@ -13,8 +13,8 @@ pub data KeyPart : Type 0 where
   number : ℕ → KeyPart
   word : Text → KeyPart
 
--- True if the first part is less than the second: numbers by value, texts by their bytes, and every
--- number before every text.
+-- True if the first part is less than the second: numbers by value, texts in the lexicographic
+-- order of bytes, and every number before every text.
 abbrev pub is_key_part_less : KeyPart → KeyPart → Bool
 is_key_part_less (number m) (number n) = nat_lt m n
 is_key_part_less (word s) (word t) = is_text_less s t

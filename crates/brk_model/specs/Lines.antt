@@ -26,7 +26,7 @@ is_done_answer (Done reply) = true
 is_done_answer (Again line) = false
 is_done_answer (Refused refusal) = false
 
--- True if the answer is `Again`: the stored reply to an earlier command.
+-- True if the answer is `Again`: the stored reply to an earlier attempt under the same key.
 abbrev pub is_repeated_answer : Answer → Bool
 is_repeated_answer (Done reply) = false
 is_repeated_answer (Again line) = true

@@ -10,8 +10,8 @@ abbrev pub insert_by : {X : Type 0} → (X → X → Bool) → X → List X → 
 insert_by before x [] = x ∷ []
 insert_by before x (y ∷ ys) = if before y x then y ∷ insert_by before x ys else x ∷ y ∷ ys
 
--- The elements sorted by the relation `before`, ascending. The sort is stable: two elements of
--- which neither is before the other keep their sequence.
+-- The elements sorted by `before`, a strict weak order, ascending. The sort is stable: two elements
+-- of which neither is before the other keep their sequence.
 unfoldable pub sort_by : {X : Type 0} → (X → X → Bool) → List X → List X
 sort_by before [] = []
 sort_by before (x ∷ xs) = insert_by before x (sort_by before xs)
@@ -55,7 +55,7 @@ abbrev pub distinct_texts : List (List ℕ) → List (List ℕ)
 distinct_texts [] = []
 distinct_texts (t ∷ ts) = t ∷ filter (λ u. not (bytes_eq u t)) (distinct_texts ts)
 
--- True if the text contains `part` as a run of adjacent bytes.
+-- True if the text contains `part` as a run of adjacent bytes; always true for an empty `part`.
 abbrev pub contains_text : List ℕ → List ℕ → Bool
 contains_text part [] = starts_with nat_eq [] part
 contains_text part (c ∷ text) = starts_with nat_eq (c ∷ text) part || contains_text part text

@@ -34,9 +34,9 @@ trade_record t =
 abbrev pub is_cash_row_of_trade : ℕ → MoveRow → Bool
 is_cash_row_of_trade trade row = is_id_of_trade trade row.trade
 
--- The records of the trade of a TRADE row: the trade, its settlement and its cash row if they
--- exist, and one (`history`, stamp, status code) for each of its status changes, sorted by stamp,
--- ascending.
+-- The records of the TRADE row `t`: the trade, one for each SETTLEMENT row and each CASH_MOVE row
+-- of this trade, in the sequence of the tables, and, sorted by stamp, ascending, one (`history`,
+-- stamp, status code) for each of its TRADE_HISTORY rows; the sort is stable.
 abbrev pub trade_lookup_records : Tables → TradeRow → View
 trade_lookup_records tables t =
     trade_record t
@@ -64,7 +64,8 @@ stamp_of_touching_trade tables row = option_map_or (λ t. t.stamp) (trade_row_wi
 
 -- One record with the id of the trade, then one (lot, trade that changed it, quantity before,
 -- quantity after) for each of the first 20 HOLDING_HISTORY rows of the lots that the trade touched,
--- sorted by the stamp of the trade that changed the lot, then by lot, both ascending.
+-- sorted by the stamp of the trade that changed the lot (`stamp_of_touching_trade`), then by lot,
+-- both ascending.
 abbrev pub touched_lots_view : Tables → TradeRow → View
 touched_lots_view tables t =
     (decimal t.id ∷ [])
@@ -72,9 +73,9 @@ touched_lots_view tables t =
     (take 20 (sort_by (λ a b. is_pair_less (stamp_of_touching_trade tables a) (stamp_of_touching_trade tables b) a.lot b.lot)
     (filter (λ row. trade_touches_lot tables t.id row.lot) tables.holding_history)))
 
--- The view of the lots that the oldest trade of the account `account` with a stamp of at least
--- `first` touched: one record with the id of this trade, and one for each of the first 20 changes
--- of these lots. Empty if there is no such trade.
+-- The `touched_lots_view` of the oldest trade of the account `account` with a stamp (T_DTS) of at
+-- least `first`: the one with the least stamp and, of several, the least id. Empty if there is no
+-- such trade.
 unfoldable pub touched_lots_of_oldest_trade : Tables → ℕ → ℕ → View
 touched_lots_of_oldest_trade tables account first =
     flat_map (touched_lots_view tables) (take 1 (trade_rows_oldest_first (filter (λ t. nat_le first t.stamp) (trade_rows_of_account tables account))))

@@ -35,19 +35,21 @@ may_order_for_account base account e =
     option_map_or (λ c. is_customer_or_has_permission c (filter (λ p. p.account == account) base.permissions) e)
     (customer_with_id base (customer_id_of_account base account)) true
 
--- The price, in cents, that the order `o` asks for, or the last price of its security if its type
--- has no price (Trade-Order, frame 3); 0 if that security does not exist.
+-- The price, in cents, that the order `o` asks for or, if its type has no price, the last price of
+-- its security (Trade-Order, frame 3), which is 0 if the security does not exist.
 abbrev pub bid_price_of_order : Base → Order → ℕ
 bid_price_of_order base o = unwrap_or (price_of_order_type o.order_type) (last_price base o.symbol)
 
--- The commission, in cents, of the account `account` on `qty` shares of `symbol` at `price`, for
--- the trade type `kind`; none if no commission band applies.
+-- The commission, in cents, of the account `account` on `qty` shares of `symbol` at `price` cents
+-- each, for the trade type `kind`, by the `commission_band_for_quantity` of the tier of the account
+-- and the exchange of the security; none if there is no such band.
 abbrev pub commission_by_band : Base → ℕ → TradeType → Text → ℕ → ℕ → Option ℕ
 commission_by_band base account kind symbol qty price =
     option_map (λ b. commission b.rate qty price) (commission_band_for_quantity base (tier_of_account base account) kind (exchange_of_security base symbol) qty)
 
 -- The tax, in cents, on the gain of the deal `d` against the position `shares` of the account
--- `account`; 0 if there is no gain or the account is not taxable.
+-- `account`, at the sum of the tax rates of its customer; 0 if there is no gain or the account is
+-- not taxable.
 abbrev pub tax_on_deal : Base → ℕ → Deal → List Share → ℕ
 tax_on_deal base account d shares =
     if is_taxable_account base account then tax (realised_gain d shares) (tax_rate_sum_of_customer base (customer_id_of_account base account)) else 0

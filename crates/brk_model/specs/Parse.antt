@@ -13,46 +13,47 @@ use Rattle.brk_model.specs.Commands.{ChangeCashNames, DepositCash, WithdrawCash,
 
 -- ---- the fields after each kind
 
--- The broker that two fields parse as (id, name), or the refusal of a malformed field; the refusal
--- `BadText` if there are fewer or more fields.
+-- The broker that exactly two fields parse as (id, name), otherwise the refusal `BadText`.
 abbrev pub read_broker : List Text → ReadResult Broker
 read_broker (id ∷ name ∷ []) = Ok (λ i n. record { id = i; name = n }) ⊛ read_id id ⊛ read_name name
 read_broker _ = Err BadText
 
--- The customer that five fields parse as (id, tier, tax id, last name, first name), or the refusal
--- of a malformed field; the refusal `BadText` if there are fewer or more fields.
+-- The customer that exactly five fields parse as (id, tier, tax id, last name, first name),
+-- otherwise the refusal `BadText`.
 abbrev pub read_customer : List Text → ReadResult Customer
 read_customer (id ∷ tier ∷ tax_id ∷ last ∷ first ∷ []) =
     Ok (λ i t x l f. record { id = i; tier = t; tax_id = x; last_name = l; first_name = f })
     ⊛ read_id id ⊛ read_tier tier ⊛ read_tax_id tax_id ⊛ read_name last ⊛ read_name first
 read_customer _ = Err BadText
 
--- The account that six fields parse as (id, customer, broker, name, tax status, opening balance),
--- or the refusal of a malformed field; the refusal `BadText` if there are fewer or more fields.
+-- The account that exactly six fields parse as (id, customer, broker, name, tax status, opening
+-- balance), otherwise the refusal `BadText`.
 abbrev pub read_account : List Text → ReadResult Account
 read_account (id ∷ customer ∷ broker ∷ name ∷ tax_status ∷ opening ∷ []) =
     Ok (λ i c b n t o. record { id = i; customer = c; broker = b; name = n; tax_status = t; opening = o })
     ⊛ read_id id ⊛ read_id customer ⊛ read_id broker ⊛ read_name name ⊛ read_tax_status tax_status ⊛ read_opening_balance opening
 read_account _ = Err BadText
 
--- The permission that five fields parse as (account, ACL, tax id, last name, first name), or the
--- refusal of a malformed field; the refusal `BadText` if there are fewer or more fields.
+-- The permission that exactly five fields parse as (account, ACL, tax id, last name, first name),
+-- otherwise the refusal `BadText`.
 abbrev pub read_permission : List Text → ReadResult Permission
 read_permission (account ∷ acl ∷ tax_id ∷ last ∷ first ∷ []) =
     Ok (λ a c x l f. record { account = a; acl = c; tax_id = x; last_name = l; first_name = f })
     ⊛ read_id account ⊛ read_acl acl ⊛ read_tax_id tax_id ⊛ read_name last ⊛ read_name first
 read_permission _ = Err BadText
 
--- The listing of a security that five fields parse as (symbol, name, exchange, sector, price), or
--- the refusal of a malformed field; the refusal `BadText` if there are fewer or more fields.
+-- The listing of a security that exactly five fields parse as (symbol, name, exchange, sector,
+-- price); otherwise a refusal, `BadPrice` if there are five fields of which only the price is
+-- malformed, and `BadText` in any other case.
 abbrev pub read_listing : List Text → ReadResult Listing
 read_listing (symbol ∷ name ∷ exchange ∷ sector ∷ price ∷ []) =
     Ok (λ s n e c p. record { symbol = s; name = n; exchange = e; sector = c; price = p })
     ⊛ read_symbol symbol ⊛ read_name name ⊛ read_exchange exchange ⊛ read_name sector ⊛ read_price price
 read_listing _ = Err BadText
 
--- The charge that three fields parse as (type, tier, amount), or the refusal of a malformed field;
--- the refusal `BadText` if there are fewer or more fields.
+-- The charge that exactly three fields parse as (type, tier, amount); otherwise a refusal,
+-- `BadType` if there are three fields of which only the type is malformed, and `BadText` in any
+-- other case.
 abbrev pub read_charge : List Text → ReadResult Charge
 read_charge (kind ∷ tier ∷ amount ∷ []) =
     Ok (λ k t a. record { kind = k; tier = t; amount = a }) ⊛ read_trade_type kind ⊛ read_tier tier ⊛ read_charge_amount amount
@@ -63,40 +64,43 @@ abbrev pub bounds_if_ascending : ℕ × ℕ → ReadResult (ℕ × ℕ)
 bounds_if_ascending bounds = if nat_le bounds.0 bounds.1 then Ok bounds else Err BadQty
 
 -- The least and the greatest quantity of a band that two texts parse as; the refusal `BadQty` if
--- one is malformed, or if the least is greater than the greatest.
+-- one or both are malformed, or if the least is greater than the greatest.
 abbrev pub read_quantity_bounds : Text → Text → ReadResult (ℕ × ℕ)
 read_quantity_bounds low high = check_read_value bounds_if_ascending (Ok (λ a b. (a, b)) ⊛ read_quantity low ⊛ read_quantity high)
 
--- The commission band that six fields parse as (tier, type, exchange, least quantity, greatest
--- quantity, rate), or the refusal of a malformed field; the refusal `BadText` if there are fewer or
--- more fields.
+-- The commission band that exactly six fields parse as (tier, type, exchange, least quantity,
+-- greatest quantity, rate). Otherwise a refusal: `BadText` if there are fewer or more fields or the
+-- tier, the exchange or the rate is malformed; else `BadQty` if `read_quantity_bounds` refuses the
+-- quantities; else `BadType`.
 abbrev pub read_commission_band : List Text → ReadResult Band
 read_commission_band (tier ∷ kind ∷ exchange ∷ low ∷ high ∷ rate ∷ []) =
     Ok (λ t k e b r. record { tier = t; kind = k; exchange = e; from_qty = b.0; to_qty = b.1; rate = r })
     ⊛ read_tier tier ⊛ read_trade_type kind ⊛ read_exchange exchange ⊛ read_quantity_bounds low high ⊛ read_commission_rate rate
 read_commission_band _ = Err BadText
 
--- The tax rate that three fields parse as (id, name, rate), or the refusal of a malformed field;
--- the refusal `BadText` if there are fewer or more fields.
+-- The tax rate that exactly three fields parse as (id, name, rate), otherwise the refusal
+-- `BadText`.
 abbrev pub read_tax_rate : List Text → ReadResult TaxRate
 read_tax_rate (id ∷ name ∷ rate ∷ []) =
     Ok (λ i n r. record { id = i; name = n; rate = r }) ⊛ read_id id ⊛ read_name name ⊛ read_tax_rate_number rate
 read_tax_rate _ = Err BadText
 
--- The tax of a customer that two fields parse as (customer, tax rate), or the refusal of a
--- malformed field; the refusal `BadText` if there are fewer or more fields.
+-- The tax of a customer that exactly two fields parse as (customer, tax rate), otherwise the
+-- refusal `BadText`.
 abbrev pub read_customer_tax : List Text → ReadResult CustomerTax
 read_customer_tax (customer ∷ tax ∷ []) = Ok (λ c t. record { customer = c; tax = t }) ⊛ read_id customer ⊛ read_id tax
 read_customer_tax _ = Err BadText
 
--- The executor that three texts parse as (first name, last name, tax id), or the refusal of a
--- malformed text.
+-- The executor that three texts parse as (first name, last name, tax id), or the refusal `BadText`
+-- if one or more are malformed.
 abbrev pub read_executor : Text → Text → Text → ReadResult Executor
 read_executor first last tax_id = Ok (λ f l x. record { first_name = f; last_name = l; tax_id = x }) ⊛ read_name first ⊛ read_name last ⊛ read_tax_id tax_id
 
--- The order that ten fields parse as (account, type, symbol, quantity, price, `cash` or `margin`,
--- `lifo` or `fifo`, first name, last name, tax id), or the refusal of a malformed field; the
--- refusal `BadText` if there are fewer or more fields.
+-- The order that exactly ten fields parse as (account, type, symbol, quantity, price, `cash` or
+-- `margin`, `lifo` or `fifo`, first name, last name, tax id). Otherwise a refusal: `BadText` if
+-- there are fewer or more fields or one other than type, quantity and price is malformed; else
+-- `BadQty` if the quantity is malformed; else the refusal of `read_order_type` for the type and the
+-- price.
 abbrev pub read_order : List Text → ReadResult Order
 read_order (account ∷ kind ∷ symbol ∷ qty ∷ price ∷ cash ∷ end ∷ first ∷ last ∷ tax_id ∷ []) =
     Ok (λ a s q t c l e. record { account = a; order_type = t; symbol = s; qty = q; is_cash = c; is_lifo = l; executor = e })
@@ -104,8 +108,9 @@ read_order (account ∷ kind ∷ symbol ∷ qty ∷ price ∷ cash ∷ end ∷ f
     ⊛ read_executor first last tax_id
 read_order _ = Err BadText
 
--- The ticks that the fields parse as, three fields each (symbol, price, quantity), or the refusal
--- of a malformed field; the refusal `BadText` if one or two fields are left over.
+-- The ticks that the fields parse as, three fields each (symbol, price, quantity); the empty list
+-- if there are no fields. Otherwise a refusal: `BadText` if a symbol is malformed or one or two
+-- fields are left over; else `BadQty` if a quantity is malformed; else `BadPrice`.
 abbrev pub read_ticks : List Text → ReadResult (List Tick)
 read_ticks [] = Ok []
 read_ticks (symbol ∷ price ∷ qty ∷ fields) =
@@ -123,8 +128,9 @@ abbrev pub read_id_of_trade_to_cancel : List Text → ReadResult ℕ
 read_id_of_trade_to_cancel (trade ∷ []) = read_id trade
 read_id_of_trade_to_cancel _ = Err BadText
 
--- The command `CompleteTrade` that two fields parse as (trade, price), or the refusal of a
--- malformed field; the refusal `BadText` if there are fewer or more fields.
+-- The command `CompleteTrade` that exactly two fields parse as (trade, price); otherwise a refusal,
+-- `BadPrice` if there are two fields of which only the price is malformed, and `BadText` in any
+-- other case.
 abbrev pub read_result_command : List Text → ReadResult Command
 read_result_command (trade ∷ price ∷ []) = Ok (λ t p. CompleteTrade t p) ⊛ read_id trade ⊛ read_price price
 read_result_command _ = Err BadText
@@ -222,9 +228,9 @@ abbrev pub read_with_parser : {A : Type 0} → Option (NamedParser A) → List T
 read_with_parser None fields = Err BadText
 read_with_parser (Some reader) fields = reader.1 fields
 
--- The value that the fields after the first parse as, by the parser that `table` has for the first
--- field, or the refusal of that parser; the refusal `BadText` if there is no field or no such
--- parser.
+-- The value that the fields after the first parse as, by the first parser of `table` whose word is
+-- the first field, or the refusal of that parser; the refusal `BadText` if there is no field or no
+-- such parser.
 abbrev pub parse_by_first_field : {A : Type 0} → List (NamedParser A) → List Text → ReadResult A
 parse_by_first_field table [] = Err BadText
 parse_by_first_field table (kind ∷ fields) = read_with_parser (find (λ reader. bytes_eq reader.0 kind) table) fields

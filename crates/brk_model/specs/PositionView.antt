@@ -11,7 +11,7 @@ use Rattle.brk_model.specs.Queries.{View}
 use Rattle.brk_model.specs.Joins.{last_price_in_tables, trade_rows_of_account, history_rows_with_trade_id, trade_rows_recent_first}
 
 -- The market value of the account `a`, in cents: the sum over its HOLDING_SUMMARY rows of quantity
--- times last price.
+-- times last price, which counts as 0 if the symbol has no LAST_TRADE row.
 abbrev pub market_value_of_account_row : Tables → AccountRow → ℤ
 market_value_of_account_row tables a =
     total_by (λ row. row.qty *ℤ pos (last_price_in_tables tables row.symbol)) (filter (λ row. row.account == a.id) tables.summaries)
@@ -30,12 +30,12 @@ customer_position_view tables test =
     map (λ a. decimal a.id ∷ cents_text a.balance ∷ cents_text (market_value_of_account_row tables a) ∷ [])
     (sort_by (is_before_by_market_value tables) (filter (λ a. list_any (λ c. test c && (c.id == a.customer)) tables.customers) tables.accounts))
 
--- The 10 most recent TRADE rows of the account `account`, sorted by stamp, then by id, both
--- descending.
+-- The 10 most recent TRADE rows of the account `account`, or all if it has fewer, sorted by stamp,
+-- then by id, both descending.
 abbrev pub last_ten_trade_rows : Tables → ℕ → List TradeRow
 last_ten_trade_rows tables account = take 10 (trade_rows_recent_first (trade_rows_of_account tables account))
 
--- One record (`trade`, id, symbol, quantity) for each of the 10 most recent trades of the account
+-- One record (`trade`, id, symbol, quantity) for each of the `last_ten_trade_rows` of the account
 -- `account`, then one (`history`, trade, status name, stamp) for each TRADE_HISTORY row of these
 -- trades. Both parts are sorted by stamp, then by trade id, both descending.
 unfoldable pub recent_trades_view : Tables → ℕ → View

@@ -7,7 +7,9 @@ use Rattle.brk_model.specs.Commands.{Order}
 abbrev pub View : Type 0
 View = List (List Text)
 
--- A query, of one of eleven kinds.
+-- A query, of one of eleven kinds. The stamp of a trade is that of its last status change, in
+-- milliseconds since 1970-01-01 UTC. The first and the last trades are those with the least and the
+-- greatest stamps and, at equal stamps, ids.
 pub data Query : Type 0 where
   -- The balances and market values of the accounts of a customer (view `customer`).
   PositionOf : (customer : ℕ) → Query
@@ -15,22 +17,26 @@ pub data Query : Type 0 where
   PositionOfTaxId : (tax_id : Text) → Query
   -- The last 10 trades of an account and their status changes (view `recent`).
   RecentOf : (account : ℕ) → Query
-  -- The names of an account's customer and broker, and its last 50 trades (view `status`).
+  -- The names of an account's customer and broker, and the last 50 trades of the account (view
+  -- `status`).
   StatusOf : (account : ℕ) → Query
   -- The submitted trades (view `submitted`).
   SubmittedTrades : Query
   -- The estimate of an order (view `estimate`).
   EstimateOf : Order → Query
-  -- The trades with these ids, with their settlements, cash rows and status changes (view
-  -- `trades`).
+  -- The first 20 of the trades with these ids, with their settlements, cash rows and status changes
+  -- (view `trades`).
   TradesWith : (trades : List ℕ) → Query
-  -- The first 20 trades of an account between two stamps, both included (view `accounttrades`).
+  -- The first 20 trades of an account with stamps from `first` to `last`, both included, with their
+  -- settlements, cash rows and status changes (view `accounttrades`).
   TradesOfAccount : (account first last : ℕ) → Query
-  -- The first 20 trades of a symbol between two stamps, both included (view `symboltrades`).
+  -- The first 20 trades of a symbol with stamps from `first` to `last`, both included, with their
+  -- settlements, cash rows and status changes (view `symboltrades`).
   TradesOfSymbol : (symbol : Text) → (first last : ℕ) → Query
-  -- The first 20 changes of the lots that were touched by an account's oldest trade with a stamp of
-  -- at least `first` (view `lots`).
+  -- The id of an account's first trade with a stamp of at least `first`, and the first 20 changes
+  -- of the lots that this trade touched, by the stamp of the changing trade, then by lot (view
+  -- `lots`).
   LotsTouched : (account first : ℕ) → Query
-  -- The value, in cents, of the pending trades in a sector, for each broker that has one of these
-  -- names and at least one such trade (view `volume`).
+  -- The value (quantity times bid) of the pending trades in a sector, for each broker that has one
+  -- of these names and at least one such trade in its accounts (view `volume`).
   VolumeOf : (sector : Text) → (names : List Text) → Query

@@ -39,9 +39,9 @@ pub record Permission : Type 0 where
   pub last_name : Text
   pub first_name : Text
 
--- A security: its symbol, name, exchange and sector, its last price on the market, in cents, its
--- volume, in shares, and the stamp of its last tick, or of its listing before the first tick
--- (`moment`).
+-- A security: its symbol, name, exchange and sector, the price of its last tick, in cents, the sum
+-- of the quantities of its ticks (`volume`), in shares, and the stamp of its last tick (`moment`).
+-- Before the first tick, the price and the stamp are those of its listing, and the volume is 0.
 pub record Security : Type 0 where
   pub symbol : Text
   pub name : Text
@@ -84,14 +84,16 @@ pub record StatusChange : Type 0 where
   pub stamp : ℕ
   pub status : Status
 
--- A trade: the terms of its order, its status changes (`marks`), and the values that its completion
--- records. `kind` is its type. `bid` is the requested price or, for a market type, the last price
--- of the security when the order was accepted; `price` is the price at completion, none before it.
--- `commission` is an estimate until the completion. Prices, charge, commission and tax are in
--- cents. `executor` is the name of the person who ordered. The trade is a cash trade if `is_cash`
--- is true, otherwise a margin trade. It closes the last shares of its position first if `is_lifo`
--- is true, otherwise the first ones. `cash_type` is the cash type of its settlement and `cash_name`
--- the name of its cash row, each empty if the trade has none.
+-- A trade: the terms of its order, its status changes in sequence (`marks`), and the values that
+-- its completion records. `kind` is its type, and `qty` its quantity in shares. `bid` is the
+-- requested price or, for a market type, the last price of the security when the order was
+-- accepted; `price` is the price at completion, none before it. `commission` is an estimate and
+-- `tax` is 0 until the completion. Prices, charge, commission and tax are in cents. `executor` is
+-- the name of the person who ordered, which a text update may have changed. The trade is a cash
+-- trade if `is_cash` is true, otherwise a margin trade. It closes the last opened shares of its
+-- position first if `is_lifo` is true, otherwise the first opened ones. `cash_type` is the cash
+-- type of its settlement and `cash_name` the name of its cash row, each empty if the trade has
+-- none.
 pub record Trade : Type 0 where
   pub id : ℕ
   pub account : ℕ

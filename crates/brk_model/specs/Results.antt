@@ -11,7 +11,7 @@ use Rattle.brk_model.specs.Derived.{shares_of_position, settlement_amount, due_d
 use Rattle.brk_model.specs.Orders.{commission_by_band, tax_on_deal}
 use Rattle.brk_model.specs.Commands.{Completion}
 
--- The deal of the trade `t` that is completed at `price` with the stamp `stamp`.
+-- The deal of the trade `t` that is completed at `price` cents a share with the stamp `stamp`.
 abbrev pub deal_of_result : ℕ → ℕ → Trade → Deal
 deal_of_result stamp price t = record { trade = t.id; side = side_of_trade_type t.kind; qty = t.qty; price = price; stamp = stamp; is_lifo = t.is_lifo }
 
@@ -36,9 +36,9 @@ cash_row_name words base t = cash_row_name_from_parts words t.kind t.qty (securi
 abbrev pub cash_row_name_at_completion : Base → Trade → Text
 cash_row_name_at_completion base t = if t.is_cash then cash_row_name (codes " shares of ") base t else []
 
--- The trade `t` after its completion at `price`: with this price, the commission and the tax that
--- follow from `base`, its cash type and cash row name at completion, and one more status change, to
--- `Completed` at `stamp`. The commission is 0 if no band applies.
+-- The trade `t` after its completion at `price` cents a share: with this price, the commission and
+-- the tax that follow from `base`, its cash type and cash row name at completion, and one more
+-- status change, to `Completed` at `stamp`. The commission is 0 if no band applies.
 unfoldable pub completed_trade : Base → ℕ → ℕ → Trade → Trade
 completed_trade base stamp price t = trade_with_status_change stamp Completed (record t {
   price = Some price;
@@ -48,8 +48,8 @@ completed_trade base stamp price t = trade_with_status_change stamp Completed (r
   cash_name = cash_row_name_at_completion base t;
 })
 
--- The base `base` in which the trade with the id of `t` is completed at `price` with the stamp
--- `stamp`.
+-- The base `base` in which each trade with the id of `t` is completed at `price` cents a share with
+-- the stamp `stamp` (`completed_trade`); all else is unchanged.
 abbrev pub base_after_result : Base → ℕ → ℕ → Trade → Base
 base_after_result base stamp price t = base_with_updated_trades (λ u. u.id == t.id) (completed_trade base stamp price) base
 
@@ -68,8 +68,8 @@ completion_between_bases base after d t = record {
   balance = balance_of_account after.accounts (postings_of_base after) t.account;
 }
 
--- The figures of the completion of the trade `t` of `base` at `price` with the stamp `stamp`, as
--- the reply to a result states them.
+-- The figures of the completion of the trade `t` of `base` at `price` cents a share with the stamp
+-- `stamp`, as the reply to a result states them.
 unfoldable pub completion_of_trade : Base → ℕ → ℕ → Trade → Completion
 completion_of_trade base stamp price t =
     completion_between_bases base (base_after_result base stamp price t) (deal_of_result stamp price t) (completed_trade base stamp price t)

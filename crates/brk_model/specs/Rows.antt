@@ -37,7 +37,7 @@ abbrev pub tick_fields : Tick → List Text
 tick_fields tick = tick.symbol ∷ nonnegative_cents_text tick.price ∷ decimal tick.qty ∷ []
 
 -- The fields of a command's row: the word of its kind, followed by the canonical texts of its
--- values.
+-- values, in their sequence in the command; for an order, in that of `order_fields`.
 unfoldable pub row_fields : Command → List Text
 row_fields (AddBroker b) = codes "broker" ∷ decimal b.id ∷ b.name ∷ []
 row_fields (AddCustomer c) = codes "customer" ∷ decimal c.id ∷ decimal c.tier ∷ c.tax_id ∷ c.last_name ∷ c.first_name ∷ []

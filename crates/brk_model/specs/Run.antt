@@ -50,8 +50,8 @@ IsOutcomeOfCall base now call (NoView refusal) after = IsResultOfQuery base call
 IsOutcomeOfCall base now call (Failed fault) after = IsCallFault fault × (after ≡ base)
 
 -- The calls, each with its clock reading and executed in sequence from `base` on, may have these
--- outcomes, one each, and the base after the last may then be `after`. It is false if the lists
--- have different lengths.
+-- outcomes, one each, and the base after the last may then be `after`; without calls, `after` is
+-- equal to `base`. It is false if the lists have different lengths.
 abbrev pub Run : Base → List (ℕ × Call) → List Outcome → Base → Type 0
 Run base [] [] after = after ≡ base
 Run base (call ∷ calls) (outcome ∷ outcomes) after = (mid : Base) × IsOutcomeOfCall base call.0 call.1 outcome mid × Run mid calls outcomes after

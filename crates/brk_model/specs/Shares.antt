@@ -16,8 +16,8 @@ pub record Share : Type 0 where
   pub stamp : ℕ
 
 -- The effect of the trade with the id `trade` on a position: at `stamp` it buys or sells, by
--- `side`, `qty` shares at `price` cents each. It closes the last shares of the position first if
--- `is_lifo` is true, otherwise the first ones.
+-- `side`, `qty` shares at `price` cents each. The shares of the position that it closes, if any,
+-- are the last ones if `is_lifo` is true, otherwise the first ones.
 pub record Deal : Type 0 where
   pub trade : ℕ
   pub side : Side
@@ -38,13 +38,13 @@ is_opposite_to_position d (share ∷ shares) = not (is_same_side share.side d.si
 abbrev pub closed_share_count_of_deal : Deal → List Share → ℕ
 closed_share_count_of_deal d shares = if is_opposite_to_position d shares then min d.qty (length shares) else 0
 
--- The shares of the position `shares` that the deal `d` closes: the last ones if `d.is_lifo`,
--- otherwise the first ones.
+-- The shares of the position `shares` that the deal `d` closes, `closed_share_count_of_deal` in
+-- number and in their sequence: the last ones if `d.is_lifo`, otherwise the first ones.
 abbrev pub closed_shares : Deal → List Share → List Share
 closed_shares d shares =
     if d.is_lifo then drop (length shares - closed_share_count_of_deal d shares) shares else take (closed_share_count_of_deal d shares) shares
 
--- The shares of the position `shares` that the deal `d` does not close.
+-- The shares of the position `shares` that the deal `d` does not close, in their sequence.
 abbrev pub remaining_shares : Deal → List Share → List Share
 remaining_shares d shares =
     if d.is_lifo then take (length shares - closed_share_count_of_deal d shares) shares else drop (closed_share_count_of_deal d shares) shares
@@ -121,7 +121,7 @@ abbrev pub net_share_count : List Share → ℤ
 net_share_count shares = total_by (λ share. signed_by_side share.side 1) shares
 
 -- The net number (`net_share_count`) of the shares in the list `shares` that the trade with the id
--- `trade` opened; below 0 if they were sold short.
+-- `trade` opened; below 0 if they were sold short, and 0 if there are none.
 abbrev pub lot_quantity : List Share → ℕ → ℤ
 lot_quantity shares trade = net_share_count (shares_opened_by_trade trade shares)
 
@@ -132,8 +132,8 @@ first_shares_of_lots [] = []
 first_shares_of_lots (share ∷ shares) = share ∷ filter (λ other. not (other.trade == share.trade)) (first_shares_of_lots shares)
 
 -- A lot: the shares of a position that one trade opened and that are not closed. `trade` is the id
--- of that trade, `price` its price in cents, and `stamp` its stamp; `qty` is below 0 if the shares
--- were sold short.
+-- of that trade, `price` its price in cents, and `stamp` its stamp; `qty` is the number of the
+-- shares, negated if they were sold short.
 pub record Lot : Type 0 where
   pub trade : ℕ
   pub price : ℕ
@@ -150,8 +150,9 @@ lot_of_share shares share = record { trade = share.trade; price = share.price; s
 unfoldable pub lots_of_shares : List Share → List Lot
 lots_of_shares shares = map (lot_of_share shares) (first_shares_of_lots shares)
 
--- The effect of a deal on a lot: the id of the trade that opened the lot, and the lot's quantity
--- before and after the deal.
+-- The effect of a deal on a lot: the id of the trade that opened the lot (`lot`), and the lot's
+-- quantity before and after the deal, in shares: below 0 if they were sold short, and 0 if the lot
+-- is not open then.
 pub record Touch : Type 0 where
   pub lot : ℕ
   pub before : ℤ

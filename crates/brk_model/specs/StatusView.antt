@@ -11,13 +11,13 @@ use Rattle.brk_model.specs.Rows.{nonnegative_cents_text}
 use Rattle.brk_model.specs.Queries.{View}
 use Rattle.brk_model.specs.Joins.{security_row_with_symbol, trade_rows_of_account, trade_rows_recent_first}
 
--- The name of the BROKER row with the id `id`; empty if there is none.
+-- The name of the first BROKER row with the id `id`; empty if there is no such row.
 abbrev pub broker_name_with_id : Tables → ℕ → Text
 broker_name_with_id tables id = option_map_or (λ row. row.name) (find (λ row. row.id == id) tables.brokers) []
 
--- One record with the last and the first name of the customer of the account `a` and the name of
--- its broker; no record if the customer does not exist. The name of the broker is empty if the
--- broker does not exist.
+-- One record for each CUSTOMER row with the id of the customer of the account `a`, none if there is
+-- no such row: the customer's last and first name, and the name of the broker of the account, which
+-- is empty if the broker does not exist.
 abbrev pub customer_and_broker_names : Tables → AccountRow → View
 customer_and_broker_names tables a =
     map (λ c. c.last_name ∷ c.first_name ∷ broker_name_with_id tables a.broker ∷ []) (filter (λ c. c.id == a.customer) tables.customers)
@@ -40,7 +40,8 @@ trade_status_view tables account =
     flat_map (customer_and_broker_names tables) (filter (λ a. a.id == account) tables.accounts)
     ++ map (record_of_trade_status tables) (take 50 (trade_rows_recent_first (trade_rows_of_account tables account)))
 
--- One record (id, type, symbol, quantity, bid) for each submitted trade, sorted by id, ascending.
+-- One record (id, type code, symbol, quantity, bid) for each submitted trade, sorted by id,
+-- ascending.
 unfoldable pub submitted_trades_view : Tables → View
 submitted_trades_view tables =
     map (λ t. decimal t.id ∷ trade_type_code t.kind ∷ t.symbol ∷ decimal t.qty ∷ nonnegative_cents_text t.bid ∷ [])

@@ -51,8 +51,9 @@ pub record LastTradeRow : Type 0 where
 -- A row of TRADE, with the columns, in the sequence of the fields, T_ID, T_DTS, T_ST_ID, T_TT_ID,
 -- T_IS_CASH, T_S_SYMB, T_QTY, T_BID_PRICE, T_CA_ID, T_EXEC_NAME, T_TRADE_PRICE, T_CHRG, T_COMM,
 -- T_TAX and T_LIFO. `status` is the last status of the trade, and `stamp` the stamp of its last
--- status change. The bid, the price, the charge, the commission and the tax are in cents; there is
--- no price before the completion.
+-- status change. The quantity is in shares; the bid, the price, the charge, the commission and the
+-- tax are in cents. There is no price before the completion. The trade closes the last shares of
+-- its position first if `is_lifo` is true, otherwise the first ones.
 pub record TradeRow : Type 0 where
   pub id : ℕ
   pub stamp : ℕ
@@ -88,8 +89,8 @@ pub record RequestRow : Type 0 where
   pub broker : ℕ
 
 -- A row of HOLDING, a lot: the trade that opened it (H_T_ID), account (H_CA_ID), symbol (H_S_SYMB),
--- stamp (H_DTS), price in cents (H_PRICE), and quantity in shares, below 0 if they were sold short
--- (H_QTY).
+-- that trade's completion stamp (H_DTS) and price of a share in cents (H_PRICE), and the lot's
+-- quantity in shares, below 0 if they were sold short (H_QTY).
 pub record HoldingRow : Type 0 where
   pub trade : ℕ
   pub account : ℕ
@@ -106,7 +107,8 @@ pub record SummaryRow : Type 0 where
   pub qty : ℤ
 
 -- A row of HOLDING_HISTORY, a change of a lot: the trade that opened the lot (HH_H_T_ID), the trade
--- that changed it (HH_T_ID), and the lot's quantity before and after (HH_BEFORE_QTY, HH_AFTER_QTY).
+-- that changed it (HH_T_ID), and the lot's quantity before and after, in shares, below 0 if they
+-- were sold short (HH_BEFORE_QTY, HH_AFTER_QTY).
 pub record HoldingHistoryRow : Type 0 where
   pub lot : ℕ
   pub trade : ℕ
@@ -114,7 +116,7 @@ pub record HoldingHistoryRow : Type 0 where
   pub after : ℤ
 
 -- A row of SETTLEMENT: trade (SE_T_ID), cash type (SE_CASH_TYPE), due day in days since 1970-01-01
--- (SE_CASH_DUE_DATE), and amount in cents (SE_AMT).
+-- (SE_CASH_DUE_DATE), and amount in cents, below 0 if the customer pays (SE_AMT).
 pub record SettlementRow : Type 0 where
   pub trade : ℕ
   pub cash_type : Text
@@ -122,7 +124,7 @@ pub record SettlementRow : Type 0 where
   pub amount : ℤ
 
 -- A row of CASH_TRANSACTION, the cash row of a trade in the first schema: trade (CT_T_ID), stamp
--- (CT_DTS), amount in cents (CT_AMT), and name (CT_NAME).
+-- (CT_DTS), amount in cents, below 0 if it reduces the balance (CT_AMT), and name (CT_NAME).
 pub record CashRow : Type 0 where
   pub trade : ℕ
   pub stamp : ℕ
@@ -130,7 +132,8 @@ pub record CashRow : Type 0 where
   pub name : Text
 
 -- A row of CASH_MOVE, a cash row: number (CM_ID), account (CM_CA_ID), trade, or none for a movement
--- (CM_T_ID), stamp (CM_DTS), amount in cents (CM_AMT), and name (CM_NAME).
+-- (CM_T_ID), stamp (CM_DTS), amount in cents, below 0 if it reduces the balance (CM_AMT), and name
+-- (CM_NAME).
 pub record MoveRow : Type 0 where
   pub id : ℕ
   pub account : ℕ
@@ -139,8 +142,9 @@ pub record MoveRow : Type 0 where
   pub amount : ℤ
   pub name : Text
 
--- The rows of all tables. `last` is D_LAST of DESK, whose other columns are left out, and `rule` is
--- SR_DAY of the row of SETTLE_RULE, the first day of one-day settlement, or none without a row.
+-- The rows of all tables. `last` is D_LAST of DESK, the stamp of the last accepted command, or none
+-- if there is none; the other columns of DESK are left out. `rule` is SR_DAY of the row of
+-- SETTLE_RULE, the first day of one-day settlement, or none without a row.
 -- Cash rows are in CASH_TRANSACTION (`cash`) in the first schema, and in CASH_MOVE (`moves`) in the
 -- second and the third.
 pub record Tables : Type 0 where
@@ -168,13 +172,15 @@ pub record Tables : Type 0 where
   pub rule : SettleRule
 
 -- The BROKER row of the broker `b`: its id and name, and the number and the commission total of the
--- completed trades in `done` whose accounts, in the list `accounts`, have this broker.
+-- completed trades in `done` whose accounts, in the list `accounts`, have this broker; an account
+-- that is not in this list counts as one with the broker 0.
 abbrev pub broker_row : List Account → List Trade → Broker → BrokerRow
 broker_row accounts done b =
     record { id = b.id; name = b.name; trades = pos (trade_count_of_broker accounts done b.id); commissions = commission_total_of_broker accounts done b.id }
 
--- The CUSTOMER_ACCOUNT row of the account `a`. Its balance is the opening balance of the account in
--- `accounts` plus the amounts of the account's postings in `posted`.
+-- The CUSTOMER_ACCOUNT row of the account `a`. Its balance is the opening balance of the account
+-- with this id in `accounts`, 0 if this list has none, plus the amounts of the postings to this id
+-- in `posted`; the other fields are those of `a`.
 abbrev pub account_row : List Account → List Posting → Account → AccountRow
 account_row accounts posted a = record {
   id = a.id;
@@ -235,8 +241,9 @@ request_row accounts t = record { trade = t.id; kind = t.kind; symbol = t.symbol
 abbrev pub rows_by_position : {Row : Type 0} → Base → (ℕ → Text → List Row) → List Row
 rows_by_position base rows = flat_map (λ a. flat_map (λ s. rows a.id s.symbol) base.securities) base.accounts
 
--- The HOLDING row of the lot that the completed trade `t` opened; its quantity is 0 if no share of
--- the lot is left after the completed trades `done`.
+-- The HOLDING row of the lot that the completed trade `t` opened; its quantity is 0 if `t` opened
+-- no share, or if no share of the lot is left after the completed trades `done`. The price is 0 if
+-- `t` has no completion price.
 abbrev pub holding_row : List Trade → Trade → HoldingRow
 holding_row done t = record {
   trade = t.id;
@@ -256,15 +263,17 @@ holding_history_row trade touch = record { lot = touch.lot; trade = trade; befor
 abbrev pub rows_with_lot_touch : ℕ → Touch → List HoldingHistoryRow → List HoldingHistoryRow
 rows_with_lot_touch trade touch rows = if changes_lot_quantity touch then holding_history_row trade touch ∷ rows else rows
 
--- The HOLDING_HISTORY rows of the lot `lot`: one for each deal that changes the lot's quantity. The
--- deals are applied in sequence, from the position `shares` on.
+-- The HOLDING_HISTORY rows of the lot that the trade with the id `lot` opened: one for each deal
+-- that changes the lot's quantity, in the sequence of the deals. The deals are applied in this
+-- sequence, from the position `shares` on.
 abbrev pub holding_history_over_deals : ℕ → List Share → List Deal → List HoldingHistoryRow
 holding_history_over_deals lot shares [] = []
 holding_history_over_deals lot shares (d ∷ deals) =
     rows_with_lot_touch d.trade (touch_of_lot lot d shares) (holding_history_over_deals lot (shares_after_deal shares d) deals)
 
 -- The HOLDING_HISTORY rows of the lot that the completed trade `t` opened: one for each deal of its
--- position, among the completed trades `done`, that changes the lot's quantity.
+-- position, among the completed trades `done`, that changes the lot's quantity, sorted by
+-- completion stamp, ascending; none if `t` opened no share.
 abbrev pub holding_history_rows_of_lot : List Trade → Trade → List HoldingHistoryRow
 holding_history_rows_of_lot done t = holding_history_over_deals t.id [] (deals_of_position done t.account t.symbol)
 
@@ -292,12 +301,13 @@ abbrev pub numbered_move_rows : ℕ → List Posting → List MoveRow
 numbered_move_rows n [] = []
 numbered_move_rows n (p ∷ posted) = cash_move_row n p ∷ numbered_move_rows (n + 1) posted
 
--- The CASH_MOVE rows of the postings `posted`, sorted by stamp and numbered from 1; none if
--- `schema` lacks this table.
+-- The CASH_MOVE rows of the postings `posted`, sorted by stamp, ascending (the sort is stable), and
+-- numbered from 1; none if `schema` lacks this table.
 abbrev pub cash_move_rows : Schema → List Posting → List MoveRow
 cash_move_rows schema posted = if schema.has_cash_move_table then numbered_move_rows 1 (postings_sorted_by_stamp posted) else []
 
--- The CASH_TRANSACTION rows of the cash trades of `done`; none if `schema` has the table CASH_MOVE.
+-- The CASH_TRANSACTION rows of the cash trades of `done`, in the sequence of this list; none if
+-- `schema` has the table CASH_MOVE.
 abbrev pub cash_transaction_rows : Schema → List Account → List Trade → List CashRow
 cash_transaction_rows schema accounts done = if schema.has_cash_move_table then [] else map (cash_transaction_row accounts) (cash_trades done)
 
@@ -331,7 +341,9 @@ tables_without_rows = record {
 -- The tables of `base` in the schema `schema`, if `done` are its completed trades. The totals of
 -- brokers, the balances, lots, summaries, lot changes, settlements and cash rows are computed from
 -- `done`, the balances and the CASH_MOVE rows also from the movements, and the requests from the
--- pending trades. The schema determines only which table has the cash rows.
+-- pending trades. Lots and summaries whose quantity is 0 have no row. The schema determines only
+-- which table has the cash rows; CASH_TRANSACTION has none of movements. The rows need not be
+-- sorted by key.
 abbrev pub tables_from_completed_trades : Schema → Base → List Trade → Tables
 tables_from_completed_trades schema base done = record {
   last = base.last;

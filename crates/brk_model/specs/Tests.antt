@@ -38,7 +38,8 @@ abbrev pub first_refusal : List RefusalCheck → Option Refusal
 first_refusal tests = option_map (λ test. test.1) (find (λ test. test.0) tests)
 
 -- The stamp of a command that is accepted at the clock reading `now`: `now`, or the last stamp of
--- `base` plus 1 ms if that is later; `now` if there is no last stamp.
+-- `base` plus 1 ms if that is later; `now` if there is no last stamp. The value may exceed the
+-- greatest stamp; the check `ClockEnd` of `checks_of_stamp` then applies.
 abbrev pub stamp_of_next_command : Base → ℕ → ℕ
 stamp_of_next_command base now = unlimited_stamp_after base.last now
 
@@ -68,12 +69,14 @@ abbrev pub bands_overlap : Band → Band → Bool
 bands_overlap b c =
     (b.tier == c.tier) && is_same_trade_type b.kind c.kind && bytes_eq b.exchange c.exchange && nat_le b.from_qty c.to_qty && nat_le c.from_qty b.to_qty
 
--- The check that refuses with `NoCharge` if `base` has no charge for the type of the order `o` and
--- the tier of the customer of its account.
+-- The check that refuses with `NoCharge` if `base` has no charge for the trade type of the order
+-- `o` and the tier of the customer of its account (`tier_of_account`, 0 if there is none).
 abbrev pub charge_exists_check : Base → Order → RefusalCheck
 charge_exists_check base o = (is_none (charge_for_type_and_tier base (trade_type_of_order_type o.order_type) (tier_of_account base o.account)), NoCharge)
 
--- The check that refuses with `NoRate` if no commission band of `base` applies to the order `o`.
+-- The check that refuses with `NoRate` if `base` has no commission band for the quantity of the
+-- order `o` (`commission_band_for_quantity`), by the tier of the customer of its account, its trade
+-- type and the exchange of its security.
 abbrev pub commission_band_exists_check : Base → Order → RefusalCheck
 commission_band_exists_check base o = (
   is_none (commission_band_for_quantity base (tier_of_account base o.account) (trade_type_of_order_type o.order_type)
@@ -88,15 +91,16 @@ checks_of_order base o =
     account_exists_check base o.account ∷ security_exists_check base o.symbol ∷ (not (may_order_for_account base o.account o.executor), NotPermitted)
     ∷ charge_exists_check base o ∷ commission_band_exists_check base o ∷ []
 
--- The check that refuses with `WrongStatus`, which contains the last status of the trade `t`, if
--- `right` is false.
+-- The check that refuses with `WrongStatus`, which contains the last status of the trade `t`
+-- (`last_status_of_trade`), if `right` is false.
 abbrev pub status_check : Bool → Trade → RefusalCheck
 status_check right t = (not right, WrongStatus (last_status_of_trade t))
 
--- The checks of a result of the trade `t` at `stamp`, in sequence: `t` is submitted, a commission
--- band applies, the holding summary, the balance of the account (for a cash trade only) and the
--- commission total of the broker are within their limits in `after`, and the due day is at most
--- `greatest_day`. `after` is the base that would follow the result.
+-- The checks of a result of the trade `t` at `stamp`, in sequence: `t` is submitted; a commission
+-- band applies; in `after`, the absolute value of the holding summary is at most
+-- `greatest_summary`, that of the balance of the account at most `greatest_amount` (checked for a
+-- cash trade only), and the commission total of the broker at most `greatest_amount`; and the due
+-- day is at most `greatest_day`. `after` is the base that would follow the result.
 abbrev pub checks_of_result : Base → Base → ℕ → Trade → List RefusalCheck
 checks_of_result base after stamp t =
     status_check (has_last_status Submitted t) t

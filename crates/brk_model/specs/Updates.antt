@@ -26,19 +26,20 @@ updated_cash_type t =
     if t.is_cash then toggled_word (codes "Cash Account") (codes "Cash") t.cash_type
     else toggled_word (codes "Margin Account") (codes "Margin") t.cash_type
 
--- The updated name of the cash row of the trade `t` (CM_NAME), computed from the trade and its
--- security: with " Shares of " if the old name contains " shares of ", otherwise with
--- " shares of ".
+-- The updated name of the cash row of the trade `t` (CM_NAME), computed anew from the trade and its
+-- security (`cash_row_name`): with " Shares of " if the old name contains " shares of ", otherwise
+-- with " shares of ".
 abbrev pub updated_cash_row_name : Base → Trade → Text
 updated_cash_row_name base t =
     if contains_text (codes " shares of ") t.cash_name then cash_row_name (codes " Shares of ") base t else cash_row_name (codes " shares of ") base t
 
--- The trades sorted by the stamp of their last status change (T_DTS), then by id, both ascending.
+-- The trades sorted by the stamp of their last status change (T_DTS), then by id, both ascending; a
+-- trade without a status change counts as one with the stamp 0.
 abbrev pub trades_oldest_first : List Trade → List Trade
 trades_oldest_first trades = sort_by (λ t u. is_pair_less (last_status_stamp_of_trade t) (last_status_stamp_of_trade u) t.id u.id) trades
 
--- True if the stamp of the last status change of the trade `t` is between `first` and `last`, both
--- included.
+-- True if the stamp of the last status change of the trade `t`, or 0 if it has none, is between
+-- `first` and `last`, both included.
 abbrev pub trade_stamp_is_between : ℕ → ℕ → Trade → Bool
 trade_stamp_is_between first last t = is_in_range first last (last_status_stamp_of_trade t)
 

@@ -9,7 +9,8 @@ use Rattle.brk_model.specs.Rows.{nonnegative_cents_text}
 use Rattle.brk_model.specs.Queries.{View}
 use Rattle.brk_model.specs.Joins.{security_row_with_symbol}
 
--- The TRADE_REQUEST rows of the broker `broker` whose securities are in the sector `sector`.
+-- The TRADE_REQUEST rows of the broker `broker` whose securities are in the sector `sector`, in the
+-- sequence of the table; a row whose symbol has no SECURITY row is left out.
 abbrev pub sector_requests_of_broker : Tables → Text → ℕ → List RequestRow
 sector_requests_of_broker tables sector broker =
     filter (λ r. (r.broker == broker) && option_map_or (λ s. bytes_eq s.sector sector) (security_row_with_symbol tables r.symbol) false) tables.requests
@@ -19,8 +20,8 @@ sector_requests_of_broker tables sector broker =
 abbrev pub sector_volume_of_broker : Tables → Text → ℕ → ℕ
 sector_volume_of_broker tables sector broker = sum_by (λ r. r.qty * r.bid) (sector_requests_of_broker tables sector broker)
 
--- True if broker `a` is before broker `b` in the volume view: sorted by volume, descending, then by
--- name and id, ascending.
+-- True if broker `a` is before broker `b` in the volume view of the sector `sector`: sorted by
+-- volume, descending, then by name (`is_text_less`) and id, ascending.
 abbrev pub is_before_by_volume : Tables → Text → BrokerRow → BrokerRow → Bool
 is_before_by_volume tables sector a b =
     nat_lt (sector_volume_of_broker tables sector b.id) (sector_volume_of_broker tables sector a.id)
@@ -28,7 +29,8 @@ is_before_by_volume tables sector a b =
     && (is_text_less a.name b.name || (bytes_eq a.name b.name && nat_lt a.id b.id)))
 
 -- One record (name, id, volume) for each broker that has one of the `names` and a pending request
--- in the sector, sorted by volume, descending, then by name and id, ascending.
+-- in the sector, sorted by volume, descending, then by name (`is_text_less`) and id, ascending. The
+-- volume is the text of an amount (`nonnegative_cents_text`).
 unfoldable pub broker_volume_view : Tables → Text → List Text → View
 broker_volume_view tables sector names =
     map (λ b. b.name ∷ decimal b.id ∷ nonnegative_cents_text (sector_volume_of_broker tables sector b.id) ∷ [])

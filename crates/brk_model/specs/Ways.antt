@@ -22,7 +22,7 @@ is_valid_status_sequence (Pending ∷ Submitted ∷ []) = true
 is_valid_status_sequence (Pending ∷ Submitted ∷ Completed ∷ []) = true
 is_valid_status_sequence _ = false
 
--- True if the numbers are strictly ascending.
+-- True if the numbers are strictly ascending. A list of fewer than two always is.
 abbrev pub is_strictly_ascending : List ℕ → Bool
 is_strictly_ascending [] = true
 is_strictly_ascending (m ∷ []) = true

@@ -7,8 +7,8 @@ use Rattle.brk_money.specs.declared.tax_status.TaxStatus.TheVariants.{Withheld}
 use Rattle.brk_model.specs.Tables.{Tables, AccountRow, TradeRow, HoldingRow, SettlementRow, CashRow, MoveRow}
 use Rattle.brk_model_examples.specs.Setting.{setting_base}
 
--- The tables of the base `base_after_first_purchase` in the third schema, each sorted by key: those
--- after a completed purchase of 100 shares at 10.10.
+-- The tables of the base `base_after_first_purchase` in the third schema, each sorted by key,
+-- ascending: those after a completed purchase of 100 shares at 10.10.
 unfoldable pub tables_after_first_purchase : Tables
 tables_after_first_purchase = record {
   last = Some 1709251200017;
@@ -61,8 +61,8 @@ tables_after_first_purchase = record {
   rule = None;
 }
 
--- The tables after the first purchase in the first schema, each sorted by key: the cash row is in
--- CASH_TRANSACTION, not in CASH_MOVE.
+-- The tables after the first purchase in the first schema, each sorted by key, ascending: the cash
+-- row is in CASH_TRANSACTION, not in CASH_MOVE.
 unfoldable pub first_schema_tables_after_purchase : Tables
 first_schema_tables_after_purchase = record tables_after_first_purchase {
   cash = record { trade = 1; stamp = 1709251200017; amount = negsuc 102509; name = codes "Market-Buy 100 shares of Acme" } ∷ [];

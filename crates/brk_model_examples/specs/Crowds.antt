@@ -10,7 +10,8 @@ use Rattle.brk_model.specs.Base.{Base}
 use Rattle.brk_model.specs.Queries.{View}
 use Rattle.brk_model_examples.specs.Setting.{setting_base}
 
--- A pending trade with the id `n`: a limit sell of 10 shares at 10.50.
+-- A pending trade with the id `n`: a limit sell of 10 shares at 10.50, which was accepted `n`
+-- milliseconds after the last stamp of `setting_base`.
 abbrev pub pending_limit_sale : ℕ → Trade
 pending_limit_sale n = record {
   id = n;
@@ -36,7 +37,8 @@ pending_limit_sale n = record {
 unfoldable pub setting_with_fifty_one_pending_trades : Base
 setting_with_fifty_one_pending_trades = record setting_base { trades = map pending_limit_sale (range_with_len 1 51); last = Some 1709251200066 }
 
--- A completed trade with the id `n`: a purchase of one share on margin at 10.00.
+-- A completed trade with the id `n`: a purchase of one share on margin at 10.00. It was submitted
+-- `2 * n - 1` and completed `2 * n` milliseconds after the last stamp of `setting_base`.
 abbrev pub margin_purchase : ℕ → Trade
 margin_purchase n = record {
   id = n;
@@ -94,7 +96,8 @@ abbrev pub first_field_of_record : List Text → Text
 first_field_of_record [] = []
 first_field_of_record (field ∷ fields) = field
 
--- The first fields of the records of a view, in sequence; the empty list if the query is refused.
+-- The first field of each record of a view, in sequence, empty for a record without fields; the
+-- empty list if the query is refused.
 abbrev pub first_fields_of_view : Result View Refusal → List Text
 first_fields_of_view (Ok view) = map first_field_of_record view
 first_fields_of_view (Err refusal) = []

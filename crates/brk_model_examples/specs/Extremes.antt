@@ -13,7 +13,8 @@ use Rattle.brk_model_examples.specs.Setting.{setting_base}
 unfoldable pub base_at_greatest_stamp : Base
 base_at_greatest_stamp = record setting_base { last = Some greatest_stamp }
 
--- The base `setting_base` with ten accounts of its customer, numbered from 100.
+-- The base `setting_base` with ten accounts of its customer in place of its account; they are
+-- numbered from 100, untaxed, and have the opening balance 0.
 unfoldable pub setting_with_ten_accounts : Base
 setting_with_ten_accounts = record setting_base {
   accounts =

@@ -6,7 +6,8 @@ use Rattle.brk_money.specs.declared.status.Status.TheVariants.{Completed, Submit
 use Rattle.brk_model_examples.specs.Setting.{setting_base}
 use Rattle.brk_model_examples.specs.Trading.{first_purchase, base_after_fifo_sale}
 
--- The base `base_after_fifo_sale` after a deposit of 100.00 and a withdrawal of 9000.00.
+-- The base `base_after_fifo_sale` after a deposit of 100.00 and then a withdrawal of 9000.00,
+-- without stored rows and replies.
 unfoldable pub base_after_sale_and_movements : Base
 base_after_sale_and_movements = record base_after_fifo_sale {
   movements =

@@ -8,7 +8,8 @@ use Rattle.brk_model_examples.specs.Trading.{first_purchase}
 abbrev pub account_with_tax_status : TaxStatus → Account
 account_with_tax_status status = record { id = 100; customer = 10; broker = 1; name = codes "Main"; tax_status = status; opening = pos 1000000 }
 
--- The trade `first_purchase` as a margin trade.
+-- The trade `first_purchase` as a margin trade, with all else unchanged, also its cash type and the
+-- name of its cash row.
 abbrev pub first_purchase_on_margin : Trade
 first_purchase_on_margin = record first_purchase { is_cash = false }
 

@@ -10,14 +10,15 @@ two_purchase_deals =
     record { trade = 1; side = Buy; qty = 100; price = 1010; stamp = 1; is_lifo = Bool.false }
     ∷ record { trade = 2; side = Buy; qty = 200; price = 1200; stamp = 2; is_lifo = Bool.false } ∷ []
 
--- A deal of `qty` shares at 13.00 on the side `side`, later than the deals `two_purchase_deals`; it
--- closes the last shares first if `is_lifo` is true, otherwise the first shares first.
+-- A deal of `qty` shares at 13.00 on the side `side`, later than the deals `two_purchase_deals`. If
+-- it sells, it closes the last shares first if `is_lifo` is true, otherwise the first shares first;
+-- if it buys, it closes none of their shares.
 abbrev pub deal_against_two_lots : Side → ℕ → Bool → Deal
 deal_against_two_lots side qty is_lifo = record { trade = 9; side = side; qty = qty; price = 1300; stamp = 3; is_lifo = is_lifo }
 
--- The effect of a deal: the changes of the existing lots that it closes or reduces, the number of
--- shares that it opens, and the buy value and the sell value of the shares that it closes, in
--- cents.
+-- The effect of a deal on a position: the changes of the existing lots that it closes or reduces,
+-- in the sequence of their first shares, the number of shares that it opens, and the buy value and
+-- the sell value of the shares that it closes, in cents.
 pub record DealEffect : Type 0 where
   pub touched : List Touch
   pub opened : ℕ

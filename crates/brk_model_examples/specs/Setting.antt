@@ -26,8 +26,8 @@ setting_rows =
     ∷ codes "taxrate,1,State,20000"
     ∷ codes "custtax,10,1" ∷ []
 
--- The base with which most examples begin: the base after the rows `setting_rows`, without its
--- stored rows and replies.
+-- The base with which most examples begin: the base after the rows `setting_rows`, executed from
+-- the empty base on with `twenty_clock_readings`, without its stored rows and replies.
 unfoldable pub setting_base : Base
 setting_base = record {
   brokers = record { id = 1; name = codes "Bo" } ∷ [];

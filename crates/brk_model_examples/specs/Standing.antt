@@ -5,7 +5,8 @@ use Rattle.brk_model.specs.Tables.{Tables, tables_of_base}
 
 -- A part of the tables: the lots (trade, quantity), the changes of lots by one trade (lot, before,
 -- after), the quantities of the holding summaries, the balances of the accounts, and the broker
--- totals (trade count, commissions). Amounts are in cents.
+-- totals (trade count, commissions), each in the sequence of its table. Amounts are in cents, and
+-- quantities in shares, below 0 if they were sold short.
 pub record PositionsAndTotals : Type 0 where
   pub lots : List (ℕ × ℤ)
   pub changes : List (ℕ × ℤ × ℤ)
@@ -14,7 +15,7 @@ pub record PositionsAndTotals : Type 0 where
   pub brokers : List (ℤ × ℕ)
 
 -- The lots, summary quantities, balances and broker totals of the tables, and the changes of lots
--- by the trade with the id `trade`.
+-- by the trade with the id `trade`, each in the sequence of its table.
 abbrev pub positions_and_totals_of_tables : Tables → ℕ → PositionsAndTotals
 positions_and_totals_of_tables tables trade = record {
   lots = map {B = ℕ × ℤ} (λ row. (row.trade, row.qty)) tables.holdings;
@@ -24,7 +25,8 @@ positions_and_totals_of_tables tables trade = record {
   brokers = map {B = ℤ × ℕ} (λ row. (row.trades, row.commissions)) tables.brokers;
 }
 
--- The lots, summary quantities, balances and broker totals of the tables of `base`, and the changes
--- of lots by the trade with the id `trade`.
+-- The lots, summary quantities, balances and broker totals of the tables of `base` in the third
+-- schema, and the changes of lots by the trade with the id `trade`, each in the sequence of its
+-- table.
 abbrev pub positions_and_totals_of_base : Base → ℕ → PositionsAndTotals
 positions_and_totals_of_base base trade = positions_and_totals_of_tables (tables_of_base base) trade

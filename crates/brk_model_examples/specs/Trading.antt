@@ -159,34 +159,37 @@ sale_of_all_shares = record {
 abbrev pub setting_with_trades : List Trade → ℕ → Base
 setting_with_trades trades last = record setting_base { trades = trades; last = Some last }
 
--- The base `setting_base` after the trade `first_purchase`.
+-- The base `setting_base` after the trade `first_purchase`, without stored rows and replies.
 unfoldable pub base_after_first_purchase : Base
 base_after_first_purchase = setting_with_trades (first_purchase ∷ []) 1709251200017
 
--- The base `setting_base` after the trades `first_purchase` and `second_purchase`.
+-- The base `setting_base` after the trades `first_purchase` and `second_purchase`, without stored
+-- rows and replies.
 unfoldable pub base_after_two_purchases : Base
 base_after_two_purchases = setting_with_trades (first_purchase ∷ second_purchase ∷ []) 1709251200019
 
 -- The base `setting_base` after the trades `first_purchase`, `second_purchase` and
--- `sale_first_in_first_out`.
+-- `sale_first_in_first_out`, without stored rows and replies.
 unfoldable pub base_after_fifo_sale : Base
 base_after_fifo_sale = setting_with_trades (first_purchase ∷ second_purchase ∷ sale_first_in_first_out ∷ []) 1709251200021
 
 -- The base `setting_base` after the trades `first_purchase`, `second_purchase` and
--- `sale_last_in_first_out`.
+-- `sale_last_in_first_out`, without stored rows and replies.
 unfoldable pub base_after_lifo_sale : Base
 base_after_lifo_sale = setting_with_trades (first_purchase ∷ second_purchase ∷ sale_last_in_first_out ∷ []) 1709251200021
 
--- The base `base_after_fifo_sale` after the trade `short_sale`.
+-- The base `base_after_fifo_sale` after the trade `short_sale`, without stored rows and replies.
 unfoldable pub base_after_short_sale : Base
 base_after_short_sale = setting_with_trades (first_purchase ∷ second_purchase ∷ sale_first_in_first_out ∷ short_sale ∷ []) 1709251200023
 
--- The base `base_after_short_sale` after the trade `short_covering_purchase`.
+-- The base `base_after_short_sale` after the trade `short_covering_purchase`, without stored rows
+-- and replies.
 unfoldable pub base_after_covering_purchase : Base
 base_after_covering_purchase =
     setting_with_trades (first_purchase ∷ second_purchase ∷ sale_first_in_first_out ∷ short_sale ∷ short_covering_purchase ∷ []) 1709251200025
 
--- The base `base_after_covering_purchase` after the trade `sale_of_all_shares`.
+-- The base `base_after_covering_purchase` after the trade `sale_of_all_shares`, without stored rows
+-- and replies.
 unfoldable pub base_after_sale_of_all : Base
 base_after_sale_of_all =
     setting_with_trades

@@ -14,7 +14,8 @@ pending_order_rows =
     ∷ codes "order,100,TLB,ABC,10,10.00,cash,fifo,Ann,Lee,T10"
     ∷ codes "order,100,TLS,ABC,10,10.50,cash,fifo,Ann,Lee,T10" ∷ []
 
--- The base `setting_base` after the rows `pending_order_rows`, without its stored rows and replies.
+-- The base after the rows `pending_order_rows`, executed from `setting_base` on with
+-- `twenty_clock_readings`, without its stored rows and replies.
 unfoldable pub base_with_pending_orders : Base
 base_with_pending_orders = record setting_base {
   trades =

@@ -31,8 +31,8 @@ pub fn tables_after_purchase_pass_audit()
 {}
 
 /// Shows the condition that an audit in the third schema returns for each of 21 changes of the
-/// tables after the first purchase. After the last change two conditions fail, and the audit
-/// returns the first.
+/// tables after the first purchase. After the last change two conditions fail, `Lots` and
+/// `Summary`, and the audit returns `Lots`, which is checked first.
 pub fn audit_returns_first_failed_condition()
     ensures no_quantity { IsAuditResult third_schema tables_with_zero_trade_quantity (Some condition.Form) }
     ensures no_last_trade { IsAuditResult third_schema tables_without_last_trade (Some condition.Form) }

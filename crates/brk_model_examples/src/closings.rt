@@ -7,9 +7,9 @@ ghost use Rattle.brk_money.specs.declared.side.Side.TheVariants.{Buy, Sell};
 ghost use Rattle.brk_model_examples.specs.Batches.{base_after_batch};
 ghost use Rattle.brk_model_examples.specs.Sales.{deal_against_two_lots, effect_of_deal_on_two_lots};
 
-/// Shows the effect of six single deals against a lot of 100 shares at 10.10 and a lot of 200
-/// shares at 12.00: five sales, of which one closes the last shares first and one sells more shares
-/// than the lots have, and a purchase, which closes no share.
+/// Shows the effect of six single deals at 13.00 against a lot of 100 shares at 10.10 and a later
+/// lot of 200 shares at 12.00: five sales, of which one closes the last shares first and one sells
+/// more shares than the lots have, and a purchase, which closes no share.
 pub fn deals_close_shares_of_two_lots()
     ensures part_of_first_lot { effect_of_deal_on_two_lots (deal_against_two_lots Sell 99 false)
         ≡ record { touched = record { lot = 1; before = pos 100; after = pos 1 } ∷ []; opened = 0; buy_value = 99990; sell_value = 128700 } }

@@ -8,7 +8,8 @@ ghost use Rattle.brk_model_examples.specs.Crowds.{setting_with_fifty_one_pending
 ghost use Rattle.brk_model_examples.specs.Crowds.{setting_with_twenty_one_margin_purchases};
 
 /// Shows, for an account with fifty-one pending trades, that the view `recent` has the ids of the
-/// last ten, and the view `status` those of the last fifty, the last first.
+/// ten with the latest stamps, and the view `status`, after the customer's name, those of the fifty
+/// with the latest stamps, both with the latest first.
 pub fn views_return_last_trades()
     ensures ten { trade_ids_of_view (view_by_name_and_arguments setting_with_fifty_one_pending_trades (codes "recent") (codes "100" ∷ []))
         ≡ codes "51" ∷ codes "50" ∷ codes "49" ∷ codes "48" ∷ codes "47" ∷ codes "46" ∷ codes "45" ∷ codes "44" ∷ codes "43" ∷ codes "42" ∷ [] }
@@ -41,7 +42,7 @@ pub fn update_changes_first_twenty_trades()
 {}
 
 /// Shows that the view `lots` returns the id of a sale that closes twenty-one lots, and the first
-/// twenty changes of these lots.
+/// twenty changes of these lots by stamp: the purchases that opened twenty of them.
 pub fn lots_view_returns_first_twenty_changes()
     ensures { view_by_name_and_arguments (base_after_batch setting_with_twenty_one_margin_purchases
         (codes "order,100,TMS,ABC,21,,cash,fifo,Ann,Lee,T10"

@@ -55,8 +55,10 @@ pub fn setting_rows_result_in_setting()
     ensures base { base_without_stored_replies (base_after_batch empty_base setting_rows) ≡ setting_base }
 {}
 
-/// Shows that ten reference rows that are malformed or fail a check against the base are refused,
-/// and that one tax rate is accepted.
+/// Shows that one tax rate is accepted, and that ten reference rows that are malformed or fail a
+/// check against the base are refused: with `Overlap` (16), `BadQty` (8), `TaxSum` (17), `NoTax`
+/// (12), `NoCustomer` (2), `Exists` (15), `BadText` (18, two rows), `BadPrice` (9) and `BadType`
+/// (7).
 pub fn invalid_reference_rows_are_refused()
     ensures { BatchOutputsLines setting_base
         (codes "band,1,TMB,NYSE,999999,999999,50"

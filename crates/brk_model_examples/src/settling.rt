@@ -68,8 +68,8 @@ pub fn last_day_for_one_day_settlement()
 {}
 
 /// Shows that the command `oneday` is refused with `BadText` (18) for three texts that are not the
-/// canonical text of a day of the calendar, and if there is no field or more than one. The last day
-/// of the calendar, 9999-12-31, is accepted.
+/// canonical text of a day of the calendar, and for no field and for two fields. The last day of
+/// the calendar, 9999-12-31, is accepted.
 pub fn malformed_days_are_refused()
     ensures { BatchOutputsLines setting_base
         (codes "oneday,2024-3-02"

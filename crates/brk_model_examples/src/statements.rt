@@ -10,9 +10,9 @@ ghost use Rattle.brk_model.specs.Statement.{amount_line, statement};
 ghost use Rattle.brk_model_examples.specs.Batches.{text_with_line_ends};
 ghost use Rattle.brk_model_examples.specs.Trading.{base_after_fifo_sale};
 
-/// Shows the statement of an account over the month of its trades, and over the days after them. A
-/// statement is refused with `BadText` if its last day is before its first, and otherwise with
-/// `NoAccount` if the account does not exist.
+/// Shows the statement of an account over the month of its trades, and over the days of this month
+/// after the day of the trades. A statement is refused with `BadText` if its last day is before its
+/// first, and otherwise with `NoAccount` if the account does not exist.
 pub fn statement_after_a_sale()
     ensures month { statement (tables_of_base base_after_fifo_sale) 100 19783 19813 ≡ Ok (text_with_line_ends (codes "Statement of account 100"
         ∷ codes "Main"

@@ -20,8 +20,8 @@ pub fn position_view_of_customer()
         ≡ Err NoCustomer }
 {}
 
-/// Shows the view `recent` of an account with one trade: the trade and its status changes, the last
-/// first.
+/// Shows the view `recent` of an account with one trade: the trade, and its status changes, the
+/// most recent first.
 pub fn recent_view_of_account()
     ensures { view_by_name_and_arguments base_after_first_purchase (codes "recent") (codes "100" ∷ [])
         ≡ Ok ((codes "trade" ∷ codes "1" ∷ codes "ABC" ∷ codes "100" ∷ [])
@@ -30,7 +30,8 @@ pub fn recent_view_of_account()
         ∷ []) }
 {}
 
-/// Shows the view `status` of an account: its customer and broker, and its trades, the last first.
+/// Shows the view `status` of an account: its customer and broker, and its trades, the most recent
+/// first.
 pub fn status_view_of_account()
     ensures { view_by_name_and_arguments base_after_fifo_sale (codes "status") (codes "100" ∷ [])
         ≡ Ok ((codes "Lee" ∷ codes "Ann" ∷ codes "Bo" ∷ [])
@@ -79,8 +80,9 @@ pub fn lookup_views_of_trade()
         ≡ Err BadText }
 {}
 
-/// Shows the view `lots` of an account: the id of its oldest trade from a stamp on, and all changes
-/// of the lots that the trade touched. The view is empty if there is no such trade.
+/// Shows the view `lots` of an account: the id of its oldest trade with a stamp of at least the
+/// given one, and the changes, by any trade, of the lots that this trade touched, sorted by stamp,
+/// then by lot, both ascending. The view is empty if there is no such trade.
 pub fn lots_view_of_oldest_trade()
     ensures last { view_by_name_and_arguments base_after_fifo_sale (codes "lots") (codes "100" ∷ codes "1709251200021" ∷ [])
         ≡ Ok ((codes "3" ∷ [])

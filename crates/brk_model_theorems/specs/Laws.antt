@@ -94,9 +94,9 @@ SomeRunLeadsTo base after = (calls : List (ℕ × Call)) × (outcomes : List Out
 abbrev pub IsReachableFromEmptyBase : Base → Type 0
 IsReachableFromEmptyBase base = SomeRunLeadsTo empty_base base
 
--- The batch `batch` is the result of `input`, executed from `base` on with the clock readings
--- `moments` and the format check `form`. The batch is complete, its rows have the answers
--- `answers`, and no answer is a refusal.
+-- The batch `batch` is the result of the text of `input` (`input_text`), executed from `base` on
+-- with the clock readings `moments` and the format check `form`. The batch is complete, its rows
+-- have the answers `answers`, and no answer is a refusal.
 pub record IsCompleteBatchWithoutRefusals (form : Fields → ReadResult Command) (base : Base) (moments : List ℕ) (input : Text) (answers : List Answer)
     (batch : BatchResult Base) : Type 0 where
   pub answered : IsResultOfTextWithHeader form step_of_row base moments (Some (input_text input)) batch

@@ -48,7 +48,7 @@ calls_of_rows batch (moment ∷ moments) [] = []
 
 -- The answers to a row and to the rows after it: first the refusal of the row if it is malformed,
 -- otherwise the first of `answers`, if there is one; then the answers that `more` returns for the
--- rest of `answers`.
+-- remaining ones of `answers`: all of them if the row is malformed.
 abbrev pub answers_to_row_and_rest : {C : Type 0} → ReadResult C → (List Answer → List Answer) → List Answer → List Answer
 answers_to_row_and_rest (Err refusal) more answers = Refused refusal ∷ more answers
 answers_to_row_and_rest (Ok command) more (answer ∷ answers) = answer ∷ more answers

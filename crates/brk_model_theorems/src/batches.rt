@@ -18,9 +18,10 @@ ghost use Rattle.brk_model_theorems.specs.Laws.{IsBaseAfterInterruption, IsCompl
 ghost use Rattle.brk_model_theorems.specs.Laws.{answer_to_retry, answers_for_new_keys, call_of_batch_row};
 ghost use Rattle.brk_model_theorems.specs.Laws.{calls_with_new_keys, accepted_answers, accepted_calls};
 
-/// Proves that the rows of a batch have given answers, one for each row, if and only if
-/// `RowsAreAnsweredByCalls` holds: each malformed row is answered with its refusal, and the
-/// well-formed rows are executed as calls in sequence, each with its key and one clock reading.
+/// Proves that the rows of a batch have given answers, one for each row, and lead from `base` to
+/// `after`, if and only if `RowsAreAnsweredByCalls` holds: each malformed row is answered with its
+/// refusal, and the well-formed rows are executed as calls in sequence, each with its key and the
+/// next clock reading, of which none is left over.
 pub fn rows_are_answered_by_their_calls()
     ensures called { (form : Fields → ReadResult Command) (name : List ℕ) (base after : Base) (moments : List ℕ) (rows : List Fields) (answers : List Answer)
         → RowsAreAnswered form step_of_row name base moments rows answers after → length answers ≡ length rows
@@ -31,8 +32,8 @@ pub fn rows_are_answered_by_their_calls()
 {}
 
 /// Proves that `result_of_batch_input` computes the specified result of an input with the first `n`
-/// clock readings, for some `n`, if there are at least as many clock readings as the input has
-/// records.
+/// clock readings, for some `n`, if there are at least as many clock readings as the text of the
+/// input (`input_text`) has records, with the header and the end record.
 pub fn batch_computes_the_specified_result()
     ensures { (base : Base) (moments : List ℕ) (input : List ℕ) → length (records default_config (input_text input)) ≤ length moments
         → (n : ℕ) × IsResultOfBatch parse_row step_of_row base (take n moments) input (result_of_batch_input base moments input) }
@@ -73,18 +74,18 @@ pub fn retried_rows_change_nothing()
 /// Proves that rows whose keys a base stores change nothing: leaving them out changes neither the
 /// answers to the other rows, executed in sequence, nor the base after these. A row that equals the
 /// stored row of its key is answered with the stored line, and any other row under a stored key is
-/// refused.
+/// refused with `KeyReused`.
 pub fn rows_with_stored_keys_change_nothing()
     ensures { (base after : Base) (calls : List (RowCall Command)) (answers : List Answer) → CallsHaveAnswers step_of_row base calls answers after
         → CallsHaveAnswers step_of_row base (calls_with_new_keys base calls) (answers_for_new_keys base calls answers) after
         × AnswersMatchStoredReplies base calls answers }
 {}
 
-/// Proves that two attempts at rows equal one run, whichever rows either attempt refuses. The run
-/// has the rows that the first attempt accepted, and then the rows of the second attempt whose keys
-/// the base after the first attempt does not store, each with the answer and the clock reading of
-/// its attempt. That base stores every row that the first attempt accepted, with its reply, under
-/// its key.
+/// Proves that two attempts at rows, the second from the base after the first, equal one run,
+/// whichever rows either attempt refuses. The run has the rows that the first attempt accepted, and
+/// then the rows of the second attempt whose keys the base after the first attempt does not store,
+/// each with the answer and the clock reading of its attempt. That base stores every row that the
+/// first attempt accepted, with its reply, under its key.
 pub fn two_attempts_equal_one_run()
     ensures run { (base mid last : Base) (first again : List (RowCall Command)) (answers told : List Answer)
         → CallsHaveAnswers step_of_row base first answers mid

@@ -18,8 +18,9 @@ pub fn all_shares_have_one_side()
 {}
 
 /// Proves that the signed quantities of the lots (rows of HOLDING) of an account in a symbol total
-/// the quantity of their holding summary, if trades are numbered 1, 2, 3 and so on. Proves this
-/// also after any run of calls from a base that satisfies `BaseReferencesResolve`.
+/// the shares bought less the shares sold by its completed trades in the symbol
+/// (`holding_summary_quantity`), if trades are numbered 1, 2, 3 and so on. Proves this also after
+/// any run of calls from a base that satisfies `BaseReferencesResolve`.
 pub fn lots_sum_to_the_summary()
     ensures numbered { (base : Base) (account : ℕ) (symbol : List ℕ) → TradesAreNumberedFrom 1 base.trades
         → total_by (λ row. row.qty) (filter (is_row_of_position account symbol) (tables_of_base base).holdings)

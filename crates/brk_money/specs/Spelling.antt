@@ -64,7 +64,7 @@ abbrev pub padded_decimal : ℕ → ℕ → Text
 padded_decimal places n = replicate (places - length (decimal n)) 48 ++ decimal n
 
 -- The text of a civil date, such as 2024-03-01: the year, the month and the day, padded with zeros
--- to four, two and two digits and separated by hyphens.
+-- in front to at least four, two and two digits and separated by hyphens.
 abbrev pub date_text : CivilDate → Text
 date_text d = padded_decimal 4 d.year ++ 45 ∷ padded_decimal 2 d.month ++ 45 ∷ padded_decimal 2 d.day
 
@@ -79,8 +79,9 @@ date_text_by_digits y m d =
 abbrev pub day_text : ℕ → Text
 day_text day = date_text (civil_date_of_day day)
 
--- The civil date whose year, month and day are the numbers of the ASCII digits in bytes 0 to 3, 5
--- to 6 and 8 to 9 of the text, counted from 0. This date need not be in the calendar.
+-- The civil date whose year, month and day are the `number_from_ascii_digits` of bytes 0 to 3, 5 to
+-- 6 and 8 to 9 of the text, counted from 0; bytes that a shorter text lacks are left out. This date
+-- need not be in the calendar.
 abbrev pub civil_date_from_ascii_digits : Text → CivilDate
 civil_date_from_ascii_digits text = record {
   year = number_from_ascii_digits (take 4 text);
@@ -88,7 +89,8 @@ civil_date_from_ascii_digits text = record {
   day = number_from_ascii_digits (take 2 (drop 8 text));
 }
 
--- The day that a text parses as, in days since 1970-01-01; none if the text is not canonical.
+-- The day, at most `greatest_day`, whose canonical text equals `text`, in days since 1970-01-01;
+-- none if there is no such day.
 abbrev pub day_of_text : Text → Option ℕ
 day_of_text text = value_if_canonical day_text (day_of_civil_date (civil_date_from_ascii_digits text)) text
 

@@ -74,8 +74,8 @@ fn parse_cents_without_sign(bytes: &[u8]) -> Option<u64>
 
 /// Parses the canonical text of an amount, such as `-12.05`: a minus if it is negative, the whole
 /// units in decimal digits, without a leading zero unless they are 0, a point and two digits.
-/// Returns `None` for any other bytes, such as `-0.00`, `010.00` and `10.0`, and for an amount
-/// outside the limits.
+/// Returns `None` for any other bytes, such as `-0.00`, `010.00` and `10.0`, and for an
+/// amount whose absolute value is above `Cents::GREATEST` cents.
 #[tactic(auto, using(crate::proofs::Plain::plain_split))]
 pub fn parse_cents(bytes: &[u8]) -> Option<Cents>
     ensures found { IfSome result (λ cents. IsWithinAmountLimit cents × (bytes.now ≡ cents_text cents)) }
@@ -100,8 +100,8 @@ pub fn parse_cents(bytes: &[u8]) -> Option<Cents>
     }
 }
 
-/// Proof-only: does nothing at run time. Proves that two amounts within the limits are equal if
-/// their canonical texts are.
+/// Proof-only: does nothing at run time. Proves that two amounts whose absolute values are at most
+/// `Cents::GREATEST` cents are equal if their canonical texts are.
 pub fn amounts_have_distinct_texts()
     ensures { (y z : ℤ) → IsWithinAmountLimit y → IsWithinAmountLimit z → cents_text y ≡ cents_text z → y ≡ z }
 {}

@@ -128,8 +128,8 @@ pub fn write_day(out: &mut Vec<u8>, day: Day) -> Result<(), Fault>
     }
 }
 
-/// Proof-only: does nothing at run time. Proves that two days up to 9999-12-31 are equal if their
-/// canonical texts are.
+/// Proof-only: does nothing at run time. Proves that two days from 1970-01-01 to 9999-12-31, both
+/// included, are equal if their canonical texts are.
 pub fn days_have_distinct_texts()
     ensures { (m n : ℕ) → m ≤ greatest_day → n ≤ greatest_day → day_text m ≡ day_text n → m ≡ n }
 {}

@@ -53,7 +53,7 @@ abstract_ticks_of_vector ticks = abstract_ticks ticks.items
 abbrev pub completion_command : completion.Completion → Command
 completion_command c = CompleteTrade c.trade c.price
 
--- The list of the ids in the vector `ids`.
+-- The list of the ids in the vector `ids`, in the sequence of the vector.
 abbrev pub ids_of_vector : Vec ℕ → List ℕ
 ids_of_vector ids = ids.items
 

@@ -31,8 +31,9 @@ impl TradeIds {
     /// The greatest number of trades that one row names.
     pub const MOST: usize = 20;
 
-    /// Creates a list of trade ids from `ids`. Refuses with `BadText` (18) if `ids` is empty or an
-    /// id occurs twice, otherwise with `TooMany` (20) if there are more than 20. Never allocates.
+    /// Creates the list of the trade ids `ids`, in their sequence. Refuses with `BadText` (18) if
+    /// `ids` is empty or an id occurs twice, otherwise with `TooMany` (20) if there are more than
+    /// 20. Never allocates.
     pub fn new(ids: Vec<Id>) -> Result<TradeIds, Refusal>
         ensures { ParsesAs (λ trades. trades) result (one_to_twenty_distinct_ids ids.items) }
     {

@@ -13,8 +13,9 @@ use Rattle.brk_changes.specs.declared.change.Change.TheVariants.{SetLastStamp}
 use Rattle.brk_plans.specs.declared.plan.Plan.{Plan}
 use Rattle.brk_plans.specs.declared.reply.Reply.TheVariants as reply
 
--- The checks of a cancel against the status of its trade, which is none if there is no such trade:
--- the trade exists (`NoTrade`), and it is pending (`WrongStatus`).
+-- The one check of a cancel against the status of its trade: without a status, which means that
+-- there is no such trade, it refuses with `NoTrade`, and with a status other than pending it
+-- refuses with `WrongStatus`, which contains the status.
 abbrev pub cancel_checks : Option Status → List RefusalCheck
 cancel_checks None = (true, NoTrade) ∷ []
 cancel_checks (Some status) = (not (is_same_trade_status status Pending), WrongStatus status) ∷ []
@@ -25,9 +26,9 @@ abbrev pub row_changes_of_cancel : ℕ → ℕ → List Change
 row_changes_of_cancel trade stamp = row_changes_of_status_after_pending trade Canceled stamp ++ SetLastStamp stamp ∷ []
 
 -- `plan` cancels `trade`, whose status is `found`, at the stamp of the command, where `last` is the
--- stamp of the last accepted command and `now` the clock reading. The trade passes its checks, a
--- stamp later than `last` exists, the row changes are `row_changes_of_cancel`, and the reply has
--- the stamp.
+-- stamp of the last accepted command and `now` the clock reading. The trade passes its check, a
+-- stamp later than `last` exists, the row changes are `row_changes_of_cancel`, and the reply is
+-- `Canceled` with the stamp.
 pub record IsCancelPlan (trade : ℕ) (found : Option Status) (last : Option ℕ) (now : ℕ) (plan : Plan) : Type 0 where
   pub stamp : ℕ
   pub accepted : first_refusal (cancel_checks found ++ later_stamp_check last now ∷ []) ≡ None

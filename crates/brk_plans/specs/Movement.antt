@@ -58,8 +58,8 @@ abbrev pub row_changes_of_movement : ℕ → MoveRow → ℤ → ℕ → List Ch
 row_changes_of_movement account row balance stamp = change.AddMove row ∷ change.SetBalance account balance ∷ change.SetLastStamp stamp ∷ []
 
 -- `plan` adds the cash row of the movement `m` with the id `number`, sets the balance of its
--- account to `balance` cents and the last stamp to `stamp`, and its reply has the stamp, the id and
--- the balance.
+-- account to `balance` cents and the last stamp to `stamp`, and the reply is `Moved` with the
+-- stamp, the id and the balance.
 pub record AppliesMovement (m : Movement) (number : ℕ) (balance : ℤ) (stamp : ℕ) (plan : Plan) : Type 0 where
   pub row : MoveRow
   pub posted : abstract_move_row row ≡ cash_row_of_movement m number stamp
@@ -68,8 +68,8 @@ pub record AppliesMovement (m : Movement) (number : ℕ) (balance : ℤ) (stamp 
 
 -- `plan` applies the movement `m` at the stamp of the command, where `found` are the facts in the
 -- tables, `last` is the stamp of the last accepted command, and `now` the clock reading. The
--- movement passes its checks, a stamp later than `last` exists, and the plan has the next id of a
--- cash row and the balance after the movement.
+-- movement passes its checks, a stamp later than `last` exists, and `plan` adds the cash row with
+-- the next id, `found.next`, and sets the balance after the movement (`AppliesMovement`).
 pub record IsMovementPlan (m : Movement) (found : MovementPlanFacts) (last : Option ℕ) (now : ℕ) (plan : Plan) : Type 0 where
   pub stamp : ℕ
   pub accepted : first_refusal (movement_checks m found ++ later_stamp_check last now ∷ []) ≡ None

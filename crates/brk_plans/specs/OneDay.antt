@@ -10,21 +10,23 @@ use Rattle.brk_plans.specs.Reference.{later_stamp_check}
 use Rattle.brk_plans.specs.declared.plan.Plan.{Plan}
 use Rattle.brk_plans.specs.declared.reply.Reply.TheVariants as reply
 
--- The check that `day` is later than the day (UTC) of the command's stamp (`TooEarly`), where
--- `last` is the last stamp and `now` the clock reading. It passes if no stamp later than `last`
--- exists.
+-- The check that `day`, in days since 1970-01-01, is later than the day (UTC) of the command's
+-- stamp (`TooEarly`), where `last` is the last stamp and `now` the clock reading. It passes if no
+-- stamp later than `last` exists.
 abbrev pub later_settlement_day_check : ℕ → Option ℕ → ℕ → RefusalCheck
 later_settlement_day_check day last now = (option_map_or (λ stamp. nat_le day (day_of stamp)) (stamp_after last now) false, TooEarly)
 
--- The checks of `day` as the settlement day, in this order: no settlement day is set yet (`rule` is
--- `None`; `Exists`), a stamp later than `last` exists (`ClockEnd`), and `day` is later than the day
--- (UTC) of the command's stamp (`TooEarly`). `last` is the last stamp, and `now` the clock reading.
+-- The checks of `day`, in days since 1970-01-01, as the settlement day, in this order: no
+-- settlement day is set yet (`rule` is `None`; `Exists`), a stamp later than `last` exists
+-- (`ClockEnd`), and `day` is later than the day (UTC) of the command's stamp (`TooEarly`). `last`
+-- is the last stamp, and `now` the clock reading.
 abbrev pub settlement_day_checks : ℕ → Option ℕ → Option ℕ → ℕ → List RefusalCheck
 settlement_day_checks day rule last now = duplicate_check (is_some rule) ∷ later_stamp_check last now ∷ later_settlement_day_check day last now ∷ []
 
--- `plan` sets the settlement day to `day` and the last stamp to the stamp of the command, where
--- `rule` is the settlement day that is set already, if any, `last` is the last stamp, and `now` the
--- clock reading. The day passes its checks, and the reply has the stamp.
+-- `plan` sets the settlement day to `day`, in days since 1970-01-01, and the last stamp to the
+-- stamp of the command, where `rule` is the settlement day that is set already, if any, `last` is
+-- the last stamp, and `now` the clock reading. The day passes its checks, and the reply is `Booked`
+-- with the stamp.
 pub record IsSettlementDayPlan (day : ℕ) (rule : Option ℕ) (last : Option ℕ) (now : ℕ) (plan : Plan) : Type 0 where
   pub stamp : ℕ
   pub accepted : first_refusal (settlement_day_checks day rule last now) ≡ None

@@ -97,7 +97,7 @@ row_changes_adding_record stamp other = row_change_adding_record other ∷ []
 -- `plan` adds the record `reference` at the stamp of the command, where `found` are the facts in
 -- the tables, `last` is the last stamp, and `now` the clock reading. The record passes its checks,
 -- and a stamp later than `last` exists. The row changes add the record and set the last stamp to
--- the stamp of the command, and the reply has this stamp.
+-- the stamp of the command, and the reply is `Booked` with this stamp.
 pub record IsReferencePlan (reference : Reference) (found : ReferenceFacts) (last : Option ℕ) (now : ℕ) (plan : Plan) : Type 0 where
   pub stamp : ℕ
   pub accepted : first_refusal (reference_checks reference found ++ later_stamp_check last now ∷ []) ≡ None

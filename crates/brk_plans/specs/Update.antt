@@ -42,30 +42,33 @@ toggled_cash_text kind qty security name =
 abbrev pub toggled_cash_text_of_trade : Text → CashText → Text
 toggled_cash_text_of_trade security p = toggled_cash_text p.kind p.qty security (string_bytes p.name)
 
--- The refusal of a text update whose target does not exist: `NoTrade` if it names trades,
--- `NoAccount` if it names an account, and `NoSecurity` if it names a security.
+-- The refusal of a text update whose target does not exist: `NoTrade` if it names trades, of which
+-- at least one does not exist, `NoAccount` if it names an account, and `NoSecurity` if it names a
+-- security.
 abbrev pub missing_target_refusal : told.Update → Refusal
 missing_target_refusal (update.Executors trades) = NoTrade
 missing_target_refusal (update.CashTypes account span) = NoAccount
 missing_target_refusal (update.CashNames symbol span) = NoSecurity
 
--- The check of the text update `u`: its target exists, that is its trades (`NoTrade`), its account
--- (`NoAccount`) or its security (`NoSecurity`). `found` is `None` if the target does not exist.
+-- The check of the text update `u`: its target exists, that is each trade (`NoTrade`), the account
+-- (`NoAccount`) or the security (`NoSecurity`) that it names. `found` is `None` if the target does
+-- not exist.
 abbrev pub update_checks : told.Update → Option TextUpdate → List RefusalCheck
 update_checks u found = (is_none found, missing_target_refusal u) ∷ []
 
--- The function on tables that replaces the executor's name of `trade` by its new one
--- (`updated_executor_name`).
+-- The function on tables that sets the executor's name in the TRADE row of `trade` to the new one
+-- (`updated_executor_name`) of the name in `trade`. Tables without such a row are unchanged.
 abbrev pub executor_name_update : TradeRow → Tables → Tables
 executor_name_update trade = tables_with_executor_name trade.id (updated_executor_name (string_bytes trade.executor))
 
--- The function on tables that replaces the settlement text of the trade of `s` by its new one
--- (`toggled_cash_type_text`).
+-- The function on tables that sets the settlement text of the trade of `s` to the new one
+-- (`toggled_cash_type_text`) of the text in `s`. Tables without this settlement are unchanged.
 abbrev pub cash_type_update : SettlementText → Tables → Tables
 cash_type_update s = tables_with_cash_type s.trade (toggled_cash_type_text s.is_cash (cash_type_text s.cash_type))
 
--- The function on tables that replaces the cash text of the trade of `p` by its new one
--- (`toggled_cash_text_of_trade`), where `security` is the name of its security.
+-- The function on tables that sets the cash text of the trade of `p` to the new one
+-- (`toggled_cash_text_of_trade`) of the text in `p`, where `security` is the name of its security.
+-- Tables without a cash row of the trade are unchanged.
 abbrev pub cash_text_update : Text → CashText → Tables → Tables
 cash_text_update security p = tables_with_cash_text p.trade (toggled_cash_text_of_trade security p)
 
@@ -82,9 +85,10 @@ count_of_updated_trades (corrected.Executors trades) = length trades.items
 count_of_updated_trades (corrected.CashTypes settled) = length settled.items
 count_of_updated_trades (corrected.CashNames security paid) = length paid.items
 
--- `plan` replaces the text of each trade of `found` by its new one and sets the last stamp to the
--- stamp of the command, where `last` is the last stamp and `now` the clock reading. A stamp later
--- than `last` exists, and the reply has the stamp and the number of the trades.
+-- The row changes of `plan` replace the text of each trade of `found` by its new one, in the
+-- sequence of the trades, then set the last stamp to the stamp of the command, and do no more.
+-- `last` is the last stamp, if any, and `now` the clock reading. A stamp later than `last` exists,
+-- and the reply is `Changed` with the stamp and the count of the trades.
 pub record IsUpdatePlan (found : TextUpdate) (last : Option ℕ) (now : ℕ) (plan : Plan) : Type 0 where
   pub stamp : ℕ
   pub stamped : stamp_after last now ≡ Some stamp

@@ -12,8 +12,8 @@ use brk_money::{Fault, Id, Planned, Refusal, Stamp, Status, stamp_after};
 use std::alloc::Global;
 
 // Returns the refusal of a cancel of the trade whose status is `found`: `NoTrade` if `found` is
-// `None`, which means that there is no such trade, or `WrongStatus` if the trade is not pending.
-// Returns `None` if the trade is pending.
+// `None`, which means that there is no such trade, or `WrongStatus` with the status if the trade is
+// not pending. Returns `None` if the trade is pending.
 fn refusal_of_cancel(found: Option<Status>) -> Option<Refusal>
     ensures { result ≡ first_refusal (cancel_checks found) }
 {
@@ -24,8 +24,8 @@ fn refusal_of_cancel(found: Option<Status>) -> Option<Refusal>
     }
 }
 
-// Returns the row changes that cancel the pending trade at `stamp` and set the last stamp. Fails
-// with `Memory` only.
+// Returns the row changes that cancel the pending trade `trade` at `stamp` and then set the last
+// stamp to `stamp`. Fails with `Memory` only.
 fn create_cancel_changes(alloc: Global, trade: Id, stamp: Stamp) -> Result<Vec<Change>, Fault>
     ensures changes { IfOk result (λ changes. changes.items ≡ row_changes_of_cancel trade stamp) }
     ensures fault { OnErr result (result ≡ Err Memory) }
@@ -37,14 +37,14 @@ fn create_cancel_changes(alloc: Global, trade: Id, stamp: Stamp) -> Result<Vec<C
 }
 
 /// Plans the cancel of a trade. `found` is its status, or `None` if there is no such trade, `last`
-/// the stamp of the last accepted command, and `now` the clock reading.
+/// the stamp of the last accepted command, if any, and `now` the clock reading.
 ///
 /// The plan sets the status to `Canceled` and the stamp of the trade, adds a history row, deletes
 /// the request and sets the last stamp. Its reply has the stamp.
 ///
-/// Refuses with the first that applies of `NoTrade`, if `found` is `None`; `WrongStatus`, if the
-/// trade is not pending; and `ClockEnd`, if no stamp later than `last` exists. Fails with `Memory`
-/// only.
+/// Refuses with the first that applies of `NoTrade`, if `found` is `None`; `WrongStatus` with the
+/// status, if the trade is not pending; and `ClockEnd`, if no stamp later than `last` exists. Fails
+/// with `Memory` only.
 pub fn plan_cancel(
     alloc: Global,
     trade: Id,

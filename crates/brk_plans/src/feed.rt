@@ -100,8 +100,8 @@ fn create_last_trade_change(last: &LastTrade) -> Result<Change, Fault>
 }
 
 // Appends to `changes` the row changes that submit, at `stamp`, the trades of those requests that
-// the price triggers, and to `ids` the ids of these trades. Fails with `Memory` only; a part of the
-// row changes and of the ids may then be appended.
+// the price triggers, and to `ids` the ids of these trades, both in the sequence of the requests.
+// Fails with `Memory` only; a part of the row changes and of the ids may then be appended.
 fn append_submission_changes(
     stamp: Stamp,
     price: Price,
@@ -141,10 +141,12 @@ fn requests_not_triggered(
     Ok(waiting)
 }
 
-// Returns the quote after the tick. Appends the row changes of the tick to `changes`, and the ids
-// of the trades that it triggers to `ids`. A tick of another symbol changes nothing. Refuses with
-// `Range(Volume)` if the volume would exceed its limit. Fails with `Memory` only; a part of the row
-// changes and of the ids may then be appended.
+// Returns the quote after the tick at `stamp`: with the new last trade, and without the requests
+// that the tick triggers. Appends to `changes` the row changes that set the last trade and submit
+// the triggered trades, and to `ids` the ids of these trades, both in the sequence of the requests.
+// A tick of another symbol changes nothing. Refuses with `Range(Volume)` if the volume would exceed
+// its limit, 10^17 shares. Fails with `Memory` only. If it refuses or fails, a part of the row
+// changes and of the ids may be appended.
 fn apply_tick_to_quote(
     alloc: Global,
     stamp: Stamp,
@@ -181,10 +183,11 @@ fn apply_tick_to_quote(
     Ok(Ok(Quote { last, requests }))
 }
 
-// Returns the quotes after the tick. Appends the row changes of the tick to `changes`, and the ids
-// of the trades that it triggers to `ids`. Refuses with `Range(Volume)` if a volume would exceed
-// its limit. Fails with `Memory` only. If it refuses or fails, a part of the row changes and of the
-// ids may be appended.
+// Returns the quotes after the tick at `stamp`, in their sequence. Appends the row changes of the
+// tick to `changes`, and the ids of the trades that it triggers to `ids`, both quote by quote as
+// `apply_tick_to_quote` appends them. Refuses with `Range(Volume)` if a volume would exceed its
+// limit, 10^17 shares. Fails with `Memory` only. If it refuses or fails, a part of the row changes
+// and of the ids may be appended.
 fn apply_tick_to_quotes(
     alloc: Global,
     stamp: Stamp,
@@ -228,10 +231,10 @@ fn prove_volumes_are_within_limit(quotes: &[Quote])
     }
 }
 
-// Applies the ticks in sequence to the quotes. Appends their row changes to `changes`, and the ids
-// of the trades that they trigger to `ids`. Refuses with `Range(Volume)` if a volume would exceed
-// its limit. Fails with `Memory` only. If it refuses or fails, a part of the row changes and of the
-// ids may be appended.
+// Applies the ticks in sequence to the quotes, each at `stamp`. Appends their row changes to
+// `changes`, and the ids of the trades that they trigger to `ids`, both tick by tick. Refuses with
+// `Range(Volume)` if a volume would exceed its limit, 10^17 shares. Fails with `Memory` only. If it
+// refuses or fails, a part of the row changes and of the ids may be appended.
 fn apply_ticks_to_quotes(
     alloc: Global,
     stamp: Stamp,
@@ -267,12 +270,12 @@ fn apply_ticks_to_quotes(
 }
 
 /// Plans a feed. `quotes` has the quote of each symbol of the feed that is listed, `last` is the
-/// stamp of the last accepted command, and `now` the clock reading.
+/// stamp of the last accepted command, if any, and `now` the clock reading.
 ///
 /// Each tick in sequence sets the last trade of its symbol and submits the trades whose requests it
 /// triggers, after the changes of the ticks before it. For each submitted trade the plan sets its
 /// status and its stamp, adds a history row and deletes its request. The plan then sets the last
-/// stamp. Its reply has the stamp and the ids of the triggered trades.
+/// stamp. Its reply has the stamp and the ids of the triggered trades, tick by tick.
 ///
 /// Refuses with the first that applies of `NoSecurity`, if the symbol of a tick has no quote;
 /// `Range(Volume)`, if a volume exceeds 10^17 shares after all ticks; and `ClockEnd`, if no stamp

@@ -58,8 +58,9 @@ pub fn add_within_balance_limit(balance: Cents, amount: Cents) -> Option<Cents>
 }
 
 // Returns the balance of the account after the movement, in cents, or the first refusal that
-// applies: `NoAccount`; `Range(Balance)`, if the balance would exceed its limit; or `Range(Moves)`,
-// if there are already `Id::GREATEST` deposits and withdrawals.
+// applies: `NoAccount`, if the account does not exist; `Range(Balance)`, if the absolute value of
+// the balance would exceed 10^17 cents; or `Range(Moves)`, if there are already `Id::GREATEST`
+// deposits and withdrawals.
 fn checked_balance_after_movement(
     movement: &Movement,
     found: &MovementPlanFacts,
@@ -145,7 +146,7 @@ fn create_movement_plan(
 }
 
 /// Plans a deposit or a withdrawal from the facts in the tables, `found`. `last` is the stamp of
-/// the last accepted command, and `now` the clock reading.
+/// the last accepted command, if any, and `now` the clock reading.
 ///
 /// The plan adds a cash row with the number `found.next`, and sets the balance of the account and
 /// the last stamp. Its reply has the stamp, the number and the balance in cents.

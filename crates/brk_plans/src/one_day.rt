@@ -28,7 +28,7 @@ fn create_settlement_day_changes(
 
 /// Plans to set `day` as the settlement day, the first day whose completions settle after one day.
 /// `rule` is the settlement day that is set already, if any, `last` the stamp of the last accepted
-/// command, and `now` the clock reading.
+/// command, if any, and `now` the clock reading.
 ///
 /// The plan sets the day and the last stamp. Its reply has the stamp.
 ///

@@ -70,7 +70,8 @@ fn refusal_if_exists(found: bool) -> Option<Refusal>
 }
 
 // Returns the first refusal that applies to a new record of reference data against the facts
-// `found`, or `None` if none applies.
+// `found`, in the sequence of the checks of its kind (`reference_checks`), or `None` if none
+// applies.
 fn reference_refusal(reference: &Reference, found: ReferenceFacts) -> Option<Refusal>
     ensures { result ≡ first_refusal (reference_checks reference.now found) }
 {
@@ -87,8 +88,9 @@ fn reference_refusal(reference: &Reference, found: ReferenceFacts) -> Option<Ref
     }
 }
 
-// Returns the first refusal that applies to a new account: `NoCustomer`, `NoBroker`, `Exists` or
-// `Range(Accounts)`. Returns `None` if none applies.
+// Returns the first refusal that applies to a new account: `NoCustomer`, if its customer does not
+// exist, `NoBroker`, if its broker does not exist, `Exists`, if its id is in use, or
+// `Range(Accounts)`, if its customer has 10 accounts or more. Returns `None` if none applies.
 fn account_refusal(found: ReferenceFacts) -> Option<Refusal>
     ensures { result ≡ first_refusal (account_checks found) }
 {
@@ -107,8 +109,9 @@ fn account_refusal(found: ReferenceFacts) -> Option<Refusal>
     None
 }
 
-// Returns the first refusal that applies to a new permission: `NoAccount` or `Exists`. Returns
-// `None` if neither applies.
+// Returns the first refusal that applies to a new permission: `NoAccount`, if its account does not
+// exist, or `Exists`, if a permission has its account and its tax id. Returns `None` if neither
+// applies.
 fn permission_refusal(found: ReferenceFacts) -> Option<Refusal>
     ensures { result ≡ first_refusal (permission_checks found) }
 {
@@ -145,8 +148,10 @@ fn is_sum_above_greatest_tax_rate(rates: Option<TaxRate>, rate: TaxRate) -> bool
     }
 }
 
-// Returns the first refusal that applies to a new tax of a customer: `NoCustomer`, `NoTax`,
-// `Exists` or `TaxSum`. Returns `None` if none applies.
+// Returns the first refusal that applies to a new tax of a customer: `NoCustomer`, if the customer
+// does not exist, `NoTax`, if the tax does not exist, `Exists`, if the customer pays the tax
+// already, or `TaxSum`, if the rates of the customer, this tax included, exceed 100 percent in sum.
+// Returns `None` if none applies.
 fn customer_tax_refusal(found: ReferenceFacts) -> Option<Refusal>
     ensures { result ≡ first_refusal (customer_tax_checks found) }
 {
@@ -216,17 +221,18 @@ fn create_reference_changes(
 }
 
 /// Plans a new record of reference data from the facts in the tables, `found`. `last` is the stamp
-/// of the last accepted command, and `now` the clock reading.
+/// of the last accepted command, if any, and `now` the clock reading.
 ///
 /// The plan adds the row of the record, for a listing also its LAST_TRADE row, and sets the last
 /// stamp. Its reply has the stamp.
 ///
 /// Refuses with the first that applies of `BadQty` (the upper bound of a band is below its lower
 /// bound), `NoAccount`, `NoCustomer`, `NoBroker`, `NoTax` (the record names one that does not
-/// exist), `Exists` (the key, or the tax id of a customer, is in use), `Overlap` (a band of its
-/// tier, type and exchange overlaps a new band), `TaxSum` (the rates of a customer exceed 100
-/// percent in sum) and `Range(Accounts)` (the customer has 10 accounts or more); and then with
-/// `ClockEnd`, if no stamp later than `last` exists. Fails with `Memory` only.
+/// exist), `Exists` (the key of a record that is no band, or the tax id of a customer, is in use),
+/// `Overlap` (a band of its tier, type and exchange overlaps a new band), `TaxSum` (the rates of a
+/// customer, the new tax included, exceed 100 percent in sum) and `Range(Accounts)` (the customer
+/// has 10 accounts or more); and then with `ClockEnd`, if no stamp later than `last` exists. Fails
+/// with `Memory` only.
 pub fn plan_reference(
     alloc: Global,
     reference: &Reference,

@@ -135,8 +135,8 @@ fn count_updated_trades(found: &TextUpdate) -> usize
 }
 
 /// Plans a text update (Trade-Update). `found` has the trades that it selects, or is `None` if its
-/// target does not exist, `last` is the stamp of the last accepted command, and `now` the clock
-/// reading.
+/// target does not exist, `last` is the stamp of the last accepted command, if any, and `now` the
+/// clock reading.
 ///
 /// The plan replaces one text of each trade and sets the last stamp. Its reply has the stamp and
 /// the number of trades. No status and no stamp of a trade changes.

@@ -43,8 +43,9 @@ fn contains_part(text: &str, part: &str) -> bool
     text.contains(part)
 }
 
-/// Returns the new name of an executor: the name with each " X " replaced by a space or, if it has
-/// no " X ", with each space replaced by " X ". Fails if memory runs out.
+/// Returns the new name of an executor: the name with each " X ", from the left without overlap,
+/// replaced by a space or, if it has no " X ", with each space replaced by " X ". Fails if memory
+/// runs out.
 pub fn toggle_executor_name(alloc: Global, name: &str) -> Result<String, AllocError>
     ensures { IfOk result (λ result. string_bytes result ≡ definition.updated_executor_name name.now) }
 {

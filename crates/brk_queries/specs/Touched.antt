@@ -8,8 +8,9 @@ use Rattle.brk_view.specs.Lots.{is_earlier_lot_change, stamped_lot_change}
 use Rattle.brk_view.specs.declared.lots.LotTouch.{LotTouch}
 use Rattle.brk_view.specs.declared.lots.TouchedLots.{TouchedLots}
 
--- The stamp of the last status of the trade with the id `trade`, in milliseconds since 1970-01-01
--- UTC, or 0 if the trade does not exist.
+-- The stamp of the last status of the trade with the id `trade`, as the first TRADE row of this id,
+-- in the order of the table, records it (T_DTS), in milliseconds since 1970-01-01 UTC, or 0 if
+-- there is no such row.
 abbrev pub last_status_stamp : Tables → ℕ → ℕ
 last_status_stamp t trade = option_map_or (λ r. r.stamp) (trade_row_with_id t trade) 0
 

@@ -23,7 +23,7 @@ use sqlite::Alter;
 use std::alloc::Global;
 
 // Returns a trade with the rows that other tables contain for it: its settlement and its cash row,
-// each if it exists, and its history. These rows are specified only if the tables equal those of a
+// each if it exists, and its history. The result is specified only if the tables equal those of a
 // base that satisfies the books invariant and the audit invariant. If the database is still open,
 // it is unchanged. Fails with `Memory` or `Store` only.
 fn read_all_rows_of_trade<S: Alter>(

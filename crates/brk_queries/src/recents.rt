@@ -16,8 +16,8 @@ use brk_view::{View, recent};
 use sqlite::Alter;
 use std::alloc::Global;
 
-// Appends the status changes `rows` (of TRADE_HISTORY) to `history`. Fails only if memory runs out;
-// some of the first rows may then be appended.
+// Appends the status changes `rows` (of TRADE_HISTORY) to `history`, in their order. Fails with
+// `Memory` only (the clause also allows `Store`); a prefix of `rows` may then be appended.
 fn append_history_rows(history: &mut Vec<HistoryRow>, rows: &[HistoryRow]) -> Result<(), Fault>
     ensures added { OnOk result (history.new.items ≡ history.old.items ++ rows.now) }
     ensures fault { IfErr result IsCallFault }
@@ -30,8 +30,8 @@ fn append_history_rows(history: &mut Vec<HistoryRow>, rows: &[HistoryRow]) -> Re
 
 // Returns the last ten trades of an account, or all if it has fewer, sorted by the stamp of the
 // last status, then by id, descending, and their status changes (of TRADE_HISTORY), trade by trade
-// in this order. If the database is still open, it is unchanged. Fails with `Memory` or `Store`
-// only.
+// in this order, those of one trade in the order of the table. If the database is still open, it is
+// unchanged. Fails with `Memory` or `Store` only.
 fn read_recent_trades_with_history<S: Alter>(
     alloc: Global,
     store: &mut Store<S>,
@@ -52,10 +52,11 @@ fn read_recent_trades_with_history<S: Alter>(
 }
 
 /// Returns the view of the last ten trades of an account, or of all if it has fewer, sorted by the
-/// stamp of the last status, then by id, descending, with their status changes. Refuses with
-/// `NoAccount` if the account does not exist. The result equals that of the model if the tables
-/// equal those of a base that satisfies the books invariant and the audit invariant. If the
-/// database is still open, it is unchanged. Fails with `Memory` or `Store` only.
+/// stamp of the last status, then by id, descending, and of their status changes, sorted by stamp,
+/// then by trade id, descending. Refuses with `NoAccount` if the account does not exist. The result
+/// equals that of the model if the tables equal those of a base that satisfies the books invariant
+/// and the audit invariant. If the database is still open, it is unchanged. Fails with `Memory` or
+/// `Store` only.
 pub fn view_of_recent_trades<S: Alter>(
     alloc: Global,
     store: &mut Store<S>,

@@ -38,7 +38,7 @@ fn is_security_in_sector<S: Alter>(
 
 // Appends the pending request `row` to `found` if `row` is one of the broker `broker` and its
 // security exists and is in the sector. If the database is still open, it is unchanged. Fails with
-// `Memory` or `Store` only; `found` is then unchanged.
+// `Memory` or `Store` only; `found` is then unchanged (no clause states this).
 fn append_request_if_of_broker_in_sector<S: Alter>(
     store: &mut Store<S>,
     sector: &Name,
@@ -91,9 +91,10 @@ fn read_sector_requests_of_broker<S: Alter>(
 
 // Appends to `found` the id and the name of the broker in the row `row` and its volume in the
 // sector: the sum, in cents, of quantity times bid price over its pending requests for securities
-// in the sector. Appends nothing if it has no such request. What it appends is specified only if
-// `requests` are all pending requests, in the order of the table. If the database is still open, it
-// is unchanged. Fails with `Memory` or `Store` only; `found` is then unchanged.
+// in the sector. Appends nothing if the broker has no such request. What is appended is specified
+// only if `requests` are all pending requests, in the order of their table. If the database is
+// still open, it is unchanged. Fails with `Memory` or `Store` only; `found` is then unchanged (no
+// clause states this).
 fn append_broker_volume<S: Alter>(
     alloc: Global,
     store: &mut Store<S>,

@@ -88,15 +88,16 @@ impl Clock for Still {
 }
 
 // Returns a clock that always returns the timestamp with the canonical text `moment`, in
-// milliseconds, or 0 if `moment` is no such text.
+// milliseconds since 1970-01-01 UTC, or 0 if `moment` is no such text or is later than 9999-12-31
+// UTC.
 fn fixed_clock_from_word(moment: &str) -> Still {
     Still {
         at: parse_stamp(moment.as_bytes()).unwrap_or(Stamp::nearest(0)),
     }
 }
 
-// Returns the bytes of all input lines of a command in one list, each followed by a line feed if it
-// has one. Fails only if memory runs out.
+// Returns the bytes of all input lines of a command, in order, in one list, each followed by a line
+// feed if it has one. Fails only if memory runs out.
 fn join_input_lines(alloc: Global, pieces: &[Piece]) -> Result<Vec<u8>, AllocError> {
     let mut bytes = Vec::new(alloc);
     for piece in pieces {
@@ -121,10 +122,10 @@ fn word_of_batch_fault(kind: FaultKind) -> &'static str {
     }
 }
 
-// Executes the input as a batch on the desk at the timestamp with the canonical text `moment`, or
-// at 0 if `moment` is no such text. Appends the lines that the batch wrote and, if it failed, an
-// output line with `!`, the word for its fault, and the number of decided rows. Fails only if
-// memory runs out.
+// Executes the input as a batch on the desk; the clock always returns the timestamp `moment`
+// (`fixed_clock_from_word`). Appends the lines that the batch wrote and, if it failed, an output
+// line with `!`, the word for its fault, and the number of decided rows. Fails only if memory runs
+// out.
 fn execute_batch_command(
     alloc: Global,
     out: &mut String,
@@ -152,8 +153,8 @@ fn execute_batch_command(
     Ok(())
 }
 
-// Serves the input as a stream of HTTP requests on the desk at the timestamp with the canonical
-// text `moment`, or at 0 if `moment` is no such text. Appends the replies, and then `! done` and
+// Serves the input as a stream of HTTP requests on the desk; the clock always returns the timestamp
+// `moment` (`fixed_clock_from_word`). Appends the bytes that were written, and then `! done` and
 // the number of replies or, if the stream failed, `! fault`. Fails only if memory runs out.
 fn execute_http_command(
     alloc: Global,
@@ -178,10 +179,10 @@ fn execute_http_command(
     Ok(())
 }
 
-// Writes the statement of the account and of the first and the last day that `words` names,
-// separated by spaces. Appends the lines that were written and, if the statement failed, `no` and
-// the number of its refusal, or `! fault`. If `words` is malformed, appends only `no 18`
-// (`BadText`). Fails only if memory runs out.
+// Writes the statement of an account: `words` contains the id of the account and the first and the
+// last day, both included, separated by single spaces. Appends the lines that were written and, if
+// the statement failed, `no` and the number of its refusal, or `! fault`. If `words` is malformed,
+// appends only `no 18` (`BadText`). Fails only if memory runs out.
 fn execute_statement_command(
     alloc: Global,
     out: &mut String,
@@ -207,10 +208,10 @@ fn execute_statement_command(
     }
 }
 
-// Writes the explanation that `words` requests. Appends the lines that were written and, if the
-// explanation failed, `no` and the number of its refusal, or `! fault`. If `words` requests no
-// explanation, appends only `no 18` (`BadText`). If memory runs out while `words` is parsed,
-// appends only `! fault`. Fails only if memory runs out.
+// Writes the explanation that `words`, split at each space, requests (`parse_explain_request`).
+// Appends the lines that were written and, if the explanation failed, `no` and the number of its
+// refusal, or `! fault`. If `words` requests no explanation, appends only `no 18` (`BadText`). If
+// memory runs out while `words` is parsed, appends only `! fault`. Fails only if memory runs out.
 fn execute_explain_command(
     alloc: Global,
     out: &mut String,
@@ -281,9 +282,9 @@ fn database_without_desk(place: Place) -> Place {
 }
 
 // Adopts the open database, or the database of the open desk, which upgrades an older schema.
-// Appends the result (`ok`, `damaged` and the condition that fails, or `! fault`), and returns its
-// desk, or the database if the adoption failed. If nothing is open, appends nothing and returns
-// `Nothing`. Fails only if memory runs out.
+// Appends the result (`ok`, `damaged` and the condition that fails, or `! fault`), and returns the
+// desk of the database, or the database without a desk if the adoption failed. If nothing is open,
+// appends nothing and returns `Nothing`. Fails only if memory runs out.
 fn execute_adopt_command(
     alloc: Global,
     out: &mut String,
@@ -337,10 +338,11 @@ fn execute_sql_command(
     }
 }
 
-// Appends the rows of all tables of the open database as output lines. Then adopts the database,
-// which upgrades an older schema, without appending the result, and returns its desk, or the
-// database if the adoption failed. If nothing is open, appends nothing and returns `Nothing`. Fails
-// only if memory runs out.
+// Appends the rows of all tables of a desk in the open database, or in that of the open desk, as
+// output lines (`append_rows_of_all_tables`). Then adopts the database, which upgrades an older
+// schema, without appending the result, and returns the desk of the database, or the database
+// without a desk if the adoption failed. If nothing is open, appends nothing and returns `Nothing`.
+// Fails only if memory runs out.
 fn execute_tables_command(
     alloc: Global,
     out: &mut String,
@@ -384,11 +386,11 @@ fn execute_desk_command(
     }
 }
 
-// Executes a command on the open desk or database, given by its first word `verb`, the rest of its
-// line `words` and its input lines `pieces`. Appends its output lines, and returns the desk or
-// database that is open after it. If the command needs a desk or is unknown, and no desk is open,
-// appends only `! no desk`; if it is unknown and a desk is open, appends only `! no such command`.
-// Fails only if memory runs out.
+// Executes a command that opens a new desk or database, or one on the open desk or database, given
+// by its first word `verb`, the rest of its line `words` and its input lines `pieces`. Appends its
+// output lines, and returns the desk or database that is open after it. If the command needs a desk
+// or is unknown, and no desk is open, appends only `! no desk`; if it is unknown and a desk is
+// open, appends only `! no such command`. Fails only if memory runs out.
 fn execute_memory_command(
     alloc: Global,
     out: &mut String,
@@ -430,11 +432,11 @@ fn execute_file_command_with_lines(
     execute_file_command(rt, out, verb, words, &input)
 }
 
-/// Executes the command `command` with its input lines `pieces`: a test, a command over files, or
-/// one on the open desk or database. Appends its output lines, and returns the desk or database
-/// that is open after it. If the command needs a desk or is unknown, and no desk is open, appends
-/// only `! no desk`; if it is unknown and a desk is open, appends only `! no such command`. Fails
-/// only if memory runs out.
+/// Executes the command `command` with its input lines `pieces`: a test, a command over files, one
+/// that opens a new desk or database, or one on the open desk or database. Appends its output
+/// lines, and returns the desk or database that is open after it. If the command needs a desk or is
+/// unknown, and no desk is open, appends only `! no desk`; if it is unknown and a desk is open,
+/// appends only `! no such command`. Fails only if memory runs out.
 pub fn execute_command(
     rt: &HostRuntime,
     out: &mut String,

@@ -65,9 +65,9 @@ fn remove_second_half_of_file(rt: &HostRuntime, path: &str) -> bool {
     }
 }
 
-// Executes an SQL statement on the database in a file, and closes the database. Returns true if the
-// statement and the closing succeed, and false also if the statement is not UTF-8 or the file
-// cannot be opened as a database.
+// Executes an SQL statement on the database in a file, and closes the database; a missing file
+// becomes a new database. Returns true if the statement and the closing succeed, and false also if
+// the statement is not UTF-8 or the file cannot be opened as a database.
 fn execute_sql_in_file(rt: &HostRuntime, path: &str, sql: &[u8]) -> bool {
     let Ok(sql) = str::from_utf8(sql) else {
         return false;
@@ -81,9 +81,9 @@ fn execute_sql_in_file(rt: &HostRuntime, path: &str, sql: &[u8]) -> bool {
 }
 
 // Changes a file, as another program would, by the word `verb`: writes the input to the file
-// (`write`), copies it (`copy`), removes its second half (`cut`) or executes the input as an SQL
-// statement in it (`change`). `words` is the path of the file, for `copy` two paths. Returns true
-// if the change succeeds, and false also for another word.
+// (`write`), copies the file (`copy`), removes its second half (`cut`) or executes the input as an
+// SQL statement in it (`change`). `words` is the path of the file, for `copy` followed by a space
+// and the path of the copy. Returns true if the change succeeds, and false also for another word.
 fn change_file(rt: &HostRuntime, verb: &str, words: &str, input: &[u8]) -> bool {
     match verb {
         "write" => write_file(rt, words, input),
@@ -96,7 +96,8 @@ fn change_file(rt: &HostRuntime, verb: &str, words: &str, input: &[u8]) -> bool 
 
 /// Executes a command over files, given by its first word `verb`, the rest of its line `words` and
 /// its input: the program `brk` if `verb` is `$`, and otherwise a change of a file. Appends the
-/// output lines, which for a change are `= done` or `= failed`. Fails only if memory runs out.
+/// output lines; for a change, this is one line, `= done` or, also if `verb` is unknown,
+/// `= failed`. Fails only if memory runs out.
 pub fn execute_file_command(
     rt: &HostRuntime,
     out: &mut String,

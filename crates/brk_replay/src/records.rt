@@ -56,7 +56,8 @@ fn bytes_of_input_lines(alloc: Global, pieces: &[Piece]) -> Result<Vec<&[u8]>, A
 }
 
 // Parses a query from the name of a view and its arguments, and executes it on a desk. Returns the
-// view, or the refusal of the arguments or of the query. Fails with `Memory` or `Store`.
+// view, or the refusal of an unknown name, of the arguments or of the query. Fails with `Memory` or
+// `Store`.
 fn parse_and_execute_query(
     alloc: Global,
     desk: &mut Desk<MemStore>,
@@ -69,9 +70,10 @@ fn parse_and_execute_query(
     }
 }
 
-/// Executes the query for the view `view` on a desk, with the input lines as its arguments. Appends
-/// the records of the view as output lines, `no` and the number of the refusal, or `! fault` if the
-/// query failed. Fails only if memory runs out.
+/// Executes the query for the view with the name `view` on a desk, with the input lines as its
+/// arguments. Appends the records of the view as output lines, or `no` and the number of the
+/// refusal if the name, the arguments or the query are refused, or `! fault` if the query failed.
+/// Fails only if memory runs out.
 pub fn execute_ask_command(
     alloc: Global,
     out: &mut String,
@@ -88,8 +90,8 @@ pub fn execute_ask_command(
 }
 
 // Returns the format of a printed view that `word` names: JSON for `json` and `json-heads`, and
-// otherwise CSV; with the names of the fields for `csv-heads` and `json-heads`, and otherwise
-// without.
+// otherwise CSV; for `csv-heads` and `json-heads` with the names of the fields, if the view has
+// them (`Form`), and otherwise without.
 fn form_of_printed_view(word: &str) -> Form {
     Form {
         json: word == "json" || word == "json-heads",
@@ -128,9 +130,9 @@ pub fn execute_print_command(
 }
 
 // Appends the value of the column at index `at` of a row, after a bar unless `at` is 0. A whole
-// number is written in decimal digits, and a text with the escapes of a record. Any other value,
-// for example a null, and the value of a missing column are written as `\x00`. Fails only if memory
-// runs out.
+// number is written in decimal, after `-` if it is negative, and a text with the escapes of a
+// record. Any other value, for example a null, and the value of a missing column are written as
+// `\x00`. Fails only if memory runs out.
 fn append_cell_text(out: &mut String, row: &Row, at: usize) -> Result<(), OutOfMemory> {
     if at > 0 {
         out.push_str("|")?;
@@ -154,9 +156,9 @@ fn append_table_row(out: &mut String, table: &str, row: &Row) -> Result<(), OutO
     Ok(())
 }
 
-// Appends the rows of a table as output lines, sorted by the columns `key` (their places, counted
-// from 1), or the line `! no table` with the name of the table if the rows cannot be read. Fails
-// only if memory runs out.
+// Appends the rows of a table as output lines, sorted, ascending, by the columns `key` (their
+// places, counted from 1 and separated by commas), or the line `! no table` with the name of the
+// table if the rows cannot be read. Fails only if memory runs out.
 fn append_rows_of_table(
     alloc: Global,
     out: &mut String,
@@ -176,9 +178,9 @@ fn append_rows_of_table(
     Ok(())
 }
 
-/// Appends the rows of all tables of a desk, each table sorted by its key, as output lines. For a
-/// table that cannot be read, appends the line `! no table` with its name in place of its rows.
-/// Fails only if memory runs out.
+/// Appends the rows of all tables of a desk as output lines: the tables in the order of `TABLES`,
+/// and each sorted by its key, ascending. For a table that cannot be read, appends the line
+/// `! no table` with its name in place of its rows. Fails only if memory runs out.
 pub fn append_rows_of_all_tables(
     alloc: Global,
     out: &mut String,

@@ -33,10 +33,10 @@ fn value_of_hex_digit(byte: u8) -> u8 {
     u8::try_from(value).unwrap_or(0)
 }
 
-// Unescapes the byte `byte` of an input line; `read` is the part of an escape that was read before
-// it. Appends the unescaped byte that `byte` completes, if any, and returns the part of an escape
-// that is read after it. After `\x`, a byte that is no hexadecimal digit has the value 0. Fails
-// only if memory runs out.
+// Unescapes the byte `byte` of an input line (`unescape_input_line`); `read` is the part of an
+// escape that was read before it. Appends the unescaped byte that `byte` completes, if any, and
+// returns the part of an escape that is read after it. After `\x`, a byte that is no hexadecimal
+// digit has the value 0. Fails only if memory runs out.
 fn unescape_byte(bytes: &mut Vec<u8>, read: Escape, byte: u8) -> Result<Escape, AllocError> {
     match (read, byte) {
         (Escape::Nothing, b'\\') => return Ok(Escape::Backslash),
@@ -51,9 +51,9 @@ fn unescape_byte(bytes: &mut Vec<u8>, read: Escape, byte: u8) -> Result<Escape, 
 
 /// Returns the bytes of an input line without its escapes: `\r` is a carriage return, `\x` with two
 /// hexadecimal digits the byte with this value, and a backslash before any other byte only this
-/// byte. Returns also whether a line feed follows: a single backslash at the end of the line means
-/// that none does. An escape `\x` without both digits at the end of the line is dropped. Fails only
-/// if memory runs out.
+/// byte. In the place of a hexadecimal digit, a byte that is none counts as 0. Returns also whether
+/// a line feed follows: a single backslash at the end of the line means that none does. An escape
+/// `\x` without both digits at the end of the line is dropped. Fails only if memory runs out.
 pub fn unescape_input_line(alloc: Global, text: &str) -> Result<Piece, AllocError> {
     let mut bytes = Vec::new(alloc);
     let mut read = Escape::Nothing;
@@ -68,7 +68,7 @@ pub fn unescape_input_line(alloc: Global, text: &str) -> Result<Piece, AllocErro
 
 // Appends a text with the escapes of an output line: a backslash as `\\`, a carriage return as
 // `\r`, and each other character below 20 (hexadecimal), the character 7f, and a bar if `in_record`
-// is true, as `\x` with two hexadecimal digits. Fails only if memory runs out.
+// is true, as `\x` with two lower-case hexadecimal digits. Fails only if memory runs out.
 fn append_escaped_text(out: &mut String, text: &str, in_record: bool) -> Result<(), OutOfMemory> {
     for c in text.chars() {
         match c {
@@ -84,8 +84,8 @@ fn append_escaped_text(out: &mut String, text: &str, in_record: bool) -> Result<
 
 /// Appends bytes with the escapes of an output line: a backslash as `\\`, a carriage return as
 /// `\r`, and each other byte below 20 (hexadecimal), the byte 7f, each byte that is no part of a
-/// UTF-8 character, and a bar if `in_record` is true, as `\x` with two hexadecimal digits. Fails
-/// only if memory runs out.
+/// UTF-8 character, and a bar if `in_record` is true, as `\x` with two lower-case hexadecimal
+/// digits. Fails only if memory runs out.
 pub fn append_escaped_bytes(
     out: &mut String,
     bytes: &[u8],
@@ -108,9 +108,10 @@ pub fn append_escaped_bytes(
     Ok(())
 }
 
-/// Appends written bytes as output lines with escapes, each after the mark `mark`: one for the
-/// bytes before each line feed, and one that ends in a single backslash for the bytes after the
-/// last line feed, if there are any. Fails only if memory runs out.
+/// Appends written bytes as output lines with escapes, each after the mark `mark`. The bytes are
+/// cut after each line feed, and each piece becomes one line; a last piece without a line feed
+/// becomes a line that ends in a single backslash. Without bytes, appends nothing. Fails only if
+/// memory runs out.
 pub fn append_lines_after_mark(
     out: &mut String,
     mark: &str,
@@ -193,9 +194,9 @@ impl<'a> Replay<'a> {
         })
     }
 
-    // Executes the pending command, copies the line `line` to the replay, and starts the next
-    // pending command with it, unless it is a comment or empty. Returns the state of the replay
-    // after it. Fails only if memory runs out.
+    // Executes the pending command, if there is one, copies the line `line` to the replay, and
+    // starts the next pending command with it; after a comment or an empty line, no command is
+    // pending. Returns the state of the replay after it. Fails only if memory runs out.
     fn execute_pending_and_start_next(
         self,
         rt: &HostRuntime,
@@ -217,9 +218,10 @@ impl<'a> Replay<'a> {
     }
 
     // Processes the next line of a transcript, and returns the state of the replay after it: drops
-    // an output line; copies an input line and adds it to the pending command; executes the pending
-    // command at any other line and copies this line, which starts the next command unless it is a
-    // comment or empty. Fails only if memory runs out.
+    // an output line (after `>` and a space); copies an input line (after a bar and a space) and
+    // adds it to the pending command, if there is one; executes the pending command, if any, at any
+    // other line and copies this line, which starts the next command unless it is a comment or
+    // empty. Fails only if memory runs out.
     fn process_line(
         self,
         rt: &HostRuntime,

@@ -66,8 +66,9 @@ fn connect_peer(
 }
 
 // Connects all peers of `PEERS` in order and sends their bytes. Returns the streams of the peers
-// that wait for replies, with the wanted replies, and closes the other streams. Fails if a peer
-// cannot connect, send or shut down (`connect_peer`), or if memory runs out.
+// that wait for replies, with the wanted replies, and closes the other streams. Fails if the
+// address of the listener cannot be read, if a peer cannot connect, send or shut down, or if memory
+// runs out.
 fn connect_all_peers(
     rt: &HostRuntime,
     listener: &TcpListener,
@@ -112,7 +113,8 @@ fn serve_at_first_timestamp<S: Alter>(
 // Checks that six streams of the listener are served in sequence on one new desk in the database of
 // a connection, that the peers in `waiting` have their wanted replies, and that the serving ends
 // with `Net` if no stream can be accepted. Fails if not, without a connection, if the desk cannot
-// be created, if the listener cannot be set to return at once, or if memory runs out.
+// be created, if the stream of a peer cannot be read or is not UTF-8, if the listener cannot be set
+// to return at once, or if memory runs out.
 fn expect_streams_served_on_desk<S: Alter + Drop>(
     alloc: Global,
     conn: Option<Connection<S>>,
@@ -130,7 +132,8 @@ fn expect_streams_served_on_desk<S: Alter + Drop>(
 
 /// Checks that six streams over sockets are served in sequence on one desk, that the peers that
 /// wait for replies have those of `PEERS`, and that the serving ends with `Net` if no stream can be
-/// accepted. Fails also if a socket of this machine cannot be used.
+/// accepted. Fails also if a socket of this machine cannot be used, if the desk cannot be created,
+/// or if memory runs out.
 pub fn socket_streams_share_one_desk(rt: &HostRuntime) -> Result<(), Fail> {
     let alloc = rt.alloc();
     let mut listener = TcpListener::bind(rt, ("127.0.0.1", 0))?;

@@ -20,8 +20,8 @@ fn run_test(rt: &HostRuntime, name: &str) -> Option<Result<(), Fail>> {
 
 /// Runs the test `name`: the test over sockets, or a test of `brk_tests_unit` or of `brk_tests`.
 /// Appends the output line `ok` if the test succeeds, and `! no such test` if no test has this
-/// name. If the test fails, writes its failure to standard error and appends `failed`. Fails only
-/// if memory runs out.
+/// name. If the test fails, writes its failure to standard error, ignoring a failure to write, and
+/// appends `failed`. Fails only if memory runs out.
 pub fn execute_test_command(
     rt: &HostRuntime,
     out: &mut String,

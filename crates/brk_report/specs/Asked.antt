@@ -24,7 +24,8 @@ FailsWritingNothing before after result fault = (after ≡ before) × (result �
 
 -- The result of writing the text `text`. `Ok`: exactly `text` was written. `Desk`: memory ran out,
 -- and nothing was written. `Write`: a prefix of `text` was written, perhaps empty or all of it. The
--- result is never `Refused`.
+-- result is never `Refused`. `Ok` and `Write` state nothing if the writer's content before is
+-- unknown.
 abbrev pub WritesTextOrFails : Text → Option Text → Option Text → Result (Unit {0}) ReportFault → Type 0
 WritesTextOrFails text before after (Ok u) = Appends before after text
 WritesTextOrFails text before after (Err (Refused refusal)) = ⊥
@@ -39,9 +40,9 @@ WritesViewOrFails form query (Ok (Ok view)) before after result = WritesTextOrFa
 WritesViewOrFails form query (Ok (Err refusal)) before after result = FailsWritingNothing before after result (Refused refusal)
 WritesViewOrFails form query (Err fault) before after result = FailsWritingNothing before after result (Desk fault)
 
--- The desk executed exactly the parsed query, and its view was written as `WritesViewOrFails`
--- specifies. If the query is malformed, the desk is unchanged, `result` is the refusal of the
--- query, and nothing was written.
+-- The desk executed exactly the parsed query, and its answer, a view, a refusal or a fault, has the
+-- output and the result that `WritesViewOrFails` specifies. If the query is malformed, the desk is
+-- unchanged, `result` is the refusal of the query, and nothing was written.
 abbrev pub AsksQueryAndWritesView : {S : Type 0} → Ghosts S → Held S → Held S → Form → ReadResult Query → Option Text → Option Text
     → Result (Unit {0}) ReportFault → Type 0
 AsksQueryAndWritesView g old new form (Ok query) before after result =

@@ -1,4 +1,6 @@
--- The lines that a walk over the cash rows of an account writes, and the progress of this walk.
+-- The lines that a walk over the cash rows of an account writes, and the progress of this walk. The
+-- days `from` and `to` are UTC days, counted from 1970-01-01. A condition that lines were written
+-- (`Appends`) is vacuous if the writer's content before is unknown.
 use Rattle.std.specs.Prelude.{◌≡◌, ℕ, ◌+◌, ℤ, ◌+ℤ◌, Bool, true, false, List, [], ◌∷◌, ◌++◌, Option, Result, Ok, Err, codes, length, map, nat_lt}
 use Rattle.std.specs.Io.KnownBytes.{Appends}
 use Rattle.brk_money.specs.Spelling.{Text}
@@ -68,9 +70,10 @@ opening_and_cash_lines t account from to opening =
     ∷ map cash_row_line (cash_move_rows_within_days from to (sorted_cash_rows_of_account t account))
 
 -- The result of writing `opening_and_cash_lines`. `Ok`: exactly these lines were written, the count
--- of `moved` is the number of the cash rows from the day `from` to the day `to`, and its total is,
--- in cents, `opening` plus the amounts of the cash rows before the day `from` and of the counted
--- ones. `Err`: writing the lines failed as `FailsWithinFirstLines` specifies.
+-- of `moved` is the number of the cash rows of `account` from the day `from` to the day `to`, both
+-- included, and its total is, in cents, `opening` plus the amounts of the cash rows before the day
+-- `from` and of the counted ones. `Err`: writing the lines failed as `FailsWithinFirstLines`
+-- specifies.
 abbrev pub WritesCashLines : Tables → ℕ → ℕ → ℕ → ℤ → Option Text → Option Text → Result CashProgress LinesFault → Type 0
 WritesCashLines t account from to opening old new (Ok moved) =
     Appends old new (text_of_lines (opening_and_cash_lines t account from to opening))

@@ -15,8 +15,8 @@ use Rattle.brk_report_lines.specs.Written.{FailsWithinFirstLines}
 use Rattle.brk_report_lines.specs.declared.fault.LinesFault.{LinesFault}
 
 -- The result of writing `lines`, the first lines of a longer text. `Ok`: exactly `lines` were
--- written, and the returned count is `n`. `Err`: writing them failed as `FailsWithinFirstLines`
--- specifies.
+-- written, which is vacuous if the writer's content before is unknown, and the returned count is
+-- `n`. `Err`: writing them failed as `FailsWithinFirstLines` specifies.
 abbrev pub WritesCountedLines : List Text → ℕ → Option Text → Option Text → Result ℕ LinesFault → Type 0
 WritesCountedLines lines n old new (Ok count) = Appends old new (text_of_lines lines) × (count ≡ n)
 WritesCountedLines lines n old new (Err e) = FailsWithinFirstLines lines old new e
@@ -43,13 +43,13 @@ all_account_lines t account details =
     ++ holding_and_total_lines (abstract_account_row details.account) (map abstract_priced_holding details.held.items)
     (length (account_cash_rows_by_stamp t account)) (length (holding_rows_of_account t account)))))
 
--- The lines of the completed trades of the accounts of `broker`, sorted by the stamp of completion,
--- ascending, each with the running total of the commissions.
+-- The lines of the completed trades of the accounts of `broker` (`completed_trades_of_broker`),
+-- sorted by the stamp of completion, ascending, each with the running total of the commissions.
 abbrev pub broker_trade_lines : Tables → ℕ → List Text
 broker_trade_lines t broker = trade_commission_lines (completed_trades_of_broker t broker)
 
 -- All lines of the explanation of `broker`, from its row and its number of accounts in `details`
--- and from the completed trades of its accounts in the tables `t`.
+-- and from the completed trades of its accounts (`completed_trades_of_broker`) in the tables `t`.
 abbrev pub all_broker_lines : Tables → ℕ → BrokerDetails → List Text
 all_broker_lines t broker details =
     broker_header_lines (abstract_broker_row details.broker)

@@ -1,4 +1,6 @@
--- The output of a statement, which changes nothing.
+-- The output of a statement, which changes nothing. The days `from` and `to` are UTC days, counted
+-- from 1970-01-01. A condition that bytes were written (`Appends`) is vacuous if the writer's
+-- content before is unknown.
 use Rattle.std.specs.Prelude.{◌≡◌, ◌⊎◌, ℕ, List, [], IfErr, Option, Some, Result, Ok, Err, length, map, nat_lt, false, IsTrue}
 use Rattle.std.specs.Io.KnownBytes.{Appends}
 use Rattle.sqlite_trees.specs.declared.store.Store.{Ghosts}
@@ -31,7 +33,8 @@ pub record PreservesDesk {S : Type 0} (g : Ghosts S) (old new : Held S) : Type 0
 
 -- All tables that the store held before the call, in the state `old`, satisfy `So`. Vacuous if the
 -- disk assumption fails up to the state `new`, after the call, or if the store was open in the
--- state `old` and did not contain the tables of a desk.
+-- state `old` and did not contain the tables of a desk. If the store was closed in the state `old`,
+-- all values of `Tables` satisfy `So`.
 abbrev pub HoldsForStoredTables : {S : Type 0} → Ghosts S → Held S → Held S → (Tables → Type 0) → Type 0
 HoldsForStoredTables g old new So = HasCleanDisk (state g new) → (t : Tables) → HoldsRows g old t → So t
 
@@ -64,7 +67,7 @@ AreStatementLines t account from to lines =
 -- refuses the statement with this refusal; the output is not specified here. `Desk`: the fault is
 -- `Memory` or `Store`, and nothing was written, or the first lines of the statement whole, perhaps
 -- none and never the last one. `Write`: the first lines were written whole, perhaps none, and then
--- a prefix of the next one.
+-- a prefix of the next one with its line feed, perhaps empty or all of it.
 abbrev pub WritesStatement : Tables → ℕ → ℕ → ℕ → Option Text → Option Text → Result (Unit {0}) ReportFault → Type 0
 WritesStatement t account from to old new (Ok u) = (text : Text) × (statement t account from to ≡ Ok text) × Appends old new text
 WritesStatement t account from to old new (Err (Refused refusal)) = statement t account from to ≡ Err refusal

@@ -1,4 +1,6 @@
--- The lines of the parts of a statement.
+-- The lines of the parts of a statement. The days `from` and `to` are UTC days, counted from
+-- 1970-01-01. A condition that lines were written (`Appends`) is vacuous if the writer's content
+-- before is unknown.
 use Rattle.std.specs.Prelude.{◌≡◌, ℕ, ℤ, ◌+ℤ◌, List, [], ◌∷◌, ◌++◌, Option, Result, Ok, Err, codes, decimal, length, map}
 use Rattle.std.specs.Io.KnownBytes.{Appends}
 use Rattle.brk_money.specs.Spelling.{Text, day_text}
@@ -18,8 +20,8 @@ statement_header_lines account name from to =
 
 -- The line of the opening amount, which is `opening` plus the amounts of the cash rows of `account`
 -- before the day `from`, in cents; a line for each of its cash rows from the day `from` to the day
--- `to`, both included; and the line of the closing amount, which is the opening amount plus the
--- amounts of the cash rows that have a line.
+-- `to`, both included, sorted by stamp, ascending; and the line of the closing amount, which is the
+-- opening amount plus the amounts of the cash rows that have a line.
 abbrev pub cash_and_closing_lines : Tables → ℕ → ℕ → ℕ → ℤ → List Text
 cash_and_closing_lines t account from to opening =
     opening_and_cash_lines t account from to opening
@@ -28,8 +30,8 @@ cash_and_closing_lines t account from to opening =
     ∷ []
 
 -- The result of writing `cash_and_closing_lines`. `Ok`: exactly these lines were written, and
--- `count` is the number of the cash rows from the day `from` to the day `to`. `Err`: writing them
--- failed as `FailsWithinLines` specifies.
+-- `count` is the number of the cash rows of `account` from the day `from` to the day `to`, both
+-- included. `Err`: writing them failed as `FailsWithinLines` specifies.
 abbrev pub WritesCashAndClosingLines : Tables → ℕ → ℕ → ℕ → ℤ → Option Text → Option Text → Result ℕ LinesFault → Type 0
 WritesCashAndClosingLines t account from to opening old new (Ok count) =
     Appends old new (text_of_lines (cash_and_closing_lines t account from to opening))

@@ -18,7 +18,9 @@ use Rattle.brk_report_lines.specs.declared.fault.ReportFault.TheVariants.{Refuse
 -- these were written. `Refused`: `told` is this refusal; the output is not specified here. `Desk`:
 -- the fault is `Memory` or `Store`, and nothing was written, or, if `told` is lines, the first
 -- lines whole, perhaps none and never the last one. `Write`: `told` is lines, and the first lines
--- were written whole, perhaps none, and then a prefix of the next one.
+-- were written whole, perhaps none, and then a prefix of the next one with its line feed, perhaps
+-- empty or all of it. The conditions on what was written are vacuous if the writer's content before
+-- is unknown.
 abbrev pub WritesLinesOrRefuses : Result (List Text) Refusal → Option Text → Option Text → Result (Unit {0}) ReportFault → Type 0
 WritesLinesOrRefuses told old new (Ok u) = (lines : List Text) × (told ≡ Ok lines) × Appends old new (text_of_lines lines)
 WritesLinesOrRefuses told old new (Err (Refused refusal)) = told ≡ Err refusal

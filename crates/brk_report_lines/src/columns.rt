@@ -6,7 +6,8 @@ ghost use Rattle.brk_model.specs.Statement.{left_aligned_text, right_aligned_tex
 
 use brk_money::Fault;
 
-// Appends `count` spaces, at most 22. Fails with `Memory` only; `out` is then unchanged.
+// Appends `count` spaces, at most 22. Fails with `Memory` only; no clause states what `out` then
+// contains.
 fn append_spaces(out: &mut Vec<u8>, count: usize) -> Result<(), Fault>
     requires { count ≤ 22 }
     ensures ok { OnOk result (out.new.items ≡ out.old.items ++ replicate count 32) }

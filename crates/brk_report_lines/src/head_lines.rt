@@ -37,8 +37,9 @@ pub fn account_name_line(alloc: Global, name: &Name) -> Result<Vec<u8>, Fault>
     Ok(line)
 }
 
-/// Returns the line of a statement that has its first and its last day, `From DAY to DAY`, with its
-/// line feed. Fails with `Memory` only.
+/// Returns the line of a statement that has its first day, `from`, and its last day, `to`, both
+/// included: `From DAY to DAY`, with days in the format YYYY-MM-DD, and its line feed. Fails with
+/// `Memory` only.
 pub fn first_and_last_day_line(alloc: Global, from: Day, to: Day) -> Result<Vec<u8>, Fault>
     ensures line { IfOk result (λ line. line.items ≡ line_with_line_feed (codes "From " ++ day_text from ++ codes " to " ++ day_text to)) }
     ensures fault { OnErr result (result ≡ Err Memory) }
@@ -51,9 +52,9 @@ pub fn first_and_last_day_line(alloc: Global, from: Day, to: Day) -> Result<Vec<
     Ok(line)
 }
 
-/// Returns the line, with its line feed, of `word`, padded to 10 bytes, a space, and `amount`,
-/// which is in cents, as text with two decimal places, right-aligned in 22 bytes. A longer word or
-/// amount is written whole. Fails with `Memory` only.
+/// Returns the line, with its line feed, of `word`, left-aligned in 10 bytes, a space, and
+/// `amount`, which is in cents, as text with two decimal places, right-aligned in 22 bytes. A
+/// longer word or amount is written whole. Fails with `Memory` only.
 pub fn amount_line(alloc: Global, word: &str, amount: Wide) -> Result<Vec<u8>, Fault>
     ensures line { IfOk result (λ line. line.items ≡ line_with_line_feed (statement.amount_line word.now amount)) }
     ensures fault { OnErr result (result ≡ Err Memory) }

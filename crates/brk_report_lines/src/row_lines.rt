@@ -12,9 +12,9 @@ use brk_money::{Fault, Wide, day_of, write_cents, write_day};
 use itoa::Buffer;
 use std::alloc::Global;
 
-/// Returns the line of a cash row, with its line feed: its day (YYYY-MM-DD), its amount with two
-/// decimal places, right-aligned in 22 bytes (a longer one is written whole), and its name,
-/// separated by spaces. Fails with `Memory` only.
+/// Returns the line of a cash row, with its line feed: the UTC day of its stamp (YYYY-MM-DD), its
+/// amount with two decimal places, right-aligned in 22 bytes (a longer one is written whole), and
+/// its name, separated by spaces. Fails with `Memory` only.
 pub fn cash_row_line(alloc: Global, row: &MoveRow) -> Result<Vec<u8>, Fault>
     ensures line { IfOk result (λ line. line.items ≡ line_with_line_feed (statement.cash_row_line (abstract_move_row row.now))) }
     ensures fault { OnErr result (result ≡ Err Memory) }
@@ -32,9 +32,9 @@ pub fn cash_row_line(alloc: Global, row: &MoveRow) -> Result<Vec<u8>, Fault>
 }
 
 /// Returns the line of a lot, with its line feed: its symbol in 15 bytes, left-aligned, and,
-/// right-aligned, the trade that opened it in 13, its quantity (below 0 if it was sold short) in 11
-/// and its price, with two decimal places, in 10 bytes, separated by spaces. A longer text is
-/// written whole. Fails with `Memory` only.
+/// right-aligned, the id of the trade that opened it in 13, its quantity (below 0 if it was sold
+/// short) in 11 and its price, with two decimal places, in 10 bytes, separated by spaces. A longer
+/// text is written whole. Fails with `Memory` only.
 pub fn lot_line(alloc: Global, row: &HoldingRow) -> Result<Vec<u8>, Fault>
     ensures line { IfOk result (λ line. line.items ≡ line_with_line_feed (statement.lot_line (abstract_holding_row row.now))) }
     ensures fault { OnErr result (result ≡ Err Memory) }

@@ -10,8 +10,8 @@ use brk_money::Fault;
 use std::io::Write;
 
 /// Writes the line `line`, which must end with its line feed (none is added), or nothing if `line`
-/// is a fault. Fails with `Desk` and this fault, or with `Write` after a prefix of the line,
-/// perhaps all of it, if the writer fails or accepts no byte.
+/// is a fault, which must be `Memory` or `Store`. Fails with `Desk` and this fault, or with `Write`
+/// after a prefix of the line, perhaps empty or all of it, if the writer fails or accepts no byte.
 pub fn write_line<W: Write>(writer: &mut W, line: Result<Vec<u8>, Fault>) -> Result<(), LinesFault>
     ensures written { (text : Text) → IfOk line (λ l. l.items ≡ line_with_line_feed text) → IfErr line IsCallFault
         → WritesLines (text ∷ []) (W.contents writer.old) (W.contents writer.new) result }
@@ -28,8 +28,8 @@ pub fn write_line<W: Write>(writer: &mut W, line: Result<Vec<u8>, Fault>) -> Res
 }
 
 /// Writes `text`, which must be one or more lines, each with its line feed, or nothing if `text` is
-/// a fault. Fails with `Desk` and this fault, or with `Write` after a prefix of the text, perhaps
-/// all of it, if the writer fails or accepts no byte.
+/// a fault, which must be `Memory` or `Store`. Fails with `Desk` and this fault, or with `Write`
+/// after a prefix of the text, perhaps empty or all of it, if the writer fails or accepts no byte.
 pub fn write_lines<W: Write>(writer: &mut W, text: Result<Vec<u8>, Fault>) -> Result<(), LinesFault>
     ensures written { (line : Text) (lines : List Text) → IfOk text (λ t. t.items ≡ text_of_lines (line ∷ lines)) → IfErr text IsCallFault
         → WritesLines (line ∷ lines) (W.contents writer.old) (W.contents writer.new) result }

@@ -54,10 +54,11 @@ foreign_key place parent column =
     record { columns = place ∷ []; parent = parent; parent_columns = column ∷ []; on_delete = NoAction; on_update = NoAction; is_deferred = false }
 
 -- A table with this name, tree, columns and foreign keys (`references`), without checks, without
--- AUTOINCREMENT, and without defaults that are no literals. `key` is the index of its INTEGER
--- PRIMARY KEY column, or `None`; `primary` are the places of its PRIMARY KEY, and `uniques` those
--- of each UNIQUE constraint, including a PRIMARY KEY that is not the rowid. The index of each of
--- these constraints is ascending, with the collation BINARY.
+-- AUTOINCREMENT, and without defaults that are no literals. `key` is the position in `columns`,
+-- from 0, of its INTEGER PRIMARY KEY column, or `None` if it has none; `primary` are the places of
+-- its PRIMARY KEY, and `uniques` those of each UNIQUE constraint, including a PRIMARY KEY that is
+-- not the rowid. The SQL index of each element of `uniques` is ascending in all its columns, with
+-- the collation BINARY.
 abbrev pub table_without_checks : List ℕ → ℕ → List Column → Option ℕ → List ℕ → List (List ℕ) → List Reference → Table
 table_without_checks name tree columns key primary uniques references = record {
   name = name;
@@ -76,8 +77,9 @@ table_without_checks name tree columns key primary uniques references = record {
 
 -- ---- The place of a table in a schema
 
--- The table `table` is at the index `at` of the schema's list of tables, and its name refers to
--- this index.
+-- The table `table` is at the index `at`, from 0, of the schema's list of tables, and no earlier
+-- table of the list has the same name; names that differ only in the case of ASCII letters are the
+-- same.
 pub record IsTableAt (schema : Schema) (table : Table) (at : ℕ) : Type 0 where
   pub named : table_named schema table.name ≡ Some at
   pub found : slice_get schema.tables at ≡ Some table
@@ -109,10 +111,10 @@ HasNoWritingForeignKeysAt schema tree = list_all (has_no_writing_foreign_keys_if
 abbrev pub has_no_writing_foreign_keys : Table → Bool
 has_no_writing_foreign_keys t = list_all (λ ref. not (foreign_key_writes_rows ref)) t.references
 
--- The database `new` has a table without rows, whose definition is `shape tree` for its tree `tree`
--- and which is stored at the tree of no table of `old`. The database `new` also has all tables of
--- `old`, at the same indexes and with the same rows, and satisfies `IsDatabase`. No foreign key of
--- a table that `old` lacks changes or deletes rows.
+-- The database `new` has a table with the definition `shape tree`, for a number `tree` that is the
+-- tree of no table of `old` and at which `new` has no rows. The database `new` also has all tables
+-- of `old`, at the same indexes and with the same rows, and satisfies `IsDatabase`; it may have
+-- other tables. No foreign key of a table that `old` lacks changes or deletes rows.
 pub record CreatesTableOfShape (old new : Database) (shape : ℕ → Table) : Type 0 where
   pub tree : ℕ
   pub at : ℕ
@@ -129,7 +131,8 @@ pub record CreatesTableOfShape (old new : Database) (shape : ℕ → Table) : Ty
   pub sound : IsDatabase new
 
 -- The database `new` results from `old` if the tables with these definitions are created one after
--- the other, each as `CreatesTableOfShape` specifies. For an empty list `new` equals `old`.
+-- the other, in the order of the list, each as `CreatesTableOfShape` specifies. For an empty list
+-- `new` equals `old`.
 abbrev pub CreatesEachTable : List (ℕ → Table) → Database → Database → Type 0
 CreatesEachTable [] old new = new ≡ old
 CreatesEachTable (shape ∷ shapes) old new = (mid : Database) × CreatesTableOfShape old mid shape × CreatesEachTable shapes mid new
@@ -181,15 +184,15 @@ pub record PreservesUnrelatedTables {W : Type 0} (tree : W → ℕ) (old new : D
       → new.trees k.tree ≡ old.trees k.tree) old.schema.tables
 
 -- For all records `t` and trees `tree`: if the database `old` contains the tables with the records
--- `t` at these trees, `new` contains them with the records `f t` at the same trees. Other tables
--- are unchanged, unless a foreign key of theirs changes or deletes rows. Vacuous if `old` does not
--- contain the tables.
+-- `t` at these trees (`HasTables`), `new` contains them with the records `f t` at the same trees,
+-- the schema is unchanged, and so are the rows of each other table, unless a foreign key of that
+-- table changes or deletes rows. Vacuous if `old` does not contain all these tables.
 abbrev pub ChangesTablesBy : {W T : Type 0} → ProgramTables W T → (T → T) → Database → Database → Type 0
 ChangesTablesBy {W} {T} desk f old new =
     (t : T) (tree : W → ℕ) → HasTables desk t tree old → HasTables desk (f t) tree new × PreservesUnrelatedTables tree old new
 
--- `P` holds for the records `t` that the database contains in the program's tables. Vacuous if the
--- database does not contain all these tables.
+-- `P` holds for all records `t` that the database contains in the program's tables (`HasTables`, at
+-- any trees). Vacuous if the database does not contain all these tables.
 abbrev pub TablesSatisfy : {W T : Type 0} → ProgramTables W T → (T → Type 0) → Database → Type 0
 TablesSatisfy {W} {T} desk P db = (t : T) (tree : W → ℕ) → HasTables desk t tree db → P t
 
@@ -200,8 +203,9 @@ pub record PreservesAllTables (old new : Database) : Type 0 where
   pub tables : new.schema.tables ≡ old.schema.tables ++ more
   pub rows : AllByRecursion (λ t. new.trees t.tree ≡ old.trees t.tree) old.schema.tables
 
--- The database `new` contains the program's tables with the records `t`, at trees that belong to no
--- table of `old`, and all tables of `old` with their rows.
+-- The database `new` contains the program's tables with the records `t` (`HasTables`), at trees
+-- that belong to no table of `old`, and all tables of `old`, at the same indexes and with the same
+-- rows.
 pub record CreatesTablesWithRecords {W T : Type 0} (desk : ProgramTables W T) (t : T) (old new : Database) : Type 0 where
   pub tree : W → ℕ
   pub tables : HasTables desk t tree new
@@ -209,7 +213,8 @@ pub record CreatesTablesWithRecords {W T : Type 0} (desk : ProgramTables W T) (t
   pub others : PreservesAllTables old new
 
 -- If the Boolean is true, the statement `text` compiles in the schema. If it is false, `text` does
--- not compile, because a table that it names does not exist.
+-- not compile, because a table that it names does not exist. If `text` does not compile for another
+-- reason, neither Boolean is an outcome.
 abbrev pub IsCompilationOutcome : List ℕ → Bool → Schema → Type 0
 IsCompilationOutcome text true schema = (c : Compiled) × (understood schema text ≡ Ok c)
 IsCompilationOutcome text false schema = understood schema text ≡ Err NoSuchTable

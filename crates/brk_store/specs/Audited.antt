@@ -92,7 +92,8 @@ ConnectionTablesWithDeskNamesAreDeskTables g held =
 
 -- If the current database of the connection `held` has all tables of schema 3, by name and with
 -- exactly their column names, they are defined as a desk defines them, with its types, keys and
--- foreign keys. Vacuous if the disk assumption fails, or once the database is closed.
+-- foreign keys (`TablesWithSchemaNamesAreDeskTables`). Vacuous if the disk assumption fails, or
+-- once the database is closed.
 abbrev pub ConnectionTablesWithThirdSchemaNamesAreDeskTables : {S : Type 0} → Ghosts S → Held S → Type 0
 ConnectionTablesWithThirdSchemaNamesAreDeskTables g held =
     HasCleanDisk (state g held) → IsTrue (state g held).is_open → TablesWithSchemaNamesAreDeskTables third_schema (state g held).now
@@ -125,8 +126,9 @@ pub record AuditPost {S : Type 0} (g : Ghosts S) (old new : Held S) (result : Re
 
 -- The database `db` contains the tables of some schema with rows that pass the audit of this schema
 -- and whose texts are UTF-8. The database `after` contains the tables of schema 3 with the rows of
--- the base that these rows determine. Every other table of `db` is in `after` with its rows, unless
--- a foreign key of this table changes or deletes the rows by CASCADE, SET NULL or SET DEFAULT.
+-- the base that these rows determine. Every other table of `db` is in `after`, and its rows are
+-- unchanged, unless a foreign key of this table changes or deletes them by CASCADE, SET NULL or SET
+-- DEFAULT.
 abbrev pub UpgradesAuditedRows : Database → Database → Type 0
 UpgradesAuditedRows db after =
     (schema : known.Schema) × (t : Tables) × (passed : StoresRowsWithAuditResult (abstract_schema schema) t db None)

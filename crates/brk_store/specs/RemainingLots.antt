@@ -19,8 +19,9 @@ abbrev pub number_of_rows_read : {S P : Type 0} → Pages S P → ℕ
 number_of_rows_read p = p.read
 
 -- For some rows `t` that the store of the source holds, `ls` are exactly the lots that the source
--- still has to return. If the disk assumption fails, or the store is closed, the store holds every
--- `t`, so `ls` may be the lots of any rows.
+-- still has to return, in order. If the disk assumption fails, or the store is closed, the store
+-- holds every `t`, so `ls` may be the lots of any rows. False if the store is open and does not
+-- contain the tables of a desk.
 abbrev pub AreRemainingLots : {S : Type 0} → Ghosts S → Pages S Page → List Lot → Type 0
 AreRemainingLots g p ls =
     (t : Tables) × HoldsRows g p.store.now t

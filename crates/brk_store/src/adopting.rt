@@ -31,6 +31,7 @@ pub fn audit_results_are_unique()
 
 /// Proves that the database of a store that holds the tables of schema 3 with any rows satisfies
 /// the premise of an adoption (`ConnectionTablesWithDeskNamesAreDeskTables`) and has schema 3.
+/// Vacuous if the disk assumption fails, or once the store is closed.
 pub fn stores_with_rows_have_desk_definitions<S: Alter>()
     ensures defined { (held : Held S) (t : Tables) → HoldsRows S.Store held t → ConnectionTablesWithDeskNamesAreDeskTables S.Store held }
     ensures has_tables { (held : Held S) (t : Tables) → HoldsRows S.Store held t → ConnectionHasThirdSchema S.Store held }
@@ -62,8 +63,8 @@ pub fn adoption_of_third_schema_is_audit<S: Alter>()
 /// `ConnectionTablesWithDeskNamesAreDeskTables` represents some base.
 ///
 /// `base_of_old_rows`: if this store is open, then under the disk assumption the old database
-/// contained rows of some schema that pass their audit, and the store represents the base that
-/// these rows determine.
+/// contained rows of some schema, with texts in UTF-8, that pass their audit, and the store
+/// represents the base that these rows determine.
 pub fn adopted_stores_represent_a_base<S: Alter>()
     ensures rows { (store : Held S) (t : Tables) → HoldsRows S.Store store t → PassesAudit third_schema t → IsTrue (has_utf8_texts t)
         → Represents S.Store store (base_of_tables t) }

@@ -25,7 +25,8 @@ const GREATEST_MOVEMENT_COUNT: u64 = 1_000_000_000_000;
 impl<S: Alter> Store<S> {
     /// Returns the settlement day, the first day whose completions settle after one day, in days
     /// since 1970-01-01, or `None` if none is set. If the database is still open, it is unchanged.
-    /// Fails with `Store` only.
+    /// Fails with `Store` only, also if SETTLE_RULE has two rows or more, or a row with another id
+    /// than 1.
     pub fn settlement_day(&mut self) -> Result<Option<Day>, Fault>
         ensures read { ReadPost S.Store self.old self.new result (λ day t. day ≡ t.rule) }
         ensures fault { OnErr result (result ≡ Err fault.Store) }

@@ -19,7 +19,7 @@ use std::alloc::Global;
 
 impl<S: Alter> Store<S> {
     /// Returns the ids of the completed trades of an account in a security, sorted by the stamp of
-    /// completion and then by id, the oldest first. If the database is still open, it is unchanged.
+    /// completion and then by id, both ascending. If the database is still open, it is unchanged.
     /// Fails with `Memory` or `Store`.
     pub fn completed_trade_ids_of_holding(
         &mut self,

@@ -16,7 +16,7 @@ use brk_ref::BrokerRow;
 use sqlite::Alter;
 
 // Returns the totals in a broker's row, B_NUM_TRADES and B_COMM_TOTAL (in cents), or `None` only if
-// one of them is out of range.
+// one of them is out of the range of its type (`TradeCount`, `Amount`).
 fn totals_in_broker_row(row: &BrokerRow) -> Option<BrokerTotals>
     ensures none { IfNone result ((n : ℕ) → pos n ≡ row.now.trades → n ≤ TradeCount.GREATEST → row.now.commissions ≤ Amount.GREATEST → ⊥) }
     ensures some { IfSome result (λ numbers. (pos numbers.trades ≡ row.now.trades) × (numbers.commissions ≡ row.now.commissions)) }
@@ -39,7 +39,7 @@ fn totals_in_broker_row(row: &BrokerRow) -> Option<BrokerTotals>
 impl<S: Alter> Store<S> {
     /// Returns the totals in the row of a broker, B_NUM_TRADES and B_COMM_TOTAL (in cents), or
     /// `None` if the broker does not exist. If the database is still open, it is unchanged. Fails
-    /// with `Store` only, also if a total is out of range.
+    /// with `Store` only, also if a total is out of the range of its type (`TradeCount`, `Amount`).
     pub fn broker_totals(&mut self, broker: Id) -> Result<Option<BrokerTotals>, Fault>
         ensures read { ReadPost S.Store self.old self.new result (λ numbers t. AreBrokerTotals numbers (find (λ r. r.id == broker) t.brokers)) }
         ensures fault { OnErr result (result ≡ Err fault.Store) }

@@ -72,10 +72,10 @@ impl<S: Alter, P: Drop> Drop for Pages<'_, S, P> {
     }
 }
 
-// Returns a page of the lots of an account in a security: at most 16 after the first `skipped`,
-// sorted by the stamp of their opening and then by trade, the newest first if `lifo`, otherwise the
-// oldest first. If the database is still open, it is unchanged. Fails with `Memory` or `Store`
-// only.
+// Returns a page of the lots of an account in a security, sorted by the stamp of their opening and
+// then by the id of the trade that opened them, both descending if `lifo`, otherwise both
+// ascending: at most 16 after the first `skipped` lots. If the database is still open, it is
+// unchanged. Fails with `Memory` or `Store` only.
 fn read_page<S: Alter>(
     store: &mut Store<S>,
     alloc: Global,
@@ -102,10 +102,10 @@ fn is_valid_page(rows: &[HoldingRow]) -> bool
     rows.len() <= PAGE_SIZE && rows.iter().all(|row| row.qty != 0)
 }
 
-// Returns a page of the lots of an account in a security: at most 16 after the first `skipped`, the
-// newest first if `lifo`, otherwise the oldest first, each with shares. If the database is still
-// open, it is unchanged. Fails with `Memory` or `Store` only; with `Store` also if the page has
-// more than 16 rows, or a lot without shares.
+// Returns a page of the lots of an account in a security, in the order of `read_page`: at most 16
+// after the first `skipped` lots, each with shares. If the database is still open, it is unchanged.
+// Fails with `Memory` or `Store` only; with `Store` also if the page has more than 16 rows, or a
+// lot without shares.
 fn read_valid_page<S: Alter>(
     store: &mut Store<S>,
     alloc: Global,
@@ -148,8 +148,9 @@ impl<S: Alter> Store<S> {
     ghost use Rattle.brk_store.specs.RemainingLots.{borrowed_store, number_of_rows_read};
     ghost use Rattle.brk_book_theorems.specs.TradeReads.{lots_of_position};
 
-    /// Returns a source of the lots of an account in a security, the newest first if `lifo`,
-    /// otherwise the oldest first. It has read no row yet, and the store is unchanged.
+    /// Returns a source of the lots of an account in a security, sorted by the stamp of their
+    /// opening and then by the id of the trade that opened them, both descending if `lifo`,
+    /// otherwise both ascending. It has read no row yet, and the store is unchanged.
     ///
     /// A call of the source may fail, with `Memory` or `Store` only; `Store` may also mean that the
     /// next page has more than 16 rows or a lot without shares, or that the number of rows read

@@ -22,7 +22,8 @@ use std::alloc::Global;
 impl<S: Alter> Store<S> {
     /// Returns the stamp of the last accepted command, in milliseconds since 1970-01-01 UTC, or
     /// `None` if no command was accepted. If the database is still open, it is unchanged. Fails
-    /// with `Store` only.
+    /// with `Store` only, also if DESK does not have exactly one row, with the id 1 and the number
+    /// of schema 3.
     pub fn last_stamp(&mut self) -> Result<Option<Stamp>, Fault>
         ensures read { ReadPost S.Store self.old self.new result (λ last t. last ≡ t.last) }
         ensures fault { OnErr result (result ≡ Err fault.Store) }

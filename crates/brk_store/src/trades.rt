@@ -92,8 +92,9 @@ impl<S: Alter> Store<S> {
         brk_tables_trading::requests_with_bid_at_most(&mut tx, alloc, symbol, kind, price)
     }
 
-    /// Returns the last trade of a symbol on the market (LAST_TRADE), or `None` if there is none.
-    /// If the database is still open, it is unchanged. Fails with `Store` only.
+    /// Returns the row of LAST_TRADE of a symbol (its last trade on the market or, before the first
+    /// tick, its listing), or `None` if there is none. If the database is still open, it is
+    /// unchanged. Fails with `Store` only.
     pub fn last_trade(&mut self, symbol: &Symbol) -> Result<Option<LastTrade>, Fault>
         ensures read { ReadPost S.Store self.old self.new result (IsFirstMatch LastTrades abstract_last_trade_row (λ r. bytes_eq r.symbol symbol.now)) }
         ensures fault { OnErr result (result ≡ Err fault.Store) }
@@ -102,9 +103,10 @@ impl<S: Alter> Store<S> {
         brk_tables_trading::last_trade_by_symbol(&mut tx, symbol)
     }
 
-    // Returns a page of the lots of an account in a security: at most 16, after the first
-    // `skipped`, sorted by opening stamp and then by trade, the oldest first. If the database is
-    // still open, it is unchanged. Fails with `Memory` or `Store`.
+    // Returns a page of the lots of an account in a security, sorted by opening stamp and then by
+    // trade, both ascending: after the first `skipped` lots the next 16, or all that are left if
+    // there are fewer. If the database is still open, it is unchanged. Fails with `Memory` or
+    // `Store`.
     pub(crate) fn page_of_oldest_lots(
         &mut self,
         alloc: Global,
@@ -120,9 +122,10 @@ impl<S: Alter> Store<S> {
         brk_tables_trading::page_of_lots_oldest_first(&mut tx, alloc, account, symbol, skipped)
     }
 
-    // Returns a page of the lots of an account in a security: at most 16, after the first
-    // `skipped`, sorted by opening stamp and then by trade, the newest first. If the database is
-    // still open, it is unchanged. Fails with `Memory` or `Store`.
+    // Returns a page of the lots of an account in a security, sorted by opening stamp and then by
+    // trade, both descending: after the first `skipped` lots the next 16, or all that are left if
+    // there are fewer. If the database is still open, it is unchanged. Fails with `Memory` or
+    // `Store`.
     pub(crate) fn page_of_newest_lots(
         &mut self,
         alloc: Global,

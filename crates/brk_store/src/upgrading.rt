@@ -16,9 +16,10 @@ use std::alloc::Global;
 // Audits the database by the conditions of the schema that it has. If its rows pass this audit and
 // the schema is older than 3, upgrades the tables to schema 3 in the same transaction and commits
 // it. The connection must be in autocommit mode, and is so after the call. Fails with `Damaged` and
-// the first condition that fails, or with `Memory` or `Store`; a database that is still open is
-// then unchanged. `Store::adopt` states what a crash after the call exposes. The result is
-// specified only if the database satisfies `ConnectionTablesWithDeskNamesAreDeskTables`.
+// the first condition that fails (`Schema` if the database has none of the three schemas, never
+// `NotEmpty`), or with `Memory` or `Store`; a database that is still open is then unchanged.
+// `Store::adopt` states what a crash after the call exposes. The result is specified only if the
+// database satisfies `ConnectionTablesWithDeskNamesAreDeskTables`.
 fn audit_and_upgrade_database<S: Alter>(
     conn: &mut Connection<S>,
     alloc: Global,
@@ -53,9 +54,10 @@ impl<S: Alter> Store<S> {
     /// by CASCADE, SET NULL or SET DEFAULT.
     ///
     /// Errors return the connection; a database that is still open is unchanged. The fault is
-    /// `Damaged` with the first condition that fails, `Memory` or `Store`. The fault `Store` is
-    /// returned also if `conn` is in a transaction, and then the connection is unchanged; otherwise
-    /// the returned connection is in autocommit mode.
+    /// `Memory`, `Store`, or `Damaged` with the first condition that fails (`Schema` if the
+    /// database has none of the three schemas, never `NotEmpty`). The fault `Store` is returned
+    /// also if `conn` is in a transaction, and then the connection is unchanged; otherwise the
+    /// returned connection is in autocommit mode.
     ///
     /// A crash after the call exposes a state that a crash before the call could expose or, if rows
     /// of an older schema passed their audit, the upgraded tables; after `Ok` of an upgrade only

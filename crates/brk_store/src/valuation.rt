@@ -70,7 +70,7 @@ fn add_value_at_last_price<S: Alter>(
     }
 }
 
-/// Returns the holding summaries of an account, in the order of the table, and their market value
+/// Returns the holding summaries of an account, sorted by symbol, ascending, and their market value
 /// at last prices, in cents. If the database is still open, it is unchanged. Fails with `Memory` or
 /// `Store` only; with `Store` also if a held symbol has no last price or the sum overflows.
 pub fn read_valued_summaries<S: Alter>(

@@ -25,19 +25,21 @@ abbrev pub tables_with_numbered_cash_row : ℕ → CashRow → Tables → Tables
 tables_with_numbered_cash_row id c t = tables_with_cash_row (cash_move_row id (posting_of_cash_transaction_row t c)) t
 
 -- The tables `t` with the given rows of CASH_TRANSACTION inserted into CASH_MOVE, in order, under
--- the numbers `n`, `n + 1` and so on.
+-- the numbers `n`, `n + 1` and so on, each with the account of its trade
+-- (`tables_with_numbered_cash_row`).
 abbrev pub tables_with_cash_rows_numbered_from : ℕ → List CashRow → Tables → Tables
 tables_with_cash_rows_numbered_from n [] t = t
 tables_with_cash_rows_numbered_from n (c ∷ cs) t = tables_with_cash_rows_numbered_from (n + 1) cs (tables_with_numbered_cash_row n c t)
 
 -- The tables `t` with all rows of CASH_TRANSACTION inserted into CASH_MOVE, numbered from 1 by
--- ascending stamp, and with no rows in CASH_TRANSACTION.
+-- ascending stamp, those with equal stamps in the order of the table, and with no rows in
+-- CASH_TRANSACTION.
 abbrev pub tables_with_cash_transactions_moved : Tables → Tables
 tables_with_cash_transactions_moved t = tables_without_cash_transactions (tables_with_cash_rows_numbered_from 1 (cash_transactions_by_stamp t) t)
 
--- Each table of `old` is in `new`, at the same index. Its rows are unchanged if it is at none of
--- the trees of the tables `w` for which `In w` holds, and none of its own foreign keys changes or
--- deletes its rows.
+-- Each table of `old` is in `new`, at the same index; `new` may have more tables. The rows of a
+-- table of `old` are unchanged if it is at none of the trees `tree w` of the tables `w` for which
+-- `In w` holds, and no foreign key of it, or of another table at its tree, changes or deletes rows.
 pub record PreservesTablesOutside (In : DeskTable → Type 0) (tree : DeskTable → ℕ) (old new : Database) : Type 0 where
   pub more : List Table
   pub tables : new.schema.tables ≡ old.schema.tables ++ more

@@ -11,9 +11,10 @@ abbrev pub tables_without_cash_transactions : Tables → Tables
 tables_without_cash_transactions t = record t { cash = [] }
 
 -- If the database `old` contains all tables of a desk with the rows `t` and the number of some
--- schema, `new` contains them with the rows `t` and the number 3, at the same trees. Other tables
--- are unchanged, unless a foreign key of their own changes or deletes their rows. Vacuous if `old`
--- does not contain all these tables.
+-- schema, `new` contains them with the rows `t` and the number 3, at the same trees. The SQLite
+-- schema is unchanged, and so are other tables, unless a foreign key of their own changes or
+-- deletes their rows (`PreservesUnrelatedTables`). Vacuous if `old` does not contain all tables of
+-- a desk.
 abbrev pub SetsSchemaNumberToThree : Database → Database → Type 0
 SetsSchemaNumberToThree old new =
     (schema : Schema) (t : Tables) (tree : DeskTable → ℕ) → HasTables (desk_tables_of_schema schema) t tree old

@@ -30,7 +30,8 @@ pub fn set_settlement_day<S: Alter>(tx: &mut Transaction<'_, S>, day: Day) -> Re
 
 // Decodes the settlement day, the first day whose completions settle after one day, in days since
 // 1970-01-01, from all rows of SETTLE_RULE, or returns `None` if there is no row. Fails with
-// `Store` only, if there are two rows or more, if a row is malformed, or if memory runs out.
+// `Store` only, if there are two rows or more, if the row is malformed or has another id than 1, or
+// if memory runs out.
 fn settlement_day_in_rows(rows: &[Row]) -> Result<Option<Day>, Fault>
     ensures value { IfOk result (λ day. map rule_cells (rule_rows day) ≡ rows.now) }
     ensures fault { OnErr result (result ≡ Err Store) }
@@ -40,8 +41,8 @@ fn settlement_day_in_rows(rows: &[Row]) -> Result<Option<Day>, Fault>
 
 /// Returns the settlement day, the first day whose completions settle after one day (SR_DAY), in
 /// days since 1970-01-01, or `None` if none is set. Changes nothing if it succeeds. Fails with
-/// `Store` only, also if SETTLE_RULE has two rows or more, or a malformed one, or if memory runs
-/// out.
+/// `Store` only, also if SETTLE_RULE has two rows or more, if its row is malformed or has another
+/// id than 1, or if memory runs out.
 pub fn settlement_day<S: Alter>(tx: &mut Transaction<'_, S>) -> Result<Option<Day>, Fault>
     ensures same_reference { tx.new.conn.ghost_name ≡ tx.old.conn.ghost_name }
     ensures step { ReadsDeskTables S.Store tx.old tx.new result (λ day t. day ≡ t.rule) }

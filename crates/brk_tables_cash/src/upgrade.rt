@@ -33,11 +33,11 @@ fn add_tables_of_later_schemas<S: Alter>(
     set_schema_number_to_three(tx)
 }
 
-// Inserts the rows of CASH_TRANSACTION into CASH_MOVE, numbered from 1 by ascending stamp, and
-// deletes them from CASH_TRANSACTION. Fails with `Memory` or `Store` only; with `Store` also if one
-// of the numbers exists or exceeds the greatest `MoveId`, if a row is malformed, or if the trade of
-// a row does not exist, has a cash row or has a malformed account id. After an error, some of the
-// rows may be in CASH_MOVE; none is deleted.
+// Inserts the rows of CASH_TRANSACTION into CASH_MOVE, numbered from 1 by stamp and then by trade,
+// both ascending, and deletes them from CASH_TRANSACTION. Fails with `Memory` or `Store` only; with
+// `Store` also if one of the numbers exists or exceeds the greatest `MoveId`, if a row is
+// malformed, or if the trade of a row does not exist, has a cash row or has a malformed account id.
+// After an error, some of the rows may be in CASH_MOVE; none is deleted.
 fn move_cash_transactions_to_cash_moves<S: Alter>(
     tx: &mut Transaction<'_, S>,
     alloc: Global,
@@ -54,12 +54,12 @@ fn move_cash_transactions_to_cash_moves<S: Alter>(
 
 /// Upgrades the tables of `schema`, with any rows, to schema 3: creates the tables that are
 /// missing, sets the number of the schema, and for schema 1 moves the rows of CASH_TRANSACTION to
-/// CASH_MOVE, numbered from 1 by ascending stamp. Fails with `Memory` or `Store` only; with `Store`
-/// also if a table that a later schema adds exists, if one of these rows is malformed, if its trade
-/// does not exist, has a second cash row or has a malformed account id, or if there are more of
-/// these rows than `MoveId` has numbers. After an error, a part of these changes may be made in the
-/// transaction; nothing is committed. The effect is specified only if the tables of `schema` exist,
-/// and none that a later schema adds.
+/// CASH_MOVE, numbered from 1 by stamp and then by trade, both ascending. Fails with `Memory` or
+/// `Store` only; with `Store` also if a table that a later schema adds exists, if one of these rows
+/// is malformed, if the trade of one does not exist, has a second cash row or has a malformed
+/// account id, or if there are more of these rows than `MoveId` has numbers. After an error, a part
+/// of these changes may be made in the transaction; nothing is committed. The effect is specified
+/// only if the tables of `schema` exist, and none that a later schema adds.
 pub fn upgrade_tables<S: Alter>(
     tx: &mut Transaction<'_, S>,
     alloc: Global,

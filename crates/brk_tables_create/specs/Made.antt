@@ -5,8 +5,9 @@ use Rattle.brk_model.specs.Tables.{tables_without_rows}
 use Rattle.brk_sql.specs.Desk.{PreservesAllTables}
 use Rattle.brk_tables_schema.specs.Made.{HasDeskTables}
 
--- The database `new` contains the tables of a desk in schema 3, without rows, except for the one
--- row of DESK, and all tables of `old` with their rows.
+-- The database `new` contains the tables of a desk in schema 3 (`HasDeskTables`), without rows,
+-- except for the one row of DESK, which has no stamp. It also contains all tables of `old`, with
+-- the same rows (`PreservesAllTables`).
 pub record CreatesDeskTables (old new : Database) : Type 0 where
   pub rows : HasDeskTables tables_without_rows new
   pub others : PreservesAllTables old new

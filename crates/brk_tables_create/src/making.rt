@@ -57,10 +57,10 @@ fn add_desk_row<S: Alter>(tx: &mut Transaction<'_, S>) -> Result<(), Fault>
     )
 }
 
-/// Creates the tables of schema 3, without rows, except for the one row of DESK, and leaves the
-/// rows of existing tables unchanged. Commits nothing. Fails with `Store` only, also if a table
-/// with the name of a table of schema 3 exists. After an error, some of these tables, or all
-/// without the row of DESK, may exist in the transaction.
+/// Creates the tables of schema 3, without rows, except for the one row of DESK, with the schema
+/// number 3 and no stamp, and leaves the rows of existing tables unchanged. Commits nothing. Fails
+/// with `Store` only, also if a table with the name of a table of schema 3 exists. After an error,
+/// some of these tables, or all without the row of DESK, may exist in the transaction.
 pub fn create_third_schema_tables<S: Alter>(tx: &mut Transaction<'_, S>) -> Result<(), Fault>
     ensures same_reference { tx.new.conn.ghost_name ≡ tx.old.conn.ghost_name }
     ensures step { IsConnectionStep S.Store tx.old tx.new result (λ _ a b. CreatesDeskTables a.now b.now) }

@@ -38,15 +38,17 @@ use Rattle.brk_tables_scan.specs.declared.all_tables.SummaryAndSettlementSheets.
 use Rattle.brk_tables_scan.specs.declared.all_tables.LaterSchemaSheets.{LaterSchemaSheets}
 
 -- The raw rows of DESK, KEPT, BROKER and CUSTOMER are, in order, the encodings of the typed rows
--- `sheets`, but for the texts of KEPT. The row of DESK has the number of `schema`.
+-- `sheets`, but for the texts of KEPT. DESK has exactly one row, with the id 1 and the number of
+-- `schema`.
 pub record DecodesDeskAndCustomerTables (schema : Schema) (sheets : DeskAndCustomerSheets) (raw : DeskAndCustomerRows) : Type 0 where
   pub desk : map desk_row_cells (desk_rows schema sheets.last) ≡ raw.desk
   pub kept : AreKeysOfRawRows sheets.kept.items raw.kept
   pub brokers : map (λ r. broker_cells (abstract_broker_row r)) sheets.brokers.items ≡ raw.brokers
   pub customers : map (λ r. customer_cells (abstract_customer r)) sheets.customers.items ≡ raw.customers
 
--- True if each column of each raw row of DESK, KEPT, BROKER and CUSTOMER is well-formed, and there
--- is exactly one row of DESK, with the number of the schema `desk`.
+-- True if each raw row of DESK, KEPT, BROKER and CUSTOMER has exactly the columns of its table,
+-- each well-formed (`passes_all_cell_checks`), and there is exactly one row of DESK, with the
+-- number of the schema `desk`.
 abbrev pub are_desk_and_customer_rows_well_formed : Schema → DeskAndCustomerRows → Bool
 are_desk_and_customer_rows_well_formed desk raw =
     has_one_valid_desk_row desk raw.desk && list_all (passes_all_cell_checks kept_column_cell_checks) raw.kept
@@ -61,8 +63,8 @@ pub record DecodesAccountAndSecurityTables (sheets : AccountAndSecuritySheets) (
   pub securities : map (λ r. security_cells (abstract_security_row r)) sheets.securities.items ≡ raw.securities
   pub last_trades : map (λ r. last_trade_cells (abstract_last_trade_row r)) sheets.last_trades.items ≡ raw.last_trades
 
--- True if each column of each raw row of CUSTOMER_ACCOUNT, ACCOUNT_PERMISSION, SECURITY and
--- LAST_TRADE is well-formed.
+-- True if each raw row of CUSTOMER_ACCOUNT, ACCOUNT_PERMISSION, SECURITY and LAST_TRADE has exactly
+-- the columns of its table, each well-formed (`passes_all_cell_checks`).
 abbrev pub are_account_and_security_rows_well_formed : AccountAndSecurityRows → Bool
 are_account_and_security_rows_well_formed raw =
     list_all (passes_all_cell_checks account_column_cell_checks) raw.accounts
@@ -78,8 +80,8 @@ pub record DecodesChargeAndRateTables (sheets : ChargeAndRateSheets) (raw : Char
   pub tax_rates : map (λ r. tax_rate_cells (abstract_tax_rate r)) sheets.tax_rates.items ≡ raw.tax_rates
   pub customer_taxes : map (λ r. customer_tax_cells (abstract_customer_tax r)) sheets.customer_taxes.items ≡ raw.customer_taxes
 
--- True if each column of each raw row of CHARGE, COMMISSION_RATE, TAXRATE and CUSTOMER_TAXRATE is
--- well-formed.
+-- True if each raw row of CHARGE, COMMISSION_RATE, TAXRATE and CUSTOMER_TAXRATE has exactly the
+-- columns of its table, each well-formed (`passes_all_cell_checks`).
 abbrev pub are_charge_and_rate_rows_well_formed : ChargeAndRateRows → Bool
 are_charge_and_rate_rows_well_formed raw =
     list_all (passes_all_cell_checks charge_column_cell_checks) raw.charges && list_all (passes_all_cell_checks band_column_cell_checks) raw.bands
@@ -94,8 +96,8 @@ pub record DecodesTradeAndHoldingTables (sheets : TradeAndHoldingSheets) (raw : 
   pub requests : map (λ r. request_cells (abstract_request_row r)) sheets.requests.items ≡ raw.requests
   pub holdings : map (λ r. holding_cells (abstract_holding_row r)) sheets.holdings.items ≡ raw.holdings
 
--- True if each column of each raw row of TRADE, TRADE_HISTORY, TRADE_REQUEST and HOLDING is
--- well-formed.
+-- True if each raw row of TRADE, TRADE_HISTORY, TRADE_REQUEST and HOLDING has exactly the columns
+-- of its table, each well-formed (`passes_all_cell_checks`).
 abbrev pub are_trade_and_holding_rows_well_formed : TradeAndHoldingRows → Bool
 are_trade_and_holding_rows_well_formed raw =
     list_all (passes_all_cell_checks trade_column_cell_checks) raw.trades && list_all (passes_all_cell_checks history_column_cell_checks) raw.history
@@ -110,8 +112,8 @@ pub record DecodesSummaryAndSettlementTables (sheets : SummaryAndSettlementSheet
   pub settlements : map (λ r. settlement_cells (abstract_settlement_row r)) sheets.settlements.items ≡ raw.settlements
   pub cash : map (λ r. cash_cells (abstract_cash_row r)) sheets.cash.items ≡ raw.cash
 
--- True if each column of each raw row of HOLDING_SUMMARY, HOLDING_HISTORY, SETTLEMENT and
--- CASH_TRANSACTION is well-formed.
+-- True if each raw row of HOLDING_SUMMARY, HOLDING_HISTORY, SETTLEMENT and CASH_TRANSACTION has
+-- exactly the columns of its table, each well-formed (`passes_all_cell_checks`).
 abbrev pub are_summary_and_settlement_rows_well_formed : SummaryAndSettlementRows → Bool
 are_summary_and_settlement_rows_well_formed raw =
     list_all (passes_all_cell_checks summary_column_cell_checks) raw.summaries
@@ -120,18 +122,19 @@ are_summary_and_settlement_rows_well_formed raw =
     && list_all (passes_all_cell_checks cash_column_cell_checks) raw.cash
 
 -- The raw rows of CASH_MOVE and SETTLE_RULE are, in order, the encodings of the typed rows
--- `sheets`.
+-- `sheets`. SETTLE_RULE has one row if `sheets` has a settlement day, otherwise none.
 pub record DecodesLaterSchemaTables (sheets : LaterSchemaSheets) (raw : LaterSchemaRows) : Type 0 where
   pub moves : map (λ r. move_cells (abstract_move_row r)) sheets.moves.items ≡ raw.moves
   pub rule : map rule_cells (rule_rows sheets.rule) ≡ raw.rule
 
--- True if each column of each raw row of CASH_MOVE and SETTLE_RULE is well-formed, and there is at
--- most one row of SETTLE_RULE.
+-- True if each raw row of CASH_MOVE and SETTLE_RULE has exactly the columns of its table, each
+-- well-formed (`passes_all_cell_checks`), and there is at most one row of SETTLE_RULE.
 abbrev pub are_later_schema_rows_well_formed : LaterSchemaRows → Bool
 are_later_schema_rows_well_formed raw = list_all (passes_all_cell_checks move_column_cell_checks) raw.moves && has_at_most_one_valid_rule_row raw.rule
 
--- True if each column of each raw row of all tables is well-formed, there is exactly one row of
--- DESK, with the number of the schema `desk`, and there is at most one row of SETTLE_RULE.
+-- True if each raw row of each table has exactly the columns of its table, each well-formed
+-- (`passes_all_cell_checks`), there is exactly one row of DESK, with the number of the schema
+-- `desk`, and there is at most one row of SETTLE_RULE.
 abbrev pub are_raw_sheets_well_formed : Schema → RawSheets → Bool
 are_raw_sheets_well_formed desk raw =
     are_desk_and_customer_rows_well_formed desk raw.first && are_account_and_security_rows_well_formed raw.accounts
@@ -140,7 +143,8 @@ are_raw_sheets_well_formed desk raw =
 
 -- The raw rows of each table are, in order, the encodings of the typed rows `sheets`. Of KEPT,
 -- `sheets` has the keys alone: the raw rows of KEPT are, in order, the encodings of `whole`, typed
--- rows with these keys and any texts. The row of DESK has the number of the schema `desk`.
+-- rows with these keys and any texts. DESK has exactly one row, with the id 1 and the number of the
+-- schema `desk`. SETTLE_RULE has one row if `sheets` has a settlement day, otherwise none.
 pub record DecodesSheets (desk : Schema) (sheets : Sheets) (raw : RawSheets) : Type 0 where
   pub whole : List typed.Kept
   pub keys : keys_of_kept_rows whole ≡ map abstract_key sheets.kept.items
@@ -159,73 +163,79 @@ pub record ContinuesDecoding (old new are_well_formed : Bool) (Decodes : Type 0)
   -- well-formed.
   pub form : new ≡ false → (old ≡ false) ⊎ (are_well_formed ≡ false)
 
--- The reads return all rows of DESK, KEPT, BROKER and CUSTOMER from an open database
--- (`ShowsAllRows`), and change nothing. If the flag `new` after the decoding is true, the typed
--- rows `sheets` are the decoded rows, but for the texts of KEPT. If it is false, the flag `old`
--- before the decoding was false, a row is malformed, or DESK does not have exactly one row, with
--- the number of the schema `desk`. The clause on the rows of a table is vacuous if the database
--- does not define it as a desk does.
+-- The reads, from the state `a` to the state `b`, return all rows of DESK, KEPT, BROKER and
+-- CUSTOMER from an open database (`ShowsAllRows`), and leave the contents of the database
+-- unchanged. If the flag `new` after the decoding is true, the flag `old` before it was true, and
+-- the typed rows `sheets` are the decoded rows, but for the texts of KEPT. If `new` is false, `old`
+-- was false, a row is malformed, or DESK does not have exactly one row, with the number of the
+-- schema `desk`. The clause on the rows of a table is vacuous if the database does not define it as
+-- a desk does.
 pub record ReadsDeskAndCustomerTables (desk : Schema) (old new : Bool) (sheets : DeskAndCustomerSheets) (a b : State) : Type 0 where
   pub raw : DeskAndCustomerRows
   pub shown : ShowsDeskAndCustomerTables raw a b
   pub decoded : ContinuesDecoding old new (are_desk_and_customer_rows_well_formed desk raw) (DecodesDeskAndCustomerTables desk sheets raw)
 
--- The reads return all rows of CUSTOMER_ACCOUNT, ACCOUNT_PERMISSION, SECURITY and LAST_TRADE from
--- an open database (`ShowsAllRows`), and change nothing. If the flag `new` after the decoding is
--- true, the typed rows `sheets` are the decoded rows. If it is false, the flag `old` before the
--- decoding was false or a row is malformed. The clause on the rows of a table is vacuous if the
--- database does not define it as a desk does.
+-- The reads, from the state `a` to the state `b`, return all rows of CUSTOMER_ACCOUNT,
+-- ACCOUNT_PERMISSION, SECURITY and LAST_TRADE from an open database (`ShowsAllRows`), and leave the
+-- contents of the database unchanged. If the flag `new` after the decoding is true, the flag `old`
+-- before it was true, and the typed rows `sheets` are the decoded rows. If `new` is false, `old`
+-- was false or a row is malformed. The clause on the rows of a table is vacuous if the database
+-- does not define it as a desk does.
 pub record ReadsAccountAndSecurityTables (old new : Bool) (sheets : AccountAndSecuritySheets) (a b : State) : Type 0 where
   pub raw : AccountAndSecurityRows
   pub shown : ShowsAccountAndSecurityTables raw a b
   pub decoded : ContinuesDecoding old new (are_account_and_security_rows_well_formed raw) (DecodesAccountAndSecurityTables sheets raw)
 
--- The reads return all rows of CHARGE, COMMISSION_RATE, TAXRATE and CUSTOMER_TAXRATE from an open
--- database (`ShowsAllRows`), and change nothing. If the flag `new` after the decoding is true, the
--- typed rows `sheets` are the decoded rows. If it is false, the flag `old` before the decoding was
--- false or a row is malformed. The clause on the rows of a table is vacuous if the database does
--- not define it as a desk does.
+-- The reads, from the state `a` to the state `b`, return all rows of CHARGE, COMMISSION_RATE,
+-- TAXRATE and CUSTOMER_TAXRATE from an open database (`ShowsAllRows`), and leave the contents of
+-- the database unchanged. If the flag `new` after the decoding is true, the flag `old` before it
+-- was true, and the typed rows `sheets` are the decoded rows. If `new` is false, `old` was false or
+-- a row is malformed. The clause on the rows of a table is vacuous if the database does not define
+-- it as a desk does.
 pub record ReadsChargeAndRateTables (old new : Bool) (sheets : ChargeAndRateSheets) (a b : State) : Type 0 where
   pub raw : ChargeAndRateRows
   pub shown : ShowsChargeAndRateTables raw a b
   pub decoded : ContinuesDecoding old new (are_charge_and_rate_rows_well_formed raw) (DecodesChargeAndRateTables sheets raw)
 
--- The reads return all rows of TRADE, TRADE_HISTORY, TRADE_REQUEST and HOLDING from an open
--- database (`ShowsAllRows`), and change nothing. If the flag `new` after the decoding is true, the
--- typed rows `sheets` are the decoded rows. If it is false, the flag `old` before the decoding was
--- false or a row is malformed. The clause on the rows of a table is vacuous if the database does
--- not define it as a desk does.
+-- The reads, from the state `a` to the state `b`, return all rows of TRADE, TRADE_HISTORY,
+-- TRADE_REQUEST and HOLDING from an open database (`ShowsAllRows`), and leave the contents of the
+-- database unchanged. If the flag `new` after the decoding is true, the flag `old` before it was
+-- true, and the typed rows `sheets` are the decoded rows. If `new` is false, `old` was false or a
+-- row is malformed. The clause on the rows of a table is vacuous if the database does not define it
+-- as a desk does.
 pub record ReadsTradeAndHoldingTables (old new : Bool) (sheets : TradeAndHoldingSheets) (a b : State) : Type 0 where
   pub raw : TradeAndHoldingRows
   pub shown : ShowsTradeAndHoldingTables raw a b
   pub decoded : ContinuesDecoding old new (are_trade_and_holding_rows_well_formed raw) (DecodesTradeAndHoldingTables sheets raw)
 
--- The reads return all rows of HOLDING_SUMMARY, HOLDING_HISTORY, SETTLEMENT and CASH_TRANSACTION
--- from an open database (`ShowsAllRows`), and change nothing. If the flag `new` after the decoding
--- is true, the typed rows `sheets` are the decoded rows. If it is false, the flag `old` before the
--- decoding was false or a row is malformed. The clause on the rows of a table is vacuous if the
+-- The reads, from the state `a` to the state `b`, return all rows of HOLDING_SUMMARY,
+-- HOLDING_HISTORY, SETTLEMENT and CASH_TRANSACTION from an open database (`ShowsAllRows`), and
+-- leave the contents of the database unchanged. If the flag `new` after the decoding is true, the
+-- flag `old` before it was true, and the typed rows `sheets` are the decoded rows. If `new` is
+-- false, `old` was false or a row is malformed. The clause on the rows of a table is vacuous if the
 -- database does not define it as a desk does.
 pub record ReadsSummaryAndSettlementTables (old new : Bool) (sheets : SummaryAndSettlementSheets) (a b : State) : Type 0 where
   pub raw : SummaryAndSettlementRows
   pub shown : ShowsSummaryAndSettlementTables raw a b
   pub decoded : ContinuesDecoding old new (are_summary_and_settlement_rows_well_formed raw) (DecodesSummaryAndSettlementTables sheets raw)
 
--- The reads return all rows of CASH_MOVE and SETTLE_RULE, or none of a table that the schema `desk`
--- does not have (`ShowsRowsIfInSchema`), and change nothing. If the flag `new` after the decoding
--- is true, the typed rows `sheets` are the decoded rows. If it is false, the flag `old` before the
--- decoding was false, a row is malformed, or SETTLE_RULE has two rows or more. The clause on the
--- rows of a table is vacuous if the database does not define it as a desk does.
+-- The reads, from the state `a` to the state `b`, return all rows of CASH_MOVE and SETTLE_RULE, or
+-- none of a table that the schema `desk` does not have (`ShowsRowsIfInSchema`), and leave the
+-- contents of the database unchanged. If the flag `new` after the decoding is true, the flag `old`
+-- before it was true, and the typed rows `sheets` are the decoded rows. If `new` is false, `old`
+-- was false, a row is malformed, or SETTLE_RULE has two rows or more. The clause on the rows of a
+-- table is vacuous if the database does not define it as a desk does.
 pub record ReadsLaterSchemaTables (desk : Schema) (old new : Bool) (sheets : LaterSchemaSheets) (a b : State) : Type 0 where
   pub raw : LaterSchemaRows
   pub shown : ShowsLaterSchemaTables desk raw a b
   pub decoded : ContinuesDecoding old new (are_later_schema_rows_well_formed raw) (DecodesLaterSchemaTables sheets raw)
 
--- The reads return all rows of each table of the schema `desk`, and none of other tables
--- (`ShowsRowsIfInSchema`). The database was open, and the reads changed nothing. If the flag `new`
--- after the decoding is true, the typed rows `sheets` are the decoded rows, but for the texts of
--- KEPT. If it is false, the flag `old` before the decoding was false or the rows are malformed
--- (`are_raw_sheets_well_formed`). The clause on the rows of a table is vacuous if the database does
--- not define it as a desk does.
+-- The reads, from the state `a` to the state `b`, return all rows of each table of the schema
+-- `desk`, and none of other tables (`ShowsRowsIfInSchema`). The database was open, and its contents
+-- are unchanged. If the flag `new` after the decoding is true, the flag `old` before it was true,
+-- and the typed rows `sheets` are the decoded rows, but for the texts of KEPT. If `new` is false,
+-- `old` was false or the rows are malformed (`are_raw_sheets_well_formed`). The clause on the rows
+-- of a table is vacuous if the database does not define it as a desk does.
 pub record ReadsAndDecodesDeskTables (desk : Schema) (old new : Bool) (sheets : Sheets) (a b : State) : Type 0 where
   pub raw : RawSheets
   pub stays : IsUnchangedAndOpen a b

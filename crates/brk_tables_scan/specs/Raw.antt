@@ -62,7 +62,7 @@ pub record RawSheets : Type 0 where
 abbrev pub IsUnchangedAndOpen : State → State → Type 0
 IsUnchangedAndOpen old new = IsTrue old.is_open × (new.now ≡ old.now)
 
--- The database was open, and the reads changed nothing. The lists `a`, `b`, `c` and `d` have all
+-- The database was open, and the reads changed nothing. The lists `a`, `b`, `c` and `d` are all
 -- rows of the tables `first`, `second`, `third` and `fourth` (`ShowsAllRows`). The clause on a
 -- table is vacuous if the database does not define it as a desk does.
 pub record ShowsFourTables (first second third fourth : DeskTable) (a b c d : List Row) (old new : State) : Type 0 where

@@ -31,14 +31,16 @@ pub record TableAndColumnNames : Type 0 where
 abbrev pub table_and_column_names : Table → TableAndColumnNames
 table_and_column_names table = record { name = table.name; columns = map (λ c. c.name) table.columns }
 
--- The table `table` is at the index `at` of `schema`, the list of the tables of the database. It
--- has the name and exactly the column names of `names`, in order.
+-- The table `table` is at the index `at` of `schema`, the list of the tables of the database. It is
+-- the first with the name of `names` (upper and lower case of ASCII letters are equal), and it has
+-- exactly the column names of `names`, in order.
 pub record IsTableWithNames (schema : database.Schema) (names : TableAndColumnNames) (at : ℕ) (table : Table) : Type 0 where
   pub named : table_named schema names.name ≡ Some at
   pub found : slice_get schema.tables at ≡ Some table
   pub columns : map (λ c. c.name) table.columns ≡ names.columns
 
--- The database has a table with the name and exactly the column names of `names`, in order.
+-- The database has a table with the name and exactly the column names of `names`, in order
+-- (`IsTableWithNames`).
 abbrev pub HasTableWithNames : database.Schema → TableAndColumnNames → Type 0
 HasTableWithNames schema names = (at : ℕ) × (table : Table) × IsTableWithNames schema names at table
 
@@ -83,7 +85,8 @@ pub record HasDistinctRowids (rows : List Row) : Type 0 where
 -- tree changes or deletes rows. The database is well-formed (`IsDatabase`).
 pub record HasDeskDefinitions (desk : Schema) (db : Database) : Type 0 where
   pub sound : IsDatabase db
-  -- The column types, keys and foreign keys equal those that the desk defines for this name.
+  -- The definition of the table equals in all parts the one that the desk has for this name, at the
+  -- tree of the table.
   pub shaped : (w : DeskTable) → IsTableOfSchema desk w → (at : ℕ) (table : Table) → table_named db.schema (table_name w) ≡ Some at
       → slice_get db.schema.tables at ≡ Some table → table ≡ table_definition_at_tree w table.tree
   -- No two of these tables share a tree.
@@ -97,13 +100,15 @@ pub record HasDeskDefinitions (desk : Schema) (db : Database) : Type 0 where
       → HasDistinctRowids (db.trees tree)
 
 -- If the database has each table of the schema `desk`, by its name and with exactly its column
--- names, these tables are defined as a desk defines them (`HasDeskDefinitions`). Vacuous if one of
--- these tables is missing or has other column names.
+-- names, in order, these tables are defined as a desk defines them, and they and the database
+-- satisfy the other clauses of `HasDeskDefinitions`. Vacuous if one of these tables is missing or
+-- has other column names.
 abbrev pub TablesWithSchemaNamesAreDeskTables : Schema → Database → Type 0
 TablesWithSchemaNamesAreDeskTables desk db = HasTablesOfSchema desk db.schema → HasDeskDefinitions desk db
 
 -- For each schema of a desk: if the database has each of its tables, by its name and with exactly
--- its column names, these tables are defined as a desk defines them. This is the premise on a
--- database that another program may have created; an empty database satisfies it.
+-- its column names, in order, these tables are defined as a desk defines them
+-- (`HasDeskDefinitions`). This is the premise on a database that another program may have created;
+-- an empty database satisfies it.
 abbrev pub TablesWithDeskNamesAreDeskTables : Database → Type 0
 TablesWithDeskNamesAreDeskTables db = (schema : known.Schema) → TablesWithSchemaNamesAreDeskTables (abstract_schema schema) db

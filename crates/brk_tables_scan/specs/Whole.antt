@@ -20,14 +20,15 @@ use Rattle.brk_tables_schema.specs.Made.{HasDeskTablesInSchema, IsTableOfSchema}
 use Rattle.brk_tables_scan.specs.KeptKeys.{keys_of_kept_rows, tables_with_whole_kept_rows}
 use Rattle.brk_tables_scan.specs.Schemas.{HasDistinctRowids}
 
--- The list `rows` has the rows at the tree `tree` of the table `w`, each as often as it occurs
--- there. If the table contains records, `rows` are their encodings, in the order of the key.
--- Conversely, if `rows` are the encodings of records, the rowids are distinct integers, and the
--- database satisfies `IsDatabase`, the table contains these records.
+-- The list `rows` has exactly the rows at the tree `tree` of the table `w`, each as often as it
+-- occurs there. If the table contains a list of records (`TreeHoldsRecords`), `rows` are their
+-- encodings, in the order of the key, ascending. Conversely, if `rows` are the encodings of a list
+-- of records, in order, the rowids are distinct integers, and the database satisfies `IsDatabase`,
+-- the table contains this list.
 pub record AreTableRows (w : DeskTable) (rows : List Row) (db : Database) (tree : ℕ) : Type 0 where
-  -- The rows are all rows of the tree, each as often as it occurs there.
+  -- The rows are exactly the rows of the tree, each as often as it occurs there.
   pub all : IsPermutation (map (cells_in_column_order (table_definition_at_tree w tree)) (db.trees tree)) rows
-  -- If the table contains records, the rows are their encodings, in order.
+  -- If the table contains the list of records, the rows are their encodings, in order.
   pub rows_encode_records : (xs : List (RecordOfTable w))
       → TreeHoldsRecords (table_definition_at_tree w tree) (encoded_row w) (ordering_by_primary_key w) xs (db.trees tree) → rows ≡ map (encoded_row w) xs
   -- If the rows are the encodings of records, the rowids are distinct integers, and the database
@@ -35,19 +36,22 @@ pub record AreTableRows (w : DeskTable) (rows : List Row) (db : Database) (tree 
   pub table_holds_records : (xs : List (RecordOfTable w)) → IsDatabase db → HasDistinctRowids (db.trees tree) → map (encoded_row w) xs ≡ rows
       → TreeHoldsRecords (table_definition_at_tree w tree) (encoded_row w) (ordering_by_primary_key w) xs (db.trees tree)
 
--- The list `rows` has all rows of the table `w`, and if the table contains records, in the order of
--- the key (`AreTableRows`). Vacuous if no table of the database is defined as a desk defines `w`.
+-- The list `rows` has exactly the rows of the table `w`, each as often as it occurs there. If the
+-- table contains a list of records (`TreeHoldsRecords`), `rows` are their encodings, in the order
+-- of the key, ascending (`AreTableRows`). Vacuous if no table of the database is defined as a desk
+-- defines `w`.
 abbrev pub ShowsAllRows : DeskTable → List Row → Database → Type 0
 ShowsAllRows w rows db = (at tree : ℕ) → IsTableAt db.schema (table_definition_at_tree w tree) at → AreTableRows w rows db tree
 
 -- Under the disk assumption and within a transaction: if the call succeeds, the database was open
 -- and is unchanged, and the call returns all rows of the table `w` (`ShowsAllRows`, which is
--- vacuous if no table of the database is defined as a desk defines `w`). Under the disk assumption
--- the call commits nothing.
+-- vacuous if no table of the database is defined as a desk defines `w`). The call is a step of its
+-- connection (`IsConnectionStep`), so under the disk assumption it commits nothing, and leaves an
+-- open transaction open if it succeeds.
 abbrev pub ReadsAllRows : {S E : Type 0} → Ghosts S → Transaction S → Transaction S → Result (Vec Row) E → DeskTable → Type 0
 ReadsAllRows g old new result w = IsConnectionStep g old new result (λ rows a b. IsTrue a.is_open × (b.now ≡ a.now) × ShowsAllRows w rows.items a.now)
 
--- If the schema `desk` has the table `w`, the list `rows` has all rows of this table
+-- If the schema `desk` has the table `w`, the list `rows` is all rows of this table
 -- (`ShowsAllRows`, which is vacuous if the database does not define the table as a desk does).
 -- Otherwise the list is empty.
 abbrev pub ShowsRowsIfInSchema : Schema → DeskTable → List Row → Database → Type 0
@@ -56,12 +60,14 @@ ShowsRowsIfInSchema desk w rows db = (IsTableOfSchema desk w → ShowsAllRows w 
 -- Under the disk assumption and within a transaction: if the call succeeds, the database is
 -- unchanged, and the call returns all rows of the table `w` (`ShowsAllRows`, which is vacuous if no
 -- table of the database is defined as a desk defines `w`), or none if the schema `desk` does not
--- have this table. Under the disk assumption the call commits nothing.
+-- have this table. The call is a step of its connection (`IsConnectionStep`), so under the disk
+-- assumption it commits nothing, and leaves an open transaction open if it succeeds.
 abbrev pub ReadsRowsIfInSchema : {S E : Type 0} → Ghosts S → Transaction S → Transaction S → Result (Vec Row) E → Schema → DeskTable → Type 0
 ReadsRowsIfInSchema g old new result desk w = IsConnectionStep g old new result (λ rows a b. (b.now ≡ a.now) × ShowsRowsIfInSchema desk w rows.items a.now)
 
--- The database contains the tables of the schema with the typed rows `sheets`, but for the texts of
--- KEPT: its rows of KEPT are the typed rows `whole`, which have the keys of `sheets`.
+-- The database contains the tables of the schema `desk`, and no table that a later schema adds
+-- (`HasDeskTablesInSchema`), with the typed rows `sheets`, but for the texts of KEPT: its rows of
+-- KEPT are the typed rows `whole`, which have, in order, the keys of KEPT in `sheets`.
 pub record AreSheetsExceptKeptTexts (desk : Schema) (db : Database) (sheets : Sheets) : Type 0 where
   pub whole : List typed.Kept
   pub keys : keys_of_kept_rows whole ≡ map abstract_key sheets.kept.items

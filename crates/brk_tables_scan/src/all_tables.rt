@@ -37,11 +37,11 @@ pub struct DeskAndCustomerSheets {
     customers: Vec<Customer>,
 }
 
-// Returns the last stamp in DESK, the keys of the rows of KEPT, and the decoded rows of BROKER and
-// CUSTOMER, each list sorted by key. If a table has a malformed row, or DESK not exactly one row
-// with the number of `schema`, sets `are_well_formed` of the decoder to false and returns no value
-// of this table. If the function returns a value, the database was open and is unchanged. Fails
-// with `Memory` or `Store` only.
+// Returns the last stamp in DESK, or `None` if none is stored, the keys of the rows of KEPT, and
+// the decoded rows of BROKER and CUSTOMER, each list sorted by key, ascending. If a table has a
+// malformed row, or DESK not exactly one row with the number of `schema`, sets `are_well_formed` of
+// the decoder to false and returns no value of this table. If the function returns a value, the
+// database was open and is unchanged. Fails with `Memory` or `Store` only.
 fn read_desk_and_customer_tables<S: Alter>(
     tx: &mut Transaction<'_, S>,
     alloc: Global,
@@ -75,9 +75,9 @@ pub struct AccountAndSecuritySheets {
 }
 
 // Returns the decoded rows of CUSTOMER_ACCOUNT, ACCOUNT_PERMISSION, SECURITY and LAST_TRADE, each
-// list sorted by key. If a table has a malformed row, sets `are_well_formed` of the decoder to
-// false and returns no rows of this table. If the function returns a value, the database was open
-// and is unchanged. Fails with `Memory` or `Store` only.
+// list sorted by key, ascending. If a table has a malformed row, sets `are_well_formed` of the
+// decoder to false and returns no rows of this table. If the function returns a value, the database
+// was open and is unchanged. Fails with `Memory` or `Store` only.
 fn read_account_and_security_tables<S: Alter>(
     tx: &mut Transaction<'_, S>,
     alloc: Global,
@@ -110,9 +110,9 @@ pub struct ChargeAndRateSheets {
 }
 
 // Returns the decoded rows of CHARGE, COMMISSION_RATE, TAXRATE and CUSTOMER_TAXRATE, each list
-// sorted by key. If a table has a malformed row, sets `are_well_formed` of the decoder to false and
-// returns no rows of this table. If the function returns a value, the database was open and is
-// unchanged. Fails with `Memory` or `Store` only.
+// sorted by key, ascending. If a table has a malformed row, sets `are_well_formed` of the decoder
+// to false and returns no rows of this table. If the function returns a value, the database was
+// open and is unchanged. Fails with `Memory` or `Store` only.
 fn read_charge_and_rate_tables<S: Alter>(
     tx: &mut Transaction<'_, S>,
     alloc: Global,
@@ -145,9 +145,9 @@ pub struct TradeAndHoldingSheets {
 }
 
 // Returns the decoded rows of TRADE, TRADE_HISTORY, TRADE_REQUEST and HOLDING, each list sorted by
-// key. If a table has a malformed row, sets `are_well_formed` of the decoder to false and returns
-// no rows of this table. If the function returns a value, the database was open and is unchanged.
-// Fails with `Memory` or `Store` only.
+// key, ascending. If a table has a malformed row, sets `are_well_formed` of the decoder to false
+// and returns no rows of this table. If the function returns a value, the database was open and is
+// unchanged. Fails with `Memory` or `Store` only.
 fn read_trade_and_holding_tables<S: Alter>(
     tx: &mut Transaction<'_, S>,
     alloc: Global,
@@ -180,9 +180,9 @@ pub struct SummaryAndSettlementSheets {
 }
 
 // Returns the decoded rows of HOLDING_SUMMARY, HOLDING_HISTORY, SETTLEMENT and CASH_TRANSACTION,
-// each list sorted by key. If a table has a malformed row, sets `are_well_formed` of the decoder to
-// false and returns no rows of this table. If the function returns a value, the database was open
-// and is unchanged. Fails with `Memory` or `Store` only.
+// each list sorted by key, ascending. If a table has a malformed row, sets `are_well_formed` of the
+// decoder to false and returns no rows of this table. If the function returns a value, the database
+// was open and is unchanged. Fails with `Memory` or `Store` only.
 fn read_summary_and_settlement_tables<S: Alter>(
     tx: &mut Transaction<'_, S>,
     alloc: Global,
@@ -212,11 +212,11 @@ pub struct LaterSchemaSheets {
     rule: Option<Day>,
 }
 
-// Returns the decoded rows of CASH_MOVE, sorted by key, and the first day of one-day settlement in
-// SETTLE_RULE, or none of a table that `schema` lacks. If a table has a malformed row, or
-// SETTLE_RULE two rows or more, sets `are_well_formed` of the decoder to false and returns no value
-// of this table. If the function returns a value, the database is unchanged. Fails with `Memory` or
-// `Store` only.
+// Returns the decoded rows of CASH_MOVE, sorted by key, ascending, and the first day of one-day
+// settlement in SETTLE_RULE, or `None` if it has no row. Returns no rows and no day of a table that
+// `schema` lacks. If a table has a malformed row, or SETTLE_RULE two rows or more, sets
+// `are_well_formed` of the decoder to false and returns no value of this table. If the function
+// returns a value, the database is unchanged. Fails with `Memory` or `Store` only.
 fn read_later_schema_tables<S: Alter>(
     tx: &mut Transaction<'_, S>,
     alloc: Global,
@@ -233,11 +233,13 @@ fn read_later_schema_tables<S: Alter>(
     Ok(LaterSchemaSheets { moves, rule })
 }
 
-/// Returns the decoded rows of the tables of `schema`, of KEPT the keys alone, each list sorted by
-/// key, ascending. The list of a table that `schema` lacks is empty. If a table has a malformed
-/// row, DESK not exactly one row with the number of `schema`, or SETTLE_RULE two rows or more, sets
-/// `are_well_formed` of the decoder to false and returns no rows of this table. If the function
-/// returns a value, the database was open and is unchanged. Fails with `Memory` or `Store` only.
+/// Returns the decoded rows of the tables of `schema`, each list sorted by key, ascending: of KEPT
+/// the keys alone, of DESK the last stamp, and of SETTLE_RULE the first day of one-day settlement,
+/// or `None` for a stamp or a day that is not stored. Returns no rows and no day of a table that
+/// `schema` lacks. If a table has a malformed row, DESK not exactly one row with the number of
+/// `schema`, or SETTLE_RULE two rows or more, sets `are_well_formed` of the decoder to false and
+/// returns no value of this table. If the function returns a value, the database was open and is
+/// unchanged. Fails with `Memory` or `Store` only.
 pub(crate) fn read_all_tables<S: Alter>(
     tx: &mut Transaction<'_, S>,
     alloc: Global,

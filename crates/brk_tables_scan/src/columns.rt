@@ -16,9 +16,9 @@ use brk_tables_schema::calls::statement_has_columns;
 use sqlite::{Alter, Transaction};
 
 // Returns true if the result of the statement of each heading has exactly the column names of the
-// heading, in order. Checks the headings one after the other until one does not match. If the
-// function returns a value, the database is unchanged. Fails with `Store` only, also if a checked
-// statement does not compile, for example because its table does not exist.
+// heading, in order, or if there are no headings. Checks the headings one after the other until one
+// does not match. If the function returns a value, the database is unchanged. Fails with `Store`
+// only, also if a checked statement does not compile, for example because its table does not exist.
 fn each_heading_matches<S: Alter>(
     tx: &mut Transaction<'_, S>,
     headings: &[(&str, &[&str])],

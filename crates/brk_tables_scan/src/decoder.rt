@@ -36,8 +36,8 @@ fn decode_and_drop_rows<R: Record>(alloc: Global, rows: Vec<Row>) -> Result<Vec<
     Ok(all)
 }
 
-// Decodes a row of KEPT, drops its texts and returns its key. Fails with `Form`, only if the row is
-// malformed, or with `Memory`, if memory runs out.
+// Decodes a row of KEPT and returns its key, without its texts. Fails with `Form`, only if the row
+// is malformed (its texts included), or with `Memory`, if memory runs out.
 fn decode_kept_key(row: &Row) -> Result<Key, DecodeError>
     ensures value { IfOk result (λ key. IsKeyOfRawRow key row.now) }
     ensures form { result ≡ Err Formless → passes_all_cell_checks kept_column_cell_checks row.now ≡ false }
@@ -118,8 +118,9 @@ impl Decoder {
     }
 
     /// Decodes the rows of KEPT, drops each once it is decoded, and returns their keys, in order,
-    /// without their texts, which no condition of an audit reads. If a row is malformed, sets
-    /// `are_well_formed` to false and returns no keys. Fails with `Memory` only.
+    /// without their texts, of which an audit checks only that they are UTF-8; the decoding does
+    /// so. If a row is malformed, sets `are_well_formed` to false and returns no keys. Fails with
+    /// `Memory` only.
     pub(crate) fn decode_kept_keys(
         &mut self,
         alloc: Global,

@@ -1,4 +1,5 @@
-//! Look-ups of a desk's tables by name. A table of this name may have any columns.
+//! Look-ups of a desk's tables by name, in which upper and lower case of ASCII letters are equal. A
+//! table of this name may have any columns.
 
 ghost use Rattle.std.specs.Prelude.{◌≡◌, ◌&&◌, Err, OnErr, IsTrue, not};
 ghost use Rattle.std.specs.List.{list_all, list_any};

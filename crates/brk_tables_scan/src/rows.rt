@@ -1,4 +1,6 @@
-//! Reads of all rows of each table, sorted by key, ascending.
+//! Reads of all rows of each table, sorted by key, ascending. The rows are not decoded. The
+//! returned rows are specified only if the table is defined as a desk defines it, and their order
+//! only if they encode records with distinct keys (`AreTableRows`).
 
 ghost use Rattle.std.specs.Prelude.{◌≡◌, Err, OnErr};
 ghost use Rattle.brk_money.specs.declared.fault.Fault.TheVariants.{Store};

@@ -24,8 +24,8 @@ fn schema_number(schema: Schema) -> i64
     }
 }
 
-// Returns true only if the column `at` is the INTEGER `wanted`, and false only if it is not or does
-// not exist.
+// Returns true only if the column `at`, counted from 0, is the INTEGER `wanted`, and false only if
+// it is not or does not exist.
 fn column_equals_integer(row: &Row, at: usize, wanted: i64) -> bool
     ensures if_true { IsTrue result → column row.now at ≡ Int wanted }
     ensures if_false { result ≡ false → at < length row.now → column row.now at ≢ Int wanted }

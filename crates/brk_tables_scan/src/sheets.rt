@@ -13,9 +13,10 @@ use sqlite::{Alter, Transaction};
 use std::alloc::Global;
 
 /// Returns the typed rows of the tables of `schema`, each list sorted by key, ascending. Of KEPT it
-/// returns the keys alone, because no condition of an audit reads the texts. Returns `None` only if
-/// a row is malformed, a text is not UTF-8 or SETTLE_RULE has two rows or more, and only after all
-/// tables were read. If the function returns a value, the database was open and is unchanged.
+/// returns the keys alone: an audit checks of the texts only that they are UTF-8, which this
+/// function does. Returns `None` only if a row is malformed, a text is not UTF-8 or SETTLE_RULE has
+/// two rows or more, and only after all tables were read. If the function returns a value, the
+/// database was open and is unchanged.
 ///
 /// Fails with `Memory` or `Store` only. The result is specified only if the database has the schema
 /// `schema` (`database_has_schema`) and its tables are defined as a desk defines them.

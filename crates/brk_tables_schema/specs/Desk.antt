@@ -21,7 +21,8 @@ use Rattle.brk_tables_schema.specs.Cells.{history_cells, request_cells, holding_
 use Rattle.brk_tables_schema.specs.Cells.{cash_cells, move_cells, rule_cells}
 use Rattle.brk_tables_schema.specs.Order.{ordering_by_key}
 
--- The tables of a desk, in all schemas. `table_name` is the SQL name of each.
+-- The tables that a desk may have. Schema 3 has all of them; `schema_has_table` tells which ones a
+-- schema has, and `table_name` is the SQL name of each.
 pub data DeskTable : Type 0 where
   TheDesk : DeskTable
   KeptRows : DeskTable
@@ -47,7 +48,8 @@ pub data DeskTable : Type 0 where
   SettleRules : DeskTable
 
 -- The rows of DESK in the schema `schema`: exactly one, with the id 1, the number of the schema,
--- and `last`, the stamp of the last accepted command, or `None`.
+-- and `last`, the stamp of the last accepted command in milliseconds since 1970-01-01 UTC, or
+-- `None` if there is none.
 abbrev pub desk_rows : Schema → Option ℕ → List DeskRow
 desk_rows schema last = record { id = 1; schema = schema.number; last = last } ∷ []
 
@@ -56,7 +58,8 @@ abbrev pub desk_key : DeskRow → List KeyPart
 desk_key r = number r.id ∷ []
 
 -- The rows of SETTLE_RULE: one row with the id 1 and the settlement day (the first day whose
--- completions settle after one day), or no row if this day is not set.
+-- completions settle after one day, in days since 1970-01-01), or no row if the parameter is
+-- `None`, since this day is not set.
 abbrev pub rule_rows : Option ℕ → List RuleRow
 rule_rows None = []
 rule_rows (Some day) = record { id = 1; day = day } ∷ []
@@ -198,7 +201,8 @@ primary_key_of_record CashRows = cash_transaction_key
 primary_key_of_record CashMoves = cash_move_key
 primary_key_of_record SettleRules = rule_key
 
--- The ordering of two records of the table `w` by their primary keys.
+-- The ordering of two records of the table `w` by their primary keys, part by part, in the order of
+-- SQL values.
 abbrev pub ordering_by_primary_key : (w : DeskTable) → RecordOfTable w → RecordOfTable w → Ordering
 ordering_by_primary_key w = ordering_by_key (primary_key_of_record w)
 
@@ -255,11 +259,12 @@ all_tables =
     TheDesk ∷ KeptRows ∷ Brokers ∷ Customers ∷ Accounts ∷ Permissions ∷ Securities ∷ LastTrades ∷ Charges ∷ Bands ∷ TaxRates ∷ CustomerTaxes ∷ Trades
     ∷ TradeHistory ∷ Requests ∷ Holdings ∷ Summaries ∷ HoldingHistory ∷ Settlements ∷ CashRows ∷ CashMoves ∷ SettleRules ∷ []
 
--- The list of the tables that the schema `schema` has.
+-- The list of the tables that the schema `schema` has, in the order of `all_tables`.
 abbrev pub tables_in_schema : Schema → List DeskTable
 tables_in_schema schema = filter (schema_has_table schema) all_tables
 
--- The list of the tables of a desk that the schema `schema` does not have and later schemas add.
+-- The list of the tables of a desk that the schema `schema` does not have and later schemas add, in
+-- the order of `all_tables`; empty for schema 3.
 abbrev pub tables_of_later_schemas : Schema → List DeskTable
 tables_of_later_schemas schema = filter (λ w. not (schema_has_table schema w)) all_tables
 
@@ -267,6 +272,6 @@ tables_of_later_schemas schema = filter (λ w. not (schema_has_table schema w)) 
 abbrev pub table_name : DeskTable → List ℕ
 table_name w = (table_definition_at_tree w 0).name
 
--- The SQL names of all tables of a desk.
+-- The SQL names of all tables of a desk, in ASCII, in the order of `all_tables`.
 abbrev pub all_table_names : List (List ℕ)
 all_table_names = map table_name all_tables

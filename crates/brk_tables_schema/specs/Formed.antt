@@ -79,12 +79,13 @@ is_cash_type_text s = list_any (λ kind. bytes_eq (cash_type_text kind) s) all_c
 abbrev pub is_tax_status_number : ℕ → Bool
 is_tax_status_number n = is_some (tax_status_with_number n)
 
--- True if the value is an INTEGER within the limits of an id: from 1 to the greatest id.
+-- True if the value is an INTEGER within the limits of an id: from 1 to the greatest id, both
+-- included.
 abbrev pub is_id_cell : Value → Bool
 is_id_cell = is_natural_cell is_id
 
 -- True if the value is an INTEGER within the limits of the number of a cash row: from 1 to the
--- greatest number.
+-- greatest number, both included.
 abbrev pub is_cash_row_number_cell : Value → Bool
 is_cash_row_number_cell = is_natural_cell is_cash_row_number
 
@@ -112,16 +113,17 @@ is_trade_type_cell = is_text_cell is_trade_type_code
 abbrev pub is_status_cell : Value → Bool
 is_status_cell = is_text_cell is_status_code
 
--- True if the value is an INTEGER that is a customer tier: from 1 to 3.
+-- True if the value is an INTEGER that is a customer tier: from 1 to 3, both included.
 abbrev pub is_tier_cell : Value → Bool
 is_tier_cell = is_natural_cell is_tier
 
 -- True if the value is an INTEGER within the limits of a quantity in schema 3: from 1 share to the
--- greatest quantity.
+-- greatest quantity, both included.
 abbrev pub is_quantity_cell : Value → Bool
 is_quantity_cell = is_natural_cell (is_quantity_in_schema third_schema)
 
--- True if the value is an INTEGER within the limits of a price: from 1 cent to the greatest price.
+-- True if the value is an INTEGER within the limits of a price: from 1 cent to the greatest price,
+-- both included.
 abbrev pub is_price_cell : Value → Bool
 is_price_cell = is_natural_cell is_price
 
@@ -172,8 +174,8 @@ passes_all_cell_checks [] [] = true
 passes_all_cell_checks (has_form ∷ forms) (v ∷ row) = has_form v && passes_all_cell_checks forms row
 passes_all_cell_checks _ _ = false
 
--- The checks of the columns of DESK in the schema `schema`, in the order of the columns: the id 1,
--- the number of the schema, and NULL or the last stamp.
+-- The checks of the columns of DESK in the schema `schema`, in the order of the columns: the id is
+-- 1, the number is that of the schema, and the last stamp is NULL or within the limits of a stamp.
 abbrev pub desk_column_cell_checks : Schema → List (Value → Bool)
 desk_column_cell_checks schema = is_natural_cell (λ n. n == 1) ∷ is_natural_cell (λ n. n == schema.number) ∷ is_null_or_stamp_cell ∷ []
 

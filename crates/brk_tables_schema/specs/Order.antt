@@ -16,7 +16,7 @@ key_part_value (word s) = Words s
 abbrev pub key_values : List KeyPart → Row
 key_values = map key_part_value
 
--- The ordering of two records `x` and `y` by their keys, which `key` returns: part by part, in the
--- order of SQL values.
+-- The ordering of two records `x` and `y` by their keys, which `key` returns: the first parts that
+-- differ decide, in the order of SQL values. A key is less than any longer key that begins with it.
 abbrev pub ordering_by_key : {X : Type 0} → (X → List KeyPart) → X → X → Ordering
 ordering_by_key key x y = slice_cmp value_cmp (key_values (key x)) (key_values (key y))

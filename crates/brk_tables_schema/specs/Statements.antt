@@ -10,32 +10,35 @@ use Rattle.brk_tables_schema.specs.Desk.{DeskTable, RecordOfTable, desk_tables, 
 -- Under the disk assumption and within a transaction: if the call succeeds, it changes the rows of
 -- a desk's tables from `t` to `f t`, for all `t`, and no other table, unless a foreign key of that
 -- table changes or deletes its rows. This is vacuous if the database does not contain all tables of
--- a desk in schema 3. Under the disk assumption the call commits nothing.
+-- a desk in schema 3. The call is a step of its connection (`IsConnectionStep`), so under the disk
+-- assumption it commits nothing, and leaves an open transaction open if it succeeds.
 abbrev pub WritesDeskTables : {S V E : Type 0} → Ghosts S → Transaction S → Transaction S → Result V E → (Tables → Tables) → Type 0
 WritesDeskTables g old new result f = WritesTables desk_tables g old new result f
 
 -- Under the disk assumption and within a transaction: if the call succeeds, the database was open
 -- and is unchanged, and `Told` relates the returned value to the rows of a desk's tables. The last
--- part is vacuous if the database does not contain all tables of a desk in schema 3. Under the disk
--- assumption the call commits nothing.
+-- part is vacuous if the database does not contain all tables of a desk in schema 3. The call is a
+-- step of its connection (`IsConnectionStep`), so under the disk assumption it commits nothing, and
+-- leaves an open transaction open if it succeeds.
 abbrev pub ReadsDeskTables : {S V E : Type 0} → Ghosts S → Transaction S → Transaction S → Result V E → (V → Tables → Type 0) → Type 0
 ReadsDeskTables g old new result Told = ReadsTables desk_tables g old new result Told
 
--- The value of `o`, converted to a record by `of`, is the first record of the table `w` in `t` that
--- passes the test `is`. If no record passes, `o` is `None`.
+-- The value of `o`, converted to a record by `of`, is the first of the records of the table `w` in
+-- `t`, in the order of their list, that passes the test `is`. If no record passes, `o` is `None`.
 abbrev pub IsFirstMatch : {X : Type 0} (w : DeskTable) → (X → RecordOfTable w) → (RecordOfTable w → Bool) → Option X → Tables → Type 0
 IsFirstMatch w of is o t = option_map of o ≡ find is (rows_of_table w t)
 
 -- The values `all`, converted to records by `of`, are all records of the table `w` in `t` that pass
--- the test `is`, in the order of the table.
+-- the test `is`, in the order of their list.
 abbrev pub AreMatchingRows : {X : Type 0} (w : DeskTable) → (X → RecordOfTable w) → (RecordOfTable w → Bool) → Vec X → Tables → Type 0
 AreMatchingRows w of is all t = map of all.items ≡ filter is (rows_of_table w t)
 
 -- Under the disk assumption and within a transaction: if the call succeeds, the database was open
--- and is unchanged, and the call returns the first record of the table `w` that passes the test
--- `is`, or `None` if no record passes; `of` converts a returned value to a record of the table. The
--- part on the result is vacuous if the database does not contain all tables of a desk in schema 3.
--- Under the disk assumption the call commits nothing.
+-- and is unchanged, and the call returns the record with the least key of those of the table `w`
+-- that pass the test `is`, or `None` if no record passes; `of` converts a returned value to a
+-- record of the table. The part on the result is vacuous if the database does not contain all
+-- tables of a desk in schema 3. The call is a step of its connection (`IsConnectionStep`), so under
+-- the disk assumption it commits nothing, and leaves an open transaction open if it succeeds.
 abbrev pub ReadsFirstMatch : {S X E : Type 0} → Ghosts S → Transaction S → Transaction S → Result (Option X) E → (w : DeskTable) → (X → RecordOfTable w)
     → (RecordOfTable w → Bool) → Type 0
 ReadsFirstMatch g old new result w of is = ReadsDeskTables g old new result (IsFirstMatch w of is)
@@ -44,7 +47,8 @@ ReadsFirstMatch g old new result w of is = ReadsDeskTables g old new result (IsF
 -- and is unchanged, and the call returns all records of the table `w` that pass the test `is`,
 -- sorted by the key of the table, ascending; `of` converts a returned value to a record of the
 -- table. The part on the result is vacuous if the database does not contain all tables of a desk in
--- schema 3. Under the disk assumption the call commits nothing.
+-- schema 3. The call is a step of its connection (`IsConnectionStep`), so under the disk assumption
+-- it commits nothing, and leaves an open transaction open if it succeeds.
 abbrev pub ReadsMatchingRows : {S X E : Type 0} → Ghosts S → Transaction S → Transaction S → Result (Vec X) E → (w : DeskTable) → (X → RecordOfTable w)
     → (RecordOfTable w → Bool) → Type 0
 ReadsMatchingRows g old new result w of is = ReadsDeskTables g old new result (AreMatchingRows w of is)

@@ -30,8 +30,8 @@ fn skipped_rows_as_parameter<'a>(skipped: u32) -> ValueRef<'a>
 
 /// Returns a page of the lots of an account in a security, sorted by the stamp of their opening and
 /// then by the id of the trade that opened them, both ascending: after the first `skipped` lots the
-/// next 16, or all if there are fewer. Changes nothing if it succeeds. Fails with `Memory` or
-/// `Store` only; with `Store` also if a row is malformed.
+/// next 16, or all that remain if there are fewer, possibly none. Changes nothing if it succeeds.
+/// Fails with `Memory` or `Store` only; with `Store` also if a row is malformed.
 pub fn page_of_lots_oldest_first<S: Alter>(
     tx: &mut Transaction<'_, S>,
     alloc: Global,
@@ -58,8 +58,8 @@ pub fn page_of_lots_oldest_first<S: Alter>(
 
 /// Returns a page of the lots of an account in a security, sorted by the stamp of their opening and
 /// then by the id of the trade that opened them, both descending: after the first `skipped` lots
-/// the next 16, or all if there are fewer. Changes nothing if it succeeds. Fails with `Memory` or
-/// `Store` only; with `Store` also if a row is malformed.
+/// the next 16, or all that remain if there are fewer, possibly none. Changes nothing if it
+/// succeeds. Fails with `Memory` or `Store` only; with `Store` also if a row is malformed.
 pub fn page_of_lots_newest_first<S: Alter>(
     tx: &mut Transaction<'_, S>,
     alloc: Global,

@@ -68,9 +68,9 @@ pub fn remove_lot<S: Alter>(tx: &mut Transaction<'_, S>, trade: Id) -> Result<()
     )
 }
 
-/// Inserts the change that a trade made to a lot (HOLDING_HISTORY): its number of shares before and
-/// after the trade. Fails with `Store` only, also if a change of this lot by this trade exists, or
-/// if this trade or the one that opened the lot does not exist.
+/// Inserts the change that a trade made to a lot (HOLDING_HISTORY): the lot's number of shares
+/// before and after the trade. Fails with `Store` only, also if a change of this lot by this trade
+/// exists, or if this trade or the one that opened the lot does not exist.
 pub fn add_lot_change<S: Alter>(
     tx: &mut Transaction<'_, S>,
     change: &LotChange,

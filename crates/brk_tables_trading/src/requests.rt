@@ -55,8 +55,8 @@ pub fn remove_request<S: Alter>(tx: &mut Transaction<'_, S>, trade: Id) -> Resul
 }
 
 /// Returns the requests of a symbol and a trade type whose bid is at least `price`, in cents,
-/// sorted by trade, ascending. Changes nothing if it succeeds. Fails with `Memory` or `Store` only;
-/// with `Store` also if a row is malformed.
+/// sorted by the id of the trade, ascending. Changes nothing if it succeeds. Fails with `Memory` or
+/// `Store` only; with `Store` also if a row is malformed.
 pub fn requests_with_bid_at_least<S: Alter>(
     tx: &mut Transaction<'_, S>,
     alloc: Global,
@@ -84,8 +84,8 @@ pub fn requests_with_bid_at_least<S: Alter>(
 }
 
 /// Returns the requests of a symbol and a trade type whose bid is at most `price`, in cents, sorted
-/// by trade, ascending. Changes nothing if it succeeds. Fails with `Memory` or `Store` only; with
-/// `Store` also if a row is malformed.
+/// by the id of the trade, ascending. Changes nothing if it succeeds. Fails with `Memory` or
+/// `Store` only; with `Store` also if a row is malformed.
 pub fn requests_with_bid_at_most<S: Alter>(
     tx: &mut Transaction<'_, S>,
     alloc: Global,

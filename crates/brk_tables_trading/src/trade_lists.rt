@@ -16,9 +16,9 @@ use brk_tables_schema::values::id_as_parameter;
 use sqlite::{Alter, Transaction};
 use std::alloc::Global;
 
-/// Returns the ten most recent trades of an account, or all if it has fewer, sorted by the stamp of
-/// their last status change and then by id, the most recent first. Changes nothing if it succeeds.
-/// Fails with `Memory` or `Store` only; with `Store` also if a row is malformed.
+/// Returns the ten most recent trades of an account, or all if it has fewer: the first, sorted by
+/// the stamp of their last status change and then by id, both descending. Changes nothing if it
+/// succeeds. Fails with `Memory` or `Store` only; with `Store` also if a row is malformed.
 pub fn last_ten_trades_of_account<S: Alter>(
     tx: &mut Transaction<'_, S>,
     alloc: Global,
@@ -39,8 +39,8 @@ pub fn last_ten_trades_of_account<S: Alter>(
     decode_rows(alloc, &rows)
 }
 
-/// Returns the fifty most recent trades of an account, or all if it has fewer, sorted by the stamp
-/// of their last status change and then by id, the most recent first. Changes nothing if it
+/// Returns the fifty most recent trades of an account, or all if it has fewer: the first, sorted by
+/// the stamp of their last status change and then by id, both descending. Changes nothing if it
 /// succeeds. Fails with `Memory` or `Store` only; with `Store` also if a row is malformed.
 pub fn last_fifty_trades_of_account<S: Alter>(
     tx: &mut Transaction<'_, S>,

@@ -12,8 +12,8 @@ use Rattle.brk_money.specs.declared.status.Status.TheVariants.{Completed}
 abbrev pub lot_sort_key : HoldingRow → List KeyPart
 lot_sort_key r = word r.symbol ∷ number r.stamp ∷ number r.trade ∷ []
 
--- The lots of `account`, sorted by symbol, then by the stamp of their opening, then by the id of
--- the trade that opened them, all ascending.
+-- The lots of `account`, sorted by symbol, in the lexicographic order of bytes, then by the stamp
+-- of their opening, then by the id of the trade that opened them, all ascending.
 abbrev pub account_lots_by_symbol : ℕ → Tables → List HoldingRow
 account_lots_by_symbol account t = rows_sorted_by_key lot_sort_key (filter (λ row. row.account == account) t.holdings)
 
@@ -26,7 +26,7 @@ abbrev pub is_account_cash_row_between : ℕ → ℕ → ℕ → MoveRow → Boo
 is_account_cash_row_between account from to row = (row.account == account) && is_in_range from to row.stamp
 
 -- The cash rows of `account` with stamps from `from` to `to`, both included, sorted by stamp and
--- then by number, ascending.
+-- then by number, both ascending.
 abbrev pub account_cash_rows_between : ℕ → ℕ → ℕ → Tables → List MoveRow
 account_cash_rows_between account from to t = rows_sorted_by_key cash_sort_key (filter (is_account_cash_row_between account from to) t.moves)
 

@@ -11,15 +11,15 @@ use Rattle.brk_tables_views.specs.Walk.{IsWalkError}
 use Rattle.brk_tables_views.specs.declared.walking.WalkError.{WalkError}
 use Rattle.brk_tables_views.specs.declared.walking.WalkError.TheVariants.{Failed, Cause}
 
--- The visitor took some records, in order, which changed it from `before` to `after`, and `So`
--- holds for the list of these records, each converted by `of`.
+-- The visitor took a list of records, possibly empty, in order, which changed it from `before` to
+-- `after`, and `So` holds for this list, each record converted by `of`.
 abbrev pub TakesListSatisfying : {X M V : Type 0} → (List M → Type 0) → (X → M) → (V → X → V → Type 0) → V → V → Type 0
 TakesListSatisfying {X} So of takes before after = (taken : List X) × FoldsTo takes before taken after × So (map of taken)
 
--- The walk failed. At a fault, which is `Memory` or `Store`, `Begins` holds for the list of the
--- records that the visitor took. At the visitor's error `Begins` holds for the list of the records
--- that it took, followed by the one at which it stopped. Each record of these lists is converted by
--- `of`.
+-- The walk failed; `before` and `after` are the visitor before and after it. At a fault, which is
+-- `Memory` or `Store`, `Begins` holds for the list of the records that the visitor took, possibly
+-- none. At the visitor's error `Begins` holds for the list of the records that it took, followed by
+-- the one at which it stopped with this error. Each record of these lists is converted by `of`.
 abbrev pub TableWalkEndsEarly : {X M V E : Type 0} → (List M → Type 0) → (X → M) → (V → X → V → Type 0) → (V → X → E → V → Type 0) → V → V → WalkError E
     → Type 0
 TableWalkEndsEarly {X} Begins of takes stops before after (Failed fault) = IsCallFault fault × TakesListSatisfying Begins of takes before after
@@ -42,7 +42,8 @@ IsPrefixOfList {M} db list first = (first ≡ []) ⊎ (IsTrue db.is_open × ((t 
 -- selects from a desk's tables to a visitor, in order, one at a time, until the last record, the
 -- error of the visitor or a fault. `takes` and `stops` relate the visitor before and after it takes
 -- a record or stops at one. The clauses on records, on the database and on crashes are vacuous if
--- the disk assumption fails.
+-- the disk assumption fails. What they say of the selected list is also vacuous if the database
+-- does not contain all tables of a desk in schema 3.
 pub record TableWalkPost {S X M V E : Type 0} (g : Ghosts S) (old new : Held S) (of : X → M) (list : Tables → List M) (takes : V → X → V → Type 0)
     (stops : V → X → E → V → Type 0)
     (before after : V) (result : Result (Unit {0}) (WalkError E)) : Type 0 where

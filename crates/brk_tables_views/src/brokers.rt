@@ -35,9 +35,9 @@ pub fn brokers_with_name<S: Alter>(
     decode_rows(alloc, &rows)
 }
 
-/// Returns all requests of pending trades (TRADE_REQUEST), sorted by trade, ascending. Changes
-/// nothing if it succeeds. Fails with `Memory` or `Store` only; with `Store` also if a row is
-/// malformed.
+/// Returns all requests of pending trades (TRADE_REQUEST), sorted by the id of the trade,
+/// ascending. Changes nothing if it succeeds. Fails with `Memory` or `Store` only; with `Store`
+/// also if a row is malformed.
 pub fn all_requests<S: Alter>(
     tx: &mut Transaction<'_, S>,
     alloc: Global,

@@ -15,9 +15,9 @@ use brk_tables_schema::values::{id_as_parameter, status_as_parameter, text_as_pa
 use sqlite::{Alter, Transaction};
 use std::alloc::Global;
 
-/// Returns the ids of the completed trades of an account in a security, the oldest first: sorted by
-/// the stamp of completion, then by id. Changes nothing if it succeeds. Fails with `Memory` or
-/// `Store` only; with `Store` also if a row is malformed.
+/// Returns the ids of the completed trades of an account in a security, sorted by the stamp of
+/// completion and then by id, both ascending. Changes nothing if it succeeds. Fails with `Memory`
+/// or `Store` only; with `Store` also if a row is malformed.
 pub fn completed_trade_ids_of_holding<S: Alter>(
     tx: &mut Transaction<'_, S>,
     alloc: Global,

@@ -14,8 +14,9 @@ use brk_tables_schema::values::id_as_parameter;
 use sqlite::{Alter, Transaction};
 use std::alloc::Global;
 
-/// Returns the changes that a trade made to lots, sorted by lot, ascending. Changes nothing if it
-/// succeeds. Fails with `Memory` or `Store` only; with `Store` also if a row is malformed.
+/// Returns all changes that a trade made to lots, sorted by the id of the trade that opened the
+/// lot, ascending. Changes nothing if it succeeds. Fails with `Memory` or `Store` only; with
+/// `Store` also if a row is malformed.
 pub fn lot_changes_by_trade<S: Alter>(
     tx: &mut Transaction<'_, S>,
     alloc: Global,
@@ -33,9 +34,9 @@ pub fn lot_changes_by_trade<S: Alter>(
     decode_rows(alloc, &rows)
 }
 
-/// Returns all changes of the lot that the trade `lot` opened, sorted by the trade that made the
-/// change, ascending. Changes nothing if it succeeds. Fails with `Memory` or `Store` only; with
-/// `Store` also if a row is malformed.
+/// Returns all changes of the lot that the trade `lot` opened, sorted by the id of the trade that
+/// made the change, ascending. Changes nothing if it succeeds. Fails with `Memory` or `Store` only;
+/// with `Store` also if a row is malformed.
 pub fn lot_changes_of_lot<S: Alter>(
     tx: &mut Transaction<'_, S>,
     alloc: Global,

@@ -17,13 +17,14 @@ use sqlite::{Alter, Connection};
 ///
 /// Stops at the first error and returns it: `Failed` with `Memory`, or with `Store`, also if a row
 /// is malformed, or `Cause` with the visitor's error. The visitor has then taken a prefix of the
-/// trades, possibly none. Returns `Ok` only after the last trade. Writes nothing. The trades that
-/// the visitor takes are specified only under the disk assumption (every read so far returned what
-/// was written), and only if the database contains all tables of a desk in schema 3.
+/// trades, possibly none. Returns `Ok` only after the last trade. The trades that the visitor takes
+/// are specified only under the disk assumption (every read so far returned what was written), and
+/// only if the database contains all tables of a desk in schema 3.
 ///
 /// Requires that `conn` is in no transaction and that the visitor is ready to take records; both
-/// hold also after the walk. Under the disk assumption a crash after the walk exposes only states
-/// that a crash before it could expose.
+/// hold also after the walk. Under the disk assumption a database that is open after the walk was
+/// open before it and is unchanged, and a crash after the walk exposes only states that a crash
+/// before it could expose.
 pub fn walk_completed_trades<S: Alter, E, V: Visitor<TradeRow, E>>(
     conn: &mut Connection<S>,
     visitor: &mut V,
@@ -37,7 +38,8 @@ pub fn walk_completed_trades<S: Alter, E, V: Visitor<TradeRow, E>>(
     // The visitor is in a state to which its calls can lead.
     ensures leads { V.leads visitor.old visitor.new }
 
-    // The visitor took the records in sequence, all of them at `Ok`; nothing was written.
+    // The visitor took the records in sequence, all of them at `Ok`; the database is unchanged if
+    // it is open.
     ensures walked { TableWalkPost S.Store conn.old conn.new abstract_trade_row
         completed_trades_by_stamp_and_id V.takes V.stops visitor.old visitor.new result }
 {

@@ -18,7 +18,8 @@ pub trait Visitor<R, E> {
     ghost stops: { Self → R → E → Self → Type 0 };
 
     /// Passes a record to the visitor. Returns `Ok` if the visitor takes the record, and otherwise
-    /// the error with which the visitor stops the walk.
+    /// the error with which the visitor stops the walk. Requires that the visitor is ready
+    /// (`ready`); it is ready also after the call, at an error too.
     fn visit(&mut self, item: &R) -> Result<(), E>
         requires ready { ready self.old }
         ensures ready { ready self.new }

@@ -44,9 +44,9 @@ fn decode_record<R: Record>(row: &Row) -> Result<R, Fault>
 ///
 /// Requires that the query `sql` has no RETURNING clause and that the visitor is ready to take
 /// records; the visitor is ready also after the walk. If `conn` was in no transaction, it is in
-/// none after the walk. Under the disk assumption the database is unchanged at `Ok`; at an error it
-/// is unchanged or an open transaction is rolled back, and a crash after the walk exposes only
-/// states that a crash before it could expose.
+/// none after the walk. Under the disk assumption the database was open and is unchanged at `Ok`;
+/// at an error it is unchanged or an open transaction is rolled back. Under this assumption a crash
+/// after the walk, at `Ok` or an error, exposes only states that a crash before it could expose.
 pub fn walk_query_rows<S: Alter, R: Record, E, V: Visitor<R, E>>(
     conn: &mut Connection<S>,
     sql: &str,

@@ -63,8 +63,9 @@ const TABLES: &str = "DESK\n1,3,1709251200021\n\
     T,5,result\x1f2\x1f12.10,1709251200020,6.05,20.00,573.95,2024-03-03,505.00,605.00,9548.85\n\
     T,6,upname\x1f1,1709251200021,1\n";
 
-/// Returns the lines of the first `rows` rows of the batch, at most six, all accepted, on a desk
-/// after the batch `SET`, without an end line. Fails only if memory runs out.
+/// Returns the lines of the first `rows` rows of the batch of `ROWS`, or of all six if `rows` is
+/// greater, all accepted, on a desk after the batch `SET`, without an end line. Fails only if
+/// memory runs out.
 pub fn first_lines_of_batch(alloc: Global, rows: usize) -> Result<String, Fail> {
     let (first, _) = LINES.split_at(rows.min(6));
     let mut told = String::new(alloc);
@@ -72,9 +73,9 @@ pub fn first_lines_of_batch(alloc: Global, rows: usize) -> Result<String, Fail> 
     Ok(told)
 }
 
-/// Returns all lines of the batch on a desk that has accepted its first `booked` rows, at most six,
-/// before: the stored replies to these rows, the other rows accepted, and the end line. Fails only
-/// if memory runs out.
+/// Returns all lines of the batch of `ROWS` on a desk that has accepted its first `booked` rows, or
+/// all six if `booked` is greater, after the batch `SET`: the stored replies to these rows, the
+/// other rows accepted, and the end line. Fails only if memory runs out.
 pub fn all_lines_of_retry(alloc: Global, booked: usize) -> Result<String, Fail> {
     lines_of_retry(alloc, &LINES, booked)
 }
@@ -95,11 +96,12 @@ pub fn expect_batch_fault(
     }
 }
 
-/// Executes the whole batch on a desk that has accepted its first `booked` rows before. Checks that
-/// these rows have their stored replies and the others are accepted with the replies `LINES`, and
-/// that the tables after the batch are `TABLES`, those after one execution, and the reference
-/// tables those of `SET`. Fails with `name` if not, and without it if the batch writes bytes that
-/// are not UTF-8, if the tables cannot be read or if memory runs out.
+/// Executes `batch`, the whole batch of `ROWS`, on a desk that has accepted its first `booked` rows
+/// before. Checks that the batch completes, that these rows have their stored replies and the
+/// others are accepted with the replies `LINES`, and that the tables after the batch are `TABLES`,
+/// those after one execution, and the reference tables those of `SET`. Fails with `name` if not,
+/// and without it if the batch writes bytes that are not UTF-8 or if the tables cannot be read.
+/// Fails also if memory runs out, with or without `name`.
 pub fn expect_completed_batch<S: Alter + Drop>(
     alloc: Global,
     mut desk: Desk<S>,
@@ -120,12 +122,13 @@ pub fn expect_completed_batch<S: Alter + Drop>(
     expect_all_tables(alloc, desk.into_store(), name, TABLES)
 }
 
-// Executes a batch on a new desk in the database of a connection, after the batch `SET`, with a
-// reader that fails once with the error `kind` after `len` bytes, and then retries the batch.
-// Checks that the first run fails with `Read` after the lines of the decided rows, and that the
-// retry completes: a row is decided if the record after it was read. Fails if not, without a
-// connection, if the batch has no position `len`, if the desk cannot be set up, or if memory runs
-// out.
+// Executes `batch`, the batch of `ROWS`, on a new desk in the database of a connection, after the
+// batch `SET`, with a reader that fails once with the error `kind` after `len` bytes, and then
+// retries the batch. Checks that the first run fails with `Read` and the number of the decided
+// rows, after exactly the lines of these rows, and that the retry completes
+// (`expect_completed_batch`): a row is decided if the record after it was read. Fails if not,
+// without a connection, if the batch has no position `len`, if the desk cannot be set up, or if
+// memory runs out.
 fn expect_batch_read_fault<S: Alter + Drop>(
     alloc: Global,
     conn: Option<Connection<S>>,
@@ -150,7 +153,8 @@ fn expect_batch_read_fault<S: Alter + Drop>(
 }
 
 /// Checks, for each byte of a batch before which the reader fails or is interrupted, that the batch
-/// fails with `Read` after the lines of the decided rows, and that its retry completes.
+/// fails with `Read` after exactly the lines of the decided rows, and that its retry completes.
+/// Fails if not, and if memory runs out.
 pub fn batch_readers_failing_at_each_byte(alloc: Global) -> Result<(), Fail> {
     let batch = format_batch(alloc, &ROWS)?;
     for len in 0..batch.len() {
@@ -161,12 +165,14 @@ pub fn batch_readers_failing_at_each_byte(alloc: Global) -> Result<(), Fail> {
     Ok(())
 }
 
-// Executes a batch on a new desk in the database of a connection, after the batch `SET`, with a
-// writer that has room for `room` bytes, and then fails once with the error `fault`, or, if `fault`
-// is `None`, once accepts no byte, and then retries the batch. Checks that the first run fails with
-// `Write` after the first `room` bytes of `lines`, and that the retry completes: a row whose line
-// was not written remains committed. Fails if not, without a connection, if `lines` has no position
-// `room`, if the desk cannot be set up, or if memory runs out.
+// Executes `batch`, the batch of `ROWS`, on a new desk in the database of a connection, after the
+// batch `SET`, with a writer that has room for `room` bytes, and then fails once with the error
+// `fault`, or, if `fault` is `None`, once accepts no byte, and then retries the batch. `lines` must
+// be all lines of the batch. Checks that the first run fails with `Write` and the number of the
+// decided rows, after exactly the first `room` bytes of `lines`, and that the retry completes
+// (`expect_completed_batch`): a row whose line was not written remains committed. Fails if not,
+// without a connection, if `lines` has no position `room`, if the desk cannot be set up, or if
+// memory runs out.
 fn expect_batch_write_fault<S: Alter + Drop>(
     alloc: Global,
     conn: Option<Connection<S>>,
@@ -191,7 +197,7 @@ fn expect_batch_write_fault<S: Alter + Drop>(
 
 /// Checks, for each byte of the lines of a batch at which the writer fails, is interrupted or
 /// accepts no byte, that the batch fails with `Write`, that exactly the bytes before are written,
-/// and that its retry completes.
+/// and that its retry completes. Fails if not, and if memory runs out.
 pub fn batch_writers_failing_at_each_byte(alloc: Global) -> Result<(), Fail> {
     let batch = format_batch(alloc, &ROWS)?;
     let lines = all_lines_of_retry(alloc, 0)?;

@@ -119,8 +119,8 @@ pub fn write_statement<W: Write, S: Alter>(
 }
 
 /// Checks that the text `told` has exactly the lines `wanted`. Fails with `name`, `what` and the
-/// number of the first line that differs, and with `name` and `what` if no line differs but the
-/// texts do, for example because lines are missing or there are more.
+/// number, counted from 1, of the first line that differs, and with `name` and `what` if no line
+/// differs but the texts do, for example because lines are missing or there are more.
 pub fn expect_lines(name: &str, what: &str, told: &str, wanted: &str) -> Result<(), Fail> {
     let mut at = 0u64;
     for (line, want) in told.lines().zip(wanted.lines()) {
@@ -182,8 +182,8 @@ pub fn run_batch_at_desk<S: Alter>(
 }
 
 // Checks that the bytes `told` that a batch wrote are exactly the lines `wanted`. Fails with `name`
-// and the number of the first line that differs, with `name` if no line differs but the texts do,
-// and if the bytes are not UTF-8.
+// and the number, counted from 1, of the first line that differs, and with `name` if no line
+// differs but the texts do. Fails without `name` if the bytes are not UTF-8.
 fn expect_batch_lines(name: &str, told: &[u8], wanted: &str) -> Result<(), Fail> {
     match str::from_utf8(told) {
         Ok(told) => expect_lines(name, "lines", told, wanted),
@@ -192,7 +192,7 @@ fn expect_batch_lines(name: &str, told: &[u8], wanted: &str) -> Result<(), Fail>
 }
 
 // Checks that a batch completed, and that the lines `lines` end with the end line of its counts.
-// Fails with `name` if not, or if memory runs out.
+// Fails with `name` if not, and without it if memory runs out.
 fn expect_batch_counts(
     alloc: Global,
     name: &str,
@@ -213,7 +213,7 @@ fn expect_batch_counts(
 /// Executes the batch of `step` on a desk at 2024-03-01 00:00 UTC, and checks that the batch
 /// completes, that it writes exactly the lines of `step`, and that these lines end with the end
 /// line of its counts. Fails with `name` if not, and without it if the batch writes bytes that are
-/// not UTF-8 or memory runs out.
+/// not UTF-8. Fails also if memory runs out, with or without `name`.
 pub fn expect_batch_result<S: Alter>(
     alloc: Global,
     desk: &mut Desk<S>,

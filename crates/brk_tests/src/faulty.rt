@@ -39,8 +39,9 @@ impl<'a> Failing<'a> {
 }
 
 impl Read for Failing<'_> {
-    /// Copies the next bytes, at most `size` and as many as the buffer can hold, to the buffer and
-    /// returns their number, 0 at the end. After the bytes of `before`, fails once, with an error
+    /// Copies the next bytes to the buffer: at most `size`, at most as many as the buffer can hold,
+    /// and never from `before` and `after` in one call. Returns their number: 0 at the end, and if
+    /// `size` is 0 or the buffer is empty. After the bytes of `before`, fails once, with an error
     /// of the kind `fault`, unless `fault` is `None`.
     fn read(&mut self, buf: &mut [u8]) -> io::Result<usize> {
         if self.before.is_empty() {
@@ -80,9 +81,10 @@ impl Narrow {
 }
 
 impl Write for Narrow {
-    /// Appends at most seven bytes to `taken` and returns their number. At the first call without
-    /// room, fails with `error`, or returns 0 if `error` is `None`; after it there is room for all
-    /// bytes. Fails also if memory runs out.
+    /// Appends the first bytes of `buf` to `taken`, at most seven and at most as many as there is
+    /// room for, and returns their number. At the first call without room, fails with `error`, or
+    /// returns 0 if `error` is `None`; after it there is room for all bytes. Fails also if memory
+    /// runs out.
     fn write(&mut self, buf: &[u8]) -> io::Result<usize> {
         let left = self.room.saturating_sub(self.taken.len());
         if left == 0 {

@@ -69,7 +69,7 @@ fn row_count_of_first_after_creation<S: Alter + Drop>(
 }
 
 /// Checks that, after the creation of a store, another table of the database still has exactly one
-/// row with the value of its column B.
+/// row whose column B is 1, as before.
 pub fn creation_preserves_other_tables(alloc: Global) -> Result<(), Fail> {
     let count = row_count_of_first_after_creation(open_in_memory(alloc))?;
     expect(count == 1, "other rows")

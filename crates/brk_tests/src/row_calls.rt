@@ -25,8 +25,8 @@ fn key_of_row(alloc: Global, batch: &[u8], row: u64) -> Result<Key, Fail> {
     Ok(Key { batch, row })
 }
 
-/// Parses a row and returns its call at 2024-03-01 00:00 UTC, under the key `key` or without one.
-/// Fails if the row is malformed, or if memory runs out.
+/// Parses a row without quotes and returns its call at 2024-03-01 00:00 UTC, under the key `key` or
+/// without one. Fails if the row is malformed, or if memory runs out.
 pub fn parse_row_call(alloc: Global, row: &str, key: Option<Key>) -> Result<(Stamp, Call), Fail> {
     let fields = split_fields(alloc, row)?;
     match parse_row(alloc, &fields)? {
@@ -35,8 +35,9 @@ pub fn parse_row_call(alloc: Global, row: &str, key: Option<Key>) -> Result<(Sta
     }
 }
 
-/// Parses row `n` of the batch `batch` and returns its call at 2024-03-01 00:00 UTC, under its key.
-/// Fails if the row, its number or the name of the batch is malformed, or if memory runs out.
+/// Parses a row without quotes and returns its call at 2024-03-01 00:00 UTC, under the key of row
+/// `n` of the batch with the name `batch`. Fails if the row, its number or the name of the batch is
+/// malformed, or if memory runs out.
 pub fn parse_keyed_row_call(
     alloc: Global,
     batch: &[u8],

@@ -21,7 +21,7 @@ use std::test::Fail;
 const LOTS: u64 = 40;
 
 // Returns the text of a batch with the orders and the results of `LOTS` purchases of one share of
-// ABC each for account 100. Fails only if memory runs out.
+// ABC each at 10.00 for account 100, with the trade ids from 1 on. Fails only if memory runs out.
 fn batch_of_purchases_of_one_share(alloc: Global) -> Result<String, Fail> {
     let mut batch = String::from_str(alloc, "batch,P\n")?;
     for n in 1..=LOTS {
@@ -32,9 +32,9 @@ fn batch_of_purchases_of_one_share(alloc: Global) -> Result<String, Fail> {
 }
 
 // Returns the store of a desk in the database of a connection after the batch `SET` and the
-// purchases of `LOTS` lots of one share each for account 100. Fails without a connection, if the
-// desk cannot be set up (`desk_with_reference_data`), if the batch of the purchases fails, or if
-// memory runs out.
+// purchases of `LOTS` lots of one share each for account 100. Does not check that the rows of the
+// purchases are accepted. Fails without a connection, if the desk cannot be set up
+// (`desk_with_reference_data`), if the batch of the purchases fails, or if memory runs out.
 fn store_with_forty_lots<S: Alter + Drop>(
     alloc: Global,
     conn: Option<Connection<S>>,
@@ -48,8 +48,9 @@ fn store_with_forty_lots<S: Alter + Drop>(
     }
 }
 
-// Computes the closing of lots of ABC of account 100 by a sale of `count` shares at 10.00, the last
-// lots first if `lifo` is true. Returns the number of touched lots and the number of rows that were
+// Computes the closing of lots of ABC of account 100, in order of their opening stamps, the last
+// lots first if `lifo` is true, by a sale of `count` shares at 10.00. Returns the number of lots
+// that the sale closes or reduces, without a lot that it opens, and the number of rows that were
 // read. Changes no lot. Fails if `count` is not within the limits of a quantity, if the closing
 // fails, or if memory runs out.
 fn lots_touched_and_rows_read<S: Alter>(
@@ -76,8 +77,8 @@ fn lots_touched_and_rows_read<S: Alter>(
     Ok((closing.touched.len(), lots.rows_read()))
 }
 
-// Sales: the number of shares, the number of lots that the sale touches, and the number of rows
-// that it reads.
+// Sales: the number of shares, the number of lots that the sale closes or reduces, and the number
+// of rows that it reads.
 const SALES: [(u32, usize, u64); 5] = [
     (1, 1, 16),
     (16, 16, 16),
@@ -86,9 +87,9 @@ const SALES: [(u32, usize, u64); 5] = [
     (41, 40, 40),
 ];
 
-// Checks that each sale of `SALES` touches the wanted number of lots and reads the wanted number of
-// rows, the last lots first if `lifo` is true. Fails if not, if a closing fails, or if memory runs
-// out.
+// Checks that each sale of `SALES` closes or reduces the wanted number of lots and reads the wanted
+// number of rows, the last lots first if `lifo` is true. Fails if not, if a closing fails, or if
+// memory runs out.
 fn expect_rows_read_by_sales<S: Alter>(
     alloc: Global,
     store: &mut Store<S>,
@@ -104,9 +105,10 @@ fn expect_rows_read_by_sales<S: Alter>(
     Ok(())
 }
 
-// Checks, in a store in the database of a connection, that each sale of `SALES` touches the wanted
-// number of lots and reads the wanted number of rows, with the first and with the last lots first.
-// Fails if not, without a connection, and if the store cannot be set up (`store_with_forty_lots`).
+// Checks, in a store in the database of a connection, that each sale of `SALES` closes or reduces
+// the wanted number of lots and reads the wanted number of rows, with the first and with the last
+// lots first. Fails if not, without a connection, if the store cannot be set up
+// (`store_with_forty_lots`), if a closing fails, or if memory runs out.
 fn expect_rows_read_in_database<S: Alter + Drop>(
     alloc: Global,
     conn: Option<Connection<S>>,
@@ -116,8 +118,8 @@ fn expect_rows_read_in_database<S: Alter + Drop>(
     expect_rows_read_by_sales(alloc, &mut store, true)
 }
 
-/// Checks that a sale reads only the pages of 16 rows that contain the lots that it closes, whether
-/// it closes the first or the last lots first.
+/// Checks that a sale reads only the pages of at most 16 rows that contain the lots that it closes,
+/// whether it closes the first or the last lots first.
 pub fn a_sale_reads_only_the_pages_it_needs(alloc: Global) -> Result<(), Fail> {
     expect_rows_read_in_database(alloc, open_in_memory(alloc))
 }
@@ -125,8 +127,9 @@ pub fn a_sale_reads_only_the_pages_it_needs(alloc: Global) -> Result<(), Fail> {
 // The number of lots of account 100.
 const LOTS_AT_DESK: u64 = 100;
 
-// Returns the text of a batch that adds account 101, and buys two shares `LOTS_AT_DESK` times for
-// account 100 and once for account 101. Fails only if memory runs out.
+// Returns the text of a batch that adds account 101, and buys two shares of ABC at 10.00
+// `LOTS_AT_DESK` times for account 100 and then once for account 101, with the trade ids from 1 on.
+// Fails only if memory runs out.
 fn batch_of_purchases_of_two_shares(alloc: Global) -> Result<String, Fail> {
     let mut batch = String::from_str(alloc, "batch,P\naccount,101,10,1,Side,1,10000.00\n")?;
     for n in 1..=LOTS_AT_DESK {
@@ -155,7 +158,9 @@ fn files_with_hundred_lots(alloc: Global) -> Result<Held, Fail> {
 }
 
 // Returns the text of a batch with the order of a sale of `shares` shares of ABC of an account and
-// its result at 10.00. Fails only if memory runs out.
+// its result at 10.00. The sale is the first trade after those of
+// `batch_of_purchases_of_two_shares`, and closes the first lots first. Fails only if memory runs
+// out.
 fn batch_of_one_sale(alloc: Global, account: u64, shares: u64) -> Result<String, Fail> {
     let trade = LOTS_AT_DESK + 2;
     Ok(format!(in alloc;
@@ -164,8 +169,8 @@ fn batch_of_one_sale(alloc: Global, account: u64, shares: u64) -> Result<String,
 }
 
 // Returns true if a desk in the files `held`, whose database file accepts `calls` calls and fails
-// at each later call, completes the sale of `shares` shares of an account. The desk caches one page
-// of the file, and reads each other page from the file. Fails if memory runs out.
+// at each later call, accepts the order and the result of the sale of `shares` shares of an
+// account. The desk caches only one page of those that it reads. Fails only if memory runs out.
 fn is_sale_complete_within_calls(
     alloc: Global,
     held: &Held,
@@ -187,7 +192,7 @@ fn is_sale_complete_within_calls(
 
 // Returns the least number of calls of the database file, from 1 on, with which the sale of one
 // share of an account completes, or 8,192 if it does not complete with fewer. Supposes that the
-// sale completes with each greater number too. Fails if memory runs out.
+// sale completes with each greater number too. Fails only if memory runs out.
 fn least_calls_of_sale(alloc: Global, held: &Held, account: u64) -> Result<u64, Fail> {
     let mut most = 0u64;
     for bit in [4_096, 2_048, 1_024, 512, 256, 128, 64, 32, 16, 8, 4, 2, 1] {

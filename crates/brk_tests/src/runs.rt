@@ -13,10 +13,10 @@ use sqlite::{Alter, Connection};
 use std::alloc::{AllocError, Global};
 use std::test::Fail;
 
-// Returns the text of an outcome: `ok,` and the stamp of a command whose reply is only its stamp;
-// `again,` and the stored reply; `no,` and the refusal of a command or a query; the number of
-// trades in the view of submitted trades and the word `trades`; and `something else` for any other
-// outcome. Fails only if memory runs out.
+// Returns the text of an outcome: `ok,` and the stamp, in milliseconds since 1970-01-01 UTC, of a
+// command whose reply is only its stamp; `again,` and the stored reply; `no,` and the number of the
+// refusal of a command or a query; the number of trades in the view of submitted trades and the
+// word `trades`; and `something else` for any other outcome. Fails only if memory runs out.
 fn format_outcome(alloc: Global, outcome: &Outcome) -> Result<String, AllocError> {
     match outcome {
         Outcome::Did(Answer::Done(Reply::Booked(stamp))) => {
@@ -179,7 +179,7 @@ fn expect_totals_after_trades<S: Alter>(alloc: Global, store: &mut Store<S>) -> 
 // `SET`. Checks that all 1,000 rows are accepted, that the line of the last row and the end line
 // are the wanted ones, and that the totals after the trades are right
 // (`expect_totals_after_trades`). Returns the lines. Fails if not, without a connection, if the
-// desk cannot be set up (`desk_with_reference_data`), or if memory runs out.
+// desk cannot be set up (`desk_with_reference_data`), if a read fails, or if memory runs out.
 fn run_and_check_batch<S: Alter + Drop>(
     alloc: Global,
     conn: Option<Connection<S>>,
@@ -257,8 +257,8 @@ fn lines_of_outcomes(alloc: Global, outcomes: &[Outcome]) -> Result<String, Fail
 // the batch `SET`, checks that the totals after the trades are right
 // (`expect_totals_after_trades`), and returns the lines that a batch would write for the rows,
 // without its end line. Fails if the totals are not right, without a connection, if the desk cannot
-// be set up (`desk_with_reference_data`), if a row is malformed or not accepted, if the run fails,
-// or if memory runs out.
+// be set up (`desk_with_reference_data`), if a row is malformed or not accepted, if the run or a
+// read fails, or if memory runs out.
 fn run_rows_and_check_totals<S: Alter + Drop>(
     alloc: Global,
     conn: Option<Connection<S>>,

@@ -24,7 +24,8 @@ pub struct Asked {
 }
 
 /// Returns the account and the days of a statement from the number of the account and the texts of
-/// the days. Fails if one of them is malformed.
+/// the days. Fails if the number is not within the limits of an id or a text is malformed. Does not
+/// check the order of the days.
 pub fn account_and_days(account: u64, from: &str, to: &str) -> Result<Asked, Fail> {
     let days = (parse_day(from.as_bytes()), parse_day(to.as_bytes()));
     match (Id::new(account), days) {
@@ -115,10 +116,10 @@ fn write_error_for_room(room: usize) -> Option<ErrorKind> {
     }
 }
 
-// Writes the statement of account 100 for March 2024 with a writer that has room for `room` bytes,
-// at most as many as the statement `WANTED` has. Checks that the statement fails with `Write`, or
-// completes if there is room for all its bytes, and that exactly its first `room` bytes are
-// written. Fails if not.
+// Writes the statement of account 100 for March 2024, which must be `WANTED`, with a writer that
+// has room for `room` bytes, at most as many as `WANTED` has, and then fails once
+// (`write_error_for_room`). Checks that the statement fails with `Write`, or completes if there is
+// room for all its bytes, and that exactly its first `room` bytes are written. Fails if not.
 fn expect_statement_write_fault<S: Alter>(
     alloc: Global,
     desk: &mut Desk<S>,
@@ -160,9 +161,9 @@ fn expect_each_statement_write_fault<S: Alter + Drop>(
     Ok(())
 }
 
-/// Checks, for each byte of a statement at which the writer fails, is interrupted or accepts no
-/// byte, that the statement fails with `Write` and that exactly the bytes before are written, and
-/// that the statement completes with room for all bytes.
+/// Checks, for each byte of a statement, at which the writer by turns accepts no byte, fails or is
+/// interrupted, that the statement fails with `Write` and that exactly the bytes before are
+/// written, and that the statement completes with room for all bytes.
 pub fn statement_writers_failing_at_each_byte(alloc: Global) -> Result<(), Fail> {
     expect_each_statement_write_fault(alloc, open_in_memory(alloc))
 }
@@ -217,8 +218,8 @@ struct Seen {
     left: u64,
 }
 
-// Subtracts 1 from the number of rows that the walk may still pass. If this number is 0, fails with
-// `At` and the trade `trade` (0 for a movement), which stops the walk.
+// Fails with `At` and the trade `trade` (0 for a movement), which stops the walk, if the walk may
+// pass no more rows. Otherwise subtracts 1 from the number of rows that it may still pass.
 fn count_row_or_stop(seen: &mut Seen, trade: u64) -> Result<(), Ended> {
     if seen.left == 0 {
         return Err(Ended::At(trade));
@@ -326,8 +327,9 @@ fn desk_with_trades<S: Alter + Drop>(
     Ok(desk)
 }
 
-// Walks over the cash rows of an account between two stamps, both included, and records the rows in
-// `seen`. Returns the result of the walk.
+// Walks over the cash rows of an account with a stamp from `from` to `to`, in milliseconds since
+// 1970-01-01 UTC, both included, and records the rows in `seen`. A bound that is out of range is
+// replaced by the nearest stamp. Returns the result of the walk.
 fn record_cash_rows<S: Alter>(
     desk: &mut Desk<S>,
     account: Id,
@@ -430,7 +432,7 @@ fn expect_lot_walks<S: Alter + Drop>(
 }
 
 /// Checks, for each walk of `LOTS` over the lots of an account, that it passes exactly the wanted
-/// lots, sorted by symbol, ascending, and that it has the wanted result.
+/// lots, sorted by symbol, then by opening stamp, ascending, and that it has the wanted result.
 pub fn walks_lots_in_order_of_symbols(alloc: Global) -> Result<(), Fail> {
     expect_lot_walks(alloc, open_in_memory(alloc))
 }

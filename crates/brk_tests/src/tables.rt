@@ -82,9 +82,10 @@ fn append_row(lines: &mut String, row: &Row) -> Option<()> {
     lines.push_str("\n").ok()
 }
 
-// Appends the name `table` of a table, which a condition may follow, and the rows of the table that
-// satisfy this condition, sorted by their first two columns, as lines. Returns `None` if the rows
-// cannot be read or printed, and if memory runs out.
+// Appends the text `table`, the name of a table and perhaps a `WHERE` condition, as a line, and
+// then the rows of the table, or those that satisfy the condition, as lines, sorted by their first
+// two columns, ascending. Returns `None` if the rows cannot be read or printed, and if memory runs
+// out.
 fn append_table<S: Alter>(
     alloc: Global,
     lines: &mut String,
@@ -100,8 +101,8 @@ fn append_table<S: Alter>(
     Some(())
 }
 
-// Appends the names and the rows of these tables, in order, as lines (`append_table`). Returns
-// `None` if the rows cannot be read or printed, and if memory runs out.
+// Appends the texts `tables` and the rows of each of them, in order, as lines (`append_table`).
+// Returns `None` if the rows cannot be read or printed, and if memory runs out.
 fn append_tables<S: Alter>(
     alloc: Global,
     lines: &mut String,
@@ -114,8 +115,9 @@ fn append_tables<S: Alter>(
     Some(())
 }
 
-/// Returns the names and the rows of all tables of a desk as lines, or `None` if the rows cannot be
-/// read or printed, and if memory runs out.
+/// Returns the names and the rows of all tables of a desk as lines (`append_table`): those of
+/// `REFERENCE`, then those of `TRADING`. Returns `None` if the rows cannot be read or printed, and
+/// if memory runs out.
 pub fn read_all_tables<S: Alter>(alloc: Global, conn: &mut Connection<S>) -> Option<String> {
     let mut lines = String::new(alloc);
     append_tables(alloc, &mut lines, conn, &REFERENCE)?;
@@ -123,9 +125,10 @@ pub fn read_all_tables<S: Alter>(alloc: Global, conn: &mut Connection<S>) -> Opt
     Some(lines)
 }
 
-// Checks that the names and the rows of these tables are exactly the lines `wanted`. Fails with
-// `name` and the number of the first line that differs, with `name` if no line differs but the
-// texts do, and if the tables cannot be read or memory runs out.
+// Checks that the names and the rows of these tables are exactly the lines `wanted`
+// (`append_tables`). Fails with `name` and the number of the first line that differs, with `name`
+// if no line differs but the texts do, and if the tables cannot be read or printed or memory runs
+// out.
 fn expect_rows_of_tables<S: Alter>(
     alloc: Global,
     conn: &mut Connection<S>,
@@ -140,10 +143,11 @@ fn expect_rows_of_tables<S: Alter>(
     }
 }
 
-/// Checks all tables of a store: the reference tables equal those after the batch `SET`, and the
-/// names and rows of the other tables are exactly the lines `wanted`. Fails with `name` and the
+/// Checks all tables of a store: the tables of `REFERENCE` equal those after the batch `SET`, and
+/// the names and rows of the tables of `TRADING` are exactly the lines `wanted`. The stored
+/// requests of `SET` are among the former, all others among the latter. Fails with `name` and the
 /// number of the first line that differs, with `name` if no line differs but the texts do, and if
-/// the tables cannot be read or memory runs out.
+/// the tables cannot be read or printed or memory runs out.
 pub fn expect_all_tables<S: Alter + Drop>(
     alloc: Global,
     store: Store<S>,

@@ -89,8 +89,9 @@ pub const LAST_FIRST_LINES: [&str; 6] = [
     "1709251200021,19.50,30.00,1895.50,2024-03-03,1800.00,1950.00,8441.40",
 ];
 
-/// Appends the rows of a market order to buy `shares` shares of ABC for an account, and of the
-/// result at 10.00 of the trade with the id `trade`. Fails only if memory runs out.
+/// Appends two rows, each with a line feed: a market order for cash to buy `shares` shares of ABC
+/// for the account with the id `account`, and the result at 10.00 of the trade with the id `trade`.
+/// Fails only if memory runs out.
 pub fn append_purchase(
     batch: &mut String,
     account: u64,
@@ -138,9 +139,10 @@ pub fn append_reply_lines(
     Ok(())
 }
 
-/// Returns all lines of a batch on a desk that has accepted its first `booked` rows before, or all
-/// of its rows if `booked` is greater: the stored replies to these rows, the other rows accepted,
-/// and the end line. `lines` are the replies to all rows. Fails only if memory runs out.
+/// Returns all lines that a batch writes on a desk that has accepted its first `booked` rows
+/// before, or all of its rows if it has fewer: the stored replies to these rows, the other rows
+/// accepted, and the end line. `lines` are the replies to all rows, without the row's number and
+/// the word `ok`. Fails only if memory runs out.
 pub fn lines_of_retry(alloc: Global, lines: &[&str], booked: usize) -> Result<String, Fail> {
     let (again, rest) = lines.split_at(booked.min(lines.len()));
     let mut told = String::new(alloc);

@@ -195,8 +195,9 @@ impl Long {
 }
 
 impl Read for Long {
-    // Copies the next bytes to the buffer, up to its length and the limit of an input, and returns
-    // their number. Fails if all bytes up to the limit were read before.
+    // Copies the next bytes to the buffer, up to its length and the limit of an input, fills the
+    // rest of the buffer with line feeds, and returns the number of the bytes. Fails if all bytes
+    // up to the limit were read before.
     fn read(&mut self, buf: &mut [u8]) -> io::Result<usize> {
         if self.at >= MAXIMUM_INPUT_BYTES {
             return Err(io::Error::from(io::ErrorKind::Other));

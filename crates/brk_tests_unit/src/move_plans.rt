@@ -18,9 +18,10 @@ struct Case {
     next: u64,
 }
 
-// Checks that the reply to the movement of a case after the last stamp 1709251200021, or `no,` and
-// the refusal of the movement, is the text `wanted`. Fails with both texts if not. Fails also if a
-// number of the case is not within its limits, and if memory runs out.
+// Checks that the reply to the movement of a case after the last stamp 1709251200021, at an earlier
+// clock reading, or `no,` and the refusal of the movement, is the text `wanted`. Fails with both
+// texts if not. Fails also if a number of the case is not within its limits, and if memory runs
+// out.
 fn expect_movement_reply(alloc: Global, case: &Case, wanted: &str) -> Result<(), Fail> {
     let movement = Movement {
         direction: case.direction,
@@ -52,8 +53,8 @@ const DEPOSIT: Case = Case {
 };
 
 // Movements, each with the text of its reply: a deposit; a withdrawal beyond the balance; and
-// deposits beyond the limit of the balance, to an account that does not exist, and beyond the limit
-// of movements.
+// deposits beyond the limit of the balance, to an account that does not exist, which is also beyond
+// the limit of movements, and beyond the limit of movements only.
 const MOVEMENTS: [(Case, &str); 5] = [
     (DEPOSIT, "1709251200022,4,8503.40"),
     (
@@ -89,11 +90,11 @@ const MOVEMENTS: [(Case, &str); 5] = [
     ),
 ];
 
-/// Checks the replies to a deposit and to a withdrawal, with their number and the new balance,
-/// which may be below 0. Checks that a deposit beyond the limit of the balance is refused with
-/// `Range` (14), `balance`, a deposit to an account that does not exist with `NoAccount` (1), and a
-/// deposit beyond the limit of movements with `Range` (14), `moves`. Fails if not, and if memory
-/// runs out.
+/// Checks the replies to a deposit and to a withdrawal, with their stamp, their number and the new
+/// balance, which may be below 0. Checks that a deposit beyond the limit of the balance is refused
+/// with `Range` (14), `balance`, a deposit to an account that does not exist with `NoAccount` (1),
+/// also beyond the limit of movements, and another deposit beyond this limit with `Range` (14),
+/// `moves`. Fails if not, and if memory runs out.
 pub fn movement_replies_and_refusals(alloc: Global) -> Result<(), Fail> {
     for (case, wanted) in &MOVEMENTS {
         expect_movement_reply(alloc, case, wanted)?;
@@ -103,9 +104,9 @@ pub fn movement_replies_and_refusals(alloc: Global) -> Result<(), Fail> {
 
 // Checks that the reply to the command that sets `days` as the first day of one-day settlement, or
 // `no,` and the refusal of the command, is the text `wanted`. The desk has `rule` as this day, or
-// has none set, and its last stamp is on 2024-03-01 UTC; both days are in days since 1970-01-01.
-// Fails with both texts if not. Fails also if a day is not within its limits, and if memory runs
-// out.
+// has none set if `rule` is `None`; both days are in days since 1970-01-01. Its last stamp is
+// 1709251200015, on 2024-03-01 UTC, and the clock reading is earlier. Fails with both texts if not.
+// Fails also if a day is not within its limits, and if memory runs out.
 fn expect_settlement_day_reply(
     alloc: Global,
     days: i32,
@@ -124,8 +125,9 @@ fn expect_settlement_day_reply(
 }
 
 /// Checks that a first day of one-day settlement is refused with `TooEarly` (22) if it is the day
-/// of the command's stamp, accepted if it is the next day, and refused with `Exists` (15) if the
-/// desk has one already. Fails if not, and if memory runs out.
+/// of the command's stamp, and accepted if it is the next day, and that the day of the stamp is
+/// refused with `Exists` (15) if the desk has a first day already. Fails if not, and if memory runs
+/// out.
 pub fn a_settlement_day_must_be_in_the_future(alloc: Global) -> Result<(), Fail> {
     expect_settlement_day_reply(alloc, 19_783, None, "no,22")?;
     expect_settlement_day_reply(alloc, 19_784, None, "1709251200016")?;

@@ -5,8 +5,8 @@ use brk_trade::Plan;
 use std::alloc::Global;
 use std::test::Fail;
 
-/// Returns the reply of an accepted plan as text, its fields separated by commas, or `no,` and the
-/// text of the refusal. Fails with `Memory` only.
+/// Returns the reply of a plan as text, its fields separated by commas, or `no,` and the text of
+/// the refusal. Fails with `Memory` only.
 fn format_planned_reply(alloc: Global, planned: &Result<Plan, Refusal>) -> Result<String, Fault> {
     match planned {
         Ok(plan) => line_text(alloc, &plan.reply),

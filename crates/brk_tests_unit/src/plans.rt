@@ -28,9 +28,10 @@ fn quote_with_100_shares_left(alloc: Global) -> Result<Vec<Quote>, Fail> {
     Ok(vec![in alloc; Quote { last, requests }]?)
 }
 
-// Checks that the reply to a feed of these ticks on the quote of `quote_with_100_shares_left`, or
-// `no,` and the refusal of the feed, is the text `wanted`. Fails with both texts if not. Fails also
-// if the ticks are malformed, and if memory runs out.
+// Checks that the reply to a feed with the fields `ticks`, the symbol, price and quantity of each
+// tick, on the quote of `quote_with_100_shares_left`, or `no,` and the refusal of the feed, is the
+// text `wanted`. There is no last stamp, and the clock reading is 1709251200019. Fails with both
+// texts if not. Fails also if the ticks are malformed, and if memory runs out.
 fn expect_feed_reply(alloc: Global, ticks: &[&[u8]], wanted: &str) -> Result<(), Fail> {
     let now = Stamp::nearest(1_709_251_200_019);
     let feed = parse_market_feed(alloc, ticks)??;
@@ -60,10 +61,11 @@ pub fn a_feed_beyond_volume_limit_is_refused(alloc: Global) -> Result<(), Fail> 
     Ok(())
 }
 
-// Returns the facts of the tables on which the plan for a purchase of ABC depends: `trades` as the
-// last trade id, or no trade if it is beyond the limits of an id, a last price of 10.00, a
-// commission rate of one percent, a charge of 5.00, and assets of 10000.00. Does not fail, because
-// all of its constants are within their limits.
+// Returns the facts of the tables on which the plan for a purchase of ABC depends: an account of
+// the broker 1 with the tax status `Withheld`, an executor who is permitted, a last price of 10.00,
+// a charge of 5.00, a commission rate of one percent, tax rates of 20 percent in all, assets of
+// 10000.00, no shares held, and `trades` as the last trade id, or no trade if it is not within the
+// limits of an id. Does not fail, because all of its constants are within their limits.
 fn purchase_facts(trades: u64) -> Result<OrderPlanFacts, Fail> {
     let account = OrderAccount {
         broker: Id::new(1).ok_or("broker")?,
@@ -88,8 +90,8 @@ const PURCHASE: [&[u8]; 10] = [
 ];
 
 // Checks that the reply to the order `PURCHASE` with these facts, on a position without lots, or
-// `no,` and the refusal of the order, is the text `wanted`. Fails with both texts if not. Fails
-// also if memory runs out.
+// `no,` and the refusal of the order, is the text `wanted`. There is no last stamp, and the clock
+// reading is 1709251200020. Fails with both texts if not. Fails also if memory runs out.
 fn expect_order_reply(alloc: Global, found: &OrderPlanFacts, wanted: &str) -> Result<(), Fail> {
     let order = parse_trade_order(alloc, &PURCHASE)??;
     let position = Position::new(alloc);
@@ -99,8 +101,9 @@ fn expect_order_reply(alloc: Global, found: &OrderPlanFacts, wanted: &str) -> Re
     expect_planned_reply(alloc, planned, wanted)
 }
 
-// Checks that the reply to the order `PURCHASE` after `trades` trades, or `no,` and the refusal of
-// the order, is the text `wanted`. Fails with both texts if not. Fails also if memory runs out.
+// Checks that the reply to the order `PURCHASE` with `trades` as the last trade id
+// (`purchase_facts`), or `no,` and the refusal of the order, is the text `wanted`. Fails with both
+// texts if not. Fails also if memory runs out.
 fn expect_purchase_reply(alloc: Global, trades: u64, wanted: &str) -> Result<(), Fail> {
     match purchase_facts(trades) {
         Ok(found) => expect_order_reply(alloc, &found, wanted),

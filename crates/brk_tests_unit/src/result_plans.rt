@@ -42,8 +42,8 @@ const SUBMITTED_CASH_PURCHASE: Case = Case {
 };
 
 // Returns the TRADE row of the trade of a case, with the id 1, the account 100, a bid of 10.00, a
-// charge of 5.00 and a commission of 10.00. Fails if the quantity is not within its limits, and if
-// memory runs out.
+// charge of 5.00, a commission of 10.00, a tax of 0 and no price, which closes the oldest lots
+// first. Fails if the quantity is not within its limits, and if memory runs out.
 fn trade_row_of_case(alloc: Global, case: &Case) -> Result<TradeRow, Fail> {
     let id = Id::new(1).ok_or("trade")?;
     let qty = Qty::new(case.qty).ok_or("quantity")?;
@@ -92,8 +92,10 @@ fn broker_totals_of_case(case: &Case) -> Result<BrokerTotals, Fail> {
     })
 }
 
-// Returns the facts of the tables on which the plan for the result of a case depends. Fails if a
-// number of the case is not within its limits, and if memory runs out.
+// Returns the facts of the tables on which the plan for the result of a case depends, with tax
+// rates of 20 percent in all, no settlement day, and 1 as the number of the next cash row. Fails if
+// the quantity, the rate, the balance or the commissions of the case are not within their limits,
+// and if memory runs out; the shares held are not checked.
 fn result_facts(alloc: Global, case: &Case) -> Result<ResultPlanFacts, Fail> {
     let rate = match case.rate {
         Some(rate) => Some(Rate::new(rate).ok_or("rate")?),
@@ -118,10 +120,10 @@ fn result_facts(alloc: Global, case: &Case) -> Result<ResultPlanFacts, Fail> {
     })
 }
 
-// Checks that the reply to a result at 10.10 with the facts `found`, on a position without lots and
-// after the last stamp `last`, or `no,` and the refusal of the result, is the text `wanted`. If
-// `found` is `None`, the trade does not exist. Fails with both texts if not. Fails also if the
-// position does not accept the trade, and if memory runs out.
+// Checks that the reply to a result at 10.10 with the facts `found`, on a position without lots, at
+// the clock reading 1709251200000 and after the last stamp `last`, if any, or `no,` and the refusal
+// of the result, is the text `wanted`. If `found` is `None`, the trade does not exist. Fails with
+// both texts if not. Fails also if the position does not accept the trade, and if memory runs out.
 fn expect_result_reply(
     alloc: Global,
     found: Option<&ResultPlanFacts>,
@@ -143,8 +145,8 @@ fn expect_result_reply(
 }
 
 // Checks that the reply to the result of the trade of a case, or `no,` and the refusal of the
-// result, is the text `wanted`. Fails with both texts if not. Fails also if a number of the case is
-// not within its limits, and if memory runs out.
+// result, is the text `wanted`. If the last stamp of the case is not within its limits, there is
+// none. Fails with both texts if not. Fails also if `result_facts` fails, and if memory runs out.
 fn expect_case_reply(alloc: Global, case: &Case, wanted: &str) -> Result<(), Fail> {
     let found = result_facts(alloc, case)?;
     expect_result_reply(alloc, Some(&found), Stamp::new(case.last), wanted)
@@ -232,10 +234,10 @@ const CAUSES: [(Case, &str); 10] = [
     ),
 ];
 
-/// Checks that the submitted purchase is accepted, and that a result with several causes to be
-/// refused is refused by the first one that applies: the status of the trade, then its commission
-/// band, the limits of the shares held, the balance and the broker, and the last stamp. Fails if
-/// not, and if memory runs out.
+/// Checks that the submitted purchase is accepted, and that a result with one or more causes to be
+/// refused is refused by the first one that applies, in this order: the status of the trade (13),
+/// its commission band (11), the limits of the shares held, the balance and the broker (14), and
+/// the last stamp (21). Fails if not, and if memory runs out.
 pub fn results_are_refused_by_the_first_cause(alloc: Global) -> Result<(), Fail> {
     for (case, wanted) in &CAUSES {
         expect_case_reply(alloc, case, wanted)?;

@@ -9,7 +9,7 @@ fn path_or_hyphen(db: &Option<String>) -> &str {
     db.as_deref().unwrap_or("-")
 }
 
-// Returns the milliseconds of a timestamp, or -1 if there is none.
+// Returns a timestamp in milliseconds since 1970-01-01 UTC, or -1 if there is none.
 fn millis_or_minus_one(at: Option<Stamp>) -> i64 {
     match at {
         Some(stamp) => stamp.get(),
@@ -27,9 +27,10 @@ fn append_words(mut text: String, words: &[String]) -> Result<String, AllocError
     Ok(text)
 }
 
-// Returns the name of a job and its values as text, separated by spaces: a path or `-`, timestamps
-// in milliseconds or -1, days since 1970-01-01, and flags as `true` or `false`. Fails only if
-// memory runs out.
+// Returns the name of a job and its values, in the order of its fields, as text, separated by
+// spaces: a path, or `-` if it is optional and there is none; timestamps in milliseconds since
+// 1970-01-01 UTC, or -1 if there is none; days as numbers of days since 1970-01-01; flags as `true`
+// or `false`; other numbers and words as they are. Fails only if memory runs out.
 fn format_job(alloc: Global, job: &Job) -> Result<String, AllocError> {
     match job {
         Job::Batch { db, at } => format!(in alloc;
@@ -178,8 +179,9 @@ const JOBS: [(&str, &str); 17] = [
     ),
 ];
 
-/// Checks that the command lines of `JOBS`, correct ones of each subcommand, request the wanted
-/// jobs, and that a malformed day is reported. Fails if not, and if memory runs out.
+/// Checks, for the command lines of `JOBS`, that the correct ones, at least one for each job,
+/// request the wanted jobs, and that a malformed first or last day of a statement is reported.
+/// Fails if not, and if memory runs out.
 pub fn parses_the_arguments_of_each_job(alloc: Global) -> Result<(), Fail> {
     for (line, job) in &JOBS {
         expect_parsed_command_line(alloc, line, &[*job])?;
@@ -342,9 +344,9 @@ const WRONG_SERVES: [(&str, &str, &str); 6] = [
 // The end of an error text.
 const MORE: &str = "For more information, try '--help'.\n";
 
-// Checks that each command line in `faults` is reported as wrong, with the whole error text: the
-// cause, the usage, and a line about help. Fails with the text that is reported if not. Fails also
-// if memory runs out.
+// Checks that each command line in `faults`, which its cause and its usage follow, is reported as
+// wrong, with the whole error text: the cause, the usage, which may be empty, and a line about
+// help. Fails with the text that is reported if not. Fails also if memory runs out.
 fn expect_usage_faults(alloc: Global, faults: &[(&str, &str, &str)]) -> Result<(), Fail> {
     for (line, cause, usage) in faults {
         let text = ["wrong: error: ", cause, "\n\n", usage, MORE];

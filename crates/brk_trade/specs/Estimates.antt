@@ -29,8 +29,10 @@ commission_from_terms terms = commission terms.rate terms.qty terms.price
 
 -- `terms` are the terms of the order `o` in `base`: its side, quantity and price, the tax status
 -- and the assets of its account, the sum of the tax rates of the account's customer, and the
--- commission rate and the charge that apply. False if no commission rate or no charge applies. The
--- record says nothing of `terms.held`.
+-- commission rate and the charge that apply. If the account, its customer or the security does not
+-- exist, the defaults of the model's definitions apply: untaxed; customer, tier and last price 0;
+-- an empty exchange. False if no commission rate or no charge applies. The record says nothing of
+-- `terms.held`.
 pub record AreOrderTermsInBase (base : Base) (o : Order) (terms : Terms) : Type 0 where
   pub side : terms.side ≡ side_of_trade_type (trade_type_of_order_type o.order_type)
   pub qty : terms.qty ≡ o.qty

@@ -72,9 +72,9 @@ pub record IsCheckedPlacement (order : Order) (found : OrderPlanFacts) (placemen
   pub broker : placement.broker ≡ option_map_or (λ a. a.broker) found.account 0
 
 -- For every base and every order that has the terms `terms` in this base, `estimate` equals the
--- model's estimate of the order, if the open shares of its account and symbol are the shares of
--- lots `ls` that the source may return (`given`). Vacuous if the quantities of these lots do not
--- sum to the shares held, `terms.held`.
+-- model's estimate of the order, if the open shares of its account and symbol are the shares of the
+-- lots `ls` of a position, the source may return these lots (`given`) from the end that the order
+-- closes first, and their quantities sum to the shares held, `terms.held`.
 abbrev pub MatchesModelEstimate : Terms → (List Lot → Type 0) → Estimate → Type 0
 MatchesModelEstimate terms given estimate =
     (base : Base) (o : model.Order) (ls : List Lot) → AreOrderTermsInBase base o terms
@@ -87,13 +87,14 @@ pub record EstimatesCheckedOrder (order : Order) (found : OrderPlanFacts) (given
   pub accepted : first_refusal (order_checks found) ≡ None
   pub estimated : MatchesModelEstimate (terms_of_order order found) given estimate
 
--- The check that a free id exists for a new trade (`Range(Trades)`): `last`, the greatest id in
--- use, is below the greatest id. It passes if `last` is `None`, which means that there are no
--- trades.
+-- The check that a free id exists for a new trade (`Range(Trades)`): `last`, the greatest id of a
+-- trade, is below the limit of ids (`greatest_id`). It passes if `last` is `None`, which means that
+-- there are no trades.
 abbrev pub free_trade_id_check : Option ℕ → RefusalCheck
 free_trade_id_check last = (nat_le greatest_id (unwrap_or last 0), Range limit.Trades)
 
--- The id of the next trade: `last` plus 1, or 1 if there are no trades.
+-- The id of the next trade: `last`, the greatest id of a trade, plus 1, or 1 if `last` is `None`,
+-- which means that there are no trades.
 abbrev pub next_trade_id : Option ℕ → ℕ
 next_trade_id last = unwrap_or last 0 + 1
 

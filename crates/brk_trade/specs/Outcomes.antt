@@ -23,7 +23,8 @@ use Rattle.brk_changes.specs.declared.trade_row.TradeRow.{TradeRow}
 abbrev pub greatest_trade_value : ℕ
 greatest_trade_value = greatest_qty * greatest_price
 
--- The deal of the trade of the TRADE row `t`, completed at `price` and `stamp`.
+-- The deal of the trade of the TRADE row `t`, completed at `price` cents a share and at the stamp
+-- `stamp`.
 abbrev pub deal_of_trade_row : TradeRow → (price stamp : ℕ) → Deal
 deal_of_trade_row t price stamp = record { trade = t.id; side = side_of_trade_type t.kind; qty = t.qty; price = price; stamp = stamp; is_lifo = t.is_lifo }
 
@@ -33,13 +34,14 @@ deal_of_trade_row t price stamp = record { trade = t.id; side = side_of_trade_ty
 abbrev pub shares_held_after_trade : ResultPlanFacts → ℤ
 shares_held_after_trade found = unwrap_or found.summary (pos 0) +ℤ signed_by_side (side_of_trade_type found.trade.kind) found.trade.qty
 
--- The commission of the trade at `price`, in cents, at the commission rate of its band. The rate
--- counts as 0 if there is no band.
+-- The commission of the trade at `price` cents a share, in whole cents, rounded half up
+-- (`commission`), at the commission rate of its band. The rate counts as 0 if there is no band.
 abbrev pub commission_of_result : ResultPlanFacts → ℕ → ℕ
 commission_of_result found price = commission (unwrap_or found.rate 0) found.trade.qty price
 
--- The tax on the realised gain of `values`, in cents, at the tax status of the trade's account and
--- the sum of the tax rates of the account's customer.
+-- The tax on the realised gain of `values`, in whole cents, rounded half up, at the tax status of
+-- the trade's account and the sum of the tax rates of the account's customer. The tax is 0 if gains
+-- are not taxable at this status, or if there is no gain (`tax_on_gain_at_status`).
 abbrev pub tax_of_result : ResultPlanFacts → Values → ℕ
 tax_of_result found values = tax_on_gain_at_status found.account.tax_status found.rates values
 
@@ -48,8 +50,9 @@ tax_of_result found values = tax_on_gain_at_status found.account.tax_status foun
 abbrev pub withheld_tax_of_result : ResultPlanFacts → Values → ℕ
 withheld_tax_of_result found values = if is_withholding_status found.account.tax_status then tax_of_result found values else 0
 
--- The settlement amount of the trade at `price`, in cents, below 0 if the account pays: the value
--- of the trade, negated for a purchase, minus the charge, the commission and the withheld tax.
+-- The settlement amount of the trade at `price` cents a share, in cents, below 0 if the account
+-- pays: the value of the trade, negated for a purchase, minus the charge, the commission and the
+-- withheld tax.
 abbrev pub settlement_amount_of_result : ResultPlanFacts → ℕ → Values → ℤ
 settlement_amount_of_result found price values =
     signed_proceeds (side_of_trade_type found.trade.kind) (found.trade.qty * price) -ℤ pos (found.trade.charge + commission_of_result found price
@@ -60,40 +63,41 @@ settlement_amount_of_result found price values =
 abbrev pub balance_after_settlement_amount : ResultPlanFacts → ℤ → ℤ
 balance_after_settlement_amount found amount = if found.trade.is_cash then found.account.balance +ℤ amount else found.account.balance
 
--- The balance of the account after the trade, in cents: a cash trade adds its settlement amount,
--- and a margin trade does not change the balance.
+-- The balance of the account after the trade at `price` cents a share, in cents: a cash trade adds
+-- its settlement amount, and a margin trade does not change the balance.
 abbrev pub balance_after_result : ResultPlanFacts → ℕ → Values → ℤ
 balance_after_result found price values = balance_after_settlement_amount found (settlement_amount_of_result found price values)
 
--- The commissions of the account's broker after the trade, in cents: the commissions before the
--- trade plus the commission of the trade.
+-- The commissions of the account's broker after the trade at `price` cents a share, in cents: the
+-- commissions before the trade plus the commission of the trade.
 abbrev pub broker_commissions_after_result : ResultPlanFacts → ℕ → ℕ
 broker_commissions_after_result found price = found.broker.commissions + commission_of_result found price
 
--- The checks of a result that need no lots, in this order: the trade is submitted (`WrongStatus`),
--- a commission rate applies (`NoRate`), and the absolute value of the number of shares held after
--- the trade is at most 9,999,999,999 (`Range(Summary)`).
+-- The checks of a result that precede the reading of lots, in this order: the trade is submitted
+-- (`WrongStatus`, with its status), a commission rate applies (`NoRate`), and the absolute value of
+-- the number of shares held after the trade is at most 9,999,999,999 (`Range(Summary)`).
 abbrev pub checks_before_reading_lots : ResultPlanFacts → List RefusalCheck
 checks_before_reading_lots found =
     (not (is_same_trade_status found.trade.status Submitted), WrongStatus found.trade.status) ∷ (is_none found.rate, NoRate)
     ∷ (nat_lt greatest_summary (nat_abs (shares_held_after_trade found)), Range limit.Summary) ∷ []
 
 -- The check that `stamp` is not `None` and that the due day of a completion at `stamp` is not after
--- 9999-12-31 (`ClockEnd`). `rule` is the first day whose completions settle after one day, if any.
+-- 9999-12-31 (`ClockEnd` for both). `rule` is the first day whose completions settle after one day,
+-- in days since 1970-01-01, if it is set.
 abbrev pub due_day_check : Option ℕ → Option ℕ → RefusalCheck
 due_day_check rule stamp = (option_map_or (λ s. nat_lt greatest_day (due_day_of_completion_stamp rule s)) stamp true, ClockEnd)
 
--- The checks of a result that need the values of the closed shares or the stamp, in this order: the
--- absolute value of the balance after a cash trade and the broker's commissions after the trade are
--- at most 10^17 cents (`Range(Balance)`, `Range(Broker)`), the stamp is not `None`, and the due day
--- is not after 9999-12-31 (`ClockEnd`).
+-- The checks of a result that follow the reading of lots, in this order: the absolute value of the
+-- balance after a cash trade and the broker's commissions after the trade, both at `price` cents a
+-- share, are at most 10^17 cents (`Range(Balance)`, `Range(Broker)`), and the stamp is not `None`
+-- and the due day not after 9999-12-31 (`ClockEnd` for both).
 abbrev pub checks_after_reading_lots : ResultPlanFacts → ℕ → Values → Option ℕ → List RefusalCheck
 checks_after_reading_lots found price values stamp =
     (found.trade.is_cash && nat_lt greatest_amount (nat_abs (balance_after_result found price values)), Range limit.Balance)
     ∷ (nat_lt greatest_amount (broker_commissions_after_result found price), Range limit.Broker) ∷ due_day_check found.rule stamp ∷ []
 
--- All checks of a result: the checks that need no lots, then the checks that need the values of the
--- closed shares or the stamp.
+-- All checks of a result at `price` cents a share: the checks that precede the reading of lots,
+-- then the checks that follow it.
 abbrev pub result_checks : ResultPlanFacts → ℕ → Values → Option ℕ → List RefusalCheck
 result_checks found price values stamp = checks_before_reading_lots found ++ checks_after_reading_lots found price values stamp
 

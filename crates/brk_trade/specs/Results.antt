@@ -98,15 +98,15 @@ cash_row_of_result found completed =
 abbrev pub row_changes_of_cash_row : ℕ → ℤ → MoveRow → List Change
 row_changes_of_cash_row account balance row = change.AddMove row ∷ change.SetBalance account balance ∷ []
 
--- The row changes of the completed trade itself: the status, stamp, price, commission and tax of
--- its completion are set, and its TRADE_HISTORY row is added.
+-- The row changes of the completed trade itself: the status, stamp, price (`price`, in cents),
+-- commission and tax of its completion are set, and its TRADE_HISTORY row is added.
 abbrev pub row_changes_of_completed_trade : ℕ → ℕ → Completed → List Change
 row_changes_of_completed_trade trade price completed =
     change.CompleteTrade trade completed.stamp price completed.commission completed.tax
     ∷ change.AddHistory (record { trade = trade; status = status.Completed; stamp = completed.stamp }) ∷ []
 
 -- The row change that sets the totals of the account's broker: one more completed trade, and
--- `commissions`, its new commissions in cents.
+-- `commissions`, the broker's new commission total in cents.
 abbrev pub row_change_of_broker_totals : ResultPlanFacts → ℕ → Change
 row_change_of_broker_totals found commissions = change.SetBrokerTotals found.account.broker (pos (found.broker.trades + 1)) commissions
 
@@ -123,9 +123,10 @@ summary_broker_settlement_changes found outcome =
     row_change_of_summary found.summary found.trade outcome.summary ∷ row_change_of_broker_totals found outcome.commissions
     ∷ row_change_adding_settlement found.trade outcome.completed ∷ []
 
--- The row changes that complete the trade of `found`: of the trade itself, of the lots that it
--- closes or reduces and of the lot that it opens, of the summary, the broker's totals and the
--- settlement, of its cash row, if any, and of the last stamp.
+-- The row changes that complete the trade of `found` at `price` cents a share, in this sequence: of
+-- the trade itself, of the lots that it closes or reduces, of the lot that it opens, if any, of the
+-- summary, the broker's totals and the settlement, of its cash row and the account's balance if
+-- `cash` is a row, and of the last stamp.
 abbrev pub row_changes_of_result : ResultPlanFacts → ℕ → ClosedLots → ResultFigures → Option MoveRow → List Change
 row_changes_of_result found price closed outcome cash =
     row_changes_of_completed_trade found.trade.id price outcome.completed
@@ -135,8 +136,9 @@ row_changes_of_result found price closed outcome cash =
     ++ flat_map (row_changes_of_cash_row found.trade.account outcome.completed.balance) (option_to_list cash)
     ++ change.SetLastStamp outcome.completed.stamp ∷ []
 
--- `changes` are the row changes that complete the trade of `found` at `price` with the lots of
--- `closed` and the figures `outcome`. They add a cash row if the trade is a cash trade.
+-- `changes` are the row changes that complete the trade of `found` at `price` cents a share with
+-- the lots of `closed` and the figures `outcome`. For a cash trade they add a cash row and set the
+-- account's balance; for a margin trade they do neither.
 pub record AreResultChanges (found : ResultPlanFacts) (price : ℕ) (closed : ClosedLots) (outcome : ResultFigures) (changes : List Change) : Type 0 where
   pub cash : Option MoveRow
   pub moved : option_map abstract_move_row cash ≡ cash_row_of_result found outcome.completed
@@ -158,11 +160,12 @@ AreLotsBeforeTrade given found ls =
 abbrev pub ClosesNoHeldShares : ResultPlanFacts → Type 0
 ClosesNoHeldShares found = is_trade_closing_lots (side_of_trade_type found.trade.kind) (shares_held_before_trade found) ≡ false
 
--- `plan` completes the trade of `found` at `price` and the stamp of the command, where `given` is
--- true of each list of lots that the source may return, `last` is the last stamp, and `now` the
--- clock reading. The result passes all its checks, and the row changes and the reply follow from
--- `closed`, the lots that the trade closes and opens. The clause `closes` is vacuous if no lots of
--- the source match the summary (`AreLotsBeforeTrade`).
+-- `plan` completes the trade of `found` at `price` cents a share and at the stamp of the command.
+-- `given` is true of each list of lots that the source may return, `last` is the last stamp, and
+-- `now` the clock reading. The result passes all its checks, and the row changes and the reply
+-- follow from `closed`: the lots that the trade closes, reduces or opens, and the values of the
+-- closed shares. The clause `closes` is vacuous if no lots of the source match the summary
+-- (`AreLotsBeforeTrade`).
 pub record IsResultPlan (found : ResultPlanFacts) (price : ℕ) (given : List Lot → Type 0) (last : Option ℕ) (now : ℕ) (plan : Plan) : Type 0 where
   pub stamp : ℕ
   pub closed : ClosedLots
@@ -177,10 +180,10 @@ abbrev pub CompletesExistingTrade : Option ResultPlanFacts → ℕ → (List Lot
 CompletesExistingTrade None price given last now plan = ⊥
 CompletesExistingTrade (Some found) price given last now plan = IsResultPlan found price given last now plan
 
--- `refusal` is the first one that applies to the result of the existing trade of `found` at
--- `price`. The clause `early` is vacuous if no check before the lots are read fails, and the clause
--- `late` if no lots of the source match the summary (`AreLotsBeforeTrade`). `last` is the last
--- stamp, and `now` the clock reading.
+-- `refusal` is the first one that applies to the result of the existing trade of `found` at `price`
+-- cents a share. The clause `early` is vacuous if no check before the lots are read fails, and the
+-- clause `late` if no lots of the source match the summary (`AreLotsBeforeTrade`). `last` is the
+-- last stamp, and `now` the clock reading.
 pub record IsResultRefusalOfExistingTrade (found : ResultPlanFacts) (price : ℕ) (given : List Lot → Type 0) (last : Option ℕ) (now : ℕ)
     (refusal : Refusal) : Type 0 where
   -- If a check before the lots are read fails, its refusal is `refusal`, whatever the lots are.
@@ -198,14 +201,14 @@ abbrev pub IsResultRefusal : Option ResultPlanFacts → ℕ → (List Lot → Ty
 IsResultRefusal None price given last now refusal = refusal ≡ NoTrade
 IsResultRefusal (Some found) price given last now refusal = IsResultRefusalOfExistingTrade found price given last now refusal
 
--- The stamp `stamp`, or the clock reading `now` if it is none.
+-- The stamp `stamp`, or the clock reading `now` if `stamp` is `None`.
 abbrev pub stamp_or_clock_reading : Option ℕ → ℕ → ℕ
 stamp_or_clock_reading stamp now = unwrap_or stamp now
 
 -- From `before` to `after`, the number of lots requested from the source grew by at most one more
--- than the number of lots that the trade closes or reduces if it is completed at `price` and
--- `stamp`, and not at all if there is no such trade. For an existing trade it is vacuous if no lots
--- of the source match the summary (`AreLotsBeforeTrade`).
+-- than the number of lots that the trade closes or reduces if it is completed at `price` cents a
+-- share and at `stamp`, and not at all if there is no such trade. For an existing trade it is
+-- vacuous if no lots of the source match the summary (`AreLotsBeforeTrade`).
 abbrev pub ResultReadsAtMostOneLotMore : Option ResultPlanFacts → ℕ → ℕ → (List Lot → Type 0) → (before after : ℕ) → Type 0
 ResultReadsAtMostOneLotMore None price stamp given before after = after ≤ before
 ResultReadsAtMostOneLotMore (Some found) price stamp given before after =

@@ -72,9 +72,9 @@ fn create_lot_history_change(trade: Id, touch: &Touch) -> Change
     })
 }
 
-// Appends to `changes` the row changes of one lot that `trade` closes or reduces: of its HOLDING
-// row, and of its new HOLDING_HISTORY row. Fails with `Memory` only; a part of the row changes may
-// then be appended.
+// Appends to `changes` the row changes of one lot that `trade` closes or reduces: first of its
+// HOLDING row, then of its new HOLDING_HISTORY row. Fails with `Memory` only; a part of the row
+// changes may then be appended.
 fn append_touched_lot_changes(
     trade: Id,
     touch: &Touch,
@@ -88,9 +88,9 @@ fn append_touched_lot_changes(
     Ok(())
 }
 
-// Appends to `changes` the row changes of all lots that `trade` closes or reduces, in sequence: of
-// the HOLDING row and of the new HOLDING_HISTORY row of each. Fails with `Memory` only; a part of
-// the row changes may then be appended.
+// Appends to `changes` the row changes of the lots `touched`, which `trade` closes or reduces, in
+// their sequence: for each first of its HOLDING row, then of its new HOLDING_HISTORY row. Fails
+// with `Memory` only; a part of the row changes may then be appended.
 fn append_changes_of_all_touched_lots(
     trade: Id,
     touched: &[Touch],
@@ -136,9 +136,9 @@ fn append_opened_lot_changes(
     Ok(())
 }
 
-// Returns the row change of the HOLDING_SUMMARY row of the trade's account and symbol: the row is
-// added if there was none, deleted if the account holds no shares after the trade, and otherwise
-// set. Fails with `Memory` only.
+// Returns the row change of the HOLDING_SUMMARY row of the trade's account and symbol: if there was
+// no row, it is added with the shares held after the trade; otherwise it is deleted if these are 0,
+// and set to them if not. Fails with `Memory` only.
 fn create_summary_change(found: &ResultPlanFacts, outcome: &ResultFigures) -> Result<Change, Fault>
     ensures change { IfOk result (λ change. change ≡ spec.row_change_of_summary found.now.summary found.now.trade outcome.now.summary) }
     ensures fault { OnErr result (result ≡ Err Memory) }
@@ -176,7 +176,7 @@ fn first_cash_type(is_cash: bool) -> CashType
 }
 
 // Returns the row change that sets the totals of the account's broker: one more completed trade,
-// and `commissions`, its new commissions in cents.
+// and `commissions`, the broker's new commission total in cents.
 fn create_broker_totals_change(found: &ResultPlanFacts, commissions: Amount) -> Change
     ensures { result ≡ spec.row_change_of_broker_totals found.now commissions }
 {
@@ -264,9 +264,9 @@ fn create_result_cash_row(
     }))
 }
 
-// Appends to `changes` the row changes of the cash row: it is added, and the balance of the account
-// is set. Appends nothing if `cash` is `None`. Fails with `Memory` only; a part of the row changes
-// may then be appended.
+// Appends to `changes` the row changes of the cash row `cash`: it is added, and the balance of
+// `account` is set to that of the figures `completed`. Appends nothing if `cash` is `None`. Fails
+// with `Memory` only; a part of the row changes may then be appended.
 fn append_cash_row_changes(
     account: Id,
     completed: &Completed,
@@ -288,8 +288,9 @@ fn append_cash_row_changes(
     Ok(())
 }
 
-// Returns all row changes of a completion, in sequence: of the trade, of the lots, of the summary,
-// the broker's totals and the settlement, of the cash row `cash`, if any, and of the last stamp.
+// Returns all row changes of a completion, in this sequence: of the trade, of the lots that it
+// closes or reduces, of the lot that it opens, if any, of the summary, the broker's totals and the
+// settlement, of the cash row and the account's balance if `cash` is a row, and of the last stamp.
 // Fails with `Memory` only.
 fn create_result_changes(
     alloc: Global,

@@ -76,8 +76,9 @@ pub fn tax_on_realised_gain(values: Values, status: TaxStatus, rates: TaxRate) -
 // Returns the buy value and the sell value, in cents, of the shares that an order would close. They
 // are specified only over the lots of a position whose quantities sum to the shares held, and only
 // under the disk assumption. Reads no lot if the account holds no shares that the order would
-// close; both values are then 0. Fails only with a fault of the source; the lots that it did not
-// take then remain in the source, under the disk assumption.
+// close; otherwise, over the lots of a position under the disk assumption, at most one lot more
+// than the order would close or reduce, also if it fails. Fails only with a fault of the source.
+// The lots that it did not take remain in the source, also if it fails, under the disk assumption.
 fn values_of_shares_to_close<L: LotSource>(source: &mut L, terms: &Terms) -> Result<Values, Fault>
     // The source is in a state to which its calls can lead.
     ensures leads { L.leads source.old source.new }
@@ -110,13 +111,14 @@ fn values_of_shares_to_close<L: LotSource>(source: &mut L, terms: &Terms) -> Res
 /// Returns the estimated figures of an order, in cents (Trade-Order): its price, the buy value and
 /// the sell value of the shares that it would close, the tax, the commission, the charge and the
 /// assets. They follow from its terms and from the lots of its account and symbol, which `source`
-/// returns in the sequence in which the order closes them. The estimate is specified only if the
-/// quantities of these lots sum to the shares held, and only under the disk assumption.
+/// returns in the sequence in which the order closes them. The commission follows from the terms
+/// alone. The other figures are specified only if the lots form a position and their quantities sum
+/// to the shares held, and only under the disk assumption.
 ///
 /// Reads no lot if the account holds no shares that the order would close; otherwise, over the lots
 /// of a position under the disk assumption, at most one lot more than the order would close or
-/// reduce, also if it fails. Fails only with a fault of the source; the lots that it did not take
-/// then remain in the source, under the disk assumption.
+/// reduce, also if it fails. Fails only with a fault of the source. The lots that it did not take
+/// remain in the source, also if it fails, under the disk assumption.
 pub fn estimate_order<L: LotSource>(source: &mut L, terms: &Terms) -> Result<Estimate, Fault>
     ensures leads { L.leads source.old source.new }
     // The estimate equals the model's estimate, in a base that has the terms and the shares of the

@@ -118,16 +118,17 @@ fn checked_placement(order: &Order, found: &OrderPlanFacts) -> Result<Placement,
 
 /// Returns the estimate of an order, or the refusal, from the facts in the tables, `found`, and the
 /// lots of its account and symbol, which `source` returns in the sequence in which the order closes
-/// them (Trade-Order). The estimate is specified only if the quantities of these lots sum to the
-/// shares held, and only under the disk assumption.
+/// them (Trade-Order). The estimate is specified only if these lots form a position and their
+/// quantities sum to the shares held, and only under the disk assumption.
 ///
 /// Refuses with the first that applies of `NoAccount`, `NoSecurity` (the account or the security
 /// does not exist), `NotPermitted` (the executor is neither the account's customer nor has a
 /// permission of the account), `NoCharge` and `NoRate` (no charge or no commission rate applies).
 /// Reads no lot if it refuses, or if the account holds no shares that the order would close;
 /// otherwise, over the lots of a position under the disk assumption, at most one lot more than the
-/// order would close or reduce, also if it fails. Fails only with a fault of the source; the lots
-/// that it did not take then remain in the source, under the disk assumption.
+/// order would close or reduce, also if it fails. Fails only with a fault of the source. The lots
+/// that it did not take remain in the source, also if it refuses or fails, under the disk
+/// assumption.
 pub fn plan_estimate<L: LotSource>(
     order: &Order,
     found: &OrderPlanFacts,
@@ -158,8 +159,9 @@ pub fn plan_estimate<L: LotSource>(
     Ok(Ok(estimate))
 }
 
-// Returns the id of the next trade: `last` plus 1, or 1 if there are no trades. Returns `None` if
-// no free id exists.
+// Returns the id of the next trade: `last`, the greatest id of a trade, plus 1, or 1 if `last` is
+// `None`, which means that there are no trades. Returns `None` if `last` is the greatest id that is
+// allowed, so that no free id exists.
 fn next_free_trade_id(last: Option<Id>) -> Option<Id>
     ensures { MatchOption result
         (first_refusal (free_trade_id_check last ∷ []) ≡ Some (Range limit.Trades))
@@ -320,12 +322,12 @@ fn create_order_changes(
 
 /// Plans an order from the facts in the tables, `found`, and the lots of its account and symbol,
 /// which `source` returns in the sequence in which the order closes them (Trade-Order). `last` is
-/// the stamp of the last accepted command, and `now` the clock reading.
+/// the stamp of the last accepted command, if any, and `now` the clock reading.
 ///
 /// The plan adds the trade in its first status, a history row for this status and, if it is
 /// pending, its request, and sets the last stamp. Its reply has the stamp, the id, the status and
-/// the estimate. The estimate is specified only if the quantities of the lots sum to the shares
-/// held, and only under the disk assumption.
+/// the estimate. The estimate is specified only if the lots form a position and their quantities
+/// sum to the shares held, and only under the disk assumption.
 ///
 /// Refuses with the first that applies of `NoAccount`, `NoSecurity` (the account or the security
 /// does not exist), `NotPermitted` (the executor is neither the account's customer nor has a
@@ -333,8 +335,9 @@ fn create_order_changes(
 /// `Range(Trades)`, if no free id exists; and `ClockEnd`, if no stamp later than `last` exists.
 /// Reads no lot if it refuses, or if the account holds no shares that the order would close;
 /// otherwise, over the lots of a position under the disk assumption, at most one lot more than the
-/// order would close or reduce, also if it fails. Fails with `Memory` or a fault of the source; the
-/// lots that it did not take then remain in the source, under the disk assumption.
+/// order would close or reduce, also if it fails. Fails with `Memory` or a fault of the source. The
+/// lots that it did not take remain in the source, also if it refuses or fails, under the disk
+/// assumption.
 pub fn plan_order<L: LotSource>(
     alloc: Global,
     order: &Order,

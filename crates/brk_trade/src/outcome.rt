@@ -37,7 +37,7 @@ pub(crate) struct RateAndSummary {
     pub summary: i64,
 }
 
-// Returns `qty` for a purchase and `-qty` for a sale.
+// Returns the quantity `qty`, in shares, for a purchase, and `-qty` for a sale.
 fn signed_quantity_of_side(side: Side, qty: u32) -> i128
     ensures { result ≡ shares.signed_by_side side qty }
 {
@@ -63,8 +63,9 @@ fn shares_held_if_within_limit(found: &ResultPlanFacts) -> Option<i64>
 }
 
 // Returns the commission rate of the trade and the shares held after it, or the first refusal that
-// applies before lots are read: `WrongStatus`, if the trade is not submitted; `NoRate`, if no
-// commission rate applies; or `Range(Summary)`, if the shares held would exceed their limit.
+// applies before lots are read: `WrongStatus`, with its status, if the trade is not submitted;
+// `NoRate`, if no commission rate applies; or `Range(Summary)`, if the absolute value of the number
+// of shares held would exceed 9,999,999,999.
 pub(crate) fn checked_rate_and_summary(found: &ResultPlanFacts) -> Result<RateAndSummary, Refusal>
     ensures { MatchResult result
         (λ known. (first_refusal (checks_before_reading_lots found.now) ≡ None) × (found.now.rate ≡ Some known.rate)
@@ -83,11 +84,12 @@ pub(crate) fn checked_rate_and_summary(found: &ResultPlanFacts) -> Result<RateAn
     Ok(RateAndSummary { rate, summary })
 }
 
-// Returns the figures of the completion, or the first refusal that applies once lots are read:
-// `Range(Balance)`, if the balance after a cash trade would exceed its limit; `Range(Broker)`, if
-// the broker's commissions would exceed their limit; or `ClockEnd`, if `stamp` is `None` or the due
-// day is after 9999-12-31. `known` must be the value that `checked_rate_and_summary` returns, and
-// the sell value at most the value of the trade's quantity at the greatest price.
+// Returns the figures of the completion at `stamp`, or the first refusal that applies once lots are
+// read: `Range(Balance)`, if the absolute value of the balance after a cash trade would exceed
+// 10^17 cents; `Range(Broker)`, if the broker's commissions would exceed 10^17 cents; or
+// `ClockEnd`, if `stamp` is `None` or the due day is after 9999-12-31. A commission rate must
+// apply, `known` must have this rate and the shares held after the trade, and the sell value must
+// be at most the value of the trade's quantity at the greatest price.
 pub(crate) fn checked_result_figures(
     found: &ResultPlanFacts,
     price: Price,

@@ -24,9 +24,11 @@ use std::alloc::Global;
 // Returns the effect of the trade at `price` and `stamp` on the lots: the lots that it closes or
 // reduces, the lot that it opens, if any, and the values of the closed shares. They are specified
 // only over the lots of a position, none of them opened by this trade, whose quantities sum to the
-// shares held, and only under the disk assumption. Reads no lot if the account holds no shares that
-// the trade would close. Fails with `Memory` or a fault of the source; the lots that it did not
-// take then remain in the source, under the disk assumption.
+// shares held, and only under the disk assumption; but the sell value is always at most the value
+// of the trade's quantity at the greatest price. Reads no lot if the account holds no shares that
+// the trade would close; otherwise, over such lots, at most one lot more than the trade would close
+// or reduce, also if it fails. Fails with `Memory` or a fault of the source. The lots that it did
+// not take remain in the source, also if it fails, under the disk assumption.
 fn effect_of_trade_on_lots<L: LotSource>(
     alloc: Global,
     source: &mut L,
@@ -68,7 +70,7 @@ fn effect_of_trade_on_lots<L: LotSource>(
 /// Plans the result of a trade at `price` (Trade-Result). `found` has the facts in the tables, and
 /// is `None` if there is no such trade. `source` returns the lots of the trade's account and symbol
 /// in the sequence in which the trade closes them, `last` is the stamp of the last accepted
-/// command, and `now` the clock reading.
+/// command, if any, and `now` the clock reading.
 ///
 /// The plan completes the trade: it sets the status, stamp, price, commission and tax of the trade
 /// and adds a history row. It closes or reduces lots and opens one with the rest of the quantity,
@@ -78,18 +80,19 @@ fn effect_of_trade_on_lots<L: LotSource>(
 /// completion.
 ///
 /// Refuses with the first that applies of `NoTrade`, if `found` is `None`; `WrongStatus`, if the
-/// trade is not submitted; `NoRate`, if no commission rate applies; `Range(Summary)`,
-/// `Range(Balance)` and `Range(Broker)`, if the shares held, the balance after a cash trade or the
-/// broker's commissions would exceed their limit; and `ClockEnd`, if no stamp later than `last`
-/// exists or the due day is after 9999-12-31.
+/// trade is not submitted; `NoRate`, if no commission rate applies; `Range(Summary)`, if the
+/// absolute value of the number of shares held would exceed 9,999,999,999; `Range(Balance)` and
+/// `Range(Broker)`, if the absolute value of the balance after a cash trade or the broker's
+/// commissions would exceed 10^17 cents; and `ClockEnd`, if no stamp later than `last` exists or
+/// the due day is after 9999-12-31.
 ///
 /// The changes of lots, the values of the closed shares and, if none of the first four refusals
 /// applies, the refusal are specified only over the lots of a position, none of them opened by this
 /// trade, whose quantities sum to the shares held, and only under the disk assumption. Reads no lot
 /// if there is no such trade, or if the account holds no shares that the trade would close;
 /// otherwise, over the lots of such a position, at most one lot more than the trade would close or
-/// reduce, also if it refuses or fails. Fails with `Memory` or a fault of the source; the lots that
-/// it did not take then remain in the source, under the disk assumption.
+/// reduce, also if it refuses or fails. Fails with `Memory` or a fault of the source. The lots that
+/// it did not take remain in the source, also if it refuses or fails, under the disk assumption.
 pub fn plan_result<L: LotSource>(
     alloc: Global,
     found: Option<&ResultPlanFacts>,

@@ -19,8 +19,8 @@ use brk_lots::Values;
 use brk_money::{Cents, Day, Price, Rate, Side, Stamp, TaxStatus, commission};
 use brk_plans::add_within_balance_limit;
 
-// Returns the commission of a trade at `price` and at `rate` (hundredths of a percent), in cents.
-// It is at most the greatest value of a trade.
+// Returns the commission of a trade at `price` and at `rate` (hundredths of a percent), in whole
+// cents, rounded half up. It is at most the greatest value of a trade.
 #[tactic(auto, using(crate::proofs::Bounds::commission_high))]
 pub(crate) fn commission_at_price_and_rate(trade: &TradeRow, price: Price, rate: Rate) -> Amount
     ensures value { result ≡ amounts.commission rate trade.now.qty price }
@@ -30,7 +30,8 @@ pub(crate) fn commission_at_price_and_rate(trade: &TradeRow, price: Price, rate:
     commission(rate, trade.qty, price).unsigned_abs()
 }
 
-// Returns the tax on the realised gain of the closed shares, in cents, which is at most the
+// Returns the tax on the realised gain of the closed shares, in whole cents, rounded half up; 0 if
+// gains are not taxable at the account's tax status, or if there is no gain. The tax is at most the
 // greatest value of a trade. The sell value must be at most the value of the trade's quantity at
 // the greatest price.
 #[tactic(auto, using(crate::proofs::Bounds::tax_at_high))]

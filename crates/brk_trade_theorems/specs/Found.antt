@@ -21,8 +21,8 @@ pub record AccountFactsMatchTables (t : Tables) (id customer broker : ℕ) (foun
 
 -- The facts `found` about the tax `tax` of the customer `customer` are true of the tables: whether
 -- the customer exists, whether the customer already pays the tax, the rate of the tax (`None` if it
--- does not exist), and the sum of the customer's rates (`None` if it exceeds the greatest tax
--- rate).
+-- does not exist), and the sum of the customer's rates (`None` if it exceeds `greatest_tax_rate`).
+-- Rates are in hundred-thousandths.
 pub record CustomerTaxFactsMatchTables (t : Tables) (customer tax : ℕ) (found : ReferenceFacts) : Type 0 where
   pub customer_there : found.customer ≡ has_customer t customer
   pub rate_there : found.rate ≡ rate_of_tax_rate_with_id t tax
@@ -30,10 +30,11 @@ pub record CustomerTaxFactsMatchTables (t : Tables) (customer tax : ℕ) (found 
   pub sum : SomeIff found.rates (customer_tax_rate_sum t customer ≤ greatest_tax_rate) (customer_tax_rate_sum t customer)
 
 -- The facts `found` about a record of reference data are true of the tables: for a band, whether it
--- overlaps a band in the tables, and for any other record, whether a record with its key exists.
--- For a customer, also whether one with its tax id exists; for an account, a permission and a
--- customer's tax, also whether the records that it refers to exist, and the counts and rates that
--- its checks need. Facts that a record of its kind does not need may have any value.
+-- overlaps a band of its tier, type and exchange in the tables, and for any other record, whether a
+-- record with its key exists. Also, for a customer, whether one with its tax id exists; for a
+-- permission, whether its account exists; for an account and a customer's tax, the other facts that
+-- `AccountFactsMatchTables` and `CustomerTaxFactsMatchTables` list. Facts that a record of its kind
+-- does not need may have any value.
 abbrev pub ReferenceFactsMatchTables : Tables → Reference → ReferenceFacts → Type 0
 ReferenceFactsMatchTables t (reference.Broker broker) found = found.same_id ≡ has_broker t broker.id
 ReferenceFactsMatchTables t (reference.Customer customer) found =

@@ -23,9 +23,10 @@ use Rattle.brk_book_theorems.specs.TradeReads.{last_trade_row_of_symbol}
 use Rattle.brk_trade_theorems.specs.Plans.{PlanImplementsCommand}
 use Rattle.brk_trade_theorems.specs.TradePlans.{AreQuotesOfTicks, IsQuoteOfTick}
 
--- A cancel of the trade `id` with the status `found`, after the last stamp `last` and at the clock
--- reading `now`: its checks, followed by the check that a stamp after `last` exists, refuse it
--- exactly as the model does over `base`, and its plan implements the command.
+-- A cancel of the trade `id` with the status `found` (`None` if there is no such trade), after the
+-- last stamp `last` and at the clock reading `now`: its checks, followed by the check that a stamp
+-- after `last` exists, refuse it exactly as the model does over `base`, and each plan of it
+-- (`IsCancelPlan`) implements the command.
 pub record CancelPlanImplementsCommand (base : Base) (id : ℕ) (found : Option Status) (last : Option ℕ) (now : ℕ) : Type 0 where
   -- The refusal of the first check that refuses, or `None` if none does, equals that of the model.
   pub first : first_refusal (cancel_checks found ++ later_stamp_check last now ∷ []) ≡ refusal_of_command base now (CancelTrade id)
@@ -36,7 +37,8 @@ pub record CancelPlanImplementsCommand (base : Base) (id : ℕ) (found : Option 
 
 -- A feed of `ticks` with the quotes `quotes`, after the last stamp `last` and at the clock reading
 -- `now`: its checks, at any stamp, followed by the check that a stamp after `last` exists, refuse
--- it exactly as the model does over `base`, and its plan implements the command.
+-- it exactly as the model does over `base`, and each plan of it (`IsFeedPlan`) implements the
+-- command.
 pub record FeedPlanImplementsCommand (base : Base) (ticks : List Tick) (quotes : List SymbolState) (last : Option ℕ) (now : ℕ) : Type 0 where
   -- The refusal of the first check that refuses at any stamp, or `None` if none does, equals that
   -- of the model.
@@ -50,21 +52,22 @@ pub record FeedPlanImplementsCommand (base : Base) (ticks : List Tick) (quotes :
 -- In the feed `all` over the tables `t`, `quotes` are the quotes of `ticks` followed by `tick` if
 -- one of `quotes` has the symbol of `tick`, or if this symbol has no row of LAST_TRADE. If none of
 -- `quotes` has the symbol and `tick` is one of `all`, the quotes of `ticks` followed by `tick` are
--- `quotes` followed by a quote of `tick` (`IsQuoteOfTick`).
+-- `quotes` followed by any quote of `tick` (`IsQuoteOfTick`).
 pub record QuotesExtendToTick (t : Tables) (all ticks : List Tick) (tick : Tick) (quotes : List Quote) : Type 0 where
   -- If the tick's symbol has a quote, no further quote is needed.
   pub again : list_any (is_state_of_symbol tick.symbol) (states_of_quotes quotes) ≡ true
       → AreQuotesOfTicks t all (ticks ++ tick ∷ []) (states_of_quotes quotes)
   -- If the tick's symbol has no row of LAST_TRADE, no further quote is needed.
   pub not_listed : last_trade_row_of_symbol t tick.symbol ≡ None → AreQuotesOfTicks t all (ticks ++ tick ∷ []) (states_of_quotes quotes)
-  -- If the symbol of a tick of `all` has no quote, the quote of that tick is added.
+  -- If `tick` is one of `all` and its symbol has no quote, a quote of `tick` is added.
   pub read : (quote : Quote) → list_any (is_state_of_symbol tick.symbol) (states_of_quotes quotes) ≡ false
       → Contains all tick → IsQuoteOfTick t tick all (state_of_quote quote)
       → AreQuotesOfTicks t all (ticks ++ tick ∷ []) (states_of_quotes (quotes ++ quote ∷ []))
 
--- A result of the trade `id` at `price`, in cents, with the facts `found` and the lots `lots`,
--- after the last stamp `last` and at the clock reading `now`: its refusal by the facts and the lots
--- is the refusal of the model's step over `base`, and its plan implements the command.
+-- A result of the trade `id` at `price`, in cents, with the facts `found` (`None` if there is no
+-- such trade) and the lots `lots`, after the last stamp `last` and at the clock reading `now`: each
+-- refusal by the facts and the lots (`IsResultRefusal`) is the refusal of the model's step over
+-- `base`, and each plan of it (`CompletesExistingTrade`) implements the command.
 pub record ResultPlanImplementsCommand (base : Base) (id price : ℕ) (found : Option ResultPlanFacts) (lots : List Lot) (last : Option ℕ)
     (now : ℕ) : Type 0 where
   pub refused : (refusal : Refusal) → IsResultRefusal found price (EqualsLots lots) last now refusal → step base now (CompleteTrade id price) ≡ Err refusal

@@ -37,8 +37,9 @@ pub record PlanMovementPrecondition (base : Base) (m : Movement) (found : Moveme
 -- ---- a settlement day
 
 -- The precondition of planning a command that sets the first day of one-day settlement: the base
--- satisfies the books invariant, the current first day `rule` (`None` if it is not set) and the
--- last stamp are read from its tables, and the clock reading `now` is within the range of stamps.
+-- satisfies the books invariant, the current first day `rule`, in days since 1970-01-01 (`None` if
+-- it is not set), and the last stamp are read from its tables, and the clock reading `now` is
+-- within the range of stamps.
 pub record PlanSettlementDayPrecondition (base : Base) (rule : Option ℕ) (last : Option ℕ) (now : ℕ) : Type 0 where
   pub books : BooksInvariant base
   pub rule_read : rule ≡ (sheets base).rule

@@ -31,8 +31,9 @@ result_account_of_row r = record { broker = r.broker; tax_status = r.tax_status;
 -- The facts `found` about the result of a trade are true of the tables: the commission rate, the
 -- summary, the account, the sum of the customer's tax rates, the broker totals, the security's
 -- name, the first day of one-day settlement, and the number of the next cash row. A clause is
--- vacuous if one of the checks that it names fails, since the fact is not read then. A clause about
--- the customer, the account, the broker or the security is also vacuous if that row does not exist.
+-- vacuous if one of the checks that it names fails, since the fact is not read then. The clauses
+-- `rate`, `account`, `rates`, `broker` and `security` are also vacuous if an account, a customer, a
+-- broker or a security whose row they read does not exist.
 pub record ResultFactsMatchTables (t : Tables) (found : ResultPlanFacts) : Type 0 where
   -- The rate equals that of the commission band that contains the quantity, by the customer's tier,
   -- the trade's type and the security's exchange, or is `None` if there is no such band.

@@ -13,9 +13,11 @@ use Rattle.brk_book_theorems.specs.Ticks.{is_symbol_volume_above_limit, is_tick_
 
 -- ---- a cancel
 
--- The checks of a cancel against the row of its trade (`None` if it does not exist), in order: the
--- trade exists, it is pending, and a stamp after the last stamp `last` is within the range of
--- stamps. Each check has the refusal that the cancel gets if the check fails.
+-- The checks of a cancel against the row of its trade, in order: that the trade exists (`NoTrade`,
+-- the check for `None`) and is pending (`WrongStatus`, the check for a row), and that the last
+-- stamp `last`, if any, is not the greatest stamp (`ClockEnd`). Each check has the refusal that the
+-- cancel gets if it is the first to fail. The result of the last check does not depend on the clock
+-- reading `now`.
 abbrev pub cancel_checks_on_trade_row : Option TradeRow → Option ℕ → ℕ → List RefusalCheck
 cancel_checks_on_trade_row None last now = (true, NoTrade) ∷ later_stamp_check last now ∷ []
 cancel_checks_on_trade_row (Some r) last now = (not (is_same_trade_status r.status Pending), WrongStatus r.status) ∷ later_stamp_check last now ∷ []
@@ -23,8 +25,10 @@ cancel_checks_on_trade_row (Some r) last now = (not (is_same_trade_status r.stat
 -- ---- a feed
 
 -- The checks of a feed against the tables, in order: the symbol of each tick has a row of
--- LAST_TRADE, no volume exceeds the limit after all ticks, and a stamp after the last stamp `last`
--- is within the range of stamps. Each check has the refusal that the feed gets if the check fails.
+-- LAST_TRADE (`NoSecurity`), no volume of these symbols exceeds 10^17 shares after all ticks
+-- (`Range(Volume)`), and the last stamp `last`, if any, is not the greatest stamp (`ClockEnd`).
+-- Each check has the refusal that the feed gets if it is the first to fail. The result of the last
+-- check does not depend on the clock reading `now`.
 abbrev pub feed_checks_on_tables : Tables → List Tick → Option ℕ → ℕ → List RefusalCheck
 feed_checks_on_tables t ticks last now =
     (list_any (is_tick_of_unknown_symbol t) ticks, NoSecurity) ∷ (list_any (is_symbol_volume_above_limit t ticks) ticks, Range limit.Volume)

@@ -27,10 +27,11 @@ pub fn refused_commands_return_their_refusal()
 {}
 
 /// Proves, for a base that satisfies the books invariant and a clock reading of at most the
-/// greatest stamp, that the checks of a cancel against the row of its trade refuse it exactly as
-/// the model does. If they pass, the model accepts the cancel with the reply `CanceledTrade`. The
-/// tables after it equal those of `tables_after_cancel`, with the stamp of the cancel as the last
-/// stamp, and the base after it satisfies the books invariant.
+/// greatest stamp, that the checks of a cancel against the row of its trade, or against `None` if
+/// there is no such row, refuse it exactly as the model does. If they pass, the model accepts the
+/// cancel with the reply `CanceledTrade`. The tables after it equal those of `tables_after_cancel`,
+/// with the stamp of the cancel as the last stamp, and the base after it satisfies the books
+/// invariant.
 pub fn cancels_change_tables_as_specified()
     ensures first { (base : Base) (now id : ℕ) → BooksInvariant base → now ≤ greatest_stamp
         → first_refusal (cancel_checks_on_trade_row (trade_row_with_id (sheets base) id) (sheets base).last now)

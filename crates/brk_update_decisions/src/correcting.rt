@@ -18,10 +18,11 @@ use brk_trade::{Plan, TextUpdate, plan_update};
 use sqlite::Alter;
 use std::alloc::Global;
 
-// Returns the trades that the update selects, with their texts, or `None` if a trade, account or
-// security that the update names does not exist. If the database is still open, it is unchanged.
-// Fails with `Memory` or `Store` only; with `Store` also if a selected trade has no settlement, in
-// an update of cash types, or no cash row, in an update of cash names.
+// Returns the trades that the update selects, with their texts, and, in an update of cash names,
+// the name of the security; or `None` if a trade, account or security that the update names does
+// not exist. If the database is still open, it is unchanged. Fails with `Memory` or `Store` only;
+// with `Store` also if a selected trade has no settlement, in an update of cash types, or no cash
+// row, in an update of cash names.
 fn read_facts_of_update<S: Alter>(
     alloc: Global,
     store: &mut Store<S>,

@@ -19,10 +19,11 @@ use brk_trade::{CashText, SettlementText, TextUpdate};
 use sqlite::Alter;
 use std::alloc::Global;
 
-// Returns the trades of an account that an update of cash types selects, at most twenty, each with
-// the cash type of its settlement: the first that were completed in the span, both ends included,
-// the oldest first. If the database is still open, it is unchanged. Fails with `Memory` or `Store`
-// only; with `Store` also if one of them has no settlement.
+// Returns the trades of an account that an update of cash types selects, each with the cash type of
+// its settlement: the first twenty, or all if there are fewer, by stamp of completion, then by id,
+// ascending, of those that were completed in the span, both ends included. If the database is still
+// open, it is unchanged. Fails with `Memory` or `Store` only; with `Store` also if one of them has
+// no settlement.
 fn read_trades_with_cash_types<S: Alter>(
     alloc: Global,
     store: &mut Store<S>,
@@ -46,10 +47,11 @@ fn read_trades_with_cash_types<S: Alter>(
     Ok(settled)
 }
 
-// Returns the cash trades of a symbol that an update of cash names selects, at most twenty, each
-// with the name of its cash row: the first that were completed in the span, both ends included, the
-// oldest first. If the database is still open, it is unchanged. Fails with `Memory` or `Store`
-// only; with `Store` also if one of them has no cash row.
+// Returns the cash trades of a symbol that an update of cash names selects, each with the name of
+// its cash row: the first twenty, or all if there are fewer, by stamp of completion, then by id,
+// ascending, of those that were completed in the span, both ends included. If the database is still
+// open, it is unchanged. Fails with `Memory` or `Store` only; with `Store` also if one of them has
+// no cash row.
 fn read_cash_trades_with_names<S: Alter>(
     alloc: Global,
     store: &mut Store<S>,
@@ -74,7 +76,7 @@ fn read_cash_trades_with_names<S: Alter>(
     Ok(paid)
 }
 
-// Returns the trades with the ids `trades`, in the order of the ids, for an update of the names of
+// Returns the trades with the ids `trades`, in the order of `trades`, for an update of the names of
 // their executors, or `None` if one of them does not exist. If the database is still open, it is
 // unchanged. Fails with `Memory` or `Store` only.
 pub(crate) fn read_facts_of_executor_update<S: Alter>(
@@ -101,9 +103,9 @@ fn account_row_exists<S: Alter>(store: &mut Store<S>, account: Id) -> Result<boo
 }
 
 // Returns the trades of an account that an update of cash types selects, each with the cash type of
-// its settlement, or `None` if the account does not exist. If the database is still open, it is
-// unchanged. Fails with `Memory` or `Store` only; with `Store` also if one of the trades has no
-// settlement.
+// its settlement (`read_trades_with_cash_types`), or `None` if the account does not exist. If the
+// database is still open, it is unchanged. Fails with `Memory` or `Store` only; with `Store` also
+// if one of the trades has no settlement.
 pub(crate) fn read_facts_of_cash_type_update<S: Alter>(
     alloc: Global,
     store: &mut Store<S>,
@@ -136,10 +138,10 @@ fn read_security_name<S: Alter>(
     }
 }
 
-// Returns the cash trades of a symbol that an update of cash names selects, each with the name of
-// its cash row, and the name of the security, or `None` if the security does not exist. If the
-// database is still open, it is unchanged. Fails with `Memory` or `Store` only; with `Store` also
-// if one of the trades has no cash row.
+// Returns the name of the security with the symbol `symbol`, and its cash trades that an update of
+// cash names selects, each with the name of its cash row (`read_cash_trades_with_names`); or `None`
+// if the security does not exist. If the database is still open, it is unchanged. Fails with
+// `Memory` or `Store` only; with `Store` also if one of the trades has no cash row.
 pub(crate) fn read_facts_of_cash_name_update<S: Alter>(
     alloc: Global,
     store: &mut Store<S>,

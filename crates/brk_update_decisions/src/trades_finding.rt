@@ -13,8 +13,8 @@ use brk_trade::TradeRow;
 use sqlite::Alter;
 use std::alloc::Global;
 
-/// Returns the trades with the ids `ids`, in the order of the ids, or `None` if one of them does
-/// not exist. If the database is still open, it is unchanged. A crash after the call exposes only
+/// Returns the trades with the ids `ids`, in the order of `ids`, or `None` if one of them does not
+/// exist. If the database is still open, it is unchanged. A crash after the call exposes only
 /// states that a crash before the call could expose. Fails with `Memory` or `Store` only.
 pub fn read_trades_by_ids<S: Alter>(
     alloc: Global,

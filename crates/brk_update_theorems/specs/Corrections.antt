@@ -26,11 +26,13 @@ use Rattle.brk_book_theorems.specs.Steps.{base_after_command}
 
 -- ---- facts
 
--- The first row of SETTLEMENT of the trade with the id `trade`, or `None` if there is none.
+-- The first row of SETTLEMENT, in the order of the table, of the trade with the id `trade`, or
+-- `None` if there is none.
 abbrev pub settlement_row_of_trade : Tables → ℕ → Option SettlementRow
 settlement_row_of_trade t trade = find (λ r. r.trade == trade) t.settlements
 
--- The first row of CASH_MOVE of the trade with the id `trade`, or `None` if there is none.
+-- The first row of CASH_MOVE, in the order of the table, of the trade with the id `trade`, or
+-- `None` if there is none.
 abbrev pub cash_row_of_trade : Tables → ℕ → Option MoveRow
 cash_row_of_trade t trade = find (is_cash_row_of_trade trade) t.moves
 
@@ -67,27 +69,30 @@ cash_text_row_of_typed_row p = (p.trade, p.kind, p.qty, Some (string_bytes p.nam
 abbrev pub cash_text_row_in_tables : Tables → TradeRow → CashTextRow
 cash_text_row_in_tables t r = (r.id, r.kind, r.qty, option_map (λ c. c.name) (cash_row_of_trade t r.id))
 
--- The list `settled` has, for each of `trades` in order, its id, whether it is a cash trade, and
--- its settlement text in the tables. False if one of the trades has no settlement.
+-- The list `settled` has exactly one element for each of `trades`, in order: its id, whether it is
+-- a cash trade, and its settlement text in the tables. False if one of the trades has no
+-- settlement.
 abbrev pub SettlementTextsMatchTables : Tables → List TradeRow → List SettlementText → Type 0
 SettlementTextsMatchTables t trades settled = map settlement_text_row_of_typed_row settled ≡ map (settlement_text_row_in_tables t) trades
 
--- The list `paid` has, for each of `trades` in order, its id, its type, its quantity and its cash
--- text in the tables. False if one of the trades has no cash row.
+-- The list `paid` has exactly one element for each of `trades`, in order: its id, its type, its
+-- quantity and its cash text in the tables. False if one of the trades has no cash row.
 abbrev pub CashTextsMatchTables : Tables → List TradeRow → List CashText → Type 0
 CashTextsMatchTables t trades paid = map cash_text_row_of_typed_row paid ≡ map (cash_text_row_in_tables t) trades
 
--- The tables have a security with the symbol `symbol`, and the first such row has the name `name`.
+-- The tables have a security with the symbol `symbol`, and the first such row, in the order of the
+-- table, has the name `name`.
 abbrev pub SecurityHasName : Tables → Text → Text → Type 0
 SecurityHasName t symbol name = option_map (λ s. s.name) (security_row_with_symbol t symbol) ≡ Some name
 
 -- The selection has exactly the trades that the update selects in the tables, with the columns from
--- which their new texts are formed: the trades with the update's ids, or the first 20, at most, of
--- the completed trades of its account or of the completed cash trades of its symbol, within its
--- span of stamps, the oldest first. For a text update of settlements, the account exists; for one
--- of cash rows, the security exists and has the name in the selection. False if one of the trades
--- with the ids does not exist, if one of the selected trades lacks the settlement or the cash row
--- to update, or if the selection belongs to another kind of update.
+-- which their new texts are formed: the trades with the update's ids, in the order of the ids, or
+-- the first 20, at most, by stamp, then by id, of those completed trades of its account or
+-- completed cash trades of its symbol whose stamps are in its span, both ends included. For a text
+-- update of settlements, the account exists; for one of cash rows, the security exists and has the
+-- name in the selection. False if one of the trades with the ids does not exist, if one of the
+-- selected trades lacks the settlement or the cash row to update, or if the selection belongs to
+-- another kind of update.
 abbrev pub SelectedTradesMatchTables : Tables → told.Update → TextUpdate → Type 0
 SelectedTradesMatchTables t (update.Executors ids) (corrected.Executors trades) = AreTradesWithIds t ids trades.items
 SelectedTradesMatchTables t (update.CashTypes account span) (corrected.CashTypes settled) =

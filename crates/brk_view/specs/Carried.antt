@@ -24,10 +24,12 @@ first_twenty_trades_with_rows t test = map (table_rows_of_trade t) (take 20 (tra
 abbrev pub last_fifty_trades_with_security : Tables → ℕ → List (TradeRow × Option SecurityRow)
 last_fifty_trades_with_security t account = map (trade_row_with_security t) (take 50 (trade_rows_recent_first (trade_rows_of_account t account)))
 
--- The view is of the kind of the query, and its rows of trades and of lot changes equal, in all
--- columns, those that the query selects from the tables `t`. False if the view is of another kind.
+-- The view is of the kind of the query, and these rows of it equal, in order and in all columns,
+-- those that the query selects from the tables `t`: for recent trades, the trades; for an account's
+-- status, the trades with their securities; for looked-up trades, the trades with their
+-- settlements, cash rows and statuses; for touched lots, the lot changes and the id of the trade.
 -- For a query of the values of a customer's accounts, of submitted trades, of an estimate or of
--- volumes only the kind is stated; for one of recent trades, the kind and the trades.
+-- volumes only the kind is stated. False if the view is of another kind.
 abbrev pub HasRowsOfQuery : Query → View → Tables → Type 0
 HasRowsOfQuery (PositionOf customer) (view.Position accounts) t = Unit {0}
 HasRowsOfQuery (PositionOfTaxId tax_id) (view.Position accounts) t = Unit {0}

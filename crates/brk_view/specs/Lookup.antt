@@ -55,8 +55,8 @@ price_and_cost_fields t =
 abbrev pub cash_and_lifo_fields : tables.TradeRow → List Text
 cash_and_lifo_fields t = cash_or_margin_word t.is_cash ∷ lifo_or_fifo_word t.is_lifo ∷ []
 
--- The records of the looked-up trade `l`: one for the trade, one for its settlement and one for its
--- cash row, if they exist, and one for each of its statuses.
+-- The records of the looked-up trade `l`, in this order: one for the trade, one for its settlement
+-- and one for its cash row, if they exist, and one for each of its statuses, in their order in `l`.
 abbrev pub records_of_looked_up_trade : LookedUp → View
 records_of_looked_up_trade l =
     model.trade_record (abstract_trade_row l.trade)
@@ -71,8 +71,9 @@ pub record LookedUpRows : Type 0 where
   pub moves : List tables.MoveRow
   pub history : List StampedStatus
 
--- The trade, settlement, cash row and statuses of the looked-up trade `l`, as rows of the model's
--- tables.
+-- The trade, the settlement and the cash row of the looked-up trade `l`, as rows of the model's
+-- tables, and its statuses, in their order in `l`. The list of a settlement or a cash row that does
+-- not exist is empty.
 abbrev pub rows_of_looked_up_trade : LookedUp → LookedUpRows
 rows_of_looked_up_trade l = record {
   trade = abstract_trade_row l.trade;
@@ -85,8 +86,8 @@ rows_of_looked_up_trade l = record {
 abbrev pub stamped_status_of_history_row : tables.HistoryRow → StampedStatus
 stamped_status_of_history_row r = record { stamp = r.stamp; status = r.status }
 
--- The TRADE row `row` with its settlements, its cash rows and its statuses in the tables `t`. The
--- statuses are sorted by stamp, ascending.
+-- The TRADE row `row` with its settlements, its cash rows and its statuses in the tables `t`, in
+-- the sequence of the tables. The statuses are sorted by stamp, ascending; the sort is stable.
 abbrev pub table_rows_of_trade : Tables → tables.TradeRow → LookedUpRows
 table_rows_of_trade t row = record {
   trade = row;
@@ -96,8 +97,9 @@ table_rows_of_trade t row = record {
 }
 
 -- `settlement`, `cash` and `history` are exactly the SETTLEMENT, the CASH_MOVE and the
--- TRADE_HISTORY rows of `trade` in the tables `t`, which therefore have at most one settlement and
--- at most one cash row of `trade`. `None` means that there is none.
+-- TRADE_HISTORY rows of `trade` in the tables `t`, `history` in the sequence of the table. The
+-- tables therefore have at most one settlement and at most one cash row of `trade`. `None` means
+-- that there is none.
 pub record AreRowsOfTrade (t : Tables) (trade : TradeRow) (settlement : Option SettlementRow) (cash : Option MoveRow) (history : List HistoryRow) : Type 0 where
   pub settlement_rows : option_to_list (option_map abstract_settlement_row settlement) ≡ filter (λ s. s.trade == trade.id) t.settlements
   pub cash_rows : option_to_list (option_map abstract_move_row cash) ≡ filter (model.is_cash_row_of_trade trade.id) t.moves

@@ -10,7 +10,8 @@ use Rattle.brk_money.specs.Spelling.{Text}
 use Rattle.brk_view.specs.declared.lots.LotTouch.{LotTouch}
 use Rattle.brk_view.specs.declared.lots.TouchedLots.{TouchedLots}
 
--- True if the lot change `a` is before `b` when they are sorted by stamp, then by lot, ascending.
+-- True if the lot change `a` has a smaller stamp than the lot change `b`, or an equal stamp and a
+-- lot with a smaller id.
 abbrev pub is_earlier_lot_change : LotTouch → LotTouch → Bool
 is_earlier_lot_change a b = is_pair_less a.stamp b.stamp a.change.lot b.change.lot
 
@@ -43,8 +44,8 @@ first_trade_since_stamp t account first = take 1 (trade_rows_oldest_first (filte
 
 -- `lots` has the id of the first trade of `account`, by stamp, then by id, whose stamp is `first`
 -- or later, and the first twenty changes, by any trade, of the lots that this trade touched, or all
--- if there are fewer, sorted by stamp, then by lot, ascending. `lots` is `None` if and only if the
--- account has no such trade in the tables `t`.
+-- if there are fewer, sorted by stamp, then by lot, ascending; the sort is stable. `lots` is `None`
+-- if and only if the account has no such trade in the tables `t`.
 pub record AreTouchedLots (t : Tables) (account first : ℕ) (lots : Option TouchedLots) : Type 0 where
   pub found : map (λ row. row.id) (first_trade_since_stamp t account first) ≡ option_to_list (option_map (λ l. l.trade) lots)
   pub changes : IfSome lots (λ l. l.changes.items ≡ take 20 (sort_by is_earlier_lot_change (changes_of_touched_lots t l.trade)))

@@ -18,12 +18,12 @@ is_newer_status a b = is_pair_less b.stamp a.stamp b.trade a.trade
 abbrev pub recent_trade_record : TradeRow → List Text
 recent_trade_record t = codes "trade" ∷ decimal t.id ∷ t.symbol ∷ decimal t.qty ∷ []
 
--- The record of the status `h`: the word `history`, its trade, the name of the status and its
--- stamp.
+-- The record of the status `h`: the word `history`, the id of its trade, the name of the status and
+-- its stamp.
 abbrev pub recent_status_record : HistoryRow → List Text
 recent_status_record h = codes "history" ∷ decimal h.trade ∷ trade_status_name h.status ∷ decimal h.stamp ∷ []
 
--- The records of the last trades `r` of an account: one for each trade, followed by one for each
--- status of these trades.
+-- The records of the last trades `r` of an account: one for each trade of `r.trades`, followed by
+-- one for each status of `r.history`, both in the order of these lists.
 abbrev pub records_of_activity : Activity → model.View
 records_of_activity r = map recent_trade_record (map abstract_trade_row r.trades.items) ++ map recent_status_record r.history.items

@@ -35,16 +35,16 @@ last_five_status_fields s =
 abbrev pub trade_status_record : TradeStatus → List Text
 trade_status_record s = first_five_status_fields s.trade ++ last_five_status_fields s
 
--- The trade and the security of `s`, as rows of the model's tables.
+-- The trade and the security of `s`, as rows of the model's tables; the security is never `None`.
 abbrev pub rows_of_trade_status : TradeStatus → tables.TradeRow × Option SecurityRow
 rows_of_trade_status s = (abstract_trade_row s.trade, Some (abstract_security_row s.security))
 
--- The TRADE row `row` with the SECURITY row of its symbol in the tables `t`, or with none if there
--- is no such security.
+-- The TRADE row `row` with the first SECURITY row of its symbol, in the order of the table, in the
+-- tables `t`, or with `None` if there is no such row.
 abbrev pub trade_row_with_security : Tables → tables.TradeRow → tables.TradeRow × Option SecurityRow
 trade_row_with_security t row = (row, security_row_with_symbol t row.symbol)
 
 -- The records of the account status `a`: one with the names of the account's customer and broker,
--- followed by one for each trade in `a`, in its order (the account's last trades, not all).
+-- followed by one for each trade of `a.trades`, in the order of this list.
 abbrev pub records_of_account_status : AccountStatus → model.View
 records_of_account_status a = party_names_record a ∷ map trade_status_record a.trades.items

@@ -22,11 +22,13 @@ use Rattle.brk_view.specs.declared.view.View.TheVariants as view
 abbrev pub has_submitted_status : TradeRow → Bool
 has_submitted_status row = is_same_trade_status row.status Submitted
 
--- The record of the TRADE row `row`: its id, type, symbol, quantity and bid price.
+-- The record of the TRADE row `row`: its id, the code of its type, its symbol, quantity and bid
+-- price.
 abbrev pub record_of_submitted_row : TradeRow → List Text
 record_of_submitted_row row = decimal row.id ∷ trade_type_code row.kind ∷ row.symbol ∷ decimal row.qty ∷ nonnegative_cents_text row.bid ∷ []
 
--- The record of the submitted trade `trade`: its id, type, symbol, quantity and bid price.
+-- The record of the submitted trade `trade`: its id, the code of its type, its symbol, quantity and
+-- bid price.
 abbrev pub submitted_trade_record : SubmittedTrade → List Text
 submitted_trade_record trade = decimal trade.id ∷ trade_type_code trade.kind ∷ trade.symbol ∷ decimal trade.qty ∷ nonnegative_cents_text trade.bid ∷ []
 
@@ -38,7 +40,9 @@ estimate_record e =
     ∷ cents_text (pos e.charge)
     ∷ cents_text e.assets ∷ []
 
--- The records of a typed view, each a list of texts, as the kind of the view determines them.
+-- The records of a typed view, each a list of texts, as the kind of the view determines them, in
+-- the order of the view's elements. The view of touched lots has no records if its content is
+-- `None`.
 abbrev pub records_of_view : View → model.View
 records_of_view (view.Position accounts) = map account_worth_record accounts.items
 records_of_view (view.Recent recent) = records_of_activity recent

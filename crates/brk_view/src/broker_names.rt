@@ -11,7 +11,8 @@ use brk_ref::Name;
 use std::alloc::Global;
 use std::marker::Model;
 
-/// The 1 to 20 different broker names that a query names, in the sequence of its arguments.
+/// The 1 to 20 different broker names that a query names, in the sequence of their first
+/// occurrences in its arguments.
 #[derive(Drop)]
 pub struct BrokerNames {
     names: Vec<Name>,
@@ -47,7 +48,8 @@ impl BrokerNames {
         Ok(BrokerNames { names })
     }
 
-    /// Returns the names, which are all different, in the sequence of the query's arguments.
+    /// Returns the names, which are all different, in the sequence of their first occurrences in
+    /// the query's arguments.
     pub fn names(&self) -> &[Name]
         ensures names { result.now ≡ self.now }
         ensures distinct { distinct_texts result.now ≡ result.now }
@@ -93,7 +95,7 @@ fn parse_distinct_names(alloc: Global, fields: &[&[u8]]) -> Planned<Vec<Name>>
 }
 
 /// Parses 1 to 20 broker names, one from each field; a name that occurs more than once is counted
-/// once. Fails with `Memory` only.
+/// once, at its first occurrence. Fails with `Memory` only.
 ///
 /// Refuses with `BadText` (18) if a field is malformed or there is no field, and otherwise with
 /// `TooMany` (20) if there are more than 20 different names. All fields are checked before the

@@ -60,7 +60,7 @@ pub struct LookedUp {
 }
 
 // Returns the statuses of a trade with their stamps, from its TRADE_HISTORY rows, sorted by stamp,
-// ascending. Fails with `Memory` only.
+// ascending; the sort is stable. Fails with `Memory` only.
 fn sorted_statuses_of_history(
     alloc: Global,
     history: &[HistoryRow],
@@ -79,7 +79,10 @@ fn sorted_statuses_of_history(
 }
 
 /// Returns a trade with its settlement, its cash row and its statuses, from their rows. Sorts the
-/// statuses by stamp, ascending. Fails with `Memory` only.
+/// statuses by stamp, ascending; the sort is stable. If `settlement`, `cash` and `history` are
+/// exactly the rows of the trade in some tables, `history` in the sequence of the table
+/// (`AreRowsOfTrade`), the records of the result are those that the model specifies for these
+/// tables. Fails with `Memory` only.
 #[tactic(auto, using(crate::proofs::Shown::one_shown, crate::proofs::Shown::one_carried))]
 pub fn create_looked_up_trade(
     alloc: Global,
@@ -116,9 +119,10 @@ pub fn sort_trades_oldest_first(
     sort_rows_by_rank(alloc, trades)
 }
 
-/// Returns the view of trades that a query selects by their ids (Trade-Lookup), without reading a
-/// table. The caller passes the first 20 of them with their settlement, cash row and history, the
-/// oldest first. Does not allocate.
+/// Returns the view of the trades that a query selects by their ids (Trade-Lookup), without reading
+/// a table. The caller passes these trades, sorted by the stamp of the last status change, then by
+/// id, ascending, or only the first 20 if there are more, each with its settlement, cash row and
+/// history. Does not allocate.
 pub fn lookup_ids(trades: Vec<LookedUp>) -> View
     ensures records { records_of_view result ≡ flat_map records_of_looked_up_trade trades.items }
     ensures value { result ≡ views.Lookup trades }
@@ -130,9 +134,10 @@ pub fn lookup_ids(trades: Vec<LookedUp>) -> View
     View::Lookup(trades)
 }
 
-/// Returns the view of an account's trades between two stamps, both included (Trade-Lookup),
-/// without reading a table. The caller passes the first 20 of them with their settlement, cash row
-/// and history, the oldest first. Does not allocate.
+/// Returns the view of an account's trades whose last status change has a stamp between two stamps,
+/// both included (Trade-Lookup), without reading a table. The caller passes these trades, sorted by
+/// that stamp, then by id, ascending, or only the first 20 if there are more, each with its
+/// settlement, cash row and history. Does not allocate.
 pub fn lookup_account(trades: Vec<LookedUp>) -> View
     ensures records { records_of_view result ≡ flat_map records_of_looked_up_trade trades.items }
     ensures value { result ≡ views.Lookup trades }
@@ -145,9 +150,10 @@ pub fn lookup_account(trades: Vec<LookedUp>) -> View
     View::Lookup(trades)
 }
 
-/// Returns the view of a symbol's trades between two stamps, both included (Trade-Lookup), without
-/// reading a table. The caller passes the first 20 of them with their settlement, cash row and
-/// history, the oldest first. Does not allocate.
+/// Returns the view of a symbol's trades whose last status change has a stamp between two stamps,
+/// both included (Trade-Lookup), without reading a table. The caller passes these trades, sorted by
+/// that stamp, then by id, ascending, or only the first 20 if there are more, each with its
+/// settlement, cash row and history. Does not allocate.
 pub fn lookup_symbol(trades: Vec<LookedUp>) -> View
     ensures records { records_of_view result ≡ flat_map records_of_looked_up_trade trades.items }
     ensures value { result ≡ views.Lookup trades }

@@ -52,9 +52,9 @@ fn parse_estimate_query(alloc: Global, arguments: &[&[u8]]) -> Planned<Query>
 /// `Submitted` has no argument, and `Estimate` the ten fields of an order. `Customer` has the id of
 /// a customer, `TaxId` a tax id, `Recent` and `Status` the id of an account. `Trades` has 1 to 20
 /// different trade ids, `AccountTrades` an account and two stamps, `SymbolTrades` a symbol and two
-/// stamps, `Lots` an account and a stamp, all stamps in milliseconds since 1970-01-01 UTC. `Volume`
-/// has a sector and 1 to 20 different broker names; a name that occurs more than once is counted
-/// once.
+/// stamps, `Lots` an account and a stamp, all stamps in milliseconds since 1970-01-01 UTC; the
+/// first of two stamps may be later than the second. `Volume` has a sector and 1 to 20 different
+/// broker names; a name that occurs more than once is counted once.
 ///
 /// Refuses more than 20 different trade ids or broker names with `TooMany` (20), if the arguments
 /// are otherwise well-formed and no trade id is repeated. Refuses any other wrong number of

@@ -42,8 +42,10 @@ impl Ranked for HistoryRow {
 }
 
 /// Returns the view of an account's last trades (Customer-Position), without reading a table. The
-/// caller passes the last ten trades, the most recent first, and all their TRADE_HISTORY rows,
-/// which this function sorts by stamp, then by trade, descending. Fails with `Memory` only.
+/// caller passes the last ten trades, or all if there are fewer, sorted by the stamp of the last
+/// status change, then by id, descending, and all their TRADE_HISTORY rows, trade by trade, which
+/// this function sorts by stamp, then by trade, descending; the sort is stable. Fails with `Memory`
+/// only.
 pub fn recent(alloc: Global, trades: Vec<TradeRow>, history: Vec<HistoryRow>) -> Result<View, Fault>
     ensures records { IfOk result (λ view. records_of_view view
         ≡ map recent_trade_record (map abstract_trade_row trades.items) ++ map recent_status_record (sort_by is_newer_status history.items)) }

@@ -33,7 +33,7 @@ pub struct AccountStatus {
 }
 
 /// Returns the trade `trade` together with the security `security`, which the caller has read for
-/// its symbol. Does not allocate.
+/// the trade's symbol. Does not allocate.
 #[tactic(auto, using(crate::proofs::Shown::trade_shown, crate::proofs::Shown::trade_carried))]
 pub fn trade_with_security(trade: TradeRow, security: Security) -> TradeStatus
     ensures shown { (t : Tables) → security_row_with_symbol t trade.symbol ≡ Some (abstract_security_row security)
@@ -45,8 +45,9 @@ pub fn trade_with_security(trade: TradeRow, security: Security) -> TradeStatus
 }
 
 /// Returns the view of an account's trades (Trade-Status), without reading a table. The caller
-/// passes the names of the account's customer and broker, and its last fifty trades, the most
-/// recent first, each with its security. Does not allocate.
+/// passes the names of the account's customer and broker, and the account's last fifty trades, or
+/// all if it has fewer, sorted by stamp, then by id, both descending, each with its security. Does
+/// not allocate.
 #[tactic(auto, using(crate::proofs::Shown::status_shown))]
 pub fn status(account: AccountStatus) -> View
     ensures records { records_of_view result ≡ party_names_record account ∷ map trade_status_record account.trades.items }

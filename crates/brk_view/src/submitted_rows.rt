@@ -34,7 +34,7 @@ fn submitted_trade(row: &TradeRow) -> Result<SubmittedTrade, Fault>
 
 /// Returns the view of the submitted trades (Trade-Order), without reading a table. It shows every
 /// row of `rows`, in sequence; the caller passes exactly the rows with the status `Submitted`,
-/// sorted by id. Fails with `Memory` only.
+/// sorted by id, ascending. Fails with `Memory` only.
 pub fn submitted(alloc: Global, rows: &[TradeRow]) -> Result<View, Fault>
     ensures records { IfOk result (λ view. records_of_view view ≡ map record_of_submitted_row (map abstract_trade_row rows.now)) }
     ensures value { IfOk result (λ view. (trades : Vec SubmittedTrade)

@@ -81,14 +81,15 @@ pub fn total_bid_value_of_requests(requests: &[RequestRow]) -> Wide
 
 /// Returns the view of the brokers' volumes in a sector (Broker-Volume), sorted by volume,
 /// descending, then by name and id, ascending, without reading a table. The caller passes the
-/// volumes of the brokers that have one of the names of the query and a pending request in the
-/// sector. Fails with `Memory` only.
+/// volumes of exactly the brokers that have one of the names of the query and a pending request for
+/// a security of the sector. Fails with `Memory` only.
 pub fn broker_volume(alloc: Global, brokers: Vec<BrokerVolume>) -> Result<View, Fault>
     ensures records { IfOk result (λ view. records_of_view view ≡ map broker_volume_record (sort_by is_before_by_broker_volume brokers.items)) }
     ensures value { IfOk result (λ view. (sorted : Vec BrokerVolume)
         × (view ≡ views.Volume sorted) × (sorted.items ≡ sort_by is_before_by_broker_volume brokers.items)) }
     // If the brokers, with their volumes, are those with one of these names and a pending request
-    // in the sector, in any sequence, the view equals the specified view.
+    // in the sector, in any sequence that sorts to the same list, the view equals the specified
+    // view.
     ensures view { IfOk result (λ view. (t : Tables) (sector : Text) (names : List Text) (rows : List BrokerRow)
         → brokers.items ≡ map (volume.volume_of_broker_in_sector t sector) rows
         → sort_by (is_before_by_volume t sector) rows ≡ sort_by (is_before_by_volume t sector) (filter (has_name_and_pending_request t sector names) t.brokers)

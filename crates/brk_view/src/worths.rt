@@ -43,7 +43,8 @@ impl Ranked for AccountWorth {
 
 /// Returns the view of a customer's accounts with their balances and market values
 /// (Customer-Position), sorted by market value, then by id, ascending, without reading a table. The
-/// caller passes the values of all accounts of the customer. Fails with `Memory` only.
+/// caller passes the values of exactly the accounts of the customer, in the sequence of the table.
+/// Fails with `Memory` only.
 pub fn position(alloc: Global, accounts: Vec<AccountWorth>) -> Result<View, Fault>
     ensures records { IfOk result (λ view. records_of_view view ≡ map account_worth_record (sort_by is_worth_before_by_market_value accounts.items)) }
     ensures value { IfOk result (λ view. (sorted : Vec AccountWorth)

@@ -100,7 +100,7 @@ fn append_recent_status_records(
 }
 
 // Returns a record for each of the last trades of an account, followed by one for each status of
-// these trades. Fails only if memory runs out.
+// these trades, both in the sequence of `recent`. Fails only if memory runs out.
 pub(crate) fn activity_records(
     alloc: Global,
     recent: &Activity,
@@ -190,7 +190,7 @@ fn append_trade_status_records(
 }
 
 // Returns the record of the names of an account's customer and broker, followed by one record for
-// each trade in `account`. Fails only if memory runs out.
+// each trade of `account`, in sequence. Fails only if memory runs out.
 pub(crate) fn account_status_records(
     alloc: Global,
     account: &AccountStatus,

@@ -18,8 +18,8 @@ use brk_plans::Estimate;
 use brk_view::view::{SubmittedTrade, View};
 use std::alloc::{AllocError, Global};
 
-// Returns the record of a submitted trade: its id, type, symbol, quantity and bid price. Fails only
-// if memory runs out.
+// Returns the record of a submitted trade: its id, the code of its type, its symbol, quantity and
+// bid price. Fails only if memory runs out.
 fn submitted_trade_texts(alloc: Global, trade: &SubmittedTrade) -> Result<Vec<String>, AllocError>
     ensures { IfOk result (λ texts. texts_of_record texts ≡ submitted_trade_record trade.now) }
 {
@@ -32,8 +32,8 @@ fn submitted_trade_texts(alloc: Global, trade: &SubmittedTrade) -> Result<Vec<St
     Ok(texts)
 }
 
-// Returns a record for each of the submitted trades `trades`, in sequence: its id, type, symbol,
-// quantity and bid price. Fails only if memory runs out.
+// Returns a record for each of the submitted trades `trades`, in sequence: its id, the code of its
+// type, its symbol, quantity and bid price. Fails only if memory runs out.
 fn submitted_trade_records(
     alloc: Global,
     trades: &[SubmittedTrade],
@@ -78,8 +78,8 @@ fn estimate_records(alloc: Global, estimate: &Estimate) -> Result<Vec<Vec<String
 /// Returns the records of a view, each a list of texts, in the sequence of the view. A submitted
 /// trade has the fields T_ID, TYPE, SYMBOL, QTY and T_BID_PRICE; an estimate PRICE, BUY, SELL, TAX,
 /// COMMISSION, CHARGE and ASSETS; an account its id, balance and market value; a broker's volume
-/// the name, the id and the volume. The other views have records of several kinds. Each amount is
-/// in its canonical form, such as `-12.05`. Fails with `Memory` only.
+/// the name, the id and the volume. The other views have records of several kinds; `Lots(None)` has
+/// none. Each amount is in its canonical form, such as `-12.05`. Fails with `Memory` only.
 pub fn view_fields(alloc: Global, view: &View) -> Result<Vec<Vec<String>>, Fault>
     ensures records { IfOk result (λ records. texts_of_records records ≡ records_of_view view.now) }
     // If the estimate is one of the model, its record equals that of the model.

@@ -76,9 +76,10 @@ fn append_cash_and_lifo_texts(
     push_text(alloc, texts, lifo_or_fifo_word(trade.is_lifo))
 }
 
-// Returns the record of a looked-up trade, in fifteen fields: the word `trade`, its id, stamp,
-// status, type, symbol, quantity, bid price, executor, price, charge, commission and tax, `cash` or
-// `margin`, and `lifo` or `fifo`. Fails only if memory runs out.
+// Returns the record of a looked-up trade, in fifteen fields: the word `trade`, its id and stamp,
+// the codes of its status and type, its symbol, quantity, bid price, executor, price (empty if it
+// has none), charge, commission and tax, `cash` or `margin`, and `lifo` or `fifo`. Fails only if
+// memory runs out.
 fn looked_up_trade_texts(alloc: Global, trade: &TradeRow) -> Result<Vec<String>, AllocError>
     ensures { IfOk result (λ texts. texts_of_record texts ≡ model.trade_record (abstract_trade_row trade.now)) }
 {
@@ -191,9 +192,9 @@ fn append_trade_record(
     Ok(())
 }
 
-// Appends to `records` the records of a looked-up trade: one for the trade, one for its settlement
-// and one for its cash row, if they exist, and one for each of its statuses. Fails only if memory
-// runs out. Some of these records may then be appended.
+// Appends to `records` the records of a looked-up trade, in this order: one for the trade, one for
+// its settlement, if it exists, one for its cash row, if it exists, and one for each of its
+// statuses, in sequence. Fails only if memory runs out. Some of these records may then be appended.
 fn append_looked_up_records(
     alloc: Global,
     records: &mut Vec<Vec<String>>,
@@ -208,9 +209,9 @@ fn append_looked_up_records(
     Ok(())
 }
 
-// Returns the records of looked-up trades, in sequence. The records of a trade are one for the
-// trade, one for its settlement and one for its cash row, if they exist, and one for each of its
-// statuses. Fails only if memory runs out.
+// Returns the records of looked-up trades, in sequence. The records of a trade are, in this order,
+// one for the trade, one for its settlement, if it exists, one for its cash row, if it exists, and
+// one for each of its statuses, in sequence. Fails only if memory runs out.
 pub(crate) fn looked_up_trade_records(
     alloc: Global,
     trades: &[LookedUp],

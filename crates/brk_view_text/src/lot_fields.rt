@@ -51,7 +51,7 @@ fn touching_trade_texts(alloc: Global, lots: &TouchedLots) -> Result<Vec<String>
 }
 
 // Returns the record of the trade that touched the lots, followed by one record for each lot
-// change, or no record if `lots` is `None`. Fails only if memory runs out.
+// change, in sequence, or no record if `lots` is `None`. Fails only if memory runs out.
 pub(crate) fn records_of_touched_lots(
     alloc: Global,
     lots: &Option<TouchedLots>,

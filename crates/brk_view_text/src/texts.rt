@@ -72,8 +72,8 @@ pub(crate) fn push_day(alloc: Global, texts: &mut Vec<String>, day: Day) -> Resu
     Ok(())
 }
 
-// Appends the text of an amount in cents to `texts`, such as `-12.05`. Fails only if memory runs
-// out.
+// Appends the text of an amount in cents to `texts`, such as `-12.05` for -1,205. Fails only if
+// memory runs out.
 pub(crate) fn push_amount(
     alloc: Global,
     texts: &mut Vec<String>,
@@ -85,8 +85,8 @@ pub(crate) fn push_amount(
     Ok(())
 }
 
-// Appends the text of a price to `texts`, such as `10.00`, or an empty text if it is `None`. Fails
-// only if memory runs out.
+// Appends the text of a price to `texts`, such as `10.00` for 1,000 cents, or an empty text if it
+// is `None`. Fails only if memory runs out.
 pub(crate) fn push_optional_price(
     alloc: Global,
     texts: &mut Vec<String>,

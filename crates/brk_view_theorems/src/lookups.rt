@@ -20,9 +20,9 @@ pub fn sorting_tables_preserves_lookup_view()
 {}
 
 /// Proves that the view of the oldest trade of an account with a stamp of at least `first`, and of
-/// the first 20 changes of the lots that this trade touched, over the sorted tables of a base,
-/// equals that view over its unsorted tables, if the base satisfies the books invariant and the
-/// audit invariant.
+/// the first 20 changes, by the stamp of the changing trade, then by lot, both ascending, of the
+/// lots that this trade touched, over the sorted tables of a base, equals that view over its
+/// unsorted tables, if the base satisfies the books invariant and the audit invariant.
 #[tactic(auto, using(crate::proofs::TouchRows::same_lots))]
 pub fn sorting_tables_preserves_lots_view()
     ensures { (base : Base) (account first : ℕ) → BooksInvariant base → AuditInvariant base

@@ -28,9 +28,9 @@ pub fn sorting_tables_preserves_recent_view()
         → recent_trades_view (sheets base) account ≡ recent_trades_view (tables_of_base base) account }
 {}
 
-/// Proves that the view of the names of an account's customer and broker and of the account's 50
-/// most recent trades, over the sorted tables of a base, equals that view over its unsorted tables,
-/// if the base satisfies the books invariant.
+/// Proves that the view that has the names of an account's customer and broker, followed by the
+/// account's 50 most recent trades, over the sorted tables of a base, equals that view over its
+/// unsorted tables, if the base satisfies the books invariant.
 #[tactic(auto, using(crate::proofs::StatusRows::same_status_view))]
 pub fn sorting_tables_preserves_status_view()
     ensures { (base : Base) (account : ℕ) → BooksInvariant base → trade_status_view (sheets base) account ≡ trade_status_view (tables_of_base base) account }

@@ -12,19 +12,18 @@ ghost use Rattle.brk_invariant_theorems.specs.Sound.{AuditInvariant};
 ghost use Rattle.brk_book_theorems.specs.Books.{BooksInvariant};
 
 /// Proves that the view of the brokers with given names that have pending requests in a sector,
-/// each with the value of these requests in cents, over the sorted tables of a base, equals that
-/// view over its unsorted tables, if the base satisfies the books invariant and the audit
-/// invariant.
+/// each with the value of these requests, over the sorted tables of a base, equals that view over
+/// its unsorted tables, if the base satisfies the books invariant and the audit invariant.
 #[tactic(auto, using(crate::proofs::VolumeRows::same_volumes))]
 pub fn sorting_tables_preserves_volume_view()
     ensures { (base : Base) (sector : Text) (names : List Text) → BooksInvariant base → AuditInvariant base
         → broker_volume_view (sheets base) sector names ≡ broker_volume_view (tables_of_base base) sector names }
 {}
 
-/// Proves that the brokers with pending requests in a sector, read by each of some distinct names
-/// and sorted in the order of the view, equal all brokers with these names and pending requests in
-/// the sector, sorted in the order of the view, if the base satisfies the books invariant and the
-/// audit invariant.
+/// Proves that the brokers with pending requests in a sector, read from the sorted tables of a base
+/// by each of some distinct names, equal all brokers there with one of these names and such
+/// requests, if the base satisfies the books invariant and the audit invariant. Both lists are
+/// sorted by the value of these requests, descending, then by name and id, ascending.
 #[tactic(auto, using(crate::proofs::VolumeRows::brokers_by_name))]
 pub fn brokers_read_by_name_are_complete()
     ensures { (base : Base) (sector : Text) (names : List Text) → BooksInvariant base → AuditInvariant base → distinct_texts names ≡ names

@@ -37,11 +37,11 @@ impl<W: Write> Visitor<MoveRow, LinesFault> for CashPostingWriter<'_, W> {
     ghost stops = { λ p r e q. FailsWithinLines (cash_posting_line (abstract_move_row r) (p.balance +ℤ r.amount)
         ∷ []) (W.contents p.writer.now) (W.contents q.writer.now) e };
 
-    /// Writes the line of the cash row with the balance after it, then sets the balance, which is
-    /// in cents, to it and counts the row. Fails with `Desk(Memory)`, or with `Desk(Store)` if the
-    /// balance or the count overflows; nothing is then written. Fails with `Write` after a prefix
-    /// of the line, perhaps all of it. The balance and the count are unchanged after an error (no
-    /// clause states this).
+    /// Adds the amount of the cash row to the balance, in cents, writes the line of the row with
+    /// this new balance, and counts the row. Fails with `Desk(Memory)`, or with `Desk(Store)` if
+    /// the balance or the count overflows; nothing is then written. Fails with `Write` after a
+    /// prefix of the line, perhaps all of it. The balance and the count are unchanged after an
+    /// error (no clause states this).
     fn visit(&mut self, item: &MoveRow) -> Result<(), LinesFault> {
         let balance = total_plus_amount(self.balance, item.amount)?;
         let Some(count) = self.count.checked_add(1) else {
@@ -130,9 +130,9 @@ impl<W: Write> Visitor<TradeRow, LinesFault> for TradeCommissionWriter<'_, W> {
     ghost stops = { λ p r e q. FailsWithinLines (trade_commission_line (abstract_trade_row r) (p.total +ℤ pos r.commission)
         ∷ []) (W.contents p.writer.now) (W.contents q.writer.now) e };
 
-    /// Writes the line of the trade with the total that includes its commission, then sets the
-    /// running total, which is in cents, to it and counts the trade. Fails with `Desk(Memory)`, or
-    /// with `Desk(Store)` if the total or the count overflows; nothing is then written. Fails with
+    /// Adds the commission of the trade to the running total, in cents, writes the line of the
+    /// trade with this new total, and counts the trade. Fails with `Desk(Memory)`, or with
+    /// `Desk(Store)` if the total or the count overflows; nothing is then written. Fails with
     /// `Write` after a prefix of the line, perhaps all of it. The total and the count are unchanged
     /// after an error (no clause states this).
     fn visit(&mut self, item: &TradeRow) -> Result<(), LinesFault> {

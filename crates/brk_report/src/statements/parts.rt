@@ -38,12 +38,12 @@ pub(crate) fn write_header_lines<W: Write>(
 
 /// Writes the line of the opening amount, which is `opening` plus the amounts of the cash rows of
 /// an account before the day `from`, a line for each of its cash rows from the day `from` to the
-/// day `to`, both included, and the line of the closing amount, which is the opening amount plus
-/// the amounts of the rows with a line, in cents; `from` must not be after `to`. Returns the number
-/// of these rows. If the database is still open, it is unchanged. Fails with `Desk` if a read
-/// fails, memory runs out, or an amount or the number overflows, or with `Write`. After `Desk` only
-/// whole lines are written, perhaps none and never the last one; after `Write` whole lines and a
-/// prefix of the next one, perhaps all of it.
+/// day `to`, both included, sorted by stamp, ascending, and the line of the closing amount, which
+/// is the opening amount plus the amounts of the rows with a line, in cents; `from` must not be
+/// after `to`. Returns the number of these rows. If the database is still open, it is unchanged.
+/// Fails with `Desk` if a read fails, memory runs out, or an amount or the number overflows, or
+/// with `Write`. After `Desk` only whole lines are written, perhaps none and never the last one;
+/// after `Write` whole lines and a prefix of the next one, perhaps all of it.
 pub(crate) fn write_cash_and_closing_lines<W: Write, S: Alter>(
     alloc: Global,
     desk: &mut Desk<S>,
@@ -64,11 +64,12 @@ pub(crate) fn write_cash_and_closing_lines<W: Write, S: Alter>(
     Ok(moved.count)
 }
 
-/// Writes a line for each lot of an account, the line of the market value `holdings`, in cents, and
-/// the line of the numbers of cash rows, `cash`, and of lots. If the database is still open, it is
-/// unchanged. Fails with `Desk` if a read fails, memory runs out or the number of lots overflows,
-/// or with `Write`. After `Desk` only whole lines are written, perhaps none and never the last one;
-/// after `Write` whole lines and a prefix of the next one, perhaps all of it.
+/// Writes a line for each lot of an account, sorted by symbol, then by opening stamp, both
+/// ascending, the line of the market value `holdings`, in cents, and the line of the numbers of
+/// cash rows, `cash`, and of lots. If the database is still open, it is unchanged. Fails with
+/// `Desk` if a read fails, memory runs out or the number of lots overflows, or with `Write`. After
+/// `Desk` only whole lines are written, perhaps none and never the last one; after `Write` whole
+/// lines and a prefix of the next one, perhaps all of it.
 pub(crate) fn write_lot_and_total_lines<W: Write, S: Alter>(
     alloc: Global,
     desk: &mut Desk<S>,

@@ -16,14 +16,15 @@ use sqlite::Alter;
 use std::alloc::Global;
 use std::io::Write;
 
-// Adds up the amounts of the cash rows of an account up to the stamp `last`, from the balance
-// `opening` on, in cents. Writes a line for each cash row from the stamp `first` on, and before the
-// first of these lines the line of the opening amount, which is `opening` plus the amounts of the
-// rows before. Returns the total, the number of the rows with a line, and whether the line of the
-// opening amount is written. If the database is still open, it is unchanged. Fails with `Desk` if a
-// read fails, memory runs out, or the number or the sum overflows, or with `Write`. After `Desk`
-// only whole lines are written, perhaps none or all; after `Write` whole lines and a prefix of the
-// next one, perhaps all of it.
+// Adds up the amounts of the cash rows of an account up to the stamp `last`, included, from the
+// balance `opening` on, in cents. Writes a line for each of these rows from the stamp `first` on,
+// included, sorted by stamp, ascending, and before the first of these lines the line of the opening
+// amount, which is `opening` plus the amounts of the rows before. Returns the total, the number of
+// the rows with a line, and whether the line of the opening amount is written, which it is not if
+// no row has a line. If the database is still open, it is unchanged. Fails with `Desk` if a read
+// fails, memory runs out, or the number or the sum overflows, or with `Write`. After `Desk` only
+// whole lines are written, perhaps none or all; after `Write` whole lines and a prefix of the next
+// one, perhaps all of it.
 fn write_cash_walk_lines<W: Write, S: Alter>(
     alloc: Global,
     desk: &mut Desk<S>,
@@ -56,11 +57,12 @@ fn write_cash_walk_lines<W: Write, S: Alter>(
 
 /// Writes the line of the opening amount, which is `opening` plus the amounts of the cash rows of
 /// an account before the day `from`, and a line for each of its cash rows from the day `from` to
-/// the day `to`, both included; `from` must not be after `to`. Returns the number of the rows with
-/// a line, and `opening` plus the amounts of all cash rows up to the day `to`, in cents. If the
-/// database is still open, it is unchanged. Fails with `Desk` if a read fails, memory runs out, or
-/// the number or the sum overflows, or with `Write`. After `Desk` only whole lines are written,
-/// perhaps none or all; after `Write` whole lines and a prefix of the next one, perhaps all of it.
+/// the day `to`, both included, sorted by stamp, ascending; `from` must not be after `to`. Returns
+/// the number of the rows with a line, and `opening` plus the amounts of all cash rows up to the
+/// day `to`, included, in cents; no clause states `is_opened`. If the database is still open, it is
+/// unchanged. Fails with `Desk` if a read fails, memory runs out, or the number or the sum
+/// overflows, or with `Write`. After `Desk` only whole lines are written, perhaps none or all;
+/// after `Write` whole lines and a prefix of the next one, perhaps all of it.
 pub(crate) fn write_opening_and_cash_lines<W: Write, S: Alter>(
     alloc: Global,
     desk: &mut Desk<S>,

@@ -43,11 +43,12 @@ fn write_statement_lines<W: Write, S: Alter>(
     write_lot_and_total_lines(alloc, desk, account, head.holdings, cash, writer)
 }
 
-/// Writes the statement of an account for the days `from` to `to`, both included: its name, the
-/// opening amount after the cash rows of the days before `from`, each cash row of the days, the
-/// closing amount, each lot that the account holds now, the market value of its holdings at last
-/// prices, and the numbers of these cash rows and lots. If the database is still open, it is
-/// unchanged, whatever the result.
+/// Writes the statement of an account for the UTC days `from` to `to`, both included: a title with
+/// its id, its name, the two days, the opening amount after the cash rows of the days before
+/// `from`, each cash row of the days, sorted by stamp, ascending, the closing amount, each lot that
+/// the account holds now, sorted by symbol, then by opening stamp, both ascending, the market value
+/// of its holdings at last prices, and the numbers of these cash rows and lots. If the database is
+/// still open, it is unchanged, whatever the result.
 ///
 /// Fails with `Refused` and nothing written: with refusal 18 (`BadText`) if `from` is after `to`,
 /// otherwise with 1 (`NoAccount`) if the account does not exist. Fails with `Desk(Memory)` or

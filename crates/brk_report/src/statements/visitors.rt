@@ -184,12 +184,13 @@ impl<W: Write> Visitor<MoveRow, LinesFault> for CashLineWriter<'_, W> {
     ghost stops = { λ p r e q. FailsWithinFirstLines (lines_of_cash_row (nat_lt r.stamp p.first) p.moved (abstract_move_row r))
         (W.contents p.writer.now) (W.contents q.writer.now) e };
 
-    /// Adds the amount of the cash row to the total. If the row is not before the first stamp,
-    /// first writes its line, after the line of the opening amount unless that line is already
-    /// written, and also counts the row. Fails with `Desk(Store)` and nothing written if the total
-    /// or the count overflows, with `Desk(Memory)` and nothing or only the line of the opening
-    /// amount written, or with `Write` after a prefix of the lines, perhaps all. The progress
-    /// (`moved`) is unchanged after an error (no clause states this).
+    /// Adds the amount of the cash row to the total, in cents. If the stamp of the row is not
+    /// before `first`, also writes its line and counts the row; before this line it writes the line
+    /// of the opening amount, which is the total before the row, unless that line is already
+    /// written. Fails with `Desk(Store)` and nothing written if the total or the count overflows,
+    /// with `Desk(Memory)` and nothing or only the line of the opening amount written, or with
+    /// `Write` after a prefix of the lines, perhaps all. The progress (`moved`) is unchanged after
+    /// an error (no clause states this).
     fn visit(&mut self, item: &MoveRow) -> Result<(), LinesFault> {
         let total = total_plus_amount(self.moved.total, item.amount)?;
         if is_before_stamp(item, self.first) {

@@ -19,8 +19,8 @@ use std::alloc::Global;
 use std::io::Write;
 
 // Returns the text of a query's view: as one line of JSON if `form.json` is true, otherwise as CSV
-// rows, and with the names of its fields first if `form.heads` is true and all its records have the
-// same fields. Fails with `Memory` only.
+// rows, and with the names of its fields first if `form.heads` is true and the view is `customer`,
+// `taxid`, `submitted`, `estimate` or `volume`. Fails with `Memory` only.
 fn format_view(alloc: Global, query: &Query, view: &View, form: Form) -> Result<Vec<u8>, Fault>
     ensures text { IfOk result (λ text. text.items ≡ printed_view_text form (abstract_query query.now) (records_of_view view.now)) }
     ensures fault { OnErr result (result ≡ Err Memory) }
@@ -40,7 +40,8 @@ fn format_view(alloc: Global, query: &Query, view: &View, form: Form) -> Result<
 }
 
 // Writes the text of a query's view: as JSON if `form.json` is true, otherwise as CSV, and with the
-// names of its fields first if `form.heads` is true and all its records have the same fields.
+// names of its fields first if `form.heads` is true and the view is `customer`, `taxid`,
+// `submitted`, `estimate` or `volume`.
 //
 // Fails with `Desk(Memory)` and nothing written, or with `Write` after a prefix of the text,
 // perhaps empty or all of it.
@@ -64,14 +65,15 @@ fn write_view<W: Write>(
 }
 
 // Executes a query on the desk, and writes its view: as JSON if `form.json` is true, otherwise as
-// CSV, and with the names of its fields first if `form.heads` is true and all its records have the
-// same fields.
+// CSV, and with the names of its fields first if `form.heads` is true and the view is `customer`,
+// `taxid`, `submitted`, `estimate` or `volume`.
 //
 // Fails with `Refused` and the refusal of the query, or with `Desk(Memory)` or `Desk(Store)`, and
 // nothing is then written; or with `Write` after a prefix of the text, perhaps empty or all of it.
-// `Desk(Store)` may also mean that a row that another row requires does not exist, that a lot has
-// no shares, or that a sum overflows or exceeds its limit. If the database is still open, it is
-// unchanged, whatever the result.
+// `Desk(Store)` may also mean that a row that another row requires does not exist, that the tax
+// rates of a customer total more than the greatest tax rate, that a lot has no shares, that the
+// number of lots read exceeds 32 bits, or that a sum overflows or exceeds its limit. If the
+// database is still open, it is unchanged, whatever the result.
 fn execute_query_and_write_view<W: Write, S: Alter>(
     alloc: Global,
     desk: &mut Desk<S>,
@@ -90,16 +92,20 @@ fn execute_query_and_write_view<W: Write, S: Alter>(
 
 /// Parses a query from the name of a view and its arguments, executes it on the desk, and writes
 /// its view: as JSON if `form.json` is true, otherwise as CSV, and with the names of its fields
-/// first if `form.heads` is true and all its records have the same fields.
+/// first if `form.heads` is true and the view is `customer`, `taxid`, `submitted`, `estimate` or
+/// `volume`.
 ///
 /// Fails with `Refused` and the refusal of the parser if the texts are no query: 20 (`TooMany`) for
-/// more than 20 different trade ids or broker names, 7 (`BadType`), 8 (`BadQty`) or 9 (`BadPrice`)
-/// for a field of an order, or 18 (`BadText`) for an unknown view, a repeated trade id, or another
-/// malformed argument or wrong number of arguments; otherwise with `Refused` and the refusal of the
-/// query, if the desk refuses it; or with `Desk(Memory)` or `Desk(Store)`. `Desk(Store)` may also
-/// mean that a row that another row requires does not exist, that a lot has no shares, or that a
-/// sum overflows or exceeds its limit. In these cases nothing is written. Fails with `Write` after
-/// a prefix of the text, perhaps empty or all of it. If the database is still open, it is
+/// more than 20 different trade ids or broker names, if the arguments are otherwise well-formed and
+/// no trade id is repeated; 8 (`BadQty`), 9 (`BadPrice`) or 7 (`BadType`), the first that applies,
+/// for the quantity, price or type of an order whose other fields are well-formed; or 18
+/// (`BadText`) for an unknown view, a repeated trade id, or another malformed argument or wrong
+/// number of arguments. Fails otherwise with `Refused` and the refusal of the query, if the desk
+/// refuses it; or with `Desk(Memory)` or `Desk(Store)`. `Desk(Store)` may also mean that a row that
+/// another row requires does not exist, that the tax rates of a customer total more than the
+/// greatest tax rate, that a lot has no shares, that the number of lots read exceeds 32 bits, or
+/// that a sum overflows or exceeds its limit. In these cases nothing is written. Fails with `Write`
+/// after a prefix of the text, perhaps empty or all of it. If the database is still open, it is
 /// unchanged, whatever the result.
 ///
 /// A crash after the call exposes only states that a crash before the call could expose.

@@ -7,8 +7,9 @@ ghost use Rattle.brk_view.specs.Views.{texts_of_record, texts_of_records};
 use brk_desk::Query;
 use std::alloc::{AllocError, Global};
 
-// Returns the names of the fields of a query's view, in order, or an empty list if the records of
-// this view have different fields.
+// Returns the names of the fields of a query's view, in order, if the view is `customer`, `taxid`,
+// `submitted`, `estimate` or `volume`, and otherwise an empty list: the records of the other views
+// have different fields.
 fn view_field_names(query: &Query) -> &'static [&'static str]
     ensures { texts_of_fields result.now ≡ field_names_of_view (abstract_query query.now) }
 {
@@ -43,8 +44,9 @@ fn copy_names(alloc: Global, names: &[&str]) -> Result<Vec<String>, AllocError>
     Ok(owned)
 }
 
-/// Returns a list with one record, whose fields are the names of the fields of a query's view, or
-/// an empty list if the records of this view have different fields. Fails only if memory runs out.
+/// Returns a list with one record, whose fields are the names of the fields of a query's view, if
+/// the view is `customer`, `taxid`, `submitted`, `estimate` or `volume`; otherwise, as the records
+/// of the other views have different fields, an empty list. Fails only if memory runs out.
 pub fn header_records(alloc: Global, query: &Query) -> Result<Vec<Vec<String>>, AllocError>
     ensures { IfOk result (λ heads. texts_of_records heads ≡ field_name_records (abstract_query query.now)) }
 {

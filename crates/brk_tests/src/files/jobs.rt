@@ -180,7 +180,8 @@ fn perform_task_and_audit<S: Alter>(
     seen.is_sound = desk.audit(alloc).is_ok();
 }
 
-// Returns all tables in the database of a connection as text, empty if they cannot be read.
+// Returns the names and the rows of all tables of a desk, in the database of a connection, as text,
+// empty if they cannot be read or printed, or if memory runs out.
 fn tables_or_empty<S: Alter>(alloc: Global, conn: &mut Connection<S>) -> String {
     match read_all_tables(alloc, conn) {
         Some(tables) => tables,
@@ -188,10 +189,10 @@ fn tables_or_empty<S: Alter>(alloc: Global, conn: &mut Connection<S>) -> String 
     }
 }
 
-/// Reads all tables in the database of a connection, creates or adopts its desk, performs the task
-/// `task` with the input `input`, audits the desk, reads the tables again, and returns the
-/// connection. Records what is observed in `seen`. Performs nothing after the first reading if the
-/// desk is neither created nor adopted.
+/// Reads all tables of a desk in the database of a connection, creates or adopts the desk, performs
+/// the task `task` with the input `input` at 2024-03-01 00:00 UTC, audits the desk, reads the
+/// tables again, and returns the connection. Records what is observed in `seen`. Performs nothing
+/// after the first reading if the desk is neither created nor adopted.
 pub fn observe_task_of_desk<S: Alter + Drop>(
     alloc: Global,
     mut conn: Connection<S>,
@@ -211,9 +212,10 @@ pub fn observe_task_of_desk<S: Alter + Drop>(
     }
 }
 
-/// Performs a job with the input `input` on the database of a connection, as far as possible, at
-/// 2024-03-01 00:00 UTC, and returns the connection. Records what is observed in `seen`. A task of
-/// a desk is not begun if the desk can be neither created nor adopted.
+/// Performs a job with the input `input` on the database of a connection, and returns the
+/// connection, whether the job fails or not. Records what is observed in `seen`. A task of a desk
+/// is performed at 2024-03-01 00:00 UTC, and is not begun if the desk can be neither created nor
+/// adopted.
 pub fn perform_job<S: Alter + Drop>(
     alloc: Global,
     mut conn: Connection<S>,

@@ -75,8 +75,9 @@ impl Held {
     }
 }
 
-// Opens the database in these files. Returns the files if a sync of one of them has failed, or if
-// the database cannot be opened.
+// Opens the database in these files. Empty files, and those that an interrupted creation of a
+// database left, get an empty database. Fails with the files if a sync of one of them has failed,
+// or if the database cannot be opened.
 fn open_database<D: Disk + Drop>(
     alloc: Global,
     files: Files<D>,
@@ -91,7 +92,8 @@ fn open_database<D: Disk + Drop>(
     }
 }
 
-// Closes the database of the connection, as far as possible. Returns its files.
+// Closes the database of the connection: rolls back an open transaction and copies the log into the
+// database file. Returns the files, also if the copy fails.
 fn close_database<D: Disk + Drop>(conn: Connection<FileStore<D>>) -> Files<D> {
     match conn.close_files() {
         Ok(files) => files,
@@ -99,9 +101,9 @@ fn close_database<D: Disk + Drop>(conn: Connection<FileStore<D>>) -> Files<D> {
     }
 }
 
-// Opens these files, performs a job with the input `input` on the database in them, and closes
-// them, as far as possible. Records the observation of the job in `seen`, and returns the files.
-// Performs nothing if a sync of a file has failed or the database cannot be opened.
+// Opens these files, performs a job with the input `input` on the database in them, and closes them
+// (`close_database`). Records the observation of the job in `seen`, and returns the files. Performs
+// and records nothing if a sync of a file has failed or the database cannot be opened.
 fn perform_job_in_files<D: Disk + Drop>(
     alloc: Global,
     files: Files<D>,
@@ -116,8 +118,8 @@ fn perform_job_in_files<D: Disk + Drop>(
     }
 }
 
-// Returns a file in memory with these bytes, which accepts `calls` calls and fails at each later
-// call. Fails if memory runs out.
+// Returns a file in memory with these bytes, all synced. It accepts `calls` calls and fails at each
+// later call. Fails only if memory runs out.
 fn failing_file_with_bytes(alloc: Global, bytes: &[u8], calls: u64) -> Result<Fuse<Memory>, Fail> {
     let mut file = Memory::new(alloc);
     if file.write_at(0, bytes).is_err() || file.sync().is_err() {
@@ -126,9 +128,9 @@ fn failing_file_with_bytes(alloc: Global, bytes: &[u8], calls: u64) -> Result<Fu
     Ok(Fuse::new(file, calls))
 }
 
-// Returns the two files of a desk in memory, with the bytes `held`. The file that `stop` names
-// accepts its number of calls and fails at each later call; the other one accepts all calls. Fails
-// if memory runs out.
+// Returns the two files of a desk in memory, with the bytes `held`, all synced. The file
+// `stop.file` accepts `stop.calls` calls and fails at each later call; the other one accepts all
+// calls. Fails only if memory runs out.
 fn files_until_crash(
     alloc: Global,
     held: &Held,
@@ -143,9 +145,10 @@ fn files_until_crash(
     Ok(Files { log, db })
 }
 
-// Appends to `bytes` the bytes that a file has after the restart: without those that were not
-// synced if `loses` is true. Returns true if a sync of the file had failed before, or if its next
-// call would fail. Fails only if memory runs out.
+// Appends to `bytes` the bytes that a file has after the restart: those of its last sync if `loses`
+// is true, and otherwise its last bytes, synced or not. Returns true if a sync of the file had
+// failed before, or if its next call would fail. If memory runs out, fails, or appends the last
+// bytes although `loses` is true.
 fn append_bytes_after_crash(
     file: &mut Fuse<Memory>,
     loses: bool,
@@ -159,9 +162,9 @@ fn append_bytes_after_crash(
     Ok(was_stopped)
 }
 
-// Returns the bytes of the files after the restart, without those that were not synced if `loses`
-// is true, and true if a sync of one of the files had failed before or the next call of one of them
-// would fail. Fails only if memory runs out.
+// Returns the bytes of the files after the restart (`append_bytes_after_crash`), and a flag: true
+// if a sync of one of the files had failed before, or if the next call of one of them would fail.
+// Fails only if memory runs out.
 fn files_after_crash(
     alloc: Global,
     files: Files<Fuse<Memory>>,
@@ -188,8 +191,8 @@ pub struct Sent {
 /// longer to allocate than most jobs to perform.
 const CACHED_PAGES: usize = 200;
 
-/// Returns the options of a database that caches `pages` pages, and reads each other page from its
-/// file.
+/// Returns the options of a database that caches at most `pages` of the pages that it reads, or one
+/// if `pages` is 0. The other options are those of `Options::new` with the seed 1.
 pub fn options_with_cached_pages(pages: usize) -> Options {
     let mut options = Options::new(1);
     options.cache_pages = pages;
@@ -198,7 +201,8 @@ pub fn options_with_cached_pages(pages: usize) -> Options {
 
 /// Performs a job with the input `input` on the database in the files `held` until the machine
 /// crashes, at the call of the file that `stop` names, or to the end of the job. Returns the
-/// observation of the job, the files after it, and whether the machine crashed. Fails if memory
+/// observation of the job, the files after it, and whether the machine crashed; this is also true
+/// if the file has accepted exactly `stop.calls` calls at the end of the job. Fails only if memory
 /// runs out.
 pub fn perform_job_until_crash(
     alloc: Global,
@@ -219,10 +223,11 @@ pub fn perform_job_until_crash(
     })
 }
 
-/// Executes a batch on the desk in the files `held` until the machine crashes, at the call of the
-/// file that `stop` names, or to the end of the batch. Returns the observation of the batch, with
-/// all tables before and after it and an audit, the files after it, and whether the machine
-/// crashed. Fails if memory runs out.
+/// Creates a desk in the files `held`, or adopts the one in them, and executes a batch on it until
+/// the machine crashes, at the call of the file that `stop` names, or to the end of the batch.
+/// Returns the observation of the batch, with all tables before and after it and an audit, the
+/// files after it, and whether the machine crashed (`perform_job_until_crash`). Fails only if
+/// memory runs out.
 pub fn run_batch_until_crash(
     alloc: Global,
     held: &Held,

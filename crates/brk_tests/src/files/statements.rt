@@ -44,7 +44,7 @@ const WANTED: &[u8] = b"Statement of account 100\n\
 
 // Writes the statement of account 100 for March 2024 on the desk in the files `held`, whose
 // database file accepts `calls` calls and fails at each later call. Returns the observation. Fails
-// if memory runs out.
+// only if memory runs out.
 fn write_statement_over_failing_disk(
     alloc: Global,
     held: &Held,
@@ -71,9 +71,9 @@ fn is_proper_prefix_of_statement(text: &[u8]) -> bool {
 }
 
 /// Checks, for a database file that fails after 0, 1, 2 and more calls, that the desk cannot be
-/// opened or the statement fails with `Store` after whole first lines, perhaps none, until the
-/// statement is complete, which must be with fewer than 10,000 calls. Checks also that some failed
-/// statements have lines and some have none.
+/// opened or the statement fails with `Store` after whole first lines, perhaps none but never all,
+/// until the statement is complete and equals `WANTED`, which must be with fewer than 10,000 calls.
+/// Checks also that some failed statements have lines and some have none.
 pub fn statements_over_a_failing_disk(alloc: Global) -> Result<(), Fail> {
     let Sent { held, .. } = run_batch_until_crash(
         alloc,

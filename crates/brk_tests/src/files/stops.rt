@@ -72,8 +72,8 @@ fn fail_unless(is_so: bool, stop: MachineCrash, what: &str) -> Result<(), Fail> 
 }
 
 // Executes a batch on a new desk in the database of a connection after the batch `SET`. Returns the
-// observation of the batch. Fails without a connection, if the desk cannot be set up
-// (`desk_with_reference_data`), or if memory runs out.
+// observation of the batch. Fails without a connection, and if the desk cannot be set up
+// (`desk_with_reference_data`).
 fn observe_batch_after_set<S: Alter + Drop>(
     alloc: Global,
     conn: Option<Connection<S>>,
@@ -85,9 +85,10 @@ fn observe_batch_after_set<S: Alter + Drop>(
     Ok(seen)
 }
 
-// Returns all tables of a desk in memory as text, after the batch `SET` and the first `rows` rows
-// of `ROWS`, at most six. Fails if the desk cannot be set up, if the tables cannot be read, or if
-// memory runs out.
+// Returns all tables of a desk in memory as text, after the batch `SET` and a batch of the first
+// `rows` rows of `ROWS`, at most six. Does not check that the second batch completes or that its
+// rows are accepted. Fails if the desk cannot be set up, if the tables cannot be read, or if memory
+// runs out.
 fn tables_after_rows(alloc: Global, rows: usize) -> Result<String, Fail> {
     let batch = format_batch(alloc, &ROWS[..rows.min(6)])?;
     let Observation { after, .. } = observe_batch_after_set(
@@ -107,10 +108,10 @@ fn has_lines_audit_and_tables(seen: &Observation, lines: &str, tables: &str) -> 
     seen.is_sound && seen.lines.as_slice() == lines.as_bytes() && seen.after.as_str() == tables
 }
 
-// Creates a desk until the crash `stop`, and then executes the batch `SET` on the desk that is
-// opened or created from the files. Returns two flags: true if the batch has the lines `SET_LINES`,
-// the tables after it are `tables` and the audit passes; and true if there was a crash. Fails if
-// memory runs out.
+// Creates a desk and executes a batch without rows on it until the crash `stop`, and then executes
+// the batch `SET` on the desk that is opened or created from the files. Returns two flags: true if
+// the batch has the lines `SET_LINES`, the tables after it are `tables` and the audit passes; and
+// true if there was a crash. Fails only if memory runs out.
 fn set_up_desk_after_creation_crash(
     alloc: Global,
     stop: MachineCrash,
@@ -138,8 +139,9 @@ fn expect_creation_crash_recovered(
 }
 
 // Returns the number of rows of the batch that are committed after a crash with the tables `found`:
-// the number of lines in `told`, at most six, or one more. `tables` are the tables after each
-// number of rows. Returns `None` if `found` are the tables after neither number of rows.
+// the number of line feeds in `told`, at most six, or one more. `tables` are the tables after each
+// number of rows, from none on. Returns the smaller number if `found` are the tables after both,
+// and `None` if they are the tables after neither.
 fn committed_rows_after_crash(told: &[u8], found: &str, tables: &[String]) -> Option<usize> {
     let mut settled = 0usize;
     for byte in told {
@@ -168,8 +170,9 @@ struct CrashAndRetry {
 }
 
 // Executes the batch on the desk in the files `start` until the crash `stop`, and retries it on the
-// desk that is opened after the crash. Returns the observations of both runs, and true if there was
-// a crash. Fails if memory runs out.
+// desk that is opened from the files after the crash, or after the end of the batch if there was
+// none. Returns the observations of both runs, and true if there was a crash. Fails only if memory
+// runs out.
 fn crash_and_retry_batch(
     alloc: Global,
     stop: MachineCrash,
@@ -216,12 +219,13 @@ fn expect_lines_and_tables(
     )
 }
 
-// Checks that the tables after the crash contain the rows with a written line, or one row more, and
-// that the retry completes the batch: it has the stored replies to these rows, accepts the others,
-// passes its audit, and has the last of `tables`, which are the tables after each number of rows.
-// Checks also that the lines until the crash are the first lines of the batch, and that a run
-// without a crash has all lines, passes its audit, and has the last of `tables`. Fails if not all
-// of this is so, or if memory runs out.
+// Checks that the tables after the crash are those after the rows with a written line, or after one
+// row more, and that the retry completes the batch of all `ROWS`: it has the stored replies to
+// these rows, accepts the others, passes its audit, and has the last of `tables`, which are the
+// tables after each number of rows, from none on. Checks also that the bytes written until the
+// crash are a prefix of the lines of the batch, and that a run without a crash has all lines,
+// passes its audit, and has the last of `tables`. Fails if not all of this is so, or if memory runs
+// out.
 fn expect_retry_completes(
     alloc: Global,
     stop: MachineCrash,
@@ -239,10 +243,11 @@ fn expect_retry_completes(
     expect_lines_and_tables(stop, twice, whole.as_str(), rest.as_str(), last)
 }
 
-// Executes the batch until the crash `stop`, retries it, and checks that the tables after the crash
-// contain the rows with a written line, or one row more, and that the retry completes the batch.
-// `tables` are the tables after each number of rows. Returns true if there was a crash. Fails if
-// not all of this is so, or if memory runs out.
+// Executes the batch, which is that of all `ROWS`, on the desk in the files `start` until the crash
+// `stop`, retries it, and checks that the tables after the crash are those after the rows with a
+// written line, or after one row more, and that the retry completes the batch
+// (`expect_retry_completes`). `tables` are the tables after each number of rows, from none on.
+// Returns true if there was a crash. Fails if not all of this is so, or if memory runs out.
 fn expect_batch_crash_recovered(
     alloc: Global,
     stop: MachineCrash,
@@ -256,7 +261,8 @@ fn expect_batch_crash_recovered(
 }
 
 // Executes the first three trades of `worked::ROWS` as a batch on a desk in files after the batch
-// `SET`. Returns the observation of the batch and the files after it. Fails if memory runs out.
+// `SET`. Returns the observation of the batch and the files after it. Does not check that the
+// batches complete. Fails only if memory runs out.
 fn files_after_trades(alloc: Global) -> Result<Sent, Fail> {
     let batch = format_batch(alloc, &worked::ROWS[..6])?;
     let set = files_with_reference_data(alloc)?;
@@ -286,10 +292,13 @@ struct UpgradeObservation {
     was_stopped: bool,
 }
 
-// Upgrades the desk of an older schema in the files `start` until the crash `stop`, and then
-// retries the upgrade. Returns whether the upgrade was not begun or was complete after the crash,
-// whether it is complete after the retry, and whether there was a crash. `tables` are the tables of
-// the desk in schema 3. Fails if memory runs out.
+// Upgrades the desk of an older schema in the files `start` and executes a batch without rows on it
+// until the crash `stop`, and then does both again. Returns whether the upgrade was not begun or
+// was complete after the crash, whether it is complete after the retry, and whether there was a
+// crash. It counts as not begun if the tables of schema 3 cannot be read and no line was written;
+// as complete after the crash if the tables are `tables`, those of the desk in schema 3; and as
+// complete after the retry if also the batch has its end line and the audit passes. Fails only if
+// memory runs out.
 fn crash_and_retry_upgrade(
     alloc: Global,
     stop: MachineCrash,
@@ -309,8 +318,8 @@ fn crash_and_retry_upgrade(
 // Upgrades the desk of an older schema in the files `start` until the crash `stop`, and then
 // retries the upgrade. Checks that the upgrade is atomic, that no line of a batch is written before
 // the upgrade is committed, and that the retry completes the upgrade with the tables `tables`,
-// which are the desk's tables in schema 3. Returns true if there was a crash. Fails if not all of
-// this is so, or if memory runs out.
+// which are the desk's tables in schema 3, and an audit that passes. Returns true if there was a
+// crash. Fails if not all of this is so, or if memory runs out.
 fn expect_upgrade_crash_recovered(
     alloc: Global,
     stop: MachineCrash,
@@ -343,8 +352,10 @@ enum Work<'a> {
     },
 }
 
-// Performs the work until the crash `stop`, and checks that the desk recovers from it. Returns true
-// if there was a crash. Fails if the desk does not recover, or if memory runs out.
+// Performs the work until the crash `stop`, and checks that the desk recovers from it
+// (`expect_creation_crash_recovered`, `expect_batch_crash_recovered` or
+// `expect_upgrade_crash_recovered`). Returns true if there was a crash. Fails if the desk does not
+// recover, or if memory runs out.
 fn expect_crash_recovered(alloc: Global, stop: MachineCrash, work: Work<'_>) -> Result<bool, Fail> {
     match work {
         Work::Creation(tables) => expect_creation_crash_recovered(alloc, stop, tables),
@@ -378,8 +389,8 @@ fn expect_each_crash_recovered(alloc: Global, work: Work<'_>) -> Result<(), Fail
     Ok(())
 }
 
-/// Checks that a desk can be created and set up after a crash at each call of the log or the
-/// database file during its creation, with the bytes that were not synced lost or stored.
+/// Checks that a desk can be opened or created, and set up, after a crash at each call of the log
+/// or the database file during its creation, with the bytes that were not synced lost or stored.
 pub fn crashes_while_a_store_is_created(alloc: Global) -> Result<(), Fail> {
     let tables = tables_after_rows(alloc, 0)?;
     expect_each_crash_recovered(alloc, Work::Creation(tables.as_str()))
@@ -412,8 +423,8 @@ pub fn crashes_while_a_batch_is_executed(alloc: Global) -> Result<(), Fail> {
 
 // Upgrades a desk that the SQL statements `change` convert to an older schema, with each crash of
 // `STOPS` at each call of its file, and checks each recovery (`expect_upgrade_crash_recovered`).
-// Fails if the desk does not recover, if the statements fail, if the tables cannot be read, or if
-// memory runs out.
+// Fails if the desk does not recover, if a run without a crash is not reached within `MOST_CALLS`
+// runs, if the statements fail, if the tables cannot be read, or if memory runs out.
 fn expect_upgrade_recovered_at_each_call(alloc: Global, change: &str) -> Result<(), Fail> {
     let (start, tables) = files_of_older_schema(alloc, change)?;
     let work = Work::Upgrade {
@@ -458,10 +469,10 @@ fn expect_batch_in_files(
     }
 }
 
-// Executes the rows as a batch on a desk in files, opens the files again and retries the batch.
-// Checks that the first run accepts all rows with the replies `lines`, that the retry returns these
-// replies as stored ones, and that an audit passes after each run. Fails with `name` if not, and
-// without it if memory runs out.
+// Executes the rows as a batch on a desk in files after the batch `SET`, opens the files again and
+// retries the batch. Checks that the first run accepts all rows with the replies `lines`, that the
+// retry returns these replies as stored ones, and that an audit passes after each run. Fails with
+// `name` if not, and without it if memory runs out.
 fn expect_trades_stored_and_repeated(
     alloc: Global,
     name: &str,

@@ -34,7 +34,8 @@ struct Three {
 }
 
 // Returns the text of three requests, a row that adds broker 2, the same row again and a query for
-// the submitted trades, and the positions at which they end. Fails only if memory runs out.
+// the submitted trades, and for each the number of bytes from the start of the text to its end.
+// Fails only if memory runs out.
 fn three_requests_with_ends(alloc: Global) -> Result<(String, [usize; 3]), AllocError> {
     let mut input = format_post_request(alloc, "/rows/C/1", "[\"broker\",\"2\",\"Cy\"]")?;
     let one = input.len();
@@ -45,9 +46,9 @@ fn three_requests_with_ends(alloc: Global) -> Result<(String, [usize; 3]), Alloc
     Ok((input, ends))
 }
 
-// Returns the replies to the three requests on a desk that has executed none of them: the row is
-// accepted, its stored reply is returned, and the view has no trades. Fails only if memory runs
-// out.
+// Returns the replies to the three requests on a desk after the batch `SET` that has executed none
+// of them: the row is accepted, its stored reply is returned, and the view has no trades. Fails
+// only if memory runs out.
 fn replies_to_three_requests(alloc: Global) -> Result<[String; 3], AllocError> {
     let first = format_wanted_reply(
         alloc,
@@ -95,9 +96,10 @@ fn replies_within_length(
 }
 
 // Serves the first `len` bytes of the stream on a new desk in the database of a connection, after
-// the batch `SET`. Checks that each request within them has its reply, and that a request of which
-// only a part is within them has the reply 400. Fails if not, without a connection, if the desk
-// cannot be set up, or if memory runs out.
+// the batch `SET`. `len` must be at most the length of the stream. Checks that the replies are
+// exactly those to the requests within these bytes, followed by the reply 400 if only a part of a
+// further request is within them. Fails if not, without a connection, if the desk cannot be set up,
+// or if memory runs out.
 fn expect_cut_stream<S: Alter + Drop>(
     alloc: Global,
     conn: Option<Connection<S>>,
@@ -140,10 +142,10 @@ fn all_replies_of_retry(alloc: Global, all: &Three, executed: bool) -> Result<St
     Ok(wanted)
 }
 
-// Serves the whole stream on a desk, which has executed the first request before if `executed` is
-// true, and otherwise none. Checks that all three requests have their replies, and that the tables
-// are those after one execution of the row. Fails with `name` if not, and without it if the tables
-// cannot be read or memory runs out.
+// Serves the whole stream on a desk after the batch `SET`, which has executed the first request
+// before if `executed` is true, and otherwise none. Checks that all three requests have their
+// replies, and that the tables are those after one execution of the row. Fails with `name` if not,
+// and without it if the tables cannot be read or memory runs out.
 fn expect_completed_stream<S: Alter + Drop>(
     alloc: Global,
     mut desk: Desk<S>,
@@ -198,11 +200,11 @@ pub fn stream_readers_failing_at_each_byte(alloc: Global) -> Result<(), Fail> {
 }
 
 // Serves the stream on a new desk in the database of a connection, after the batch `SET`, with a
-// writer that has room for `room` bytes, and then fails once with the error `fault`, or, if `fault`
-// is `None`, once accepts no byte. Checks that the stream fails with `Write` after the first `room`
-// bytes of the replies, and that a retry completes, with the stored reply to the first request: a
-// request is executed before its reply is written. Fails if not, without a connection, if the desk
-// cannot be set up, or if memory runs out.
+// writer that has room for `room` bytes, fewer than the replies have, and then fails once with the
+// error `fault`, or, if `fault` is `None`, once accepts no byte. Checks that the stream fails with
+// `Write` after the first `room` bytes of the replies, and that a retry completes, with the stored
+// reply to the first request: a request is executed before its reply is written. Fails if not,
+// without a connection, if the desk cannot be set up, or if memory runs out.
 fn expect_stream_write_fault<S: Alter + Drop>(
     alloc: Global,
     conn: Option<Connection<S>>,

@@ -74,8 +74,8 @@ fn has_wanted_replies(
 
 /// Serves a stream, whose bytes arrive in pieces of at most `size` bytes, on a new desk in the
 /// database of a connection after the batch `SET`. Returns the bytes that were written, and the
-/// number of replies or the fault. Fails without a connection, if the desk cannot be set up
-/// (`desk_with_reference_data`), or if memory runs out.
+/// number of replies or the fault. Fails without a connection, and if the desk cannot be set up
+/// (`desk_with_reference_data`).
 pub fn serve_stream_on_new_desk<S: Alter + Drop>(
     alloc: Global,
     conn: Option<Connection<S>>,
@@ -190,8 +190,8 @@ pub fn a_head_has_at_most_16_384_bytes(alloc: Global) -> Result<(), Fail> {
 }
 
 // Serves a stream on a new desk in files whose log accepts `calls` calls and fails at each later
-// call. Returns the observation, which ends with `NotBegun` if the desk cannot be created. Fails if
-// memory runs out.
+// call. Returns the observation, which ends with `NotBegun` if the database cannot be opened or the
+// desk cannot be created. Fails only if memory runs out.
 fn serve_with_failing_log(alloc: Global, calls: u64, input: &[u8]) -> Result<Observation, Fail> {
     let Sent { seen, .. } = perform_job_until_crash(
         alloc,
