@@ -62,6 +62,15 @@ TRADING_BACK = {'last_trade', 'trade', 'history', 'request', 'holding', 'summary
 
 TABLES = {d[0]: (d[1], [(c[0], c[1]) for c in d[7]], d[6]) for d in DATA}
 
+# the tables whose definition needs a longer name than the table has in this script
+LONG_NAMES = {'history': 'trade_history', 'cash': 'cash_transaction', 'move': 'cash_move'}
+
+
+def shape(t):
+    """The name of the definition of a table."""
+    return f'{LONG_NAMES.get(t, t)}_table'
+
+
 def which(t):
     return {d[0]: d[2] for d in DATA}[t]
 
@@ -132,10 +141,10 @@ def equation(head, sql, limit=150):
     return whole if len(whole) <= limit else '\n    '.join([f'{head} =', '\n    ++ '.join(q(line) for line in sql_lines(sql))])
 
 def col_is(t, c, shown, agg, alias):
-    return f'column_is schema at ({t}_table tree) found ({q(TABLES[t][0])}) {shown} [] {agg} {alias} ({q(c)}) {index(t, c)} ({kind(t, c)} ({q(c)})) refl refl'
+    return f'column_is schema at ({shape(t)} tree) found ({q(TABLES[t][0])}) {shown} [] {agg} {alias} ({q(c)}) {index(t, c)} ({kind(t, c)} ({q(c)})) refl refl'
 
 def head_is(t, c):
-    return f'heading_is schema at ({t}_table tree) found ({q(TABLES[t][0])}) [] [] true true (e.Column None ({q(c)})) ({q(c)}) ({q(c)}) {index(t, c)} ({kind(t, c)} ({q(c)})) refl refl refl'
+    return f'heading_is schema at ({shape(t)} tree) found ({q(TABLES[t][0])}) [] [] true true (e.Column None ({q(c)})) ({q(c)}) ({q(c)}) {index(t, c)} ({kind(t, c)} ({q(c)})) refl refl refl'
 
 def conj(parts):
     out = parts[0]
@@ -197,7 +206,7 @@ use Rattle.brk_sql.proofs.Meant.{{meant, inserts, updates_or, deletes_or, reads_
 use Rattle.brk_sql.proofs.Pick.{{selection, whole_page}}
 use Rattle.brk_sql.proofs.Scoped.{{over_one, column_is, heading_is}}
 use Rattle.brk_sql.proofs.Texts.{{read}}
-use Rattle.brk_tables_schema.specs.Shapes.{{{table}_table}}
+use Rattle.brk_tables_schema.specs.Shapes.{{{table}}}
 '''
 
 def is_named(name, body):
@@ -240,7 +249,7 @@ def save(path, text):
         file.write(broken(text, MOST_WRITTEN) if '/proofs/' in path else text)
 
 def write(crate, name, what, table, body):
-    save(f'crates/{crate}/proofs/{name}.antt', HEAD.format(what=what, table=table) + body)
+    save(f'crates/{crate}/proofs/{name}.antt', HEAD.format(what=what, table=shape(table)) + body)
 
 def codes_of(text):
     """The codes of a text, as joined literals if the text is too long for one line of a proof"""
@@ -264,9 +273,9 @@ statement = {codes_of(text)}
 abbrev pub terms : List Term
 terms = {lst(terms)}
 
-pub understood_as : (schema : Schema) (at tree : ℕ) → IsTableAt schema ({t}_table tree) at → compiled schema statement ≡ Ok (meant (read statement) [] (Insert at (Values terms {len(terms)})))
+pub understood_as : (schema : Schema) (at tree : ℕ) → IsTableAt schema ({shape(t)} tree) at → compiled schema statement ≡ Ok (meant (read statement) [] (Insert at (Values terms {len(terms)})))
 unfolding everything
-understood_as schema at tree h = inserts schema statement (read statement) refl refl ({q(sql)}) at ({t}_table tree) h.named h.found _ _ _ refl refl
+understood_as schema at tree h = inserts schema statement (read statement) refl refl ({q(sql)}) at ({shape(t)} tree) h.named h.found _ _ _ refl refl
 ''')
     return text
 
@@ -298,14 +307,14 @@ project = {lst(project)}
 abbrev pub draft : ℕ → Draft
 draft tree = simple (Inner tree ∷ []) terms project
 
-draft_is : (schema : Schema) (at tree : ℕ) → slice_get schema.tables at ≡ Some ({t}_table tree) → updated schema at ({t}_table tree) sets (Some test) ≡ Ok (draft tree)
+draft_is : (schema : Schema) (at tree : ℕ) → slice_get schema.tables at ≡ Some ({shape(t)} tree) → updated schema at ({shape(t)} tree) sets (Some test) ≡ Ok (draft tree)
 unfolding sql_lowering_definitions
 draft_is schema at tree found = rw ({", ".join(test_lemmas(t, tests, '[]', False))})
 
-pub understood_as : (schema : Schema) (at tree : ℕ) → IsTableAt schema ({t}_table tree) at
+pub understood_as : (schema : Schema) (at tree : ℕ) → IsTableAt schema ({shape(t)} tree) at
     → (compiled schema statement ≡ Ok (meant (read statement) [] (Update at (record {{ lets = []; body = selection tree terms project [] whole_page }})))) ⊎ (compiled schema statement ≡ Err Mismatch)
 unfolding everything
-understood_as schema at tree h = updates_or schema statement (read statement) refl refl ({q(sql)}) at ({t}_table tree) h.named h.found sets (Some test) (draft tree) refl (draft_is schema at tree h.found)
+understood_as schema at tree h = updates_or schema statement (read statement) refl refl ({q(sql)}) at ({shape(t)} tree) h.named h.found sets (Some test) (draft tree) refl (draft_is schema at tree h.found)
 ''')
     return text
 
@@ -329,14 +338,14 @@ project = col 1 0 ∷ []
 abbrev pub draft : ℕ → Draft
 draft tree = simple (Inner tree ∷ []) terms project
 
-draft_is : (schema : Schema) (at tree : ℕ) → slice_get schema.tables at ≡ Some ({t}_table tree) → deleted schema at ({t}_table tree) test ≡ Ok (draft tree)
+draft_is : (schema : Schema) (at tree : ℕ) → slice_get schema.tables at ≡ Some ({shape(t)} tree) → deleted schema at ({shape(t)} tree) test ≡ Ok (draft tree)
 unfolding sql_lowering_definitions
 draft_is schema at tree found = {proof}
 
-pub understood_as : (schema : Schema) (at tree : ℕ) → IsTableAt schema ({t}_table tree) at
+pub understood_as : (schema : Schema) (at tree : ℕ) → IsTableAt schema ({shape(t)} tree) at
     → (compiled schema statement ≡ Ok (meant (read statement) [] (Delete at (record {{ lets = []; body = selection tree terms project [] whole_page }})))) ⊎ (compiled schema statement ≡ Err Mismatch)
 unfolding everything
-understood_as schema at tree h = deletes_or schema statement (read statement) refl refl ({q(sql)}) at ({t}_table tree) h.named h.found test (draft tree) refl (draft_is schema at tree h.found)
+understood_as schema at tree h = deletes_or schema statement (read statement) refl refl ({q(sql)}) at ({shape(t)} tree) h.named h.found test (draft tree) refl (draft_is schema at tree h.found)
 ''')
     return text
 
@@ -399,7 +408,7 @@ def select(crate, name, t, tests, order, limit=None, shown=None, offset=None):
     is_read, reading_is, shown_by, opened = ['refl'] * 3, '', f'rw ({shows})', 'unfolding everything\n'
     if crate == 'brk_tables_scan':
         named = '(refl, refl, ' * n1 + 'tt' + ')' * n1
-        shown_by = f'columns_shown schema at ({t}_table tree) found ({q(sql)}) ({t}_table tree).columns {named} max_budget (max_budget - {n1 + 1}) refl core refl'
+        shown_by = f'columns_shown schema at ({shape(t)} tree) found ({q(sql)}) ({shape(t)} tree).columns {named} max_budget (max_budget - {n1 + 1}) refl core refl'
         is_read, opened = ['is_read.0', 'is_read.1', 'is_read.2'], ''
         reading_is = """is_read : (first statement ≡ Ok (read statement)) × ((read statement).formats ≡ []) × ((read statement).statement ≡ written.Select select)
 unfolding everything
@@ -459,8 +468,8 @@ names = {lst(q(c) for c in names)}
 abbrev after : ℕ → Carried → State
 after spent last = record (fresh 2 max_budget) {{ budget = max_budget - spent; last = last }}
 
-{reading_is}module _ (schema : Schema) (at tree : ℕ) (h : IsTableAt schema ({t}_table tree) at) where
-  abbrev found : slice_get schema.tables at ≡ Some ({t}_table tree)
+{reading_is}module _ (schema : Schema) (at tree : ℕ) (h : IsTableAt schema ({shape(t)} tree) at) where
+  abbrev found : slice_get schema.tables at ≡ Some ({shape(t)} tree)
   found = h.found
 
   shows : result lower (outermost schema) (level_one ({q(sql)}) at []) core (fresh 2 max_budget) ≡ Ok (columns, after {n1} {last1})
@@ -513,8 +522,8 @@ use Rattle.brk_sql.specs.Desk.{text_column, integer_column, nullable_integer_col
         refs = f'({lst(refs)})' if len(lst(refs)) < 130 else '\n    (' + folded('', refs + ['[]'], '∷').strip() + ')'
         out += f"""
 {remark(f'The definition of the table {sql}, whose rows the database stores under the number `tree`: its columns, its primary key, and its UNIQUE constraints and foreign keys, if any.')}
-abbrev pub {t}_table : ℕ → Table
-{t}_table tree = table_without_checks ({q(sql)}) tree{cs}
+abbrev pub {shape(t)} : ℕ → Table
+{shape(t)} tree = table_without_checks ({q(sql)}) tree{cs}
     {'(Some 0)' if rowkey else 'None'} ({primary}) ({lst(uniques)}) {refs}
 """
     save(f'{SPECS}/Shapes.antt', out)
@@ -578,7 +587,7 @@ use Rattle.brk_model.specs.Schemas.{{Schema, third_schema}}
 use Rattle.brk_model.specs.Tables.{{Tables, {ROWS}}}
 use Rattle.brk_model.specs.Keys.{{KeyPart, number, {', '.join(d[4] for d in DATA if d[4] not in OWN_KEYS)}}}
 use Rattle.brk_sql.specs.Desk.{{ProgramTables}}
-use Rattle.brk_tables_schema.specs.Shapes.{{{', '.join(d[0] + '_table' for d in DATA)}}}
+use Rattle.brk_tables_schema.specs.Shapes.{{{', '.join(shape(d[0]) for d in DATA)}}}
 use Rattle.brk_tables_schema.specs.Cells.{{DeskRow, RuleRow, {', '.join(d[0] + '_cells' for d in DATA)}}}
 use Rattle.brk_tables_schema.specs.Order.{{ordering_by_key}}
 
@@ -617,7 +626,7 @@ schema_has_table schema w = true
 -- The definition of the table `w` of a desk, with its rows at the given tree: its SQL name,
 -- columns, keys and foreign keys.
 abbrev pub table_definition_at_tree : DeskTable → ℕ → Table
-{both(lambda d: f'table_definition_at_tree {d[2]} = {d[0]}_table')}
+{both(lambda d: f'table_definition_at_tree {d[2]} = {shape(d[0])}')}
 
 -- The definition of the table `w` with its rows at the tree `tree` has this tree.
 abbrev pub table_definition_has_tree : (w : DeskTable) (tree : ℕ) → (table_definition_at_tree w tree).tree ≡ tree
@@ -742,7 +751,7 @@ use Rattle.brk_sql.proofs.Texts.{{read}}
 use Rattle.brk_sql.proofs.Created.{{makes}}
 use Rattle.brk_sql.proofs.Founded.{{Among}}
 use Rattle.brk_model.specs.Tables.{{tables_without_rows}}
-use Rattle.brk_tables_schema.specs.Shapes.{{{', '.join(d[0] + '_table' for d in DATA)}}}
+use Rattle.brk_tables_schema.specs.Shapes.{{{', '.join(shape(d[0]) for d in DATA)}}}
 use Rattle.brk_tables_schema.specs.Desk.{{DeskTable, {', '.join(d[2] for d in DATA)}, table_definition_at_tree, all_tables}}
 use Rattle.brk_tables_schema.proofs.Wide.{{Wide, wide, wide_list}}
 use Rattle.brk_tables_schema.specs.Texts.{{create_table_text}}
@@ -756,9 +765,9 @@ bare = record {{ rows = []; rules = []; tables = tables_without_rows }}
 abbrev {d[0]}_text : List ℕ
 {d[0]}_text = create_table_text {d[2]}
 
-makes_{d[0]} : (old new : State) (count : ℕ) → Executes {d[0]}_text [] old new (Ok count) → CreatesTableOfShape old.now new.now {d[0]}_table
+makes_{d[0]} : (old new : State) (count : ℕ) → Executes {d[0]}_text [] old new (Ok count) → CreatesTableOfShape old.now new.now {shape(d[0])}
 unfolding everything
-makes_{d[0]} = makes {d[0]}_text {d[0]}_table refl (λ tree. refl) (λ tree. refl) refl (read {d[0]}_text) _ refl refl refl refl refl refl refl refl
+makes_{d[0]} = makes {d[0]}_text {shape(d[0])} refl (λ tree. refl) (λ tree. refl) refl (read {d[0]}_text) _ refl refl refl refl refl refl refl refl
 """
     out += f"""
 pub makes_of : (w : DeskTable) (old new : State) (count : ℕ) → Executes (create_table_text w) [] old new (Ok count) → CreatesTableOfShape old.now new.now (table_definition_at_tree w)
@@ -788,8 +797,8 @@ use Rattle.brk_tables_schema.specs.declared.table.Table.{{Table}}
 use Rattle.brk_tables_schema.specs.declared.table.Table.TheVariants as table
 
 -- The table of the specification that a value of the code's type `Table` represents.
-abbrev pub specified_table : Table → DeskTable
-{chr(10).join(f'specified_table table.{d[2]} = {d[2]}' for d in DATA)}
+abbrev pub abstract_table : Table → DeskTable
+{chr(10).join(f'abstract_table table.{d[2]} = {d[2]}' for d in DATA)}
 
 -- The CREATE TABLE statement of each table of a desk, with its columns, keys and foreign keys.
 abbrev pub create_table_text : DeskTable → List ℕ
@@ -806,7 +815,7 @@ existence_probe_text w = codes "DELETE FROM " ++ table_name w
         return f"""
     /// {what}
     pub fn {name}(self) -> &'static str
-        ensures {{ result.now ≡ {contract} (specified_table self) }}
+        ensures {{ result.now ≡ {contract} (abstract_table self) }}
     {{
         match self {{
 {chr(10).join(f'            Table::{d[2]} => {literal(text(d), f"            Table::{d[2]} => ", " " * 16)},' for d in DATA)}
@@ -816,7 +825,7 @@ existence_probe_text w = codes "DELETE FROM " ++ table_name w
     out = f"""//! Written by tools/tables.py: the tables of a desk, and their SQL texts.
 
 ghost use Rattle.std.specs.Prelude.{{◌≡◌}};
-ghost use Rattle.brk_tables_schema.specs.Texts.{{create_table_text, existence_probe_text, specified_table}};
+ghost use Rattle.brk_tables_schema.specs.Texts.{{create_table_text, existence_probe_text, abstract_table}};
 
 /// A table of a desk.
 #[derive(Clone, Copy)]

@@ -48,7 +48,7 @@ use Rattle.brk_audit_theorems.proofs.Members.{in_filter}
 use Rattle.brk_model_theorems.specs.FormParts.{SatisfiesFormParts}
 use Rattle.brk_model_theorems.proofs.FormParts.{form_parts}
 use Rattle.brk_model_theorems.proofs.Conjunctions.{parts10}
-use Rattle.brk_audit_sums.specs.Completed.{completed_trade_rows, is_completed_row}
+use Rattle.brk_audit_sums.specs.Completed.{completed_trade_rows, is_completed_trade_row}
 use Rattle.brk_audit.specs.Positions.{AreLotsLeftByTrades, has_same_id_or_stamp, is_before_by_position, deal_of_completed_row, has_same_position}
 use Rattle.brk_audit_sums.proofs.Completed.{completed_rows, done_moments, right_rows}
 use Rattle.brk_audit.proofs.Leaving.{any_in, at_any, at_place, leave_sums}
@@ -68,7 +68,7 @@ has_price : (o : Option ℕ) → option_map_or is_price o false ≡ true → IsS
 has_price None e = false_true e
 has_price (Some n) e = search
 
-priced_row : (schema : Schema) (t : Tables) (r : TradeRow) → is_well_formed_trade_row schema t r ≡ true → has_valid_status_history t r ≡ true → is_completed_row r ≡ true → IsSome r.price
+priced_row : (schema : Schema) (t : Tables) (r : TradeRow) → is_well_formed_trade_row schema t r ≡ true → has_valid_status_history t r ≡ true → is_completed_trade_row r ≡ true → IsSome r.price
 priced_row schema t r f e d =
     let l : Lasts t r = lasts t r e in
     let k : IsOf t r.id l.mark = last_is_row t r l.mark l.is in
@@ -85,7 +85,7 @@ pub priced_rows : (t : Tables) → IsWellFormedBySomeSchema t → satisfies_stat
 priced_rows t f s =
     let p : SatisfiesFormParts f.schema t = form_parts f.schema t f.form in
     All-map (completed_trade_rows t) (λ r k. priced_row f.schema t r k.0.0 k.0.1 k.1)
-    (filtered (λ r. (is_well_formed_trade_row f.schema t r ≡ true) × (has_valid_status_history t r ≡ true)) is_completed_row t.trades
+    (filtered (λ r. (is_well_formed_trade_row f.schema t r ≡ true) × (has_valid_status_history t r ≡ true)) is_completed_trade_row t.trades
     (both_all (λ r. is_well_formed_trade_row f.schema t r ≡ true) (λ r. has_valid_status_history t r ≡ true) t.trades
     (list_all_true (is_well_formed_trade_row f.schema t) t.trades p.trades) (right_rows t s)))
 
@@ -341,9 +341,9 @@ clash_moved rs ss p d = IsDistinct-IsPermutation has_same_id_or_stamp (λ r s. (
 
 -- the rows are those of the tables
 pub rows_moved : (rows now : List trade.TradeRow) (t : Tables) (done held : List (Bor trade.TradeRow)) → now ≡ rows → held ≡ done
-    → t.trades ≡ map abstract_trade_row rows → IsPermutation (filter is_completed_row (map abstract_trade_row now)) (map seen done)
+    → t.trades ≡ map abstract_trade_row rows → IsPermutation (filter is_completed_trade_row (map abstract_trade_row now)) (map seen done)
     → IsPermutation (completed_trade_rows t) (map seen held)
 rows_moved rows now t done held e h u p =
-    subst (λ (rs : List TradeRow). IsPermutation (filter is_completed_row rs) (map seen held)) (sym u)
-    (subst (λ (rs : List trade.TradeRow). IsPermutation (filter is_completed_row (map abstract_trade_row rs)) (map seen held)) e
-    (subst (λ (ds : List (Bor trade.TradeRow)). IsPermutation (filter is_completed_row (map abstract_trade_row now)) (map seen ds)) (sym h) p))
+    subst (λ (rs : List TradeRow). IsPermutation (filter is_completed_trade_row rs) (map seen held)) (sym u)
+    (subst (λ (rs : List trade.TradeRow). IsPermutation (filter is_completed_trade_row (map abstract_trade_row rs)) (map seen held)) e
+    (subst (λ (ds : List (Bor trade.TradeRow)). IsPermutation (filter is_completed_trade_row (map abstract_trade_row now)) (map seen ds)) (sym h) p))

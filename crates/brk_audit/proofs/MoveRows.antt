@@ -15,13 +15,13 @@ use Rattle.brk_model.specs.Keys.{KeyPart, rows_sorted_by_key, is_row_key_less, h
 use Rattle.brk_model.specs.Shares.{Deal}
 use Rattle.brk_model.specs.Tables.{HoldingHistoryRow, Tables, TradeRow, tables_of_base_in_schema}
 use Rattle.brk_lots.proofs.HistoryRows.{rows_of_lots_are}
-use Rattle.brk_lots.specs.HistoryRows.{has_quantity_change, changing_rows_of_lot, lot_history_rows_per_deal}
+use Rattle.brk_lots.specs.HistoryRows.{has_quantity_change, lot_rows_with_quantity_change, lot_history_rows_per_deal}
 use Rattle.brk_model.specs.Sheets.{sheets, tables_sorted_by_key}
 use Rattle.brk_model.specs.Adopted.{base_of_tables, trade_of_row}
 use Rattle.brk_model.specs.Audit.{expected_tables}
 use Rattle.brk_model.specs.Ways.{satisfies_status_condition}
 use Rattle.brk_lots.specs.Chains.{lot_changes_of_deals}
-use Rattle.brk_lots.specs.Deals.{AreDistinctAscendingDeals, IsLaterDealOfOtherTrade}
+use Rattle.brk_lots.specs.Deals.{AreDistinctAscendingDeals, PrecedesDealOfOtherTrade}
 use Rattle.brk_book_theorems.specs.Books.{BooksInvariant}
 use Rattle.brk_book_theorems.proofs.LotOrder.{Follows, InOrder, held_in_order, trades_held}
 use Rattle.brk_book_theorems.proofs.Order.{Sorted, key_one_way, key_splits, sorted_sort}
@@ -111,7 +111,7 @@ deals_of_order : (ts : List Trade) → InOrder ts → AreDistinctAscendingDeals 
 deals_of_order [] o = tt
 deals_of_order (t ∷ ts) o = (behind ts o.0, deals_of_order ts o.1)
   where
-    behind : (us : List Trade) → AllByRecursion (Follows t) us → AllByRecursion (IsLaterDealOfOtherTrade (deal_of_trade t)) (map deal_of_trade us)
+    behind : (us : List Trade) → AllByRecursion (Follows t) us → AllByRecursion (PrecedesDealOfOtherTrade (deal_of_trade t)) (map deal_of_trade us)
     behind [] h = tt
     behind (u ∷ us) h = (((λ e. eqb-false u.id t.id h.0.0 (sym e)), h.0.1), behind us h.1)
 
@@ -173,7 +173,7 @@ changes_decide a b =
           (and_from v w ((Decides-int_eq a.before b.before).1 (ap (λ (h : HoldingHistoryRow). h.before) e)) ((Decides-int_eq a.after b.after).1 (ap (λ (h : HoldingHistoryRow). h.after) e))))),
     )
 
-listed : (base : Base) → (sheets base).holding_history ≡ rows_sorted_by_key holding_history_key (flat_map (changing_rows_of_lot (completed_trades base)) (completed_trades base))
+listed : (base : Base) → (sheets base).holding_history ≡ rows_sorted_by_key holding_history_key (flat_map (lot_rows_with_quantity_change (completed_trades base)) (completed_trades base))
 unfolding tables_of_base_in_schema tables_sorted_by_key
 listed base = ap (rows_sorted_by_key holding_history_key) (rows_of_lots_are (completed_trades base) (completed_trades base))
 
@@ -189,13 +189,14 @@ moves_told schema t f s rs rows moved p o l q a =
     let climb : Climbs holding_history_key t.holding_history = (key_parts t (form_parts f.schema t f.form).keys).holding_history in
     let ordered : Sorted (is_row_key_less holding_history_key) E =
     subst (Sorted (is_row_key_less holding_history_key)) (sym (listed base))
-    (sorted_sort (is_row_key_less holding_history_key) (flat_map (changing_rows_of_lot done) done)
+    (sorted_sort (is_row_key_less holding_history_key) (flat_map (lot_rows_with_quantity_change done) done)
     (λ x y z. key_splits (holding_history_key x) (holding_history_key y) (holding_history_key z))
     (λ x y. key_one_way (holding_history_key x) (holding_history_key y))) in
     let sums : SameSums moved E = λ g.
     permuted rows moved q g ∙ trace_sums base books l (All-of rs (dealt t f s rs p o)) g ∙ permuted (completed_trade_rows t) rs p (own base g)
-    ∙ sym (ap (sum_by g) (listed base) ∙ sum_sort g (is_row_key_less holding_history_key) (flat_map (changing_rows_of_lot done) done) ∙ sum_flat g (changing_rows_of_lot done) done
-    ∙ ap (sum_by (λ u. sum_by g (changing_rows_of_lot done u))) (completed_rows t s) ∙ sum_map (λ u. sum_by g (changing_rows_of_lot done u)) (trade_of_row t) (completed_trade_rows t)) in (
+    ∙ sym (ap (sum_by g) (listed base) ∙ sum_sort g (is_row_key_less holding_history_key) (flat_map (lot_rows_with_quantity_change done) done) ∙ sum_flat g (lot_rows_with_quantity_change done) done
+    ∙ ap (sum_by (λ u. sum_by g (lot_rows_with_quantity_change done u))) (completed_rows t s)
+    ∙ sum_map (λ u. sum_by g (lot_rows_with_quantity_change done u)) (trade_of_row t) (completed_trade_rows t)) in (
       (λ e. sym (key_order_one holding_history_key same_change changes_decide t.holding_history E climb ordered (λ g. sym (sums g) ∙ ap (sum_by g) e)) ∙ sym (same_history schema base)),
       (λ e. let k : t.holding_history ≡ E = e ∙ same_history schema base in
           key_order_one holding_history_key same_change changes_decide E moved (subst (Climbs holding_history_key) k climb) a sums ∙ sym k),

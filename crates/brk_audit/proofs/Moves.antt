@@ -11,7 +11,7 @@ use Rattle.brk_model.specs.Shares.{opened_shares, shares_after_deal, touch_of_lo
 use Rattle.brk_model.specs.Tables.{HoldingHistoryRow, holding_history_row}
 use Rattle.brk_lots.specs.HistoryRows.{has_quantity_change, lot_history_rows_per_deal}
 use Rattle.brk_lots.specs.Chains.{lot_changes_of_deal, opening_touch, lot_changes_of_deals}
-use Rattle.brk_lots.specs.Deals.{AreDistinctAscendingDeals, IsLaterDealOfOtherTrade}
+use Rattle.brk_lots.specs.Deals.{AreDistinctAscendingDeals, PrecedesDealOfOtherTrade}
 use Rattle.brk_lots.specs.Lots.{list_reversed_if_lifo}
 use Rattle.brk_lots.proofs.Changes.{all_firsts}
 use Rattle.brk_lots.proofs.Deals.{IsOlder, all_after, older_after}
@@ -221,7 +221,7 @@ trades_unique : (ds : List Deal) → AreDistinctAscendingDeals ds → Unique (ma
 trades_unique [] a = tt
 trades_unique (d ∷ ds) a = (ahead ds a.0, trades_unique ds a.1)
   where
-    ahead : (es : List Deal) → AllByRecursion (IsLaterDealOfOtherTrade d) es → AllByRecursion (λ t. d.trade ≢ t) (map (λ d. d.trade) es)
+    ahead : (es : List Deal) → AllByRecursion (PrecedesDealOfOtherTrade d) es → AllByRecursion (λ t. d.trade ≢ t) (map (λ d. d.trade) es)
     ahead [] h = tt
     ahead (e ∷ es) h = (h.0.0, ahead es h.1)
 

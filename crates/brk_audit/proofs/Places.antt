@@ -13,7 +13,7 @@ use Rattle.brk_money.specs.Spelling.{Text}
 use Rattle.brk_model.specs.Keys.{KeyPart, number, word, is_key_less}
 use Rattle.brk_model.specs.Lists.{is_text_less}
 use Rattle.brk_model.specs.Tables.{TradeRow}
-use Rattle.brk_lots.specs.Deals.{AreDistinctAscendingDeals, IsLaterDealOfOtherTrade}
+use Rattle.brk_lots.specs.Deals.{AreDistinctAscendingDeals, PrecedesDealOfOtherTrade}
 use Rattle.brk_book_theorems.proofs.Order.{NoneBefore, Sorted, key_one_way, key_splits, key_total}
 use Rattle.brk_book_theorems.proofs.Same.{All-map}
 use Rattle.brk_audit_form.proofs.KeyOrders.{gt_lt, numbers_before, texts_before}
@@ -176,7 +176,7 @@ others r run later s h = by_first later (all_back (λ y. is_before_by_position y
 
 -- the trades of a position are deals one after another
 follows : (p r s : TradeRow) → has_same_position p r ≡ true → has_same_position p s ≡ true → has_same_id_or_stamp r s ≡ false → is_before_by_position s r ≡ false
-    → IsLaterDealOfOtherTrade (deal_of_completed_row r) (deal_of_completed_row s)
+    → PrecedesDealOfOtherTrade (deal_of_completed_row r) (deal_of_completed_row s)
 follows p r s e f c b =
     let x = at_one p r e in
     let y = at_one p s f in
@@ -192,7 +192,7 @@ deals_follow p (r ∷ run) s d a = (behind run s.0 d.0 a.1, deals_follow p run s
   where
     behind : (ss : List TradeRow) → NoneBefore is_before_by_position r ss → AllByRecursion (λ t. has_same_id_or_stamp r t ≡ false) ss
         → AllByRecursion (λ t. has_same_position p t ≡ true) ss
-        → AllByRecursion (IsLaterDealOfOtherTrade (deal_of_completed_row r)) (map deal_of_completed_row ss)
+        → AllByRecursion (PrecedesDealOfOtherTrade (deal_of_completed_row r)) (map deal_of_completed_row ss)
     behind [] h k l = tt
     behind (t ∷ ts) h k l = (follows p r t a.0 l.0 k.0 h.0, behind ts h.1 k.1 l.1)
 

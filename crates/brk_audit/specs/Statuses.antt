@@ -8,12 +8,12 @@ use Rattle.brk_money.specs.declared.status.Status.TheVariants.{Completed, Active
 use Rattle.brk_model.specs.Tables.{HistoryRow, MoveRow, TradeRow}
 
 -- True if the history of a trade can begin with the status: `Submitted` or `Pending`.
-abbrev pub is_first_status : Status → Bool
-is_first_status Completed = false
-is_first_status Active = false
-is_first_status Submitted = true
-is_first_status Pending = true
-is_first_status Canceled = false
+abbrev pub can_be_first_status : Status → Bool
+can_be_first_status Completed = false
+can_be_first_status Active = false
+can_be_first_status Submitted = true
+can_be_first_status Pending = true
+can_be_first_status Canceled = false
 
 -- True if the row `r` of TRADE has the status and the stamp of the row `h` of TRADE_HISTORY.
 abbrev pub has_status_and_stamp_of_row : TradeRow → HistoryRow → Bool
@@ -54,7 +54,7 @@ is_valid_three_row_history r a b c =
 -- with the greatest stamp. False if there are no rows.
 abbrev pub is_valid_history : TradeRow → List HistoryRow → Bool
 is_valid_history r [] = false
-is_valid_history r (h ∷ []) = is_first_status h.status && has_status_and_stamp_of_row r h
+is_valid_history r (h ∷ []) = can_be_first_status h.status && has_status_and_stamp_of_row r h
 is_valid_history r (a ∷ b ∷ []) = is_valid_two_row_history r a b
 is_valid_history r (a ∷ b ∷ c ∷ []) = is_valid_three_row_history r a b c
 is_valid_history r (a ∷ b ∷ c ∷ d ∷ hs) = false

@@ -7,7 +7,7 @@ ghost use Rattle.brk_model.specs.Audit.{ConditionHolds};
 ghost use Rattle.brk_audit_sums.specs.AccountTerms.{account_tax_status_in_terms};
 ghost use Rattle.brk_audit_sums.specs.Conditions.{HasValidStatuses};
 ghost use Rattle.brk_audit_sums.specs.Settling.{RowsCannotMatchTrades, RowsMatchTradesIffOthersDo, settlement_amount_at_tax_status, is_completed_cash_trade};
-ghost use Rattle.brk_audit_sums.specs.Settling.{is_numbered_by_stamp, cash_figures_of_trade, cash_figures_of_row};
+ghost use Rattle.brk_audit_sums.specs.Settling.{is_numbered_by_stamp, cash_transaction_figures_of_trade, cash_transaction_figures_of_row};
 ghost use Rattle.brk_audit_sums.specs.Settling.{posted_figures_of_trade, posted_figures_of_row};
 ghost use Rattle.brk_changes.specs.Rows.{abstract_cash_row, abstract_move_row, abstract_trade_row};
 ghost use Rattle.brk_changes.specs.Schemas.{abstract_schema};
@@ -53,9 +53,11 @@ fn cash_transactions_after_trade<'a>(
     terms: &BTreeMap<u64, AccountTerms>,
 ) -> Option<&'a [CashRow]>
     ensures { MatchOption result
-        (RowsCannotMatchTrades cash_figures_of_row (cash_figures_of_trade (account_tax_status_in_terms terms.now)) is_completed_cash_trade
+        (RowsCannotMatchTrades cash_transaction_figures_of_row (cash_transaction_figures_of_trade (account_tax_status_in_terms terms.now))
+        is_completed_cash_trade
         (map abstract_cash_row cash.now) (abstract_trade_row trade.now))
-        (λ others. RowsMatchTradesIffOthersDo cash_figures_of_row (cash_figures_of_trade (account_tax_status_in_terms terms.now)) is_completed_cash_trade
+        (λ others. RowsMatchTradesIffOthersDo cash_transaction_figures_of_row (cash_transaction_figures_of_trade (account_tax_status_in_terms terms.now))
+        is_completed_cash_trade
         (map abstract_cash_row cash.now) (abstract_trade_row trade.now) (map abstract_cash_row others.now)) }
 {
     if !is_completed_cash_trade_row(trade) {
@@ -80,8 +82,9 @@ fn are_cash_transactions_of_trades(
     terms: &BTreeMap<u64, AccountTerms>,
 ) -> bool
     ensures { IsTrue result
-        ↔ (map cash_figures_of_row (map abstract_cash_row cash.now)
-        ≡ map (cash_figures_of_trade (account_tax_status_in_terms terms.now)) (filter is_completed_cash_trade (map abstract_trade_row trades.now))) }
+        ↔ (map cash_transaction_figures_of_row (map abstract_cash_row cash.now)
+        ≡ map (cash_transaction_figures_of_trade (account_tax_status_in_terms terms.now))
+        (filter is_completed_cash_trade (map abstract_trade_row trades.now))) }
 {
     let mut rest = cash;
     for trade in trades {

@@ -2,7 +2,7 @@ ghost use Rattle.std.specs.Prelude.{◌≡◌, ◌≤◌, IfErr, IfOk, IsPermuta
 ghost use Rattle.std.specs.List.{AllByRecursion};
 ghost use Rattle.std.specs.List.Sorted.{IsSortedBy};
 ghost use Rattle.std.specs.Ordering.{is_lt};
-ghost use Rattle.brk_audit_sums.specs.Completed.{is_completed_row};
+ghost use Rattle.brk_audit_sums.specs.Completed.{is_completed_trade_row};
 ghost use Rattle.brk_audit.specs.Positions.{FirstElementSatisfies, is_before_by_position, deal_of_completed_row, has_same_position};
 ghost use Rattle.brk_changes.specs.Rows.{abstract_trade_row};
 ghost use Rattle.brk_lots.specs.Deals.{AreDistinctAscendingDeals};
@@ -19,7 +19,8 @@ use std::cmp::Ordering;
 // Returns the trades whose status is `Completed`, in the order of the rows. Fails with `Memory`
 // only.
 fn collect_completed_trades(alloc: Global, trades: &[TradeRow]) -> Result<Vec<&TradeRow>, Fault>
-    ensures done { IfOk result (λ done. map (λ row. abstract_trade_row row.now) done.items ≡ filter is_completed_row (map abstract_trade_row trades.now)) }
+    ensures done { IfOk result (λ done. map (λ row. abstract_trade_row row.now) done.items
+        ≡ filter is_completed_trade_row (map abstract_trade_row trades.now)) }
     ensures fault { IfErr result (λ fault. fault ≡ Memory) }
 {
     let mut done = Vec::new(alloc);
@@ -61,7 +62,7 @@ pub(crate) fn completed_trades_by_position(
     trades: &[TradeRow],
 ) -> Result<Vec<&TradeRow>, Fault>
     ensures done { IfOk result (λ done.
-        IsPermutation (filter is_completed_row (map abstract_trade_row trades.now)) (map (λ row. abstract_trade_row row.now) done.items)) }
+        IsPermutation (filter is_completed_trade_row (map abstract_trade_row trades.now)) (map (λ row. abstract_trade_row row.now) done.items)) }
     ensures order { IfOk result (λ done.
         IsSortedBy (λ one other. is_before_by_position (abstract_trade_row one.now) (abstract_trade_row other.now)) done.items) }
     ensures fault { IfErr result (λ fault. fault ≡ Memory) }

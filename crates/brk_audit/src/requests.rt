@@ -6,7 +6,7 @@ ghost use Rattle.brk_money.specs.declared.status.Status.TheVariants.{Pending};
 ghost use Rattle.brk_model.specs.Audit.{ConditionHolds};
 ghost use Rattle.brk_model.specs.Schemas.{Schema};
 ghost use Rattle.brk_audit_sums.specs.AccountTerms.{account_broker_in_terms};
-ghost use Rattle.brk_audit_sums.specs.Completed.{is_pending_row};
+ghost use Rattle.brk_audit_sums.specs.Completed.{is_pending_trade_row};
 ghost use Rattle.brk_audit_sums.specs.Conditions.{HasWellFormedRows, HasValidStatuses};
 ghost use Rattle.brk_audit_sums.specs.Settling.{RowsCannotMatchTrades, RowsMatchTradesIffOthersDo, request_row_of_trade};
 ghost use Rattle.brk_changes.specs.Rows.{abstract_request_row, abstract_trade_row};
@@ -61,9 +61,9 @@ fn requests_after_trade<'a>(
     terms: &BTreeMap<u64, AccountTerms>,
 ) -> Option<&'a [RequestRow]>
     ensures { MatchOption result
-        (RowsCannotMatchTrades (λ q. q) (request_row_of_trade (account_broker_in_terms terms.now)) is_pending_row
+        (RowsCannotMatchTrades (λ q. q) (request_row_of_trade (account_broker_in_terms terms.now)) is_pending_trade_row
         (map abstract_request_row requests.now) (abstract_trade_row trade.now))
-        (λ others. RowsMatchTradesIffOthersDo (λ q. q) (request_row_of_trade (account_broker_in_terms terms.now)) is_pending_row
+        (λ others. RowsMatchTradesIffOthersDo (λ q. q) (request_row_of_trade (account_broker_in_terms terms.now)) is_pending_trade_row
         (map abstract_request_row requests.now) (abstract_trade_row trade.now) (map abstract_request_row others.now)) }
 {
     if !is_pending(trade.status) {
@@ -88,7 +88,7 @@ fn requests_match_trades(
 ) -> bool
     ensures { IsTrue result
         ↔ (map (λ q. q) (map abstract_request_row requests.now)
-        ≡ map (request_row_of_trade (account_broker_in_terms terms.now)) (filter is_pending_row (map abstract_trade_row trades.now))) }
+        ≡ map (request_row_of_trade (account_broker_in_terms terms.now)) (filter is_pending_trade_row (map abstract_trade_row trades.now))) }
 {
     let mut rest = requests;
     for trade in trades {

@@ -5,7 +5,7 @@ ghost use Rattle.brk_model.specs.Audit.{ConditionHolds};
 ghost use Rattle.brk_model.specs.Schemas.{Schema};
 ghost use Rattle.brk_model.specs.Derived.{due_day_of_completion_stamp};
 ghost use Rattle.brk_audit_sums.specs.AccountTerms.{account_tax_status_in_terms};
-ghost use Rattle.brk_audit_sums.specs.Completed.{is_completed_row};
+ghost use Rattle.brk_audit_sums.specs.Completed.{is_completed_trade_row};
 ghost use Rattle.brk_audit_sums.specs.Conditions.{HasWellFormedRows, HasValidStatuses};
 ghost use Rattle.brk_audit_sums.specs.Settling.{RowsCannotMatchTrades, RowsMatchTradesIffOthersDo, settlement_amount_at_tax_status};
 ghost use Rattle.brk_audit_sums.specs.Settling.{settlement_figures_of_row, settlement_figures_of_trade};
@@ -57,10 +57,10 @@ fn settlements_after_trade<'a>(
     terms: &BTreeMap<u64, AccountTerms>,
 ) -> Option<&'a [SettlementRow]>
     ensures { MatchOption result
-        (RowsCannotMatchTrades settlement_figures_of_row (settlement_figures_of_trade rule.now (account_tax_status_in_terms terms.now)) is_completed_row
+        (RowsCannotMatchTrades settlement_figures_of_row (settlement_figures_of_trade rule.now (account_tax_status_in_terms terms.now)) is_completed_trade_row
         (map abstract_settlement_row settlements.now) (abstract_trade_row trade.now))
         (λ others. RowsMatchTradesIffOthersDo settlement_figures_of_row
-        (settlement_figures_of_trade rule.now (account_tax_status_in_terms terms.now)) is_completed_row
+        (settlement_figures_of_trade rule.now (account_tax_status_in_terms terms.now)) is_completed_trade_row
         (map abstract_settlement_row settlements.now) (abstract_trade_row trade.now) (map abstract_settlement_row others.now)) }
 {
     if !is_completed(trade.status) {
@@ -93,7 +93,8 @@ fn settlements_match_trades(
 ) -> bool
     ensures { IsTrue result
         ↔ (map settlement_figures_of_row (map abstract_settlement_row settlements.now)
-        ≡ map (settlement_figures_of_trade rule.now (account_tax_status_in_terms terms.now)) (filter is_completed_row (map abstract_trade_row trades.now))) }
+        ≡ map (settlement_figures_of_trade rule.now (account_tax_status_in_terms terms.now))
+        (filter is_completed_trade_row (map abstract_trade_row trades.now))) }
 {
     let mut rest = settlements;
     for trade in trades {

@@ -35,8 +35,8 @@ fn is_before(first: Stamp, second: Stamp) -> bool
 }
 
 // Returns true if the history of a trade can begin with the status: `Submitted` or `Pending`.
-fn is_first_status(status: Status) -> bool
-    ensures { result ≡ spec.is_first_status status }
+fn can_be_first_status(status: Status) -> bool
+    ensures { result ≡ spec.can_be_first_status status }
 {
     matches!(status, Status::Submitted | Status::Pending)
 }
@@ -89,7 +89,7 @@ fn is_valid_trade_history(trade: &TradeRow, rows: &[HistoryRow]) -> bool
     ensures { result ≡ spec.is_valid_history (abstract_trade_row trade.now) (map abstract_history_row rows.now) }
 {
     match rows {
-        [only] => is_first_status(only.status) && has_status_and_stamp_of_row(trade, *only),
+        [only] => can_be_first_status(only.status) && has_status_and_stamp_of_row(trade, *only),
         [a, b] => is_valid_two_row_history(trade, *a, *b),
         [a, b, c] => is_valid_three_row_history(trade, *a, *b, *c),
         _ => false,

@@ -35,7 +35,7 @@ fn row_has_price_exactly_if_completed(sheets: &Sheets, row: &TradeRow) -> bool
 // is the first day of one-day settlement, if it is set. Returns true for any other status than
 // `Completed`.
 fn is_due_day_within_calendar(rule: Option<Day>, status: Status, stamp: Stamp) -> bool
-    ensures { result ≡ form.is_due_within_calendar rule status stamp }
+    ensures { result ≡ form.settles_in_calendar_if_completed rule status stamp }
 {
     status != Status::Completed || due_day_after_completion(rule, stamp).is_some()
 }
@@ -121,7 +121,7 @@ impl Formed for SummaryRow {
     fn is_row_well_formed(&self, schema: Schema, sheets: &Sheets) -> bool {
         has_account(sheets, self.account)
             && has_security(sheets, &self.symbol)
-            && self.qty.unsigned_abs() <= schema.greatest_summary()
+            && self.qty.unsigned_abs() <= schema.greatest_summary_quantity()
     }
 }
 

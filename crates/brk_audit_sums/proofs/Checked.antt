@@ -13,7 +13,7 @@ use Rattle.brk_changes.specs.declared.sheets.Sheets.{Sheets}
 use Rattle.brk_changes.specs.declared.trade_row.TradeRow as trade
 use Rattle.brk_changes.specs.declared.move_row.MoveRow as move
 use Rattle.brk_audit_sums.specs.AccountTerms.{account_broker_in_terms}
-use Rattle.brk_audit_sums.specs.Completed.{is_completed_row}
+use Rattle.brk_audit_sums.specs.Completed.{is_completed_trade_row}
 use Rattle.brk_audit_sums.specs.Settling.{account_broker_or_zero}
 use Rattle.brk_audit_sums.specs.Sums.{broker_posting_of_row, movement_posting_of_row, sum_over_broker_trades}
 use Rattle.brk_audit_sums.specs.declared.account_terms.AccountTerms.{AccountTerms}
@@ -51,7 +51,7 @@ pub broker_sums : (s : Sheets) (terms : BTreeMap ℕ AccountTerms) (amount : Tra
     → (q : ℕ) → sum_at_key nat_cmp sums q ≡ sum_over_broker_trades (abstract_sheets s) amount q
 broker_sums s terms amount sums postings has summed posted q =
     summed q ∙ ap (λ ps. total_amount_at_key nat_cmp ps q) posted
-    ∙ posted_sum is_completed_row (λ r. account_broker_in_terms terms r.account) (λ r. account_broker_or_zero (abstract_sheets s) r.account) amount amount
+    ∙ posted_sum is_completed_trade_row (λ r. account_broker_in_terms terms r.account) (λ r. account_broker_or_zero (abstract_sheets s) r.account) amount amount
     s.trades.items q (λ r. same_brokers s terms has r.account) (λ r. refl)
 
 -- the sum of movements in types, as one over the rows that they are

@@ -17,7 +17,7 @@ use Rattle.brk_book_theorems.proofs.Same.{All-map, All-filter, filter-same}
 use Rattle.brk_audit_theorems.proofs.Climbs.{list_all_true}
 use Rattle.brk_audit_theorems.proofs.Marks.{Lasts, lasts, same_statuses}
 use Rattle.brk_audit_theorems.proofs.AdoptedBooks.{filter-map}
-use Rattle.brk_audit_sums.specs.Completed.{completed_trade_rows, is_completed_row, is_pending_row, pending_trade_rows}
+use Rattle.brk_audit_sums.specs.Completed.{completed_trade_rows, is_completed_trade_row, is_pending_trade_row, pending_trade_rows}
 
 -- each trade's statuses are right
 pub right_rows : (t : Tables) → satisfies_status_condition t ≡ true → AllByRecursion (λ r. has_valid_status_history t r ≡ true) t.trades
@@ -44,15 +44,15 @@ pub completed_rows : (t : Tables) → satisfies_status_condition t ≡ true → 
 unfolding base_of_tables
 completed_rows t s =
     filter-map is_completed (trade_of_row t) t.trades
-    ∙ ap (map (trade_of_row t)) (filter-same (λ r. is_completed (trade_of_row t r)) is_completed_row t.trades (All-map t.trades (λ r e. row_status t r Completed e) (right_rows t s)))
+    ∙ ap (map (trade_of_row t)) (filter-same (λ r. is_completed (trade_of_row t r)) is_completed_trade_row t.trades (All-map t.trades (λ r e. row_status t r Completed e) (right_rows t s)))
 
 -- and those that wait are the rows that say that they wait
 pub pending_rows : (t : Tables) → satisfies_status_condition t ≡ true → pending_trades (base_of_tables t).trades ≡ map (trade_of_row t) (pending_trade_rows t)
 unfolding base_of_tables
 pending_rows t s =
     filter-map (has_last_status Pending) (trade_of_row t) t.trades
-    ∙ ap (map (trade_of_row t)) (filter-same (λ r. has_last_status Pending (trade_of_row t r)) is_pending_row t.trades (All-map t.trades (λ r e. row_status t r Pending e) (right_rows t s)))
+    ∙ ap (map (trade_of_row t)) (filter-same (λ r. has_last_status Pending (trade_of_row t r)) is_pending_trade_row t.trades (All-map t.trades (λ r e. row_status t r Pending e) (right_rows t s)))
 
 -- each completed trade came to that at the stamp of its row
 pub done_moments : (t : Tables) → satisfies_status_condition t ≡ true → AllByRecursion (λ r. last_status_stamp_of_trade (trade_of_row t r) ≡ r.stamp) (completed_trade_rows t)
-done_moments t s = All-map (completed_trade_rows t) (row_moment t) (All-filter (λ r. has_valid_status_history t r ≡ true) is_completed_row t.trades (right_rows t s))
+done_moments t s = All-map (completed_trade_rows t) (row_moment t) (All-filter (λ r. has_valid_status_history t r ≡ true) is_completed_trade_row t.trades (right_rows t s))

@@ -25,9 +25,9 @@ use Rattle.brk_book_theorems.proofs.Reading.{find-map}
 use Rattle.brk_audit_theorems.proofs.Climbs.{Climbs, In, climbs_filter, climbs_map, each_in, stays}
 use Rattle.brk_audit_theorems.proofs.Members.{FoundIn, found_in, map-map, one_of_key}
 use Rattle.brk_audit_theorems.proofs.AdoptedBooks.{filter-map}
-use Rattle.brk_audit_sums.specs.Completed.{completed_trade_rows, is_completed_row, is_pending_row, pending_trade_rows}
+use Rattle.brk_audit_sums.specs.Completed.{completed_trade_rows, is_completed_trade_row, is_pending_trade_row, pending_trade_rows}
 use Rattle.brk_audit_sums.specs.Settling.{settlement_amount_at_tax_status, account_broker_or_zero, settlement_figures_of_row, settlement_figures_of_trade}
-use Rattle.brk_audit_sums.specs.Settling.{is_completed_cash_trade, cash_figures_of_trade, cash_figures_of_row, request_row_of_trade}
+use Rattle.brk_audit_sums.specs.Settling.{is_completed_cash_trade, cash_transaction_figures_of_trade, cash_transaction_figures_of_row, request_row_of_trade}
 use Rattle.brk_audit_sums.specs.Settling.{account_tax_status_or_untaxed}
 use Rattle.brk_audit_sums.proofs.Completed.{completed_rows, pending_rows, right_rows, row_moment}
 use Rattle.brk_model.specs.Schemas.{Schema}
@@ -67,7 +67,7 @@ wanted_requests schema t c s =
     let f : TradeRow → RequestRow = λ r. request_row (accounts_in t) (trade_of_row t r) in
     ap (λ ts. rows_sorted_by_key request_key (map (request_row (accounts_in t)) ts)) (pending_rows t s)
     ∙ ap (rows_sorted_by_key request_key) (map-map (request_row (accounts_in t)) (trade_of_row t) (pending_trade_rows t))
-    ∙ stays request_key (map f (pending_trade_rows t)) (climbs_map trade_key request_key f (pending_trade_rows t) (λ r. refl) (climbs_filter trade_key is_pending_row t.trades c))
+    ∙ stays request_key (map f (pending_trade_rows t)) (climbs_map trade_key request_key f (pending_trade_rows t) (λ r. refl) (climbs_filter trade_key is_pending_trade_row t.trades c))
 
 wanted_settlements : (schema : Schema) (t : Tables) → Climbs trade_key t.trades → satisfies_status_condition t ≡ true
     → (expected_tables schema t).settlements ≡ map (λ r. settlement_row (accounts_in t) t.rule (trade_of_row t r)) (completed_trade_rows t)
@@ -76,7 +76,7 @@ wanted_settlements schema t c s =
     let f : TradeRow → SettlementRow = λ r. settlement_row (accounts_in t) t.rule (trade_of_row t r) in
     ap (λ ts. rows_sorted_by_key settlement_key (map (settlement_row (accounts_in t) t.rule) ts)) (completed_rows t s)
     ∙ ap (rows_sorted_by_key settlement_key) (map-map (settlement_row (accounts_in t) t.rule) (trade_of_row t) (completed_trade_rows t))
-    ∙ stays settlement_key (map f (completed_trade_rows t)) (climbs_map trade_key settlement_key f (completed_trade_rows t) (λ r. refl) (climbs_filter trade_key is_completed_row t.trades c))
+    ∙ stays settlement_key (map f (completed_trade_rows t)) (climbs_map trade_key settlement_key f (completed_trade_rows t) (λ r. refl) (climbs_filter trade_key is_completed_trade_row t.trades c))
 
 pub filter-filter : {X : Type 0} (p q : X → Bool) (xs : List X) → filter p (filter q xs) ≡ filter (λ x. q x && p x) xs
 filter-filter p q [] = refl
@@ -90,7 +90,7 @@ filter-filter {X = X} p q (x ∷ xs) = by_test (q x) (filter-filter p q xs)
 pub cash_rows : (t : Tables) → satisfies_status_condition t ≡ true → cash_trades (completed_trades (base_of_tables t)) ≡ map (trade_of_row t) (filter is_completed_cash_trade t.trades)
 cash_rows t s =
     ap cash_trades (completed_rows t s) ∙ filter-map (λ u. u.is_cash) (trade_of_row t) (completed_trade_rows t)
-    ∙ ap (map (trade_of_row t)) (filter-filter (λ r. r.is_cash) is_completed_row t.trades)
+    ∙ ap (map (trade_of_row t)) (filter-filter (λ r. r.is_cash) is_completed_trade_row t.trades)
 
 wanted_cash : (schema : Schema) (t : Tables) → schema.has_cash_move_table ≡ false → Climbs trade_key t.trades → satisfies_status_condition t ≡ true
     → (expected_tables schema t).cash ≡ map (λ r. cash_transaction_row (accounts_in t) (trade_of_row t r)) (filter is_completed_cash_trade t.trades)
@@ -189,7 +189,7 @@ pub settlements_by_rows : (schema : Schema) (t : Tables) → Climbs trade_key t.
 unfolding ConditionHolds
 settlements_by_rows schema t c d s =
     let f : TradeRow → SettlementRow = λ r. settlement_row (accounts_in t) t.rule (trade_of_row t r) in
-    let right : AllByRecursion (IsRight t) (completed_trade_rows t) = right_done t is_completed_row s in
+    let right : AllByRecursion (IsRight t) (completed_trade_rows t) = right_done t is_completed_trade_row s in
     let e = wanted_settlements schema t c s in (
       (λ h. ap (map settlement_figures_of_row) (h ∙ e) ∙ map-map settlement_figures_of_row f (completed_trade_rows t)
           ∙ map-same (λ r. settlement_figures_of_row (f r)) (settlement_figures_of_trade t.rule (account_tax_status_or_untaxed t)) (completed_trade_rows t)
@@ -200,9 +200,11 @@ settlements_by_rows schema t c d s =
 -- ---- cash rows
 
 abbrev HasCash : Tables → Type 0
-HasCash t = map cash_figures_of_row t.cash ≡ map (cash_figures_of_trade (account_tax_status_or_untaxed t)) (filter is_completed_cash_trade t.trades)
+HasCash t = map cash_transaction_figures_of_row t.cash ≡ map (cash_transaction_figures_of_trade (account_tax_status_or_untaxed t)) (filter is_completed_cash_trade t.trades)
 
-moved_right : (t : Tables) (r : TradeRow) → IsRight t r → cash_figures_of_row (cash_transaction_row (accounts_in t) (trade_of_row t r)) ≡ cash_figures_of_trade (account_tax_status_or_untaxed t) r
+moved_right : (t : Tables) (r : TradeRow) → IsRight t r
+    → cash_transaction_figures_of_row (cash_transaction_row (accounts_in t) (trade_of_row t r))
+    ≡ cash_transaction_figures_of_trade (account_tax_status_or_untaxed t) r
 moved_right t r e = λ i. record { trade = r.id; stamp = row_moment t r e i; amount = same_amount t r i }
 
 cash_found : (cs : List CashRow) → Climbs cash_transaction_key cs → AllByRecursion (λ c. find (λ x. x.trade == c.trade) cs ≡ Some c) cs
@@ -227,9 +229,9 @@ posted_cash t e id =
     ∙ find-map (is_posting_of_trade id) (posting_of_cash_transaction_row t) t.cash
 
 same_cash_row : (t : Tables) (c : CashRow) (r : TradeRow) → t.moves ≡ [] → find (λ x. x.trade == c.trade) t.cash ≡ Some c → IsRight t r
-    → cash_figures_of_row c ≡ cash_figures_of_trade (account_tax_status_or_untaxed t) r → c ≡ cash_transaction_row (accounts_in t) (trade_of_row t r)
+    → cash_transaction_figures_of_row c ≡ cash_transaction_figures_of_trade (account_tax_status_or_untaxed t) r → c ≡ cash_transaction_row (accounts_in t) (trade_of_row t r)
 same_cash_row t c r n f e d =
-    let g : cash_figures_of_row c ≡ cash_figures_of_row (cash_transaction_row (accounts_in t) (trade_of_row t r)) = d ∙ sym (moved_right t r e) in
+    let g : cash_transaction_figures_of_row c ≡ cash_transaction_figures_of_row (cash_transaction_row (accounts_in t) (trade_of_row t r)) = d ∙ sym (moved_right t r e) in
     let id : c.trade ≡ r.id = ap (λ x. x.trade) g in
     let w : c.name ≡ option_map_or (λ p. p.name) (find (is_posting_of_trade r.id) (postings_of_tables t)) [] =
     sym (ap (λ o. option_map_or (λ p. p.name) (option_map (posting_of_cash_transaction_row t) o) []) f)
@@ -238,14 +240,14 @@ same_cash_row t c r n f e d =
     λ i. record { trade = (g i).trade; stamp = (g i).stamp; amount = (g i).amount; name = w i }
 
 same_cash : (t : Tables) (cs : List CashRow) (rs : List TradeRow) → t.moves ≡ [] → AllByRecursion (λ c. find (λ x. x.trade == c.trade) t.cash ≡ Some c) cs
-    → AllByRecursion (IsRight t) rs → map cash_figures_of_row cs ≡ map (cash_figures_of_trade (account_tax_status_or_untaxed t)) rs
+    → AllByRecursion (IsRight t) rs → map cash_transaction_figures_of_row cs ≡ map (cash_transaction_figures_of_trade (account_tax_status_or_untaxed t)) rs
     → cs ≡ map (λ r. cash_transaction_row (accounts_in t) (trade_of_row t r)) rs
 same_cash t [] [] n f e d = refl
 same_cash t [] (r ∷ rs) n f e d = absurd (cc)
 same_cash t (c ∷ cs) [] n f e d = absurd (cc)
 same_cash t (c ∷ cs) (r ∷ rs) n f e d =
-    let h : cash_figures_of_row c ≡ cash_figures_of_trade (account_tax_status_or_untaxed t) r = cc in
-    let k : map cash_figures_of_row cs ≡ map (cash_figures_of_trade (account_tax_status_or_untaxed t)) rs = cc in
+    let h : cash_transaction_figures_of_row c ≡ cash_transaction_figures_of_trade (account_tax_status_or_untaxed t) r = cc in
+    let k : map cash_transaction_figures_of_row cs ≡ map (cash_transaction_figures_of_trade (account_tax_status_or_untaxed t)) rs = cc in
     let g = same_cash_row t c r n f.0 e.0 h in
     let more = same_cash t cs rs n f.1 e.1 k in
     λ i. g i ∷ more i
@@ -259,7 +261,7 @@ cash_by_rows schema t n m c d s =
     let rows : List TradeRow = filter is_completed_cash_trade t.trades in
     let right : AllByRecursion (IsRight t) rows = right_done t is_completed_cash_trade s in
     let e = wanted_cash schema t n c s in (
-      (λ h. ap (map cash_figures_of_row) (h.0 ∙ e) ∙ map-map cash_figures_of_row f rows
-          ∙ map-same (λ r. cash_figures_of_row (f r)) (cash_figures_of_trade (account_tax_status_or_untaxed t)) rows (All-map rows (moved_right t) right)),
+      (λ h. ap (map cash_transaction_figures_of_row) (h.0 ∙ e) ∙ map-map cash_transaction_figures_of_row f rows
+          ∙ map-same (λ r. cash_transaction_figures_of_row (f r)) (cash_transaction_figures_of_trade (account_tax_status_or_untaxed t)) rows (All-map rows (moved_right t) right)),
       (λ h. (same_cash t t.cash rows m (cash_found t.cash d) right h ∙ sym e, m ∙ sym (wanted_no_moves schema t n))),
     )

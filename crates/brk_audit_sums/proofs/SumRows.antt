@@ -23,7 +23,7 @@ use Rattle.brk_book_theorems.proofs.Same.{All-map, All-of, filter-same, find-eac
 use Rattle.brk_audit_theorems.proofs.Climbs.{Climbs, In, climbs_map, each_in, stays}
 use Rattle.brk_audit_theorems.proofs.Members.{FoundIn, found_in, map-map, one_of_key}
 use Rattle.brk_audit_theorems.proofs.AdoptedTables.{brokers_there}
-use Rattle.brk_audit_sums.specs.Completed.{completed_trade_rows, is_completed_row}
+use Rattle.brk_audit_sums.specs.Completed.{completed_trade_rows, is_completed_trade_row}
 use Rattle.brk_audit_sums.specs.Settling.{settlement_amount_at_tax_status, account_broker_or_zero, is_completed_cash_trade, account_tax_status_or_untaxed}
 use Rattle.brk_audit_sums.specs.Sums.{sum_over_account_cash_trades, sum_over_broker_trades, movement_sum_of_account}
 use Rattle.brk_audit_sums.proofs.Completed.{completed_rows}
@@ -51,9 +51,10 @@ of_broker_sum t f g broker s e =
     ∙ total_mapped f (λ u. broker_id_in_accounts (accounts_in t) u.account == broker) (trade_of_row t) (completed_trade_rows t)
     ∙ total_by-same (λ r. f (trade_of_row t r)) g (filter (λ r. broker_id_in_accounts (accounts_in t) r.account == broker) (completed_trade_rows t))
     (All-of (filter (λ r. broker_id_in_accounts (accounts_in t) r.account == broker) (completed_trade_rows t)) e)
-    ∙ ap (total_by g) (filter-filter (λ r. broker_id_in_accounts (accounts_in t) r.account == broker) is_completed_row t.trades
-    ∙ filter-same (λ r. is_completed_row r && (broker_id_in_accounts (accounts_in t) r.account == broker)) (λ r. is_completed_row r && (account_broker_or_zero t r.account == broker)) t.trades
-    (All-of t.trades (λ r i. is_completed_row r && (same_broker t r.account i == broker))))
+    ∙ ap (total_by g) (filter-filter (λ r. broker_id_in_accounts (accounts_in t) r.account == broker) is_completed_trade_row t.trades
+    ∙ filter-same (λ r. is_completed_trade_row r && (broker_id_in_accounts (accounts_in t) r.account == broker))
+    (λ r. is_completed_trade_row r && (account_broker_or_zero t r.account == broker)) t.trades
+    (All-of t.trades (λ r i. is_completed_trade_row r && (same_broker t r.account i == broker))))
 
 of_account_sum : (t : Tables) (account : ℕ) → satisfies_status_condition t ≡ true
     → total_by (settlement_amount (base_of_tables t).accounts) (filter (λ u. u.account == account) (cash_trades (completed_trades (base_of_tables t))))
@@ -67,9 +68,9 @@ of_account_sum t account s =
     ∙ total_mapped f (λ u. u.is_cash && (u.account == account)) (trade_of_row t) (completed_trade_rows t)
     ∙ total_by-same (λ r. f (trade_of_row t r)) g (filter (λ r. r.is_cash && (r.account == account)) (completed_trade_rows t))
     (All-of (filter (λ r. r.is_cash && (r.account == account)) (completed_trade_rows t)) (same_amount t))
-    ∙ ap (total_by g) (filter-filter (λ r. r.is_cash && (r.account == account)) is_completed_row t.trades
-    ∙ filter-same (λ r. is_completed_row r && (r.is_cash && (r.account == account))) (λ r. is_completed_cash_trade r && (r.account == account)) t.trades
-    (All-of t.trades (λ r. regrouped (is_completed_row r) r.is_cash (r.account == account))))
+    ∙ ap (total_by g) (filter-filter (λ r. r.is_cash && (r.account == account)) is_completed_trade_row t.trades
+    ∙ filter-same (λ r. is_completed_trade_row r && (r.is_cash && (r.account == account))) (λ r. is_completed_cash_trade r && (r.account == account)) t.trades
+    (All-of t.trades (λ r. regrouped (is_completed_trade_row r) r.is_cash (r.account == account))))
   where
     regrouped : (a b c : Bool) → a && (b && c) ≡ (a && b) && c
     regrouped true b c = refl

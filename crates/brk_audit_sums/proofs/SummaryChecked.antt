@@ -29,7 +29,7 @@ use Rattle.brk_audit_theorems.proofs.Climbs.{list_all_true, of_all}
 use Rattle.brk_audit_theorems.proofs.Members.{FoundIn, found_in}
 use Rattle.brk_model_theorems.proofs.FormParts.{form_parts}
 use Rattle.brk_model_theorems.proofs.Conjunctions.{parts10, parts3}
-use Rattle.brk_audit_sums.specs.Completed.{is_completed_row}
+use Rattle.brk_audit_sums.specs.Completed.{is_completed_trade_row}
 use Rattle.brk_audit_sums.specs.PositionSums.{SummariesMatchTrades, HasNonzeroQuantity, posting_with_owned_symbol, position_cmp, share_posting_of_trade}
 use Rattle.brk_audit_sums.specs.PositionSums.{share_sum_of_completed_trades, share_sum_of_summaries, share_posting_of_summary}
 use Rattle.brk_audit_sums.specs.Tally.{sum_at_key, total_amount_at_key}
@@ -64,11 +64,14 @@ sum_there s ps q e =
     let f : TradeRow → ℤ = λ r. signed_by_side (side_of_trade_type r.kind) r.qty in
     sym (total_mapped (λ p. p.amount) (λ p. is_eq (plain_cmp p.key at)) posting_with_owned_symbol ps)
     ∙ ap (λ xs. total_amount_at_key plain_cmp xs at) e
-    ∙ total_posted plain_cmp (λ r. is_completed_row (abstract_trade_row r)) (λ r. ((abstract_trade_row r).account, (abstract_trade_row r).symbol)) (λ r. f (abstract_trade_row r)) s.trades.items at
-    ∙ ap (total_by (λ r. f (abstract_trade_row r))) (filter-same (λ r. is_completed_row (abstract_trade_row r) && is_eq (plain_cmp ((abstract_trade_row r).account, (abstract_trade_row r).symbol) at))
-    (λ r. is_completed_row (abstract_trade_row r) && (((abstract_trade_row r).account == q.0) && bytes_eq (abstract_trade_row r).symbol q.1.now)) s.trades.items
-    (All-of s.trades.items (λ r i. is_completed_row (abstract_trade_row r) && is_same_place (abstract_trade_row r).account q.0 (abstract_trade_row r).symbol q.1.now i)))
-    ∙ sym (total_mapped f (λ r. is_completed_row r && ((r.account == q.0) && bytes_eq r.symbol q.1.now)) abstract_trade_row s.trades.items)
+    ∙ total_posted plain_cmp (λ r. is_completed_trade_row (abstract_trade_row r)) (λ r. ((abstract_trade_row r).account, (abstract_trade_row r).symbol))
+    (λ r. f (abstract_trade_row r)) s.trades.items at
+    ∙ ap (total_by (λ r. f (abstract_trade_row r)))
+    (filter-same (λ r. is_completed_trade_row (abstract_trade_row r)
+    && is_eq (plain_cmp ((abstract_trade_row r).account, (abstract_trade_row r).symbol) at))
+    (λ r. is_completed_trade_row (abstract_trade_row r) && (((abstract_trade_row r).account == q.0) && bytes_eq (abstract_trade_row r).symbol q.1.now)) s.trades.items
+    (All-of s.trades.items (λ r i. is_completed_trade_row (abstract_trade_row r) && is_same_place (abstract_trade_row r).account q.0 (abstract_trade_row r).symbol q.1.now i)))
+    ∙ sym (total_mapped f (λ r. is_completed_trade_row r && ((r.account == q.0) && bytes_eq r.symbol q.1.now)) abstract_trade_row s.trades.items)
 
 told_there : (s : Sheets) (cs : List (KeyedAmount Place)) (q : Place) → map posting_with_owned_symbol cs ≡ map (λ r. share_posting_of_summary (abstract_summary_row r)) s.summaries.items
     → total_amount_at_key position_cmp cs q ≡ share_sum_of_summaries (abstract_sheets s).summaries q.0 q.1.now
@@ -95,7 +98,7 @@ trade_known schema t r e =
     (k.8, k.7)
 
 summary_known : (schema : Schema) (t : Tables) (h : SummaryRow) → is_well_formed_summary_row schema t h ≡ true → IsKnown t h.account h.symbol
-summary_known schema t h e = let p = parts3 (has_account t h.account) (has_security t h.symbol) (nat_le (nat_abs h.qty) schema.greatest_summary) e in (p.0, p.1)
+summary_known schema t h e = let p = parts3 (has_account t h.account) (has_security t h.symbol) (nat_le (nat_abs h.qty) schema.greatest_summary_quantity) e in (p.0, p.1)
 
 postings_known : (s : Sheets) (ps : List (KeyedAmount Place)) → IsWellFormedBySomeSchema (abstract_sheets s)
     → map posting_with_owned_symbol ps ≡ filter_map (λ r. share_posting_of_trade (abstract_trade_row r)) s.trades.items
@@ -104,7 +107,7 @@ postings_known s ps f e =
     let t : Tables = abstract_sheets s in
     rows_back (λ p. IsKnown t p.key.0 p.key.1.now) (λ p. IsKnown t p.key.0 p.key.1) posting_with_owned_symbol ps (λ p h. h)
     (subst (AllByRecursion (λ p. IsKnown t p.key.0 p.key.1)) (sym e)
-    (All-filter_map (λ p. IsKnown t p.key.0 p.key.1) (λ r. is_completed_row (abstract_trade_row r))
+    (All-filter_map (λ p. IsKnown t p.key.0 p.key.1) (λ r. is_completed_trade_row (abstract_trade_row r))
     (λ r. record {
       key = ((abstract_trade_row r).account, (abstract_trade_row r).symbol);
       amount =

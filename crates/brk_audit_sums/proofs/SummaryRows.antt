@@ -35,7 +35,7 @@ use Rattle.brk_model_theorems.specs.FormParts.{SatisfiesFormParts}
 use Rattle.brk_model_theorems.proofs.FormParts.{form_parts}
 use Rattle.brk_model_theorems.proofs.Conjunctions.{parts3}
 use Rattle.brk_audit_theorems.proofs.Sorted.{All-block, All-rows}
-use Rattle.brk_audit_sums.specs.Completed.{completed_trade_rows, is_completed_row}
+use Rattle.brk_audit_sums.specs.Completed.{completed_trade_rows, is_completed_trade_row}
 use Rattle.brk_audit_sums.specs.PositionSums.{SummariesMatchTrades, HasNonzeroQuantity, share_sum_of_completed_trades, share_sum_of_summaries}
 use Rattle.brk_audit_sums.proofs.Completed.{completed_rows}
 use Rattle.brk_audit_sums.proofs.Postings.{total_mapped}
@@ -56,7 +56,7 @@ position_sum t account symbol s =
     ap (λ ts. total_by f (trades_of_position ts account symbol)) (completed_rows t s)
     ∙ ap (total_by f) (filter-filter (λ u. bytes_eq u.symbol symbol) (λ u. u.account == account) (map (trade_of_row t) (completed_trade_rows t)))
     ∙ total_mapped f p (trade_of_row t) (completed_trade_rows t)
-    ∙ ap (total_by (λ r. signed_by_side (side_of_trade_type r.kind) r.qty)) (filter-filter (λ r. (r.account == account) && bytes_eq r.symbol symbol) is_completed_row t.trades)
+    ∙ ap (total_by (λ r. signed_by_side (side_of_trade_type r.kind) r.qty)) (filter-filter (λ r. (r.account == account) && bytes_eq r.symbol symbol) is_completed_trade_row t.trades)
 
 -- ---- what summaries tell, where they climb
 
@@ -236,7 +236,7 @@ wanted_known t =
     (All-map (base_of_tables t).securities (λ s k. All-rows (IsKnown t) (done_of t) a.id s.symbol (h, k)) (securities_known t))) (accounts_known t))
 
 summary_known : (schema : Schema) (t : Tables) (h : SummaryRow) → is_well_formed_summary_row schema t h ≡ true → IsKnown t h
-summary_known schema t h e = let p = parts3 (has_account t h.account) (has_security t h.symbol) (nat_le (nat_abs h.qty) schema.greatest_summary) e in (p.0, p.1)
+summary_known schema t h e = let p = parts3 (has_account t h.account) (has_security t h.symbol) (nat_le (nat_abs h.qty) schema.greatest_summary_quantity) e in (p.0, p.1)
 
 account_there : (t : Tables) (id : ℕ) → has_account t id ≡ true → (a : Account) × (account_with_id (base_of_tables t) id ≡ Some a)
 unfolding base_of_tables

@@ -11,14 +11,14 @@ use Rattle.brk_model.specs.Form.{has_account, has_security}
 use Rattle.brk_model.specs.Lists.{is_zero, total_by}
 use Rattle.brk_model.specs.Shares.{signed_by_side}
 use Rattle.brk_model.specs.Tables.{Tables, SummaryRow, TradeRow}
-use Rattle.brk_audit_sums.specs.Completed.{is_completed_row}
+use Rattle.brk_audit_sums.specs.Completed.{is_completed_trade_row}
 use Rattle.brk_audit_sums.specs.declared.tally.KeyedAmount.{KeyedAmount}
 
 -- The number of shares that remain after the completed trades of the account in the symbol:
 -- purchases minus sales, below 0 if they are sold short.
 abbrev pub share_sum_of_completed_trades : Tables → ℕ → Text → ℤ
 share_sum_of_completed_trades t account symbol =
-    total_by (λ r. signed_by_side (side_of_trade_type r.kind) r.qty) (filter (λ r. is_completed_row r
+    total_by (λ r. signed_by_side (side_of_trade_type r.kind) r.qty) (filter (λ r. is_completed_trade_row r
     && ((r.account == account) && bytes_eq r.symbol symbol)) t.trades)
 
 -- The sum of the quantities, in shares, of the holding summaries of the account in the symbol.
@@ -49,7 +49,7 @@ posting_with_owned_symbol p = record { key = (p.key.0, p.key.1.now); amount = p.
 -- if the trade is not completed.
 abbrev pub share_posting_of_trade : TradeRow → Option (KeyedAmount (ℕ × Text))
 share_posting_of_trade r =
-    if is_completed_row r then Some (record { key = (r.account, r.symbol); amount = signed_by_side (side_of_trade_type r.kind) r.qty }) else None
+    if is_completed_trade_row r then Some (record { key = (r.account, r.symbol); amount = signed_by_side (side_of_trade_type r.kind) r.qty }) else None
 
 -- The quantity of the holding summary as a posting at its account and symbol.
 abbrev pub share_posting_of_summary : SummaryRow → KeyedAmount (ℕ × Text)

@@ -10,7 +10,7 @@ use Rattle.brk_model.specs.Derived.{due_day_of_completion_stamp, signed_proceeds
 use Rattle.brk_model.specs.Records.{SettleRule}
 use Rattle.brk_model.specs.Joins.{account_row_with_id}
 use Rattle.brk_model.specs.Tables.{Tables, CashRow, MoveRow, RequestRow, SettlementRow, TradeRow}
-use Rattle.brk_audit_sums.specs.Completed.{is_completed_row}
+use Rattle.brk_audit_sums.specs.Completed.{is_completed_trade_row}
 
 -- The broker in the first row of CUSTOMER_ACCOUNT, in the sequence of the table, with the id
 -- `account`, or 0 if there is no such row.
@@ -59,13 +59,13 @@ pub record CashTransactionFigures : Type 0 where
   pub amount : ℤ
 
 -- The trade, the stamp and the amount in the row of CASH_TRANSACTION.
-abbrev pub cash_figures_of_row : CashRow → CashTransactionFigures
-cash_figures_of_row c = record { trade = c.trade; stamp = c.stamp; amount = c.amount }
+abbrev pub cash_transaction_figures_of_row : CashRow → CashTransactionFigures
+cash_transaction_figures_of_row c = record { trade = c.trade; stamp = c.stamp; amount = c.amount }
 
 -- The trade, the stamp and the amount of the row of CASH_TRANSACTION of the completed cash trade
 -- `r`, where `statuses` returns the tax status of an account.
-abbrev pub cash_figures_of_trade : (ℕ → TaxStatus) → TradeRow → CashTransactionFigures
-cash_figures_of_trade statuses r = record { trade = r.id; stamp = r.stamp; amount = settlement_amount_at_tax_status (statuses r.account) r }
+abbrev pub cash_transaction_figures_of_trade : (ℕ → TaxStatus) → TradeRow → CashTransactionFigures
+cash_transaction_figures_of_trade statuses r = record { trade = r.id; stamp = r.stamp; amount = settlement_amount_at_tax_status (statuses r.account) r }
 
 -- The account, the trade, the stamp and the amount, in cents, of a row of CASH_MOVE that belongs to
 -- a trade.
@@ -94,7 +94,7 @@ is_numbered_by_stamp n stamp (r ∷ rs) = (r.id == n) && (nat_le stamp r.stamp &
 
 -- True if the trade is completed and is a cash trade.
 abbrev pub is_completed_cash_trade : TradeRow → Bool
-is_completed_cash_trade r = is_completed_row r && r.is_cash
+is_completed_cash_trade r = is_completed_trade_row r && r.is_cash
 
 -- For any list of later trades, the rows `rows` match `trade` and the later trades if and only if
 -- the rows `others` match the later trades. Rows match trades if the values of `tells` for the rows

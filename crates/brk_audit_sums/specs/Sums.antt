@@ -3,14 +3,14 @@ use Rattle.std.specs.Prelude.{ℕ, ◌==◌, ◌&&◌, Option, Some, None, if◌
 use Rattle.brk_money.specs.declared.tax_status.TaxStatus.{TaxStatus}
 use Rattle.brk_model.specs.Lists.{total_by}
 use Rattle.brk_model.specs.Tables.{MoveRow, Tables, TradeRow}
-use Rattle.brk_audit_sums.specs.Completed.{is_completed_row}
+use Rattle.brk_audit_sums.specs.Completed.{is_completed_trade_row}
 use Rattle.brk_audit_sums.specs.Settling.{settlement_amount_at_tax_status, account_broker_or_zero, is_completed_cash_trade}
 use Rattle.brk_audit_sums.specs.declared.tally.KeyedAmount.{KeyedAmount}
 
 -- The sum of `amount` over the completed trades of the accounts of the broker with the id `broker`.
 -- An account that does not exist counts as one of broker 0.
 abbrev pub sum_over_broker_trades : Tables → (TradeRow → ℤ) → ℕ → ℤ
-sum_over_broker_trades t amount broker = total_by amount (filter (λ r. is_completed_row r && (account_broker_or_zero t r.account == broker)) t.trades)
+sum_over_broker_trades t amount broker = total_by amount (filter (λ r. is_completed_trade_row r && (account_broker_or_zero t r.account == broker)) t.trades)
 
 -- The sum of `amount` over the completed cash trades of the account.
 abbrev pub sum_over_account_cash_trades : Tables → (TradeRow → ℤ) → ℕ → ℤ
@@ -19,7 +19,7 @@ sum_over_account_cash_trades t amount account = total_by amount (filter (λ r. i
 -- The amount as a posting at the broker of the trade's account, where `brokers` returns the broker
 -- of an account, or `None` if the trade is not completed.
 abbrev pub broker_posting_of_row : (ℕ → ℕ) → TradeRow → ℤ → Option (KeyedAmount ℕ)
-broker_posting_of_row brokers r amount = if is_completed_row r then Some (record { key = brokers r.account; amount = amount }) else None
+broker_posting_of_row brokers r amount = if is_completed_trade_row r then Some (record { key = brokers r.account; amount = amount }) else None
 
 -- The trade's settlement amount, in cents, as a posting at its account, where `statuses` returns
 -- the tax status of an account, or `None` if the trade is not a completed cash trade.

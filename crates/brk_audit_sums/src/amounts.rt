@@ -48,7 +48,7 @@ fn value_of_shares(qty: u32, cents: u64) -> u64
 // Returns the value of a sale, or the negated value of a purchase, minus the deductions
 // `taken_off`, all in cents. `value` must be at most the greatest quantity times the greatest
 // price, and `taken_off` at most three times the greatest amount.
-fn proceeds_less_deductions(side: Side, value: u64, taken_off: u64) -> i64
+fn signed_value_less_deductions(side: Side, value: u64, taken_off: u64) -> i64
     requires value { value ≤ greatest_qty * greatest_price }
     requires taken_off { taken_off ≤ 3 * greatest_amount }
     ensures { result ≡ signed_proceeds side value -ℤ pos taken_off }
@@ -71,5 +71,5 @@ pub fn settlement_amount_of_row(trade: &TradeRow, tax_status: TaxStatus) -> i64
     let taken_off = charge
         + trade.commission.get()
         + tax_withheld_from_settlement(trade.tax, tax_status);
-    proceeds_less_deductions(trade.kind.side(), value, taken_off)
+    signed_value_less_deductions(trade.kind.side(), value, taken_off)
 }

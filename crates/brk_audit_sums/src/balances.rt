@@ -52,7 +52,7 @@ fn append_movement_postings(all: &mut Vec<KeyedAmount<u64>>, moves: &[MoveRow]) 
 }
 
 // Returns the balance minus the opening balance, both in cents.
-fn balance_change(balance: i64, opening: i64) -> i128
+fn balance_minus_opening(balance: i64, opening: i64) -> i128
     ensures { opening +ℤ result ≡ balance }
 {
     i128::from(balance) - i128::from(opening)
@@ -69,7 +69,7 @@ fn are_numbers_equal(one: i128, other: i128) -> bool
 fn balance_equals_opening_plus_moved(balance: i64, opening: i64, moved: i128) -> bool
     ensures { IsTrue result ↔ (balance ≡ opening +ℤ moved) }
 {
-    let left = balance_change(balance, opening);
+    let left = balance_minus_opening(balance, opening);
     are_numbers_equal(left, moved)
 }
 
@@ -102,7 +102,7 @@ impl KeyedSum for Balances {
 
     // Returns true if the balance of the account is its opening balance plus the sum at the
     // account's id, or plus 0 if the map `sums` does not contain the id.
-    fn row_has_sum(sums: &BTreeMap<u64, i128>, row: &AccountRow) -> bool {
+    fn total_equals_sum(sums: &BTreeMap<u64, i128>, row: &AccountRow) -> bool {
         let moved = sum_or_zero_at_key(sums, row.account.id.get());
         balance_equals_opening_plus_moved(row.balance.get(), row.account.opening.get(), moved)
     }

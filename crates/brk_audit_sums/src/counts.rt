@@ -42,7 +42,7 @@ impl KeyedSum for TradeCounts {
 
     // Returns true if the trade count of the broker is the sum at the broker's id, or 0 if the map
     // `sums` does not contain the id.
-    fn row_has_sum(sums: &BTreeMap<u64, i128>, row: &BrokerRow) -> bool {
+    fn total_equals_sum(sums: &BTreeMap<u64, i128>, row: &BrokerRow) -> bool {
         i128::from(row.trades) == sum_or_zero_at_key(sums, row.broker.id.get())
     }
 }

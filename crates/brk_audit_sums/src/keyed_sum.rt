@@ -39,7 +39,7 @@ pub(crate) trait KeyedSum {
         ensures { result ≡ posting_of terms.now (abstract_trade_row trade.now) };
 
     /// Returns true if the total of the row follows from the sum at its key in `sums` (`has_sum`).
-    fn row_has_sum(sums: &BTreeMap<u64, i128>, row: &Self::Total) -> bool
+    fn total_equals_sum(sums: &BTreeMap<u64, i128>, row: &Self::Total) -> bool
         ensures { IsTrue result ↔ has_sum sums.now row.now };
 }
 
@@ -66,7 +66,7 @@ pub(crate) fn all_rows_have_sums<S: KeyedSum>(sums: &BTreeMap<u64, i128>, rows: 
     ensures { IsTrue result ↔ AllByRecursion (S.has_sum sums.now) rows.now }
 {
     for row in rows {
-        if !S::row_has_sum(sums, row) {
+        if !S::total_equals_sum(sums, row) {
             return false;
         }
     }

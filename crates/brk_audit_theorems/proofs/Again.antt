@@ -30,7 +30,7 @@ use Rattle.brk_book_theorems.proofs.TermReading.{reads_last_trade}
 use Rattle.brk_book_theorems.proofs.TradeReading.{trades_in_order}
 use Rattle.brk_book_theorems.proofs.MoveReading.{movements_back, rows_posted, turn_filter}
 use Rattle.brk_book_theorems.proofs.Each.{AllCommute, Commute, each, each_map, each_sort}
-use Rattle.brk_audit_theorems.specs.Told.{HasTextsOnlyIfCompleted, HasValidHistories, HasAscendingStatusStamps, base_sorted_by_keys}
+use Rattle.brk_audit_theorems.specs.Told.{HasSettlementAndCashTextsOnlyIfCompleted, HasValidHistories, HasAscendingStatusStamps, base_sorted_by_keys}
 use Rattle.brk_audit_theorems.proofs.Members.{map-map, map_back}
 
 -- ---- statuses
@@ -238,7 +238,8 @@ posted_in base = ap (λ rows. rows ++ map posting_of_cash_move_row (sheets base)
     none_left : (base : Base) → map (posting_of_cash_transaction_row (sheets base)) (sheets base).cash ≡ []
     none_left base = ap (map (posting_of_cash_transaction_row (sheets base))) (no_cash base)
 
-cash_type_again : (base : Base) (t : Trade) → IsRead base t → HasTextsOnlyIfCompleted t → option_map_or (λ s. s.cash_type) (find (λ s. s.trade == t.id) (sheets base).settlements) [] ≡ t.cash_type
+cash_type_again : (base : Base) (t : Trade) → IsRead base t → HasSettlementAndCashTextsOnlyIfCompleted t
+    → option_map_or (λ s. s.cash_type) (find (λ s. s.trade == t.id) (sheets base).settlements) [] ≡ t.cash_type
 unfolding tables_sorted_by_key tables_of_base_in_schema
 cash_type_again base t r w =
     ap (λ o. option_map_or (λ s. s.cash_type) o [])
@@ -289,7 +290,7 @@ unfolding sort_by
 turn_one true p = refl
 turn_one false p = refl
 
-cash_name_again : (base : Base) (t : Trade) → IsRead base t → HasTextsOnlyIfCompleted t
+cash_name_again : (base : Base) (t : Trade) → IsRead base t → HasSettlementAndCashTextsOnlyIfCompleted t
     → option_map_or (λ p. p.name) (find (is_posting_of_trade t.id) (postings_of_tables (sheets base))) [] ≡ t.cash_name
 cash_name_again base t r w =
     let done : Bool = is_completed t && t.is_cash in
@@ -302,7 +303,7 @@ cash_name_again base t r w =
     by_test true e = refl
     by_test false e = sym (w.moved e)
 
-trade_again : (base : Base) (t : Trade) → IsRead base t → HasAscendingStatusStamps t → HasTextsOnlyIfCompleted t → trade_of_row (sheets base) (trade_row t) ≡ t
+trade_again : (base : Base) (t : Trade) → IsRead base t → HasAscendingStatusStamps t → HasSettlementAndCashTextsOnlyIfCompleted t → trade_of_row (sheets base) (trade_row t) ≡ t
 trade_again base t r s w = λ i. record t {
   marks = marks_again base t r s i;
   cash_type = cash_type_again base t r w i;
@@ -314,8 +315,8 @@ trades_again base books told =
     ap (map (trade_of_row (sheets base))) (trades_in_order base books.numbered) ∙ map-map (trade_of_row (sheets base)) trade_row base.trades
     ∙ map_back (λ t. trade_of_row (sheets base) (trade_row t)) base.trades
     (All-map base.trades (λ t h. trade_again base t h.0 h.1.0 h.1.1)
-    (both_all (IsRead base) (λ t. HasAscendingStatusStamps t × HasTextsOnlyIfCompleted t) base.trades (reads base books.numbered)
-    (both_all HasAscendingStatusStamps HasTextsOnlyIfCompleted base.trades told.stamps told.words)))
+    (both_all (IsRead base) (λ t. HasAscendingStatusStamps t × HasSettlementAndCashTextsOnlyIfCompleted t) base.trades (reads base books.numbered)
+    (both_all HasAscendingStatusStamps HasSettlementAndCashTextsOnlyIfCompleted base.trades told.stamps told.words)))
 
 -- ---- securities
 

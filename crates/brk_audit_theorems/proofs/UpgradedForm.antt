@@ -74,8 +74,8 @@ request_wider schema t w r e =
 summary_wider : (schema : Schema) (t : Tables) → HasLimitsWithinThirdSchema schema → (s : SummaryRow) → is_well_formed_summary_row schema t s ≡ true
     → is_well_formed_summary_row third_schema t s ≡ true
 summary_wider schema t w s e =
-    let k = parts3 (has_account t s.account) (has_security t s.symbol) (nat_le (nat_abs s.qty) schema.greatest_summary) e in
-    and_from _ _ (and_from _ _ k.0 k.1) (wider (nat_abs s.qty) schema.greatest_summary third_schema.greatest_summary w.summary k.2)
+    let k = parts3 (has_account t s.account) (has_security t s.symbol) (nat_le (nat_abs s.qty) schema.greatest_summary_quantity) e in
+    and_from _ _ (and_from _ _ k.0 k.1) (wider (nat_abs s.qty) schema.greatest_summary_quantity third_schema.greatest_summary_quantity w.summary k.2)
 
 -- ---- what was posted has form
 

@@ -19,7 +19,7 @@ HasValidStatusSequence t = is_valid_status_sequence (map (λ m. m.status) t.mark
 
 -- The trade has an empty settlement text if it is not completed, and an empty cash text if it is
 -- not a completed cash trade.
-pub record HasTextsOnlyIfCompleted (t : Trade) : Type 0 where
+pub record HasSettlementAndCashTextsOnlyIfCompleted (t : Trade) : Type 0 where
   pub settled : is_completed t ≡ false → t.cash_type ≡ []
   pub moved : is_completed t && t.is_cash ≡ false → t.cash_name ≡ []
 
@@ -30,7 +30,7 @@ pub record HasTextsOnlyIfCompleted (t : Trade) : Type 0 where
 pub record HasValidHistories (base : Base) : Type 0 where
   pub stamps : AllByRecursion HasAscendingStatusStamps base.trades
   pub ways : AllByRecursion HasValidStatusSequence base.trades
-  pub words : AllByRecursion HasTextsOnlyIfCompleted base.trades
+  pub words : AllByRecursion HasSettlementAndCashTextsOnlyIfCompleted base.trades
   pub movements : is_strictly_ascending (map (λ m. m.stamp) base.movements) ≡ true
 
 -- The sort key of the broker `b`: its id.

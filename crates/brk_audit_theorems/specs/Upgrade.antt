@@ -11,7 +11,7 @@ use Rattle.brk_audit_theorems.specs.Passing.{PassesAudit}
 -- quantity and the greatest summary of the third schema.
 pub record HasLimitsWithinThirdSchema (schema : Schema) : Type 0 where
   pub qty : schema.greatest_qty ≤ third_schema.greatest_qty
-  pub summary : schema.greatest_summary ≤ third_schema.greatest_summary
+  pub summary : schema.greatest_summary_quantity ≤ third_schema.greatest_summary_quantity
 
 -- The upgrade of the rows (`tables_with_merged_cash_rows`) equals the tables in the third schema,
 -- sorted by key, of the base that the rows describe. The upgraded rows describe this base too, and

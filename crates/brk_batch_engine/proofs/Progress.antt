@@ -16,7 +16,7 @@ use Rattle.brk_model.specs.Forms.{ReadResult}
 use Rattle.brk_model.specs.Input.{batch_header}
 use Rattle.brk_model.specs.Lines.{answer_line, repeated_answer_count, done_answer_count, refused_answer_count, is_repeated_answer, is_done_answer, is_refused_answer, answer_lines_from}
 use Rattle.brk_batch_engine.specs.Counts.{counts_with_answer, counts_of_answers}
-use Rattle.brk_io.specs.Moments.{ClockReturnsInOrder}
+use Rattle.brk_io.specs.Moments.{ClockReturnsMomentsInSequence}
 use Rattle.brk_batch_engine.specs.Reading.{ReaderIsAfterRecords}
 use Rattle.brk_batch_engine.specs.declared.counts.Counts.{Counts}
 use Rattle.brk_batch_engine.proofs.Pushes.{lines_push}
@@ -50,7 +50,7 @@ pub record HasDecidedRows {S X C R : Type 0} (form : Fields → ReadResult X) (s
   pub rows : List Fields
   pub answers : List Answer
   pub moments : List ℕ
-  pub taken : ClockReturnsInOrder gives start.clock moments now.later
+  pub taken : ClockReturnsMomentsInSequence gives start.clock moments now.later
   pub settled : BatchRowsAreDecided form step start.name start.base moments rows answers now.after
   pub size : length rows ≡ now.settled
   pub counts : now.counts ≡ counts_of_answers answers

@@ -4,7 +4,7 @@ use Rattle.std.specs.Prelude.{Bool, Ok, Err}
 use Rattle.std.proofs.lemmas.List.{append-nil, length-append, map-append}
 use Rattle.brk_money.specs.Spelling.{Text}
 use Rattle.brk_model.specs.Answers.{Fields, RowStep}
-use Rattle.brk_model_theorems.specs.RowCalls.{CallsHaveAnswers, RowCall, result_of_row_call, calls_of_rows, well_formed_rows_from, prepended_if_well_formed}
+use Rattle.brk_model_theorems.specs.RowCalls.{CallsHaveAnswers, RowCall, result_of_row_call, calls_of_rows, well_formed_rows_from, rows_with_well_formed_row}
 use Rattle.brk_model_theorems.specs.RowCalls.{answers_interleaved_with_refusals, answers_to_row_and_rest}
 use Rattle.brk_model.specs.Commands.{Answer, Refused}
 use Rattle.brk_model.specs.Forms.{ReadResult}
@@ -15,10 +15,10 @@ use Rattle.brk_batch_engine.specs.Answers.{RowHasAnswer}
 use Rattle.brk_batch_engine.specs.Script.{RowCallRelation, RowCalls, recording_step}
 use Rattle.brk_io.proofs.Calls.{made_then}
 use Rattle.brk_io.specs.Calls.{IsCallSequence}
-use Rattle.brk_io.specs.Moments.{ClockReturnsInOrder}
+use Rattle.brk_io.specs.Moments.{ClockReturnsMomentsInSequence}
 
 pub moments_push : {C : Type 0} (gives : C → ℕ → C → Type 0) (old mid new : C) (ms : List ℕ) (m : ℕ)
-    → ClockReturnsInOrder gives old ms mid → gives mid m new → ClockReturnsInOrder gives old (ms ++ (m ∷ [])) new
+    → ClockReturnsMomentsInSequence gives old ms mid → gives mid m new → ClockReturnsMomentsInSequence gives old (ms ++ (m ∷ [])) new
 moments_push {C} gives old mid new [] m e h = let G : C → Type 0 = λ c. gives c m new in (new, subst G e h, refl)
 moments_push gives old mid new (x ∷ xs) m e h = (e.0, e.1, moments_push gives e.0 mid new xs m e.2 h)
 
@@ -42,20 +42,20 @@ calls_length batch [] (g ∷ gs) e = absurd (omega arith)
 calls_length batch (x ∷ xs) [] e = absurd (omega arith)
 calls_length batch (x ∷ xs) (g ∷ gs) e = let more = calls_length batch xs gs (omega arith) in omega arith
 
-formed_append : {X : Type 0} (o : ReadResult X) (n : ℕ) (a b : List (ℕ × X)) → prepended_if_well_formed o n (a ++ b) ≡ prepended_if_well_formed o n a ++ b
+formed_append : {X : Type 0} (o : ReadResult X) (n : ℕ) (a b : List (ℕ × X)) → rows_with_well_formed_row o n (a ++ b) ≡ rows_with_well_formed_row o n a ++ b
 formed_append (Ok command) n a b = refl
 formed_append (Err refusal) n a b = refl
 
 pub formed_push : {X : Type 0} (form : Fields → ReadResult X) (n : ℕ) (rows : List Fields) (row : Fields)
-    → well_formed_rows_from form n (rows ++ (row ∷ [])) ≡ well_formed_rows_from form n rows ++ prepended_if_well_formed (form row) (n + length rows) []
+    → well_formed_rows_from form n (rows ++ (row ∷ [])) ≡ well_formed_rows_from form n rows ++ rows_with_well_formed_row (form row) (n + length rows) []
 formed_push form n [] row = rw (add-zero n) refl
 formed_push form n (x ∷ xs) row =
     let place : (n + 1) + length xs ≡ n + length (x ∷ xs) = omega arith in
-    ap (prepended_if_well_formed (form x) n) (formed_push form (n + 1) xs row ∙ ap (λ (k : ℕ). well_formed_rows_from form (n + 1) xs ++ prepended_if_well_formed (form row) k []) place)
-    ∙ formed_append (form x) n (well_formed_rows_from form (n + 1) xs) (prepended_if_well_formed (form row) (n + length (x ∷ xs)) [])
+    ap (rows_with_well_formed_row (form x) n) (formed_push form (n + 1) xs row ∙ ap (λ (k : ℕ). well_formed_rows_from form (n + 1) xs ++ rows_with_well_formed_row (form row) k []) place)
+    ∙ formed_append (form x) n (well_formed_rows_from form (n + 1) xs) (rows_with_well_formed_row (form row) (n + length (x ∷ xs)) [])
 
 woven_go : {X : Type 0} (o : ReadResult X) (n : ℕ) (fs : List (ℕ × X)) (rs extra end : List Answer) (more longer : List Answer → List Answer)
-    → length rs ≡ length (prepended_if_well_formed o n fs) → ((bs : List Answer) → length bs ≡ length fs → longer (bs ++ extra) ≡ more bs ++ end)
+    → length rs ≡ length (rows_with_well_formed_row o n fs) → ((bs : List Answer) → length bs ≡ length fs → longer (bs ++ extra) ≡ more bs ++ end)
     → answers_to_row_and_rest o longer (rs ++ extra) ≡ answers_to_row_and_rest o more rs ++ end
 woven_go (Err k) n fs rs extra end more longer e h = ap (λ (l : List Answer). Refused k ∷ l) (h rs e)
 woven_go (Ok c) n fs [] extra end more longer e h = absurd (omega arith)
@@ -107,7 +107,7 @@ pub record RowsHaveAnswers {D S X C : Type 0} (meets_disk_assumption : D → Typ
     (batch : Text) (first : D) (clock : C) (rows : List Fields) (answers : List Answer) (desk : D) (later : C) : Type 0 where
   pub moments : List ℕ
   pub replies : List Answer
-  pub taken : ClockReturnsInOrder gives clock moments later
+  pub taken : ClockReturnsMomentsInSequence gives clock moments later
   pub one_each : length moments ≡ length (well_formed_rows_from form 1 rows)
   pub replied : length replies ≡ length (well_formed_rows_from form 1 rows)
   pub all : answers ≡ answers_interleaved_with_refusals form rows replies
@@ -122,7 +122,7 @@ pub answered_push : {D S X C : Type 0} (meets_disk_assumption : D → Type 0) (r
     → (o : ReadResult X) → form row ≡ o → RowHasAnswer meets_disk_assumption represents acts step gives o batch (1 + length rows) answer mid desk c later
     → RowsHaveAnswers meets_disk_assumption represents acts form step gives batch first clock (rows ++ (row ∷ [])) (answers ++ (answer ∷ [])) desk later
 answered_push {X = X} meets_disk_assumption represents acts form step gives batch first mid desk clock c later rows answers row answer h earlier (Err k) e a =
-    let formed = formed_push form 1 rows row ∙ ap (λ (o : ReadResult X). well_formed_rows_from form 1 rows ++ prepended_if_well_formed o (1 + length rows) []) e
+    let formed = formed_push form 1 rows row ∙ ap (λ (o : ReadResult X). well_formed_rows_from form 1 rows ++ rows_with_well_formed_row o (1 + length rows) []) e
     ∙ append-nil (well_formed_rows_from form 1 rows) in
     let wove = rw (append-nil h.replies, e) at (woven_push form 1 rows row h.replies [] h.replied) in
     record {
@@ -136,7 +136,7 @@ answered_push {X = X} meets_disk_assumption represents acts form step gives batc
       follows = rw (formed, a.1) h.follows;
     }
 answered_push {S = S} {X = X} meets_disk_assumption represents acts form step gives batch first mid desk clock c later rows answers row answer h earlier (Ok command) e a =
-    let formed = formed_push form 1 rows row ∙ ap (λ (o : ReadResult X). well_formed_rows_from form 1 rows ++ prepended_if_well_formed o (1 + length rows) []) e in
+    let formed = formed_push form 1 rows row ∙ ap (λ (o : ReadResult X). well_formed_rows_from form 1 rows ++ rows_with_well_formed_row o (1 + length rows) []) e in
     let wove = rw e at (woven_push form 1 rows row h.replies (answer ∷ []) h.replied) in
     let longer : length (well_formed_rows_from form 1 (rows ++ (row ∷ []))) ≡ length (well_formed_rows_from form 1 rows) + 1 =
     ap length formed ∙ length-append (well_formed_rows_from form 1 rows) ((1 + length rows, command) ∷ []) in

@@ -20,7 +20,7 @@ use Rattle.brk_batch_engine.specs.Answers.{RowHasAnswer, RowFailsWith, Preserves
 use Rattle.brk_batch_engine.specs.Batch.{IsBatchResult, BatchPost, BoundsBatchCrashStates, DeskFaultIsMemory, ChangesOnlyByRowCalls}
 use Rattle.brk_batch_engine.specs.Script.{RowCallRelation, RowCalls, recording_step}
 use Rattle.brk_io.proofs.Calls.{made_then}
-use Rattle.brk_io.specs.Moments.{ClockReturnsInOrder}
+use Rattle.brk_io.specs.Moments.{ClockReturnsMomentsInSequence}
 use Rattle.brk_io.specs.declared.batch_fault.FaultKind.TheVariants as kinds
 use Rattle.brk_io.specs.Span.{ClockAndWriterChange, EnvironmentChange, environment_change_with_bases}
 use Rattle.brk_batch_engine.specs.Counts.{counts_with_answer, counts_of_answers}
@@ -177,7 +177,7 @@ tells_all {X = X} meets_disk_assumption represents acts form step gives rem firs
       (map desk_call_of_row_call calls, map Did r.answered.replies),
       r.answered.made,
       (
-        subst (λ (ms : List ℕ). ClockReturnsInOrder gives head.clock ms place.later)
+        subst (λ (ms : List ℕ). ClockReturnsMomentsInSequence gives head.clock ms place.later)
             (sym (calls_taken head.name r.answered.moments (well_formed_rows_from form 1 r.rows) r.answered.one_each)) r.answered.taken,
         inl (
           r.answered.replies,
@@ -203,7 +203,8 @@ tells_failed {D = D} {X = X} meets_disk_assumption represents acts form step giv
     let calls = calls_of_rows head.name r.answered.moments (well_formed_rows_from form 1 r.rows) in
     let each : length r.answered.replies ≡ length calls = r.answered.replied ∙ sym (calls_length head.name r.answered.moments (well_formed_rows_from form 1 r.rows) r.answered.one_each) in
     let under : ℕ × (X × Key) = (moment, (command, record { batch = head.name; row = place.settled + 1 })) in
-    let taken : ClockReturnsInOrder gives head.clock (r.answered.moments ++ (moment ∷ [])) later = moments_push gives head.clock place.later later r.answered.moments moment r.answered.taken given in
+    let taken : ClockReturnsMomentsInSequence gives head.clock (r.answered.moments ++ (moment ∷ [])) later =
+    moments_push gives head.clock place.later later r.answered.moments moment r.answered.taken given in
     let are : map (λ (c : ℕ × (X × Key)). c.0) (map desk_call_of_row_call calls ++ (under ∷ [])) ≡ r.answered.moments ++ (moment ∷ []) =
     map-append (λ (c : ℕ × (X × Key)). c.0) (map desk_call_of_row_call calls) (under ∷ [])
     ∙ ap (λ (ms : List ℕ). ms ++ (moment ∷ [])) (calls_taken head.name r.answered.moments (well_formed_rows_from form 1 r.rows) r.answered.one_each) in
@@ -211,7 +212,7 @@ tells_failed {D = D} {X = X} meets_disk_assumption represents acts form step giv
       (map desk_call_of_row_call calls ++ (under ∷ []), map Did r.answered.replies ++ (Failed f ∷ [])),
       made_then acts first desk last (map desk_call_of_row_call calls) (under ∷ []) (map Did r.answered.replies) (Failed f ∷ []) r.answered.made (last, acted, refl),
       (
-        subst (λ (ms : List ℕ). ClockReturnsInOrder gives head.clock ms later) (sym are) taken,
+        subst (λ (ms : List ℕ). ClockReturnsMomentsInSequence gives head.clock ms later) (sym are) taken,
         inr (
           r.answered.replies,
           map desk_call_of_row_call calls,

@@ -24,7 +24,7 @@ use Rattle.brk_model.specs.Run.{Did, Failed, IsCallFault}
 use Rattle.brk_batch_engine.specs.Counts.{counts_of_answers}
 use Rattle.brk_batch_engine.specs.Script.{RowCallRelation, RowCalls, RowCallScript, recording_step}
 use Rattle.brk_io.specs.Calls.{IsCallSequence}
-use Rattle.brk_io.specs.Moments.{ReadsClockAtMostOnce, ClockReturnsInOrder}
+use Rattle.brk_io.specs.Moments.{ReadsClockAtMostOnce, ClockReturnsMomentsInSequence}
 use Rattle.brk_io.specs.Span.{IsUnchangedEnvironment, ClockAndWriterChange, EnvironmentChange, environment_change_with_bases}
 use Rattle.brk_io.specs.declared.batch_fault.BatchFault.{BatchFault}
 use Rattle.brk_io.specs.declared.batch_fault.FaultKind.{FaultKind}
@@ -39,7 +39,7 @@ pub record BatchEndsWith {S X C : Type 0} (form : Fields → ReadResult X) (step
     (text : Option Text) (span : EnvironmentChange S C) (ending : model.BatchEnding) (count : ℕ) : Type 0 where
   pub moments : List ℕ
   pub lines : Text
-  pub taken : ClockReturnsInOrder gives span.clock moments span.later
+  pub taken : ClockReturnsMomentsInSequence gives span.clock moments span.later
   pub answered : model.IsResultOfTextWithHeader form step span.base moments text (record { text = lines; base = span.after; ending = ending; rows = count })
   pub written : Appends span.old span.new lines
 
@@ -69,7 +69,7 @@ pub record BatchProgress {S X C : Type 0} (form : Fields → ReadResult X) (step
   -- The timestamps of the rows, and the clock after these readings.
   pub moments : List ℕ
   pub mid : C
-  pub taken : ClockReturnsInOrder gives span.clock moments mid
+  pub taken : ClockReturnsMomentsInSequence gives span.clock moments mid
   -- From the base before, the rows have these answers in the model, at these timestamps, and the
   -- base after them is the base after the batch.
   pub settled : model.BatchRowsAreDecided form step name span.base moments rows answers span.after
@@ -209,7 +209,7 @@ BatchMatchesFailedScript {X = X} form gives text script outside (Err fault) =
 abbrev pub BatchMatchesScript : {X C : Type 0} → (Fields → ReadResult X) → (C → ℕ → C → Type 0) → Option Text → RowCallScript X → ClockAndWriterChange C
     → Result Counts BatchFault → Type 0
 BatchMatchesScript form gives text script outside result =
-    ClockReturnsInOrder gives outside.clock (map (λ call. call.0) script.0) outside.later
+    ClockReturnsMomentsInSequence gives outside.clock (map (λ call. call.0) script.0) outside.later
     × (BatchMatchesAnsweredScript form gives text script outside result ⊎ BatchMatchesFailedScript form gives text script outside result)
 
 -- The desk changed from `first` to `last` only by the calls of some script, with their outcomes,

@@ -15,7 +15,7 @@ use Rattle.brk_model.specs.Shares.{Deal, Share, Touch, closed_share_count_of_dea
 use Rattle.brk_model.specs.Shares.{shares_after_deal, signed_by_side, touches_of_existing_lots}
 use Rattle.brk_model.specs.Keys.{number, rows_sorted_by_key, holding_history_key, insert_row_by_key}
 use Rattle.brk_model.specs.Tables.{HoldingHistoryRow}
-use Rattle.brk_lots.specs.HistoryRows.{has_quantity_change, changing_rows_of_lot, lot_history_rows_per_deal}
+use Rattle.brk_lots.specs.HistoryRows.{has_quantity_change, lot_rows_with_quantity_change, lot_history_rows_per_deal}
 use Rattle.brk_lots.specs.Lots.{list_reversed_if_lifo}
 use Rattle.brk_lots.proofs.Counts.{differ}
 use Rattle.brk_lots.proofs.Deals.{all_after}
@@ -78,7 +78,7 @@ others_of base xs t ys c account symbol =
 
 -- the rows of a lot of the position, with that of the trade
 own_rows : (base : Base) (xs : List Trade) (t : Trade) (ys : List Trade) → Completes base xs t ys → (v : Trade) → is_here t v ≡ true
-    → changing_rows_of_lot (xs ++ t ∷ ys) v
+    → lot_rows_with_quantity_change (xs ++ t ∷ ys) v
     ≡ filter has_quantity_change (lot_history_rows_per_deal v.id [] (deals_of_position (completed_trades base) t.account t.symbol))
     ++ filter has_quantity_change (row_at base t v ∷ [])
 unfolding shares_of_position
@@ -112,7 +112,7 @@ new_rows : Base → Trade → Trade → List HoldingHistoryRow
 new_rows base t v = cond (is_here t v) (filter has_quantity_change (row_at base t v ∷ [])) []
 
 its_rows : (base : Base) (xs : List Trade) (t : Trade) (ys : List Trade) → Completes base xs t ys → (v : Trade) (b : Bool) → is_here t v ≡ b
-    → filter (is_of t.id) (changing_rows_of_lot (xs ++ t ∷ ys) v) ≡ new_rows base t v
+    → filter (is_of t.id) (lot_rows_with_quantity_change (xs ++ t ∷ ys) v) ≡ new_rows base t v
 unfolding new_rows
 its_rows base xs t ys c v true e =
     let D : List Deal = deals_of_position (completed_trades base) t.account t.symbol in
@@ -143,7 +143,7 @@ kept_all base xs t ys c lot account symbol =
     (rows_of_others t.id lot [] D (others_of base xs t ys c account symbol))))
 
 other_rows : (base : Base) (xs : List Trade) (t : Trade) (ys : List Trade) → Completes base xs t ys → (v : Trade) (b : Bool) → is_here t v ≡ b
-    → filter (λ r. not (r.trade == t.id)) (changing_rows_of_lot (xs ++ t ∷ ys) v) ≡ changing_rows_of_lot (completed_trades base) v
+    → filter (λ r. not (r.trade == t.id)) (lot_rows_with_quantity_change (xs ++ t ∷ ys) v) ≡ lot_rows_with_quantity_change (completed_trades base) v
 other_rows base xs t ys c v true e =
     let D : List Deal = deals_of_position (completed_trades base) t.account t.symbol in
     let P : HoldingHistoryRow → Bool = λ r. not (r.trade == t.id) in
@@ -160,20 +160,21 @@ filter-flat_map p f [] = refl
 filter-flat_map p f (x ∷ xs) = filter-append p (f x) (flat_map f xs) ∙ ap (λ ys. filter p (f x) ++ ys) (filter-flat_map p f xs)
 
 all_new : (base : Base) (xs : List Trade) (t : Trade) (ys : List Trade) → Completes base xs t ys
-    → filter (is_of t.id) (flat_map (changing_rows_of_lot (xs ++ t ∷ ys)) (xs ++ t ∷ ys)) ≡ flat_map (new_rows base t) (xs ++ t ∷ ys)
+    → filter (is_of t.id) (flat_map (lot_rows_with_quantity_change (xs ++ t ∷ ys)) (xs ++ t ∷ ys)) ≡ flat_map (new_rows base t) (xs ++ t ∷ ys)
 all_new base xs t ys c =
-    filter-flat_map (is_of t.id) (changing_rows_of_lot (xs ++ t ∷ ys)) (xs ++ t ∷ ys)
-    ∙ flat_map-same (λ v. filter (is_of t.id) (changing_rows_of_lot (xs ++ t ∷ ys) v)) (new_rows base t) (xs ++ t ∷ ys) (every (xs ++ t ∷ ys))
+    filter-flat_map (is_of t.id) (lot_rows_with_quantity_change (xs ++ t ∷ ys)) (xs ++ t ∷ ys)
+    ∙ flat_map-same (λ v. filter (is_of t.id) (lot_rows_with_quantity_change (xs ++ t ∷ ys) v)) (new_rows base t) (xs ++ t ∷ ys) (every (xs ++ t ∷ ys))
   where
-    every : (vs : List Trade) → AllByRecursion (λ v. filter (is_of t.id) (changing_rows_of_lot (xs ++ t ∷ ys) v) ≡ new_rows base t v) vs
+    every : (vs : List Trade) → AllByRecursion (λ v. filter (is_of t.id) (lot_rows_with_quantity_change (xs ++ t ∷ ys) v) ≡ new_rows base t v) vs
     every [] = tt
     every (v ∷ vs) = (its_rows base xs t ys c v (is_here t v) refl, every vs)
 
 all_old : (base : Base) (xs : List Trade) (t : Trade) (ys : List Trade) → Completes base xs t ys
-    → filter (λ r. not (r.trade == t.id)) (flat_map (changing_rows_of_lot (xs ++ t ∷ ys)) (xs ++ t ∷ ys)) ≡ flat_map (changing_rows_of_lot (completed_trades base)) (completed_trades base)
+    → filter (λ r. not (r.trade == t.id)) (flat_map (lot_rows_with_quantity_change (xs ++ t ∷ ys)) (xs ++ t ∷ ys))
+    ≡ flat_map (lot_rows_with_quantity_change (completed_trades base)) (completed_trades base)
 all_old base xs t ys c =
-    filter-flat_map P (changing_rows_of_lot (xs ++ t ∷ ys)) (xs ++ t ∷ ys)
-    ∙ flat_map-same (λ v. filter P (changing_rows_of_lot (xs ++ t ∷ ys) v)) L (xs ++ t ∷ ys) (every (xs ++ t ∷ ys))
+    filter-flat_map P (lot_rows_with_quantity_change (xs ++ t ∷ ys)) (xs ++ t ∷ ys)
+    ∙ flat_map-same (λ v. filter P (lot_rows_with_quantity_change (xs ++ t ∷ ys) v)) L (xs ++ t ∷ ys) (every (xs ++ t ∷ ys))
     ∙ flat_map-append L xs (t ∷ ys) ∙ ap (λ rows. flat_map L xs ++ (rows ++ flat_map L ys)) none ∙ sym (flat_map-append L xs ys)
     ∙ ap (flat_map L) (sym c.split)
   where
@@ -181,9 +182,9 @@ all_old base xs t ys c =
     P r = not (r.trade == t.id)
 
     L : Trade → List HoldingHistoryRow
-    L = changing_rows_of_lot (completed_trades base)
+    L = lot_rows_with_quantity_change (completed_trades base)
 
-    every : (vs : List Trade) → AllByRecursion (λ v. filter P (changing_rows_of_lot (xs ++ t ∷ ys) v) ≡ L v) vs
+    every : (vs : List Trade) → AllByRecursion (λ v. filter P (lot_rows_with_quantity_change (xs ++ t ∷ ys) v) ≡ L v) vs
     every [] = tt
     every (v ∷ vs) = (other_rows base xs t ys c v (is_here t v) refl, every vs)
 
@@ -324,15 +325,15 @@ apart_keys id x y e f k = let j : x.trade ≡ y.trade = trade_of x.lot x.trade y
     trade_of a b m n e = cc
 
 pub histories_after : (base : Base) (xs : List Trade) (t : Trade) (ys : List Trade) → Completes base xs t ys
-    → rows_sorted_by_key holding_history_key (flat_map (changing_rows_of_lot (xs ++ t ∷ ys)) (xs ++ t ∷ ys))
+    → rows_sorted_by_key holding_history_key (flat_map (lot_rows_with_quantity_change (xs ++ t ∷ ys)) (xs ++ t ∷ ys))
     ≡ put_openings (lots_of_shares (opened_shares (deal_of_trade t) (shares_before base t)))
     (put_changes t.id (list_reversed_if_lifo t.is_lifo (touches_of_existing_lots (deal_of_trade t) (shares_before base t)))
-    (rows_sorted_by_key holding_history_key (flat_map (changing_rows_of_lot (completed_trades base)) (completed_trades base))))
+    (rows_sorted_by_key holding_history_key (flat_map (lot_rows_with_quantity_change (completed_trades base)) (completed_trades base))))
 histories_after base xs t ys c =
     let K = holding_history_key in
-    let old : List HoldingHistoryRow = rows_sorted_by_key K (flat_map (changing_rows_of_lot (completed_trades base)) (completed_trades base)) in
+    let old : List HoldingHistoryRow = rows_sorted_by_key K (flat_map (lot_rows_with_quantity_change (completed_trades base)) (completed_trades base)) in
     let put : Trade → List HoldingHistoryRow → List HoldingHistoryRow = put_at base t in
-    by_key-parts K (is_of t.id) (flat_map (changing_rows_of_lot (xs ++ t ∷ ys)) (xs ++ t ∷ ys)) (apart_keys t.id)
+    by_key-parts K (is_of t.id) (flat_map (lot_rows_with_quantity_change (xs ++ t ∷ ys)) (xs ++ t ∷ ys)) (apart_keys t.id)
     ∙ (λ i. each (insert_row_by_key K) (all_new base xs t ys c i) (rows_sorted_by_key K (all_old base xs t ys c i)))
     ∙ put_new base t (xs ++ t ∷ ys) old
     ∙ ap (λ vs. each put vs old) (filter-one (is_here t) xs t ys (here_itself t))

@@ -24,7 +24,7 @@ use Rattle.brk_model.specs.Shares.{Deal, Share, lot_quantity, shares_after_deal}
 use Rattle.brk_model.specs.Sheets.{sheets, tables_sorted_by_key}
 use Rattle.brk_model.specs.Tables.{HoldingHistoryRow, HoldingRow, holding_row, tables_of_base_in_schema, trade_row}
 use Rattle.brk_lots.proofs.HistoryRows.{rows_of_lots_are}
-use Rattle.brk_lots.specs.HistoryRows.{has_quantity_change, changing_rows_of_lot, lot_history_rows_per_deal, touch_of_row}
+use Rattle.brk_lots.specs.HistoryRows.{has_quantity_change, lot_rows_with_quantity_change, lot_history_rows_per_deal, touch_of_row}
 use Rattle.brk_book_theorems.specs.Books.{BooksInvariant}
 use Rattle.brk_book_theorems.specs.Lives.{LotChangesFormChain, BeginsWithTradeOfLot, AllLotChangesFormChains, lot_changes_by_stamp, remaining_lot_quantity}
 use Rattle.brk_book_theorems.proofs.Histories.{Others, filter-flat_map, no_rows}
@@ -166,7 +166,7 @@ done_found : (base : Base) → BooksInvariant base → AllByRecursion (λ t. tra
 done_found base books =
     All-filter (λ t. trade_with_id base t.id ≡ Some t) is_completed base.trades (found_each base.trades (rise_apart base.trades (numbered_rise 1 base.trades books.numbered)))
 
-history_rises : (base : Base) (t : Trade) → BooksInvariant base → Rise (stamp_of_touching_trade (sheets base)) (changing_rows_of_lot (completed_trades base) t)
+history_rises : (base : Base) (t : Trade) → BooksInvariant base → Rise (stamp_of_touching_trade (sheets base)) (lot_rows_with_quantity_change (completed_trades base) t)
 history_rises base t books =
     rise_left (stamp_of_touching_trade (sheets base)) has_quantity_change (lot_history_rows_per_deal t.id [] (deals_of_position (completed_trades base) t.account t.symbol))
     (changes_rise base t.id [] (trades_held base t.account t.symbol) (held_in_order base t.account t.symbol books)
@@ -184,37 +184,38 @@ done_apart base books = rise_apart (completed_trades base) (rise_filter is_compl
 abbrev of_lot : ℕ → HoldingHistoryRow → Bool
 of_lot lot h = h.lot == lot
 
-own_lots : (done : List Trade) (t : Trade) → AllByRecursion (λ r. r.lot ≡ t.id) (changing_rows_of_lot done t)
+own_lots : (done : List Trade) (t : Trade) → AllByRecursion (λ r. r.lot ≡ t.id) (lot_rows_with_quantity_change done t)
 own_lots done t = All-filter (λ r. r.lot ≡ t.id) has_quantity_change (lot_history_rows_per_deal t.id [] (deals_of_position done t.account t.symbol))
     (lots_same t.id [] (deals_of_position done t.account t.symbol))
 
-none_other : (done : List Trade) (lot : ℕ) (ts : List Trade) → NonePass (λ u. u.id == lot) ts → flat_map (λ u. filter (of_lot lot) (changing_rows_of_lot done u)) ts ≡ []
+none_other : (done : List Trade) (lot : ℕ) (ts : List Trade) → NonePass (λ u. u.id == lot) ts → flat_map (λ u. filter (of_lot lot) (lot_rows_with_quantity_change done u)) ts ≡ []
 none_other done lot ts h =
-    flat_map-empty (λ u. filter (of_lot lot) (changing_rows_of_lot done u)) ts
-    (All-map ts (λ u e. filter-none (of_lot lot) (changing_rows_of_lot done u) (All-map (changing_rows_of_lot done u) (λ r same. ap (λ (n : ℕ). n == lot) same ∙ e) (own_lots done u))) h)
+    flat_map-empty (λ u. filter (of_lot lot) (lot_rows_with_quantity_change done u)) ts
+    (All-map ts (λ u e. filter-none (of_lot lot) (lot_rows_with_quantity_change done u)
+    (All-map (lot_rows_with_quantity_change done u) (λ r same. ap (λ (n : ℕ). n == lot) same ∙ e) (own_lots done u))) h)
 
 own_changes : (done : List Trade) (lot : ℕ) (t : Trade) → IdsApart done → (f : FoundAt Trade (λ u. u.id == lot) t done)
-    → filter (of_lot lot) (flat_map (changing_rows_of_lot done) done) ≡ changing_rows_of_lot done t
+    → filter (of_lot lot) (flat_map (lot_rows_with_quantity_change done) done) ≡ lot_rows_with_quantity_change done t
 own_changes done lot t d f =
-    let F : Trade → List HoldingHistoryRow = λ u. filter (of_lot lot) (changing_rows_of_lot done u) in
+    let F : Trade → List HoldingHistoryRow = λ u. filter (of_lot lot) (lot_rows_with_quantity_change done u) in
     let same : t.id ≡ lot = eqb-true t.id lot f.passes in
     let after : NonePass (λ u. u.id == lot) f.after = subst (λ (n : ℕ). NonePass (λ u. u.id == n) f.after) same (ids_after f.before t f.after (subst IdsApart f.stands d)) in
-    filter-flat_map (of_lot lot) (changing_rows_of_lot done) done
+    filter-flat_map (of_lot lot) (lot_rows_with_quantity_change done) done
     ∙ ap (flat_map F) f.stands ∙ flat_map-append F f.before (t ∷ f.after)
     ∙ (λ i. none_other done lot f.before f.others i ++ (F t ++ none_other done lot f.after after i))
     ∙ append_nil (F t)
-    ∙ filter-all (of_lot lot) (changing_rows_of_lot done t) (All-map (changing_rows_of_lot done t) (λ r e. ap (λ (n : ℕ). n == lot) e ∙ f.passes) (own_lots done t))
+    ∙ filter-all (of_lot lot) (lot_rows_with_quantity_change done t) (All-map (lot_rows_with_quantity_change done t) (λ r e. ap (λ (n : ℕ). n == lot) e ∙ f.passes) (own_lots done t))
 
-history_is : (base : Base) → (sheets base).holding_history ≡ rows_sorted_by_key holding_history_key (flat_map (changing_rows_of_lot (completed_trades base)) (completed_trades base))
+history_is : (base : Base) → (sheets base).holding_history ≡ rows_sorted_by_key holding_history_key (flat_map (lot_rows_with_quantity_change (completed_trades base)) (completed_trades base))
 unfolding tables_of_base_in_schema tables_sorted_by_key
 history_is base = ap (rows_sorted_by_key holding_history_key) (rows_of_lots_are (completed_trades base) (completed_trades base))
 
-changes_of : (base : Base) (lot : ℕ) (rows : List HoldingHistoryRow) → filter (of_lot lot) (flat_map (changing_rows_of_lot (completed_trades base)) (completed_trades base)) ≡ rows
+changes_of : (base : Base) (lot : ℕ) (rows : List HoldingHistoryRow) → filter (of_lot lot) (flat_map (lot_rows_with_quantity_change (completed_trades base)) (completed_trades base)) ≡ rows
     → Rise (stamp_of_touching_trade (sheets base)) rows → lot_changes_by_stamp (sheets base) lot ≡ rows
 changes_of base lot rows e r =
     let S : HoldingHistoryRow → HoldingHistoryRow → Bool = by (stamp_of_touching_trade (sheets base)) in
     ap (λ rs. sort_by S (filter (of_lot lot) rs)) (history_is base)
-    ∙ ap (sort_by S) (sym (by_key-filter holding_history_key (of_lot lot) (flat_map (changing_rows_of_lot (completed_trades base)) (completed_trades base)))
+    ∙ ap (sort_by S) (sym (by_key-filter holding_history_key (of_lot lot) (flat_map (lot_rows_with_quantity_change (completed_trades base)) (completed_trades base)))
     ∙ ap (rows_sorted_by_key holding_history_key) e)
     ∙ sort_any (stamp_of_touching_trade (sheets base)) (is_row_key_less holding_history_key) rows r
 
@@ -269,12 +270,12 @@ of_done base lot t books e =
     let f : FoundAt Trade (λ u. u.id == lot) t (completed_trades base) = find-at (λ u. u.id == lot) (completed_trades base) t e in
     let deals : List Deal = deals_of_position (completed_trades base) t.account t.symbol in
     let same : t.id ≡ lot = eqb-true t.id lot f.passes in
-    let changes : lot_changes_by_stamp (sheets base) lot ≡ changing_rows_of_lot (completed_trades base) t =
-    changes_of base lot (changing_rows_of_lot (completed_trades base) t) (own_changes (completed_trades base) lot t (done_apart base books) f) (history_rises base t books) in
+    let changes : lot_changes_by_stamp (sheets base) lot ≡ lot_rows_with_quantity_change (completed_trades base) t =
+    changes_of base lot (lot_rows_with_quantity_change (completed_trades base) t) (own_changes (completed_trades base) lot t (done_apart base books) f) (history_rises base t books) in
     let rows : map touch_of_row (lot_changes_by_stamp (sheets base) lot) ≡ changes_of_lot t.id deals [] = ap (map touch_of_row) changes in
     record {
       opened = subst (BeginsWithTradeOfLot lot) (sym changes)
-          (subst (λ (n : ℕ). BeginsWithTradeOfLot n (changing_rows_of_lot (completed_trades base) t)) same
+          (subst (λ (n : ℕ). BeginsWithTradeOfLot n (lot_rows_with_quantity_change (completed_trades base) t)) same
           (opened_first t.id Buy [] deals tt tt (deals_are base t.account t.symbol books)));
       life = subst (λ rs. IsLotHistory rs (remaining_lot_quantity (sheets base) lot)) (sym rows)
           (subst (λ q. IsLotHistory (changes_of_lot t.id deals []) q) (sym (left_is base lot t books f)) (lot_lives base t.account t.symbol t.id books));
@@ -285,7 +286,7 @@ of_none base lot books e =
     let none : NonePass (λ u. u.id == lot) (completed_trades base) = find-none (λ u. u.id == lot) (completed_trades base) (ap is_some e) in
     let rows : lot_changes_by_stamp (sheets base) lot ≡ [] =
     changes_of base lot []
-    (filter-flat_map (of_lot lot) (changing_rows_of_lot (completed_trades base)) (completed_trades base)
+    (filter-flat_map (of_lot lot) (lot_rows_with_quantity_change (completed_trades base)) (completed_trades base)
     ∙ none_other (completed_trades base) lot (completed_trades base) none) tt in
     let left : remaining_lot_quantity (sheets base) lot ≡ pos 0 =
     ap (λ o. option_map_or (λ h. h.qty) o (pos 0))

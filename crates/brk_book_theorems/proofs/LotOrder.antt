@@ -15,7 +15,7 @@ use Rattle.brk_model.specs.Shares.{Share, lot_quantity, signed_by_side}
 use Rattle.brk_model.specs.Sheets.{sheets}
 use Rattle.brk_model.specs.Tables.{HoldingRow, holding_row}
 use Rattle.brk_lots.specs.Lots.{shares_of_lots, side_of_qty}
-use Rattle.brk_lots.specs.Position.{AreOpenedBeforeStamp, IsLaterInPosition, AreOpenedByOtherTrades, IsPosition}
+use Rattle.brk_lots.specs.Position.{AreOpenedBeforeStamp, PrecedesInPosition, AreOpenedByOtherTrades, IsPosition}
 use Rattle.brk_lots.specs.declared.lot.Lot.{Lot}
 use Rattle.brk_lots.proofs.Books.{sides_after}
 use Rattle.brk_lots.proofs.Counts.{OneSide, lot_counts}
@@ -133,12 +133,12 @@ position_upon s shares (t ∷ ts) one o = by_test (position_upon s shares ts one
     l : Lot
     l = lot_upon shares t
 
-    behind : is_zero (lot_quantity shares t.id) ≡ false → (us : List Trade) → AllByRecursion (Follows t) us → AllByRecursion (IsLaterInPosition l) (lots_left shares us)
+    behind : is_zero (lot_quantity shares t.id) ≡ false → (us : List Trade) → AllByRecursion (Follows t) us → AllByRecursion (PrecedesInPosition l) (lots_left shares us)
     behind e [] h = tt
     behind e (u ∷ us) h = one_more (behind e us h.1) (is_zero (lot_quantity shares u.id)) refl
       where
-        one_more : AllByRecursion (IsLaterInPosition l) (lots_left shares us) → (b : Bool) → is_zero (lot_quantity shares u.id) ≡ b
-            → AllByRecursion (IsLaterInPosition l) (cond (not b) (lot_upon shares u ∷ lots_left shares us) (lots_left shares us))
+        one_more : AllByRecursion (PrecedesInPosition l) (lots_left shares us) → (b : Bool) → is_zero (lot_quantity shares u.id) ≡ b
+            → AllByRecursion (PrecedesInPosition l) (cond (not b) (lot_upon shares u ∷ lots_left shares us) (lots_left shares us))
         one_more rest true f = rest
         one_more rest false f =
             (((side_of_lot s shares u.id one f ∙ sym (side_of_lot s shares t.id one e), eqb-false u.id t.id h.0.0), h.0.1), rest)

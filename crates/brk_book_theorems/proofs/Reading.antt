@@ -11,7 +11,7 @@ use Rattle.brk_model.specs.Keys.{KeyPart, number, is_key_less, is_row_key_less, 
 use Rattle.brk_model.specs.Tables.{tables_of_base_in_schema, broker_row, account_row}
 use Rattle.brk_model.specs.Sheets.{sheets, tables_sorted_by_key}
 use Rattle.brk_model.specs.Form.{has_account, has_broker, has_customer}
-use Rattle.brk_book_theorems.specs.Reads.{contains_tax_id, account_count_of_customer}
+use Rattle.brk_book_theorems.specs.Reads.{contains_customer_with_tax_id, account_count_of_customer}
 use Rattle.brk_book_theorems.proofs.Order.{key_one_way, by_key-filter}
 
 -- ---- in sorted rows
@@ -164,7 +164,7 @@ pub reads_same_customer : (base : Base) (id : ℕ) → has_customer (sheets base
 unfolding tables_of_base_in_schema tables_sorted_by_key
 reads_same_customer base id = some-any customer_key (λ c. c.id == id) base.customers
 
-pub reads_tax_id : (base : Base) (tax_id : Text) → contains_tax_id (sheets base) tax_id ≡ list_any (λ c. bytes_eq c.tax_id tax_id) base.customers
+pub reads_tax_id : (base : Base) (tax_id : Text) → contains_customer_with_tax_id (sheets base) tax_id ≡ list_any (λ c. bytes_eq c.tax_id tax_id) base.customers
 unfolding tables_of_base_in_schema tables_sorted_by_key
 reads_tax_id base tax_id = some-any customer_key (λ c. bytes_eq c.tax_id tax_id) base.customers
 

@@ -10,7 +10,7 @@ use Rattle.brk_money.specs.declared.status.Status.TheVariants.{Submitted, Pendin
 use Rattle.brk_model.specs.Records.{Account, Security, Trade}
 use Rattle.brk_model.specs.Base.{Base, account_with_id, completed_trades, has_last_status, is_completed, last_status_stamp_of_trade, security_with_symbol, trade_with_id}
 use Rattle.brk_model.specs.Commands.{CompleteTrade}
-use Rattle.brk_model.specs.Results.{completed_trade, base_after_result}
+use Rattle.brk_model.specs.Results.{trade_after_completion, base_after_result}
 use Rattle.brk_model.specs.Sheets.{sheets}
 use Rattle.brk_model.specs.Step.{base_after_command_unstamped, base_after_result_by_id}
 use Rattle.brk_model.specs.Tests.{stamp_of_next_command, refusal_of_command, checks_of_result, checks_of_command}
@@ -136,22 +136,22 @@ moments_more (x ∷ xs) t ys h m = (
   moments_more xs t ys h.1 m.1,
 )
 
-not_waiting : (base : Base) (stamp price : ℕ) (t : Trade) → HasOneStatusChangeIfPending (completed_trade base stamp price t)
-not_waiting base stamp price t p = let k : has_last_status Pending (completed_trade base stamp price t) ≡ false = status_then base stamp price t Pending in absurd (cc)
+not_waiting : (base : Base) (stamp price : ℕ) (t : Trade) → HasOneStatusChangeIfPending (trade_after_completion base stamp price t)
+not_waiting base stamp price t p = let k : has_last_status Pending (trade_after_completion base stamp price t) ≡ false = status_then base stamp price t Pending in absurd (cc)
 
-not_at_market : (base : Base) (stamp price : ℕ) (t : Trade) → HasNoCompletionIfSubmitted (completed_trade base stamp price t)
-not_at_market base stamp price t p = let k : has_last_status Submitted (completed_trade base stamp price t) ≡ false = status_then base stamp price t Submitted in absurd (cc)
+not_at_market : (base : Base) (stamp price : ℕ) (t : Trade) → HasNoCompletionIfSubmitted (trade_after_completion base stamp price t)
+not_at_market base stamp price t p = let k : has_last_status Submitted (trade_after_completion base stamp price t) ≡ false = status_then base stamp price t Submitted in absurd (cc)
 
-same_id : (base : Base) (stamp price : ℕ) (t : Trade) → (completed_trade base stamp price t).id ≡ t.id
-unfolding completed_trade
+same_id : (base : Base) (stamp price : ℕ) (t : Trade) → (trade_after_completion base stamp price t).id ≡ t.id
+unfolding trade_after_completion
 same_id base stamp price t = refl
 
-same_account : (base : Base) (stamp price : ℕ) (t : Trade) → AccountOfTradeExists base t → AccountOfTradeExists base (completed_trade base stamp price t)
-unfolding completed_trade
+same_account : (base : Base) (stamp price : ℕ) (t : Trade) → AccountOfTradeExists base t → AccountOfTradeExists base (trade_after_completion base stamp price t)
+unfolding trade_after_completion
 same_account base stamp price t h = h
 
-same_security : (base : Base) (stamp price : ℕ) (t : Trade) → SecurityOfTradeExists base t → SecurityOfTradeExists base (completed_trade base stamp price t)
-unfolding completed_trade
+same_security : (base : Base) (stamp price : ℕ) (t : Trade) → SecurityOfTradeExists base t → SecurityOfTradeExists base (trade_after_completion base stamp price t)
+unfolding trade_after_completion
 same_security base stamp price t h = h
 
 no_later : (m n : ℕ) → m ≡ n → m ≤ n
@@ -161,7 +161,7 @@ books_then : (base : Base) (now id price : ℕ) (t : Trade) → BooksInvariant b
     → BooksInvariant (record (base_after_result base (stamp_of_next_command base now) price t) { last = Some (stamp_of_next_command base now) })
 books_then base now id price t k e accepted =
     let stamp : ℕ = stamp_of_next_command base now in
-    let u : Trade = completed_trade base stamp price t in
+    let u : Trade = trade_after_completion base stamp price t in
     let f : Found base now price t = found_at base now id price t k e (submitted base now id price t e accepted) in
     let A : List Trade = filter is_completed f.front in
     let Z : List Trade = filter is_completed f.back in
@@ -175,11 +175,11 @@ books_then base now id price t k e accepted =
       parties = k.parties;
       market = k.market;
       trades = record {
-        accounts = All-updated (AccountOfTradeExists base) (λ v. v.id == t.id) (completed_trade base stamp price) base.trades (λ v h. same_account base stamp price v h) k.accounts;
-        securities = All-updated (SecurityOfTradeExists base) (λ v. v.id == t.id) (completed_trade base stamp price) base.trades (λ v h. same_security base stamp price v h) k.securities;
-        numbered = numbered_updated 1 (λ v. v.id == t.id) (completed_trade base stamp price) base.trades (λ v. same_id base stamp price v) k.numbered;
-        ways = All-updated HasOneStatusChangeIfPending (λ v. v.id == t.id) (completed_trade base stamp price) base.trades (λ v h. not_waiting base stamp price v) k.ways;
-        completions = All-updated HasNoCompletionIfSubmitted (λ v. v.id == t.id) (completed_trade base stamp price) base.trades (λ v h. not_at_market base stamp price v) k.completions;
+        accounts = All-updated (AccountOfTradeExists base) (λ v. v.id == t.id) (trade_after_completion base stamp price) base.trades (λ v h. same_account base stamp price v h) k.accounts;
+        securities = All-updated (SecurityOfTradeExists base) (λ v. v.id == t.id) (trade_after_completion base stamp price) base.trades (λ v h. same_security base stamp price v h) k.securities;
+        numbered = numbered_updated 1 (λ v. v.id == t.id) (trade_after_completion base stamp price) base.trades (λ v. same_id base stamp price v) k.numbered;
+        ways = All-updated HasOneStatusChangeIfPending (λ v. v.id == t.id) (trade_after_completion base stamp price) base.trades (λ v h. not_waiting base stamp price v) k.ways;
+        completions = All-updated HasNoCompletionIfSubmitted (λ v. v.id == t.id) (trade_after_completion base stamp price) base.trades (λ v h. not_at_market base stamp price v) k.completions;
       };
       times = record {
         early = subst (AllByRecursion (TradeStampIsAtMostLastStamp (Some stamp))) (sym after)

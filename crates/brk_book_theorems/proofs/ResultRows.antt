@@ -12,13 +12,13 @@ use Rattle.brk_model.specs.Records.{Account, StatusChange, Security, Trade}
 use Rattle.brk_model.specs.Base.{Base, account_with_id, broker_id_in_accounts, completed_trades, has_last_status, is_completed, last_status_change, last_status_stamp_of_trade, security_with_symbol}
 use Rattle.brk_model.specs.Derived.{Posting, balance_of_account, commission_total_of_broker, deal_of_trade, postings_sorted_by_stamp, pending_trades}
 use Rattle.brk_model.specs.Derived.{posting_of_trade, postings, postings_of_base, trade_count_of_broker}
-use Rattle.brk_model.specs.Results.{completed_trade, deal_of_result, base_after_result}
+use Rattle.brk_model.specs.Results.{trade_after_completion, deal_of_result, base_after_result}
 use Rattle.brk_model.specs.Shares as model
 use Rattle.brk_model.specs.Shares.{Touch}
 use Rattle.brk_model.specs.Tables.{BrokerRow, HistoryRow, MoveRow, SummaryRow, Tables, TradeRow, account_row, broker_row, history_rows, holding_row}
 use Rattle.brk_model.specs.Tables.{cash_move_row as numbered_row, numbered_move_rows, request_row, settlement_row, tables_of_base_in_schema, trade_row}
 use Rattle.brk_lots.proofs.HistoryRows.{rows_of_lots_are}
-use Rattle.brk_lots.specs.HistoryRows.{changing_rows_of_lot}
+use Rattle.brk_lots.specs.HistoryRows.{lot_rows_with_quantity_change}
 use Rattle.brk_model.specs.Keys.{number, word, account_key, broker_key, rows_sorted_by_key, history_key, holding_history_key, holding_key, insert_row_by_key}
 use Rattle.brk_model.specs.Keys.{cash_move_key, request_key, settlement_key, summary_key, trade_key}
 use Rattle.brk_model.specs.Sheets.{sheets, tables_sorted_by_key}
@@ -61,16 +61,16 @@ submitted_not_completed t h = (at_market (last_status_change t) h).0
 submitted_not_pending : (t : Trade) → has_last_status Submitted t ≡ true → has_last_status Pending t ≡ false
 submitted_not_pending t h = (at_market (last_status_change t) h).1
 
-pub status_then : (base : Base) (stamp price : ℕ) (t : Trade) (wanted : Status) → has_last_status wanted (completed_trade base stamp price t) ≡ is_same_trade_status Completed wanted
-unfolding completed_trade
+pub status_then : (base : Base) (stamp price : ℕ) (t : Trade) (wanted : Status) → has_last_status wanted (trade_after_completion base stamp price t) ≡ is_same_trade_status Completed wanted
+unfolding trade_after_completion
 status_then base stamp price t wanted = status_of_marked stamp Completed wanted t
 
-pub moment_then : (base : Base) (stamp price : ℕ) (t : Trade) → last_status_stamp_of_trade (completed_trade base stamp price t) ≡ stamp
-unfolding completed_trade
+pub moment_then : (base : Base) (stamp price : ℕ) (t : Trade) → last_status_stamp_of_trade (trade_after_completion base stamp price t) ≡ stamp
+unfolding trade_after_completion
 moment_then base stamp price t = ap (λ o. option_map_or (λ m. m.stamp) o 0) (last_of_marked stamp Completed t)
 
-pub deal_then : (base : Base) (stamp price : ℕ) (t : Trade) → deal_of_trade (completed_trade base stamp price t) ≡ deal_of_result stamp price t
-unfolding completed_trade
+pub deal_then : (base : Base) (stamp price : ℕ) (t : Trade) → deal_of_trade (trade_after_completion base stamp price t) ≡ deal_of_result stamp price t
+unfolding trade_after_completion
 deal_then base stamp price t = λ i. record (deal_of_result stamp price t) { stamp = moment_then base stamp price t i }
 
 -- ---- TRADE
@@ -79,11 +79,11 @@ abbrev completed_row : TradeRow → TradeRow → TradeRow
 completed_row c r = record r { status = Completed; stamp = c.stamp; price = Some (unwrap_or c.price 0); commission = c.commission; tax = c.tax }
 
 trades_after : (base : Base) (stamp price : ℕ) (xs : List Trade) (t : Trade) (ys : List Trade) → ids_other t.id xs → ids_other t.id ys
-    → rows_sorted_by_key trade_key (map trade_row (xs ++ completed_trade base stamp price t ∷ ys))
-    ≡ update_where (λ r. r.id == t.id) (completed_row (trade_row (completed_trade base stamp price t))) (rows_sorted_by_key trade_key (map trade_row (xs ++ t ∷ ys)))
-unfolding completed_trade
+    → rows_sorted_by_key trade_key (map trade_row (xs ++ trade_after_completion base stamp price t ∷ ys))
+    ≡ update_where (λ r. r.id == t.id) (completed_row (trade_row (trade_after_completion base stamp price t))) (rows_sorted_by_key trade_key (map trade_row (xs ++ t ∷ ys)))
+unfolding trade_after_completion
 trades_after base stamp price xs t ys g h =
-    let u : Trade = completed_trade base stamp price t in
+    let u : Trade = trade_after_completion base stamp price t in
     let c : TradeRow = trade_row u in
     let row : c ≡ completed_row c (trade_row t) = λ i. record c { status = option_map_or (λ m. m.status) (last_of_marked stamp Completed t i) Canceled } in
     let change : TradeRow → TradeRow = λ r. cond (r.id == t.id) (completed_row c r) r in
@@ -126,14 +126,14 @@ own_history stamp t h =
     code_of n a b e = cc
 
 history_after : (base : Base) (stamp price : ℕ) (xs : List Trade) (t : Trade) (ys : List Trade) → ids_other t.id xs → AllByRecursion IsNotCompletion t.marks
-    → rows_sorted_by_key history_key (flat_map history_rows (xs ++ completed_trade base stamp price t ∷ ys))
+    → rows_sorted_by_key history_key (flat_map history_rows (xs ++ trade_after_completion base stamp price t ∷ ys))
     ≡ insert_row_by_key history_key (history_row_of_status t.id Completed stamp) (rows_sorted_by_key history_key (flat_map history_rows (xs ++ t ∷ ys)))
-unfolding completed_trade
+unfolding trade_after_completion
 history_after base stamp price xs t ys g h =
     let row : HistoryRow = history_row_of_status t.id Completed stamp in
     let H : List Trade → List HistoryRow = flat_map history_rows in
-    let after : H (xs ++ completed_trade base stamp price t ∷ ys) ≡ (H xs ++ history_rows t) ++ row ∷ H ys =
-    flat_map-append history_rows xs (completed_trade base stamp price t ∷ ys)
+    let after : H (xs ++ trade_after_completion base stamp price t ∷ ys) ≡ (H xs ++ history_rows t) ++ row ∷ H ys =
+    flat_map-append history_rows xs (trade_after_completion base stamp price t ∷ ys)
     ∙ ap (λ rows. H xs ++ (rows ++ H ys)) (map-last (λ m. history_row_of_status t.id m.status m.stamp) t.marks (record { stamp = stamp; status = Completed }))
     ∙ ap (λ rows. H xs ++ rows) (append_assoc (history_rows t) (row ∷ []) (H ys))
     ∙ sym (append_assoc (H xs) (history_rows t) (row ∷ H ys)) in
@@ -206,23 +206,23 @@ pub record IsResult (base : Base) (stamp price : ℕ) (t : Trade) (xs ys : List 
 
 -- its trades, with the trade completed
 pub trades_then : (base : Base) (stamp price : ℕ) (t : Trade) (xs ys : List Trade) → IsResult base stamp price t xs ys
-    → update_where (λ u. u.id == t.id) (completed_trade base stamp price) base.trades ≡ xs ++ completed_trade base stamp price t ∷ ys
+    → update_where (λ u. u.id == t.id) (trade_after_completion base stamp price) base.trades ≡ xs ++ trade_after_completion base stamp price t ∷ ys
 trades_then base stamp price t xs ys k =
     let n : TradesAreNumberedFrom 1 (xs ++ t ∷ ys) = subst (TradesAreNumberedFrom 1) k.stands k.books.numbered in
-    ap (update_where (λ u. u.id == t.id) (completed_trade base stamp price)) k.stands
-    ∙ update_where-one (λ u. u.id == t.id) (completed_trade base stamp price) xs t ys (numbered_before 1 xs t ys n) (eq-eqb t.id t.id refl) (numbered_after 1 xs t ys n)
+    ap (update_where (λ u. u.id == t.id) (trade_after_completion base stamp price)) k.stands
+    ∙ update_where-one (λ u. u.id == t.id) (trade_after_completion base stamp price) xs t ys (numbered_before 1 xs t ys n) (eq-eqb t.id t.id refl) (numbered_after 1 xs t ys n)
 
 pub done_then : (base : Base) (stamp price : ℕ) (t : Trade) (xs ys : List Trade) → IsResult base stamp price t xs ys
-    → completed_trades (base_after_result base stamp price t) ≡ filter is_completed xs ++ completed_trade base stamp price t ∷ filter is_completed ys
+    → completed_trades (base_after_result base stamp price t) ≡ filter is_completed xs ++ trade_after_completion base stamp price t ∷ filter is_completed ys
 done_then base stamp price t xs ys k =
-    ap (filter is_completed) (trades_then base stamp price t xs ys k) ∙ filter-one is_completed xs (completed_trade base stamp price t) ys (status_then base stamp price t Completed)
+    ap (filter is_completed) (trades_then base stamp price t xs ys k) ∙ filter-one is_completed xs (trade_after_completion base stamp price t) ys (status_then base stamp price t Completed)
 
 pub done_now : (base : Base) (stamp price : ℕ) (t : Trade) (xs ys : List Trade) → IsResult base stamp price t xs ys → completed_trades base ≡ filter is_completed xs ++ filter is_completed ys
 done_now base stamp price t xs ys k = ap (filter is_completed) k.stands ∙ filter-not_one is_completed xs t ys (submitted_not_completed t k.submitted)
 
 pub completes : (base : Base) (stamp price : ℕ) (t : Trade) (xs ys : List Trade) → IsResult base stamp price t xs ys
-    → Completes base (filter is_completed xs) (completed_trade base stamp price t) (filter is_completed ys)
-unfolding completed_trade
+    → Completes base (filter is_completed xs) (trade_after_completion base stamp price t) (filter is_completed ys)
+unfolding trade_after_completion
 completes base stamp price t xs ys k =
     let n : TradesAreNumberedFrom 1 (xs ++ t ∷ ys) = subst (TradesAreNumberedFrom 1) k.stands k.books.numbered in
     record {
@@ -282,12 +282,12 @@ rows_are u c t =
 pub sheets_then : (base : Base) (stamp price : ℕ) (t : Trade) (xs ys : List Trade) → IsResult base stamp price t xs ys → (a : Account) (s : Security)
     → account_with_id base t.account ≡ Some a → security_with_symbol base t.symbol ≡ Some s → AllByRecursion IsNotCompletion t.marks
     → sheets (base_after_result base stamp price t) ≡ tables_after_result (result_rows_of_trade base stamp price t) (sheets base)
-unfolding tables_of_base_in_schema tables_sorted_by_key completed_trade
+unfolding tables_of_base_in_schema tables_sorted_by_key trade_after_completion
 sheets_then base stamp price t xs ys k a s ea es marks =
     moved ∙ sym (rows_are u c (sheets base)) ∙ (λ i. tables_after_result (result_rows_of_deal base (sym then i) (deal_then base stamp price t i) u) (sheets base))
   where
     u : Trade
-    u = completed_trade base stamp price t
+    u = trade_after_completion base stamp price t
 
     A : List Trade
     A = filter is_completed xs
@@ -304,7 +304,7 @@ sheets_then base stamp price t xs ys k a s ea es marks =
     c : ResultRows
     c = result_rows_of_deal base done (deal_of_trade u) u
 
-    all : update_where (λ v. v.id == t.id) (completed_trade base stamp price) base.trades ≡ xs ++ u ∷ ys
+    all : update_where (λ v. v.id == t.id) (trade_after_completion base stamp price) base.trades ≡ xs ++ u ∷ ys
     all = trades_then base stamp price t xs ys k
 
     then : completed_trades after ≡ done
@@ -410,7 +410,7 @@ sheets_then base stamp price t xs ys k a s ea es marks =
     histories : (sheets after).holding_history ≡ put_openings c.opened (put_changes u.id c.touched (sheets base).holding_history)
     histories =
         ap (rows_sorted_by_key holding_history_key) (rows_of_lots_are (completed_trades after) (completed_trades after))
-        ∙ ap (λ ts. rows_sorted_by_key holding_history_key (flat_map (changing_rows_of_lot ts) ts)) then ∙ histories_after base A u Z m
+        ∙ ap (λ ts. rows_sorted_by_key holding_history_key (flat_map (lot_rows_with_quantity_change ts) ts)) then ∙ histories_after base A u Z m
         ∙ ap (λ rows. put_openings c.opened (put_changes u.id c.touched rows)) (sym (ap (rows_sorted_by_key holding_history_key) (rows_of_lots_are (completed_trades base) (completed_trades base))))
 
     moved : sheets after ≡ rows_set u c (sheets base)

@@ -10,7 +10,7 @@ use Rattle.brk_model.specs.Records.{Account, Movement, Trade}
 use Rattle.brk_model.specs.Base.{Base, broker_id_in_accounts, broker_id_of_account, completed_trades, is_completed, opening_balance_in_accounts}
 use Rattle.brk_model.specs.Derived.{Posting, settlement_amount, balance_of_account, cash_trades, commission_total_of_broker, trades_of_broker}
 use Rattle.brk_model.specs.Derived.{posting_of_movement, posting_of_trade, postings, postings_of_base, holding_summary_quantity, trade_count_of_broker}
-use Rattle.brk_model.specs.Results.{completed_trade, base_after_result}
+use Rattle.brk_model.specs.Results.{trade_after_completion, base_after_result}
 use Rattle.brk_model.specs.Shares.{signed_by_side}
 use Rattle.brk_book_theorems.proofs.Places.{filter-append, filter-one}
 use Rattle.brk_book_theorems.proofs.Positions.{summary_own}
@@ -83,45 +83,45 @@ cash_one accounts xs t ys ms e =
 pub summary_grows : (base : Base) (stamp price : ℕ) (t : Trade) (xs ys : List Trade) → IsResult base stamp price t xs ys
     → holding_summary_quantity (completed_trades (base_after_result base stamp price t)) t.account t.symbol
     ≡ holding_summary_quantity (completed_trades base) t.account t.symbol +ℤ signed_by_side (side_of_trade_type t.kind) t.qty
-unfolding completed_trade
+unfolding trade_after_completion
 summary_grows base stamp price t xs ys k =
     ap (λ ts. holding_summary_quantity ts t.account t.symbol) (done_then base stamp price t xs ys k)
-    ∙ summary_own (filter is_completed xs) (completed_trade base stamp price t) (filter is_completed ys)
+    ∙ summary_own (filter is_completed xs) (trade_after_completion base stamp price t) (filter is_completed ys)
     ∙ ap (λ ts. holding_summary_quantity ts t.account t.symbol +ℤ signed_by_side (side_of_trade_type t.kind) t.qty) (sym (done_now base stamp price t xs ys k))
 
 pub count_grows : (base : Base) (stamp price : ℕ) (t : Trade) (xs ys : List Trade) → IsResult base stamp price t xs ys
     → trade_count_of_broker base.accounts (completed_trades (base_after_result base stamp price t)) (broker_id_of_account base t.account)
     ≡ trade_count_of_broker base.accounts (completed_trades base) (broker_id_of_account base t.account) + 1
-unfolding completed_trade
+unfolding trade_after_completion
 count_grows base stamp price t xs ys k =
     ap (λ ts. trade_count_of_broker base.accounts ts (broker_id_of_account base t.account)) (done_then base stamp price t xs ys k)
-    ∙ count_one base.accounts (filter is_completed xs) (completed_trade base stamp price t) (filter is_completed ys)
+    ∙ count_one base.accounts (filter is_completed xs) (trade_after_completion base stamp price t) (filter is_completed ys)
     ∙ ap (λ ts. trade_count_of_broker base.accounts ts (broker_id_of_account base t.account) + 1) (sym (done_now base stamp price t xs ys k))
 
 pub commissions_grow : (base : Base) (stamp price : ℕ) (t : Trade) (xs ys : List Trade) → IsResult base stamp price t xs ys
     → commission_total_of_broker base.accounts (completed_trades (base_after_result base stamp price t)) (broker_id_of_account base t.account)
-    ≡ commission_total_of_broker base.accounts (completed_trades base) (broker_id_of_account base t.account) + (completed_trade base stamp price t).commission
-unfolding completed_trade
+    ≡ commission_total_of_broker base.accounts (completed_trades base) (broker_id_of_account base t.account) + (trade_after_completion base stamp price t).commission
+unfolding trade_after_completion
 commissions_grow base stamp price t xs ys k =
     ap (λ ts. commission_total_of_broker base.accounts ts (broker_id_of_account base t.account)) (done_then base stamp price t xs ys k)
-    ∙ commissions_one base.accounts (filter is_completed xs) (completed_trade base stamp price t) (filter is_completed ys)
-    ∙ ap (λ ts. commission_total_of_broker base.accounts ts (broker_id_of_account base t.account) + (completed_trade base stamp price t).commission) (sym (done_now base stamp price t xs ys k))
+    ∙ commissions_one base.accounts (filter is_completed xs) (trade_after_completion base stamp price t) (filter is_completed ys)
+    ∙ ap (λ ts. commission_total_of_broker base.accounts ts (broker_id_of_account base t.account) + (trade_after_completion base stamp price t).commission) (sym (done_now base stamp price t xs ys k))
 
 pub balance_grows : (base : Base) (stamp price : ℕ) (t : Trade) (xs ys : List Trade) → IsResult base stamp price t xs ys → t.is_cash ≡ true
     → balance_of_account base.accounts (postings_of_base (base_after_result base stamp price t)) t.account
-    ≡ balance_of_account base.accounts (postings_of_base base) t.account +ℤ settlement_amount base.accounts (completed_trade base stamp price t)
-unfolding completed_trade
+    ≡ balance_of_account base.accounts (postings_of_base base) t.account +ℤ settlement_amount base.accounts (trade_after_completion base stamp price t)
+unfolding trade_after_completion
 balance_grows base stamp price t xs ys k e =
     ap (λ ts. balance_of_account base.accounts (postings base.accounts ts base.movements) t.account) (done_then base stamp price t xs ys k)
-    ∙ cash_one base.accounts (filter is_completed xs) (completed_trade base stamp price t) (filter is_completed ys) base.movements e
+    ∙ cash_one base.accounts (filter is_completed xs) (trade_after_completion base stamp price t) (filter is_completed ys) base.movements e
     ∙ ap (λ ts. balance_of_account base.accounts (postings base.accounts ts base.movements) t.account +ℤ settlement_amount base.accounts
-    (completed_trade base stamp price t)) (sym (done_now base stamp price t xs ys k))
+    (trade_after_completion base stamp price t)) (sym (done_now base stamp price t xs ys k))
 
 -- a trade on margin leaves the balance
 pub balance_stays : (base : Base) (stamp price : ℕ) (t : Trade) (xs ys : List Trade) → IsResult base stamp price t xs ys → t.is_cash ≡ false
     → balance_of_account base.accounts (postings_of_base (base_after_result base stamp price t)) t.account ≡ balance_of_account base.accounts (postings_of_base base) t.account
-unfolding completed_trade
+unfolding trade_after_completion
 balance_stays base stamp price t xs ys k e =
     ap (λ ts. balance_of_account base.accounts (postings base.accounts ts base.movements) t.account) (done_then base stamp price t xs ys k)
-    ∙ margin_balance base.accounts (filter is_completed xs) (completed_trade base stamp price t) (filter is_completed ys) base.movements t.account e
+    ∙ margin_balance base.accounts (filter is_completed xs) (trade_after_completion base stamp price t) (filter is_completed ys) base.movements t.account e
     ∙ ap (λ ts. balance_of_account base.accounts (postings base.accounts ts base.movements) t.account) (sym (done_now base stamp price t xs ys k))

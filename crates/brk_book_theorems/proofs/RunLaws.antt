@@ -4,9 +4,9 @@ use Rattle.std.specs.Prelude.{find, is_some, option_map}
 use Rattle.std.specs.Option.{option_map_or}
 use Rattle.std.specs.List.{AllByRecursion}
 use Rattle.std.proofs.lemmas.Bool.{eqb-false, eqb-true, eq-eqb}
-use Rattle.brk_lots.specs.Books.{deal_quantity_sum, realised_gain_sum, lot_cost_basis, lot_quantity_sum, purchase_value_minus_sale_value}
+use Rattle.brk_lots.specs.Books.{deal_quantity_sum, realised_gain_sum, cost_basis_of_lots, lot_quantity_sum, purchase_value_minus_sale_value}
 use Rattle.brk_lots.specs.Chains.{IsLotHistory, changes_of_lot}
-use Rattle.brk_lots.specs.Deals.{AreDistinctAscendingDeals, IsLaterDealOfOtherTrade}
+use Rattle.brk_lots.specs.Deals.{AreDistinctAscendingDeals, PrecedesDealOfOtherTrade}
 use Rattle.brk_lots.specs.Lots.{abstract_lot, shares_of_lots}
 use Rattle.brk_lots.proofs.Books.{costs_add_up, quantities_add_up}
 use Rattle.brk_lots.proofs.Chains.{lots_live}
@@ -24,7 +24,7 @@ use Rattle.brk_model.specs.Keyed.{base_with_stored_reply}
 use Rattle.brk_model.specs.Lists.{contains_number, update_where}
 use Rattle.brk_model.specs.Orders.{trade_of_order, tax_on_deal}
 use Rattle.brk_model.specs.Records.{Key, Trade}
-use Rattle.brk_model.specs.Results.{completed_trade, deal_of_result, base_after_result}
+use Rattle.brk_model.specs.Results.{trade_after_completion, deal_of_result, base_after_result}
 use Rattle.brk_model.specs.Run.{Call, Outcome, Run}
 use Rattle.brk_model.specs.Shares.{lot_quantity, lots_of_shares, replay}
 use Rattle.brk_model.specs.Sheets.{sheets}
@@ -53,7 +53,7 @@ use Rattle.brk_book_theorems.proofs.TradeReading.{reads_trade}
 deals_of : (ts : List Trade) → InOrder ts → AreDistinctAscendingDeals (map deal_of_trade ts)
 deals_of [] o = tt
 deals_of (t ∷ ts) o = (
-  All-mapped (IsLaterDealOfOtherTrade (deal_of_trade t)) deal_of_trade ts (All-map ts (λ u h. ((λ e. eqb-false u.id t.id h.0 (sym e)), h.1)) o.0),
+  All-mapped (PrecedesDealOfOtherTrade (deal_of_trade t)) deal_of_trade ts (All-map ts (λ u h. ((λ e. eqb-false u.id t.id h.0 (sym e)), h.1)) o.0),
   deals_of ts o.1,
 )
 
@@ -78,7 +78,7 @@ quantities_sum base account symbol books =
     (shares_spelled base account symbol books)
 
 pub costs_sum : (base : Base) (account : ℕ) (symbol : Text) → BooksInvariant base
-    → lot_cost_basis (lots_of_position (sheets base) account symbol) ≡ realised_gain_sum (deals_of_position (completed_trades base) account symbol) [] +ℤ
+    → cost_basis_of_lots (lots_of_position (sheets base) account symbol) ≡ realised_gain_sum (deals_of_position (completed_trades base) account symbol) [] +ℤ
     purchase_value_minus_sale_value (deals_of_position (completed_trades base) account symbol)
 costs_sum base account symbol books = costs_add_up (deals_of_position (completed_trades base) account symbol) (lots_of_position (sheets base) account symbol) (shares_spelled base account symbol books)
 
@@ -167,8 +167,8 @@ taxed_order base after id tax t e k = record {
 found_id : (base : Base) (id : ℕ) (t : Trade) → trade_with_id base id ≡ Some t → t.id ≡ id
 found_id base id t e = let f : FoundAt Trade (λ u. u.id == id) t base.trades = find-at (λ u. u.id == id) base.trades t e in eqb-true t.id id f.passes
 
-same_id : (base : Base) (stamp price : ℕ) (t : Trade) → (completed_trade base stamp price t).id ≡ t.id
-unfolding completed_trade
+same_id : (base : Base) (stamp price : ℕ) (t : Trade) → (trade_after_completion base stamp price t).id ≡ t.id
+unfolding trade_after_completion
 same_id base stamp price t = refl
 
 taxed_result : (base : Base) (now id tax other price : ℕ) → BooksInvariant base → refusal_of_command base now (CompleteTrade other price) ≡ None
@@ -179,7 +179,7 @@ taxed_result base now id tax other price books e k =
     let t = result_named base now other price e in
     let same : t.0.id ≡ other = found_id base other t.0 t.1 in
     let waits : is_completed t.0 ≡ false = submitted_not_completed t.0 (submitted base now other price t.0 t.1 e) in
-    passed_by base (base_after_command base now (CompleteTrade other price)) id tax (λ u. u.id == t.0.id) (completed_trade base stamp price) (same_id base stamp price)
+    passed_by base (base_after_command base now (CompleteTrade other price)) id tax (λ u. u.id == t.0.id) (trade_after_completion base stamp price) (same_id base stamp price)
     (ap (λ o. (option_map_or (base_after_result base stamp price) o base).trades) t.1)
     (subst (λ (m : ℕ). AllByRecursion (λ u. (u.id == m) ≡ true → is_completed u ≡ false) base.trades) (sym same) (named_open base other t.0 books.numbered t.1 waits)) k
 
@@ -242,9 +242,9 @@ run_taxes base calls outcomes after id tax books r k =
 
 -- a result is taxed once, by the shares that it closes and the rates of its moment
 tax_is : (base : Base) (stamp price : ℕ) (t : Trade)
-    → (completed_trade base stamp price t).tax
+    → (trade_after_completion base stamp price t).tax
     ≡ tax_on_deal base t.account (deal_of_result stamp price t) (shares_of_position (completed_trades base) t.account t.symbol)
-unfolding completed_trade
+unfolding trade_after_completion
 tax_is base stamp price t = refl
 
 pub result_taxed : (base : Base) (now id price : ℕ) (t : Trade) → BooksInvariant base → trade_with_id base id ≡ Some t → refusal_of_command base now (CompleteTrade id price) ≡ None
@@ -254,11 +254,11 @@ result_taxed base now id price t books e accepted =
     let stamp : ℕ = stamp_of_next_command base now in
     let own : (t.id == t.id) ≡ true = eq-eqb t.id t.id refl in
     record {
-      trade = completed_trade base stamp price t;
+      trade = trade_after_completion base stamp price t;
       found = ap (λ o. find (λ u. u.id == id) (option_map_or (base_after_result base stamp price) o base).trades) e
-          ∙ find_updated (λ u. u.id == id) (λ u. u.id == t.id) (completed_trade base stamp price) base.trades (λ u. ap (λ n. n == id) (same_id base stamp price u))
-          ∙ ap (option_map (λ u. cond (u.id == t.id) (completed_trade base stamp price u) u)) e
-          ∙ ap (λ b. Some (cond b (completed_trade base stamp price t) t)) own;
+          ∙ find_updated (λ u. u.id == id) (λ u. u.id == t.id) (trade_after_completion base stamp price) base.trades (λ u. ap (λ n. n == id) (same_id base stamp price u))
+          ∙ ap (option_map (λ u. cond (u.id == t.id) (trade_after_completion base stamp price u) u)) e
+          ∙ ap (λ b. Some (cond b (trade_after_completion base stamp price t) t)) own;
       completed = status_then base stamp price t Completed;
       taxed = tax_is base stamp price t;
     }

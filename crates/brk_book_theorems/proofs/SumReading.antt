@@ -11,7 +11,7 @@ use Rattle.brk_model.specs.Lists.{total_by}
 use Rattle.brk_model.specs.Records.{Account, Broker, StatusChange, Trade}
 use Rattle.brk_model.specs.Base.{Base, account_with_id, broker_id_in_accounts, broker_with_id, completed_trades, is_completed, last_status_change, trade_with_id}
 use Rattle.brk_model.specs.Derived.{Posting, balance_of_account, commission_total_of_broker, trades_of_broker, postings_to_account, postings_of_base, trade_count_of_broker}
-use Rattle.brk_model.specs.Joins.{account_row_with_id, move_rows_of_account}
+use Rattle.brk_model.specs.Joins.{account_row_with_id, cash_move_rows_of_account}
 use Rattle.brk_model.specs.Sheets.{sheets, tables_sorted_by_key}
 use Rattle.brk_model.specs.Tables.{AccountRow, BrokerRow, account_row, broker_row, tables_of_base_in_schema, trade_row}
 use Rattle.brk_book_theorems.specs.Books.{BooksInvariant}
@@ -110,7 +110,9 @@ found_each (t ∷ ts) d = (
     behind [] h k = tt
     behind (u ∷ us) h k = (ap (λ b. cond b (Some t) (find (λ v. v.id == u.id) ts)) (numbers_back t.id u.id ∙ h.0) ∙ k.0, behind us h.1 k.1)
 
-pub cash_moves : (base : Base) (account : ℕ) → total_by (λ r. r.amount) (move_rows_of_account (sheets base) account) ≡ total_by (λ p. p.amount) (postings_to_account (postings_of_base base) account)
+pub cash_moves : (base : Base) (account : ℕ)
+    → total_by (λ r. r.amount) (cash_move_rows_of_account (sheets base) account)
+    ≡ total_by (λ p. p.amount) (postings_to_account (postings_of_base base) account)
 unfolding tables_of_base_in_schema tables_sorted_by_key
 cash_moves base account = rows_total account (postings_of_base base)
 
@@ -125,11 +127,11 @@ account_of_row base id r e = by_account (account_with_id base id) refl
         let j : r ≡ account_row base.accounts (postings_of_base base) a = cc in (a, f, j)
 
 pub balance_sums : (base : Base) (id : ℕ) (r : AccountRow) → BooksInvariant base → account_row_with_id (sheets base) id ≡ Some r
-    → r.balance ≡ r.opening +ℤ total_by (λ r. r.amount) (move_rows_of_account (sheets base) id)
+    → r.balance ≡ r.opening +ℤ total_by (λ r. r.amount) (cash_move_rows_of_account (sheets base) id)
 unfolding balance_of_account
 balance_sums base id r books e =
     let k = account_of_row base id r e in
     let g : FoundAt Account (λ a. a.id == id) k.0 base.accounts = find-at (λ a. a.id == id) base.accounts k.0 k.1 in
     ap (λ r. r.balance) k.2 ∙ ap (λ (m : ℕ). balance_of_account base.accounts (postings_of_base base) m) (eqb-true k.0.id id g.passes)
     ∙ (λ i. option_map_or (λ a. a.opening) (k.1 i) (pos 0) +ℤ sym (cash_moves base id) i)
-    ∙ sym (ap (λ r. r.opening +ℤ total_by (λ r. r.amount) (move_rows_of_account (sheets base) id)) k.2)
+    ∙ sym (ap (λ r. r.opening +ℤ total_by (λ r. r.amount) (cash_move_rows_of_account (sheets base) id)) k.2)

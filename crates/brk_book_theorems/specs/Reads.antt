@@ -10,8 +10,8 @@ use Rattle.brk_model.specs.Tables.{Tables}
 use Rattle.brk_model.specs.Tests.{bands_overlap}
 
 -- True if the tables contain a customer with the tax id `tax_id`.
-abbrev pub contains_tax_id : Tables → Text → Bool
-contains_tax_id t tax_id = is_some (find (λ r. bytes_eq r.tax_id tax_id) t.customers)
+abbrev pub contains_customer_with_tax_id : Tables → Text → Bool
+contains_customer_with_tax_id t tax_id = is_some (find (λ r. bytes_eq r.tax_id tax_id) t.customers)
 
 -- The number of accounts of the customer with the id `customer`.
 abbrev pub account_count_of_customer : Tables → ℕ → ℕ

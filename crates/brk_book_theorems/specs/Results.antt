@@ -7,7 +7,7 @@ use Rattle.brk_model.specs.Records.{Trade}
 use Rattle.brk_model.specs.Base.{Base, broker_id_of_account, completed_trades}
 use Rattle.brk_model.specs.Derived.{balance_of_account, commission_total_of_broker, posting_of_trade, postings, postings_of_base}
 use Rattle.brk_model.specs.Derived.{shares_of_position, holding_summary_quantity, trade_count_of_broker}
-use Rattle.brk_model.specs.Results.{completed_trade, deal_of_result, base_after_result}
+use Rattle.brk_model.specs.Results.{trade_after_completion, deal_of_result, base_after_result}
 use Rattle.brk_model.specs.Tables.{HoldingHistoryRow, HoldingRow, MoveRow, SettlementRow, SummaryRow}
 use Rattle.brk_model.specs.Tables.{Tables, TradeRow, cash_move_row, settlement_row, trade_row}
 use Rattle.brk_lots.specs.Lots.{list_reversed_if_lifo}
@@ -134,4 +134,5 @@ result_rows_of_deal base after d t = record {
 -- in cents, from the base before the result.
 abbrev pub result_rows_of_trade : Base → ℕ → ℕ → Trade → ResultRows
 result_rows_of_trade base stamp price t =
-    result_rows_of_deal base (completed_trades (base_after_result base stamp price t)) (deal_of_result stamp price t) (completed_trade base stamp price t)
+    result_rows_of_deal base (completed_trades (base_after_result base stamp price t))
+    (deal_of_result stamp price t) (trade_after_completion base stamp price t)

@@ -6,7 +6,7 @@ use Rattle.brk_lots.specs.Position.{IsPosition}
 use Rattle.brk_money.specs.Kinds.{is_same_trade_status}
 use Rattle.brk_money.specs.declared.status.Status.TheVariants.{Completed}
 use Rattle.brk_money.specs.Spelling.{Text}
-use Rattle.brk_model.specs.Joins.{account_row_with_id, trade_row_with_id, move_rows_of_account}
+use Rattle.brk_model.specs.Joins.{account_row_with_id, trade_row_with_id, cash_move_rows_of_account}
 use Rattle.brk_model.specs.Lists.{total_by}
 use Rattle.brk_model.specs.Tables.{AccountRow, BrokerRow, HoldingRow, SummaryRow, Tables, TradeRow}
 use Rattle.brk_book_theorems.specs.Lives.{AllLotChangesFormChains}
@@ -44,7 +44,7 @@ pub record BrokerTotalsMatchTrades (t : Tables) (b : BrokerRow) : Type 0 where
 -- The balance of the account's row `a` equals its opening balance plus the amounts of its cash
 -- rows.
 abbrev pub BalanceMatchesCashRows : Tables → AccountRow → Type 0
-BalanceMatchesCashRows t a = a.balance ≡ a.opening +ℤ total_by (λ c. c.amount) (move_rows_of_account t a.id)
+BalanceMatchesCashRows t a = a.balance ≡ a.opening +ℤ total_by (λ c. c.amount) (cash_move_rows_of_account t a.id)
 
 -- The quantity of the summary `s` equals the sum of the quantities of the lots of its account in
 -- its symbol, and is not 0.

@@ -14,7 +14,7 @@ ghost use Rattle.brk_model.specs.Base.{customer_with_id, is_completed, security_
 ghost use Rattle.brk_model.specs.Commands.{Tick};
 ghost use Rattle.brk_model.specs.Derived.{postings_of_base, shares_of_position, holding_summary_quantity};
 ghost use Rattle.brk_model.specs.Feed.{is_triggered_by_tick};
-ghost use Rattle.brk_model.specs.Joins.{account_row_with_id, trade_row_with_id, move_rows_of_account};
+ghost use Rattle.brk_model.specs.Joins.{account_row_with_id, trade_row_with_id, cash_move_rows_of_account};
 ghost use Rattle.brk_model.specs.Keyed.{stored_row_with_key};
 ghost use Rattle.brk_model.specs.Lists.{all_distinct, total_by};
 ghost use Rattle.brk_model.specs.Orders.{assets_of_account, is_customer_or_has_permission};
@@ -27,7 +27,8 @@ ghost use Rattle.brk_model.specs.Ways.{is_strictly_ascending};
 ghost use Rattle.brk_ref.specs.Records.{abstract_tax_rate};
 ghost use Rattle.brk_ref.specs.declared.tax.Tax.{Tax};
 ghost use Rattle.brk_book_theorems.specs.Books.{BooksInvariant};
-ghost use Rattle.brk_book_theorems.specs.Reads.{account_count_of_customer, overlaps_some_band, contains_tax_id, customer_tax_rate_sum, tax_rate_with_id};
+ghost use Rattle.brk_book_theorems.specs.Reads.{account_count_of_customer, overlaps_some_band, contains_customer_with_tax_id};
+ghost use Rattle.brk_book_theorems.specs.Reads.{customer_tax_rate_sum, tax_rate_with_id};
 ghost use Rattle.brk_book_theorems.specs.Sums.{completed_trade_rows_of_broker};
 ghost use Rattle.brk_book_theorems.specs.TradeReads.{commission_band_of_quantity, last_cash_row_number_or_zero};
 ghost use Rattle.brk_book_theorems.specs.TradeReads.{trade_id_in_last_row_or_zero, shares_of_lot_row};
@@ -97,7 +98,7 @@ pub fn customer_tax_rates_match_the_base()
 /// Proves that the tables contain a customer with a tax id if and only if a customer of the base
 /// has this tax id.
 pub fn tax_ids_match_the_base()
-    ensures { (base : Base) (tax_id : Text) → contains_tax_id (sheets base) tax_id ≡ list_any (λ c. bytes_eq c.tax_id tax_id) base.customers }
+    ensures { (base : Base) (tax_id : Text) → contains_customer_with_tax_id (sheets base) tax_id ≡ list_any (λ c. bytes_eq c.tax_id tax_id) base.customers }
 {}
 
 /// Proves that the tables have as many account rows of a customer as the base has accounts of this
@@ -228,7 +229,7 @@ pub fn summary_rows_match_the_base()
 /// cash rows, if the base satisfies the books invariant.
 pub fn balances_equal_cash_row_sums()
     ensures { (base : Base) (id : ℕ) (r : AccountRow) → BooksInvariant base → account_row_with_id (sheets base) id ≡ Some r
-        → r.balance ≡ r.opening +ℤ total_by (λ r. r.amount) (move_rows_of_account (sheets base) id) }
+        → r.balance ≡ r.opening +ℤ total_by (λ r. r.amount) (cash_move_rows_of_account (sheets base) id) }
 {}
 
 /// Proves that the totals of a broker's row equal the number of the rows of TRADE that are

@@ -2,7 +2,7 @@
 //! of calls from one.
 
 ghost use Rattle.std.specs.Prelude.{◌+ℤ◌, ◌≡◌, [], ℕ, List, None, Option, Some, map};
-ghost use Rattle.brk_lots.specs.Books.{deal_quantity_sum, realised_gain_sum, lot_cost_basis, lot_quantity_sum, purchase_value_minus_sale_value};
+ghost use Rattle.brk_lots.specs.Books.{deal_quantity_sum, realised_gain_sum, cost_basis_of_lots, lot_quantity_sum, purchase_value_minus_sale_value};
 ghost use Rattle.brk_lots.specs.Chains.{IsLotHistory, changes_of_lot};
 ghost use Rattle.brk_lots.specs.Lots.{abstract_lot, shares_of_lots};
 ghost use Rattle.brk_lots.specs.Position.{IsPosition};
@@ -62,7 +62,7 @@ pub fn lot_sums_match_deals()
         → lot_quantity_sum (lots_of_position (sheets after) account symbol) ≡ deal_quantity_sum (deals_of_position (completed_trades after) account symbol) }
     ensures costs { (base after : Base) (calls : List (ℕ × Call)) (outcomes : List Outcome) (account : ℕ) (symbol : Text)
         → BooksInvariant base → Run base calls outcomes after
-        → lot_cost_basis (lots_of_position (sheets after) account symbol)
+        → cost_basis_of_lots (lots_of_position (sheets after) account symbol)
         ≡ realised_gain_sum (deals_of_position (completed_trades after) account symbol) []
         +ℤ purchase_value_minus_sale_value (deals_of_position (completed_trades after) account symbol) }
 {}

@@ -63,8 +63,8 @@ impl Schema {
 
     /// Returns the greatest number of shares of a security that the schema allows an account to
     /// hold or to be short of: 9,999,999,999 for the third schema, otherwise 999,999,999.
-    pub fn greatest_summary(self) -> u64
-        ensures { result ≡ (abstract_schema self).greatest_summary }
+    pub fn greatest_summary_quantity(self) -> u64
+        ensures { result ≡ (abstract_schema self).greatest_summary_quantity }
     {
         match self {
             Schema::First | Schema::Second => 999_999_999,

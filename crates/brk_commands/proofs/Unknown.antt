@@ -5,7 +5,8 @@ use Rattle.std.proofs.lemmas.Bool.{false_from_ne_true}
 use Rattle.std.proofs.lemmas.Slice.Eq.{bytes_eq-Decides}
 use Rattle.brk_money.specs.Spelling.{Text}
 use Rattle.brk_money.specs.declared.refusal.Refusal.TheVariants.{BadText}
-use Rattle.brk_model.specs.Parse.{parse_by_first_field, order_row_parsers, row_parsers, result_row_parsers, other_reference_row_parsers, update_row_parsers, movement_and_settlement_day_row_parsers}
+use Rattle.brk_model.specs.Parse.{parse_by_first_field, order_feed_and_cancel_parsers, row_parsers, result_row_parsers, other_reference_row_parsers}
+use Rattle.brk_model.specs.Parse.{update_row_parsers, movement_and_settlement_day_row_parsers}
 
 -- another text is told apart
 other : (known kind : Text) → kind ≢ known → bytes_eq known kind ≡ false
@@ -15,7 +16,7 @@ other known kind h = false_from_ne_true (bytes_eq known kind) (λ e. h (sym ((by
 pub no_party : (kind : Text) (fields : List Text) → kind ≢ codes "broker" → kind ≢ codes "customer" → kind ≢ codes "account"
     → parse_by_first_field row_parsers (kind ∷ fields)
     ≡ parse_by_first_field
-    (other_reference_row_parsers ++ order_row_parsers ++ result_row_parsers ++ update_row_parsers ++ movement_and_settlement_day_row_parsers)
+    (other_reference_row_parsers ++ order_feed_and_cancel_parsers ++ result_row_parsers ++ update_row_parsers ++ movement_and_settlement_day_row_parsers)
     (kind ∷ fields)
 no_party kind fields b c a = rw (other (codes "broker") kind b, other (codes "customer") kind c, other (codes "account") kind a) refl
 
@@ -23,8 +24,8 @@ no_party kind fields b c a = rw (other (codes "broker") kind b, other (codes "cu
 pub no_term : (kind : Text) (fields : List Text) → kind ≢ codes "permission" → kind ≢ codes "security" → kind ≢ codes "charge"
     → kind ≢ codes "band" → kind ≢ codes "taxrate" → kind ≢ codes "custtax"
     → parse_by_first_field
-    (other_reference_row_parsers ++ order_row_parsers ++ result_row_parsers ++ update_row_parsers ++ movement_and_settlement_day_row_parsers)
-    (kind ∷ fields) ≡ parse_by_first_field (order_row_parsers ++ result_row_parsers ++ update_row_parsers ++ movement_and_settlement_day_row_parsers)
+    (other_reference_row_parsers ++ order_feed_and_cancel_parsers ++ result_row_parsers ++ update_row_parsers ++ movement_and_settlement_day_row_parsers)
+    (kind ∷ fields) ≡ parse_by_first_field (order_feed_and_cancel_parsers ++ result_row_parsers ++ update_row_parsers ++ movement_and_settlement_day_row_parsers)
     (kind ∷ fields)
 no_term kind fields p s c b t x =
     rw (
@@ -39,7 +40,7 @@ no_term kind fields p s c b t x =
 
 -- one of none of those, as one of corrections
 pub no_trading : (kind : Text) (fields : List Text) → kind ≢ codes "order" → kind ≢ codes "feed" → kind ≢ codes "cancel" → kind ≢ codes "result"
-    → parse_by_first_field (order_row_parsers ++ result_row_parsers ++ update_row_parsers ++ movement_and_settlement_day_row_parsers) (kind ∷ fields)
+    → parse_by_first_field (order_feed_and_cancel_parsers ++ result_row_parsers ++ update_row_parsers ++ movement_and_settlement_day_row_parsers) (kind ∷ fields)
     ≡ parse_by_first_field (update_row_parsers ++ movement_and_settlement_day_row_parsers) (kind ∷ fields)
 no_trading kind fields o f c r = rw (other (codes "order") kind o, other (codes "feed") kind f, other (codes "cancel") kind c, other (codes "result") kind r) refl
 

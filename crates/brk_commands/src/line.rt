@@ -46,7 +46,7 @@ fn append_estimate_fields(line: &mut String, estimate: &Estimate) -> Result<(), 
 
 // Returns the stamp, the id and the status code of a placed order, joined by commas. Fails if
 // memory runs out.
-fn placed_order_text(alloc: Global, ordered: &Ordered) -> Result<String, AllocError>
+fn stamp_id_and_status_text(alloc: Global, ordered: &Ordered) -> Result<String, AllocError>
     ensures { IfOk result (λ line. string_bytes line
         ≡ model.comma_separated_text (decimal ordered.now.stamp ∷ decimal ordered.now.trade ∷ trade_status_code ordered.now.status ∷ [])) }
 {
@@ -64,7 +64,7 @@ fn ordered_reply_text(alloc: Global, ordered: &Ordered) -> Result<String, AllocE
     ensures { IfOk result (λ line. string_bytes line
         ≡ model.line_text (replies.Ordered ordered.now.stamp ordered.now.trade ordered.now.status (abstract_estimate ordered.now.estimate))) }
 {
-    let mut line = placed_order_text(alloc, ordered)?;
+    let mut line = stamp_id_and_status_text(alloc, ordered)?;
     append_estimate_fields(&mut line, &ordered.estimate)?;
     Ok(line)
 }

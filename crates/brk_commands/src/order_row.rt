@@ -32,7 +32,7 @@ pub fn lifo_or_fifo_word(is_lifo: bool) -> &'static str
 
 // Returns the first five fields of the row of an order, joined by byte 31: the kind `order`, the
 // account, the code of the type, the symbol and the quantity. Fails if memory runs out.
-fn first_order_fields_text(alloc: Global, order: &Order) -> Result<String, AllocError>
+fn first_fields_of_order_text(alloc: Global, order: &Order) -> Result<String, AllocError>
     ensures { IfOk result (λ row. string_bytes row ≡ join_with_byte 31 (codes "order" ∷ take 4 (model.order_fields (abstract_order order.now)))) }
 {
     format!(in alloc;
@@ -59,7 +59,7 @@ fn append_price_field(row: &mut String, order_type: OrderType) -> Result<(), All
 // Appends the last five fields of the row of an order, each after byte 31: `cash` or `margin`,
 // `lifo` or `fifo`, and the first name, the last name and the tax id of its executor. Fails if
 // memory runs out. A part of this text may then be appended.
-fn append_last_order_fields(row: &mut String, order: &Order) -> Result<(), AllocError>
+fn append_last_fields_of_order(row: &mut String, order: &Order) -> Result<(), AllocError>
     ensures { OnOk result (string_bytes row.new ≡ string_bytes row.old ++ fields_after_separators 31 (drop 5 (model.order_fields (abstract_order order.now)))) }
 {
     write!(
@@ -80,9 +80,9 @@ fn append_last_order_fields(row: &mut String, order: &Order) -> Result<(), Alloc
 pub fn order_row_text(alloc: Global, order: &Order) -> Result<String, AllocError>
     ensures { IfOk result (λ row. string_bytes row ≡ model.row_text (PlaceOrder (abstract_order order.now))) }
 {
-    let mut row = first_order_fields_text(alloc, order)?;
+    let mut row = first_fields_of_order_text(alloc, order)?;
     append_price_field(&mut row, order.order_type)?;
-    append_last_order_fields(&mut row, order)?;
+    append_last_fields_of_order(&mut row, order)?;
     Ok(row)
 }
 

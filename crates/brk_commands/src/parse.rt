@@ -1,6 +1,6 @@
 ghost use Rattle.std.specs.Prelude.{◌≡◌, ◌∷◌, ◌++◌, IfOk, OnErr, Err};
 ghost use Rattle.brk_model.specs.Parse.{parse_by_first_field, read_account, read_and_wrap, read_commission_band, read_broker, read_charge};
-ghost use Rattle.brk_model.specs.Parse.{read_customer, read_customer_tax, read_permission, read_listing, read_tax_rate, order_row_parsers};
+ghost use Rattle.brk_model.specs.Parse.{read_customer, read_customer_tax, read_permission, read_listing, read_tax_rate, order_feed_and_cancel_parsers};
 ghost use Rattle.brk_model.specs.Parse.{movement_and_settlement_day_row_parsers, other_reference_row_parsers};
 ghost use Rattle.brk_model.specs.Parse.{result_row_parsers, row_parsers, update_row_parsers};
 ghost use Rattle.brk_money.specs.declared.fault.Fault.TheVariants.{Memory};
@@ -9,7 +9,7 @@ ghost use Rattle.brk_ref.specs.Fields.{ParsesAs, texts_of_fields};
 ghost use Rattle.brk_commands.specs.Commands.{abstract_command};
 
 use crate::command::Command;
-use crate::parse_order::parse_trade_or_cash_command;
+use crate::parse_order::parse_non_reference_command;
 use brk_money::{Planned, Refusal};
 use brk_plans::Reference;
 use brk_ref::{
@@ -134,7 +134,7 @@ fn parse_customer_tax_command(fields: &[&[u8]]) -> Result<Command, Refusal>
 // fields after the kind. Refuses an unknown kind, and these three, with `BadText`, and otherwise
 // refuses as `parse_row` does. Fails with `Memory` only.
 fn parse_command_except_parties(alloc: Global, kind: &[u8], fields: &[&[u8]]) -> Planned<Command>
-    ensures read { IfOk result (λ read. ParsesAs abstract_command read (parse_by_first_field (other_reference_row_parsers ++ order_row_parsers
+    ensures read { IfOk result (λ read. ParsesAs abstract_command read (parse_by_first_field (other_reference_row_parsers ++ order_feed_and_cancel_parsers
         ++ result_row_parsers ++ update_row_parsers ++ movement_and_settlement_day_row_parsers) (kind.now
         ∷ texts_of_fields fields.now))) }
     ensures fault { OnErr result (result ≡ Err Memory) }
@@ -157,7 +157,7 @@ fn parse_command_except_parties(alloc: Global, kind: &[u8], fields: &[&[u8]]) ->
     if kind == b"custtax".as_slice() {
         return Ok(parse_customer_tax_command(fields));
     }
-    parse_trade_or_cash_command(alloc, kind, fields)
+    parse_non_reference_command(alloc, kind, fields)
 }
 
 // Parses a command of the kind `kind` from the fields after it. Refuses as `parse_row` does. Fails

@@ -1,13 +1,14 @@
 ghost use Rattle.std.specs.Prelude.{◌≡◌, ◌∷◌, ◌++◌, IfOk, OnErr, Err};
 ghost use Rattle.brk_model.specs.Commands.{CancelTrade, FeedTicks, PlaceOrder};
-ghost use Rattle.brk_model.specs.Parse.{order_row_parsers, parse_by_first_field, read_and_wrap, read_id_of_trade_to_cancel, read_feed};
-ghost use Rattle.brk_model.specs.Parse.{read_order, read_result_command, result_row_parsers, update_row_parsers, movement_and_settlement_day_row_parsers};
+ghost use Rattle.brk_model.specs.Parse.{order_feed_and_cancel_parsers, parse_by_first_field, read_and_wrap, read_id_of_trade_to_cancel, read_feed};
+ghost use Rattle.brk_model.specs.Parse.{read_order, read_complete_trade_command, result_row_parsers, update_row_parsers};
+ghost use Rattle.brk_model.specs.Parse.{movement_and_settlement_day_row_parsers};
 ghost use Rattle.brk_money.specs.declared.fault.Fault.TheVariants.{Memory};
 ghost use Rattle.brk_ref.specs.Fields.{ParsesAs, texts_of_fields};
 ghost use Rattle.brk_commands.specs.Commands.{abstract_command};
 
 use crate::command::Command;
-use crate::parse_update::parse_update_or_movement_command;
+use crate::parse_update::parse_update_movement_or_day;
 use brk_money::{Planned, Refusal};
 use brk_orders::{
     parse_completion, parse_id_of_trade_to_cancel, parse_market_feed, parse_trade_order,
@@ -57,7 +58,7 @@ fn parse_cancel_command(fields: &[&[u8]]) -> Result<Command, Refusal>
 // wrong number of fields, or a malformed id, with `BadText`, and otherwise a malformed price with
 // `BadPrice`.
 fn parse_completion_command(fields: &[&[u8]]) -> Result<Command, Refusal>
-    ensures { ParsesAs abstract_command result (read_result_command (texts_of_fields fields.now)) }
+    ensures { ParsesAs abstract_command result (read_complete_trade_command (texts_of_fields fields.now)) }
 {
     match parse_completion(fields) {
         Ok(completion) => Ok(Command::Complete(completion)),
@@ -69,12 +70,13 @@ fn parse_completion_command(fields: &[&[u8]]) -> Result<Command, Refusal>
 // `feed`, `cancel`, `result`, `upname`, `upcash`, `uptext`, `deposit`, `withdraw` or `oneday`.
 // Refuses any other kind with `BadText`, and otherwise refuses as `parse_row` does. Fails with
 // `Memory` only.
-pub(crate) fn parse_trade_or_cash_command(
+pub(crate) fn parse_non_reference_command(
     alloc: Global,
     kind: &[u8],
     fields: &[&[u8]],
 ) -> Planned<Command>
-    ensures read { IfOk result (λ read. ParsesAs abstract_command read (parse_by_first_field (order_row_parsers ++ result_row_parsers ++ update_row_parsers
+    ensures read { IfOk result (λ read. ParsesAs abstract_command read
+        (parse_by_first_field (order_feed_and_cancel_parsers ++ result_row_parsers ++ update_row_parsers
         ++ movement_and_settlement_day_row_parsers) (kind.now
         ∷ texts_of_fields fields.now))) }
     ensures fault { OnErr result (result ≡ Err Memory) }
@@ -91,5 +93,5 @@ pub(crate) fn parse_trade_or_cash_command(
     if kind == b"result".as_slice() {
         return Ok(parse_completion_command(fields));
     }
-    parse_update_or_movement_command(alloc, kind, fields)
+    parse_update_movement_or_day(alloc, kind, fields)
 }

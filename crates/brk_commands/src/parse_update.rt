@@ -56,7 +56,7 @@ fn parse_cash_name_update_command(alloc: Global, fields: &[&[u8]]) -> Planned<Co
 // the fields after the kind. Refuses any other kind, malformed fields, an id that occurs twice, or
 // a wrong number of fields, with `BadText`, and otherwise more than 20 ids with `TooMany`. Fails
 // with `Memory` only.
-pub(crate) fn parse_update_or_movement_command(
+pub(crate) fn parse_update_movement_or_day(
     alloc: Global,
     kind: &[u8],
     fields: &[&[u8]],

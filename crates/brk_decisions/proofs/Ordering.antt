@@ -20,7 +20,7 @@ use Rattle.brk_plans.specs.Reference.{later_stamp_check}
 use Rattle.brk_trade.specs.declared.order.OrderPlanFacts.{OrderPlanFacts}
 use Rattle.brk_plans.specs.declared.plan.Plan.{Plan}
 use Rattle.brk_book_theorems.specs.Books.{BooksInvariant}
-use Rattle.brk_trade_theorems.specs.OrderPlans.{OrderLotsSatisfy, EstimateFactsMatchTables, OrderFactsMatchTables, PlanOrderPrecondition}
+use Rattle.brk_trade_theorems.specs.OrderPlans.{OrderPositionLotsSatisfy, EstimateFactsMatchTables, OrderFactsMatchTables, PlanOrderPrecondition}
 use Rattle.brk_trade_theorems.proofs.OrderDoing.{estimate_answered, estimate_refused, estimate_told, order_refused, plan_order_does}
 use Rattle.brk_store.specs.Holds.{ReadPost}
 use Rattle.brk_decisions.specs.Estimates.{IsEstimateOfModel}
@@ -53,12 +53,12 @@ module _ (order : Order) (found : OrderPlanFacts) (last : Option ℕ) (now : ℕ
   planned : (result : Result Plan Refusal)
       → MatchResult result (IsOrderPlan order found given last now)
       (λ refusal. first_refusal (order_checks found ++ free_trade_id_check found.last_trade ∷ later_stamp_check last now ∷ []) ≡ Some refusal)
-      → (t : Tables) → OrderLotsSatisfy t order given → OrderFactsAndLastStampMatch order last found t → DecidesCommand now (PlaceOrder (abstract_order order)) result t
+      → (t : Tables) → OrderPositionLotsSatisfy t order given → OrderFactsAndLastStampMatch order last found t → DecidesCommand now (PlaceOrder (abstract_order order)) result t
   planned (Ok plan) p t lots known base books s =
-      plan_order_does base order found given last now plan (looked_up t known base books s) (subst (λ x. OrderLotsSatisfy x order given) s lots) p
+      plan_order_does base order found given last now plan (looked_up t known base books s) (subst (λ x. OrderPositionLotsSatisfy x order given) s lots) p
   planned (Err refusal) p t lots known base books s = order_refused base order found last now refusal (looked_up t known base books s) p
 
-  pub order_decided : (Held : Tables → Type 0) → ((t : Tables) → Held t → OrderLotsSatisfy t order given) → (result : Result (Result Plan Refusal) Fault)
+  pub order_decided : (Held : Tables → Type 0) → ((t : Tables) → Held t → OrderPositionLotsSatisfy t order given) → (result : Result (Result Plan Refusal) Fault)
       → IfOk result (λ planned. MatchResult planned (IsOrderPlan order found given last now)
       (λ refusal. first_refusal (order_checks found ++ free_trade_id_check found.last_trade ∷ later_stamp_check last now ∷ []) ≡ Some refusal))
       → IfOk result (λ planned. (t : Tables) → Held t → OrderFactsAndLastStampMatch order last found t → DecidesCommand now (PlaceOrder (abstract_order order)) planned t)
@@ -69,14 +69,14 @@ module _ (order : Order) (found : OrderPlanFacts) (last : Option ℕ) (now : ℕ
 
 module _ (order : Order) (found : OrderPlanFacts) (given : List Lot → Type 0) where
   estimated : (result : Result Estimate Refusal) → MatchResult result (EstimatesCheckedOrder order found given) (λ refusal. first_refusal (order_checks found) ≡ Some refusal)
-      → (t : Tables) → OrderLotsSatisfy t order given → EstimateFactsMatchTables t order found → IsEstimateOfModel (abstract_order order) result t
+      → (t : Tables) → OrderPositionLotsSatisfy t order given → EstimateFactsMatchTables t order found → IsEstimateOfModel (abstract_order order) result t
   estimated (Ok estimate) p t lots known base books s =
       let f = subst (λ x. EstimateFactsMatchTables x order found) s known in
-      let l = subst (λ x. OrderLotsSatisfy x order given) s lots in
+      let l = subst (λ x. OrderPositionLotsSatisfy x order given) s lots in
       (estimate_told base order found given estimate books f l p, estimate_answered base order found given estimate books f l p)
   estimated (Err refusal) p t lots known base books s = estimate_refused base order found refusal books (subst (λ x. EstimateFactsMatchTables x order found) s known) p
 
-  pub estimate_decided : (Held : Tables → Type 0) → ((t : Tables) → Held t → OrderLotsSatisfy t order given) → (result : Result (Result Estimate Refusal) Fault)
+  pub estimate_decided : (Held : Tables → Type 0) → ((t : Tables) → Held t → OrderPositionLotsSatisfy t order given) → (result : Result (Result Estimate Refusal) Fault)
       → IfOk result (λ planned. MatchResult planned (EstimatesCheckedOrder order found given) (λ refusal. first_refusal (order_checks found) ≡ Some refusal))
       → IfOk result (λ planned. (t : Tables) → Held t → EstimateFactsMatchTables t order found → IsEstimateOfModel (abstract_order order) planned t)
   estimate_decided Held lots (Ok result) p = λ t held. estimated result p t (lots t held)

@@ -4,7 +4,7 @@ ghost use Rattle.std.specs.Prelude.{◌≡◌, IfErr};
 ghost use Rattle.brk_model.specs.Run.{IsCallFault};
 ghost use Rattle.brk_trade_theorems.specs.Found.{ReferenceFactsMatchTables, AccountFactsMatchTables};
 ghost use Rattle.brk_model.specs.Form.{has_account, has_broker, has_customer, has_security};
-ghost use Rattle.brk_book_theorems.specs.Reads.{account_count_of_customer, contains_tax_id, contains_tax_rate};
+ghost use Rattle.brk_book_theorems.specs.Reads.{account_count_of_customer, contains_customer_with_tax_id, contains_tax_rate};
 ghost use Rattle.brk_store.specs.Holds.{ReadPost};
 
 use crate::terms::{
@@ -51,7 +51,7 @@ pub(crate) fn customer_exists<S: Alter>(store: &mut Store<S>, id: Id) -> Result<
 // Returns true if a customer with the tax id `tax_id` exists. If the database is still open, it is
 // unchanged. Fails with `Memory` or `Store` only.
 fn tax_id_exists<S: Alter>(store: &mut Store<S>, tax_id: &TaxId) -> Result<bool, Fault>
-    ensures read { ReadPost S.Store store.old store.new result (λ there t. there ≡ contains_tax_id t tax_id.now) }
+    ensures read { ReadPost S.Store store.old store.new result (λ there t. there ≡ contains_customer_with_tax_id t tax_id.now) }
     ensures fault { IfErr result IsCallFault }
 {
     Ok(store.customer_by_tax_id(tax_id)?.is_some())
@@ -103,7 +103,7 @@ fn read_customer_facts<S: Alter>(
     customer: &Customer,
 ) -> Result<ReferenceFacts, Fault>
     ensures read { ReadPost S.Store store.old store.new result (λ found t. (found.same_id ≡ has_customer t customer.now.id)
-        × (found.same_tax_id ≡ contains_tax_id t customer.now.tax_id)) }
+        × (found.same_tax_id ≡ contains_customer_with_tax_id t customer.now.tax_id)) }
     ensures fault { IfErr result IsCallFault }
 {
     let same_id = customer_exists(store, customer.id)?;

@@ -54,7 +54,7 @@ pub fn wide_amount_of_cents(cents: u128) -> Result<Wide, Fault>
 
 /// Returns the amount, in cents, as a value of the narrower type `Cents`. Fails with `Store` if the
 /// absolute value of the amount exceeds the greatest value of `Cents`.
-pub fn cents_within_limits(amount: Wide) -> Result<Cents, Fault>
+pub fn cents_of_wide_amount(amount: Wide) -> Result<Cents, Fault>
     ensures cents { IfOk result (λ cents. cents ≡ amount) }
     ensures fault { IfErr result IsCallFault }
 {

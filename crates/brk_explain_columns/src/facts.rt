@@ -81,7 +81,11 @@ pub fn put_labeled_text_line(out: &mut Vec<u8>, label: &str, text: &[u8]) -> Res
 /// right-aligned in 22 places, with its line feed. A longer label or text is appended whole. Fails
 /// with `Memory` only; a part of the line may then be appended.
 #[tactic(auto, unfolding(brk_explain_model::specs::Texts::labeled_value))]
-pub fn put_labeled_value_line(out: &mut Vec<u8>, label: &str, value: &[u8]) -> Result<(), Fault>
+pub fn put_labeled_right_aligned_line(
+    out: &mut Vec<u8>,
+    label: &str,
+    value: &[u8],
+) -> Result<(), Fault>
     ensures ok { OnOk result (out.new.items ≡ out.old.items ++ line_with_line_feed (texts.labeled_value label.now value.now)) }
     ensures fault { OnErr result (result ≡ Err Memory) }
 {

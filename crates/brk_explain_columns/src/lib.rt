@@ -8,13 +8,13 @@ pub mod starts;
 pub mod timestamps;
 
 pub use amounts::{
-    add_amounts, cents_within_limits, subtract_amounts, value_of_shares_at_price,
+    add_amounts, cents_of_wide_amount, subtract_amounts, value_of_shares_at_price,
     wide_amount_of_cents,
 };
 pub use facts::{
     put_label, put_labeled_amount, put_labeled_amount_line, put_labeled_day_line,
-    put_labeled_integer_line, put_labeled_number, put_labeled_number_line, put_labeled_text,
-    put_labeled_text_line, put_labeled_value_line,
+    put_labeled_integer_line, put_labeled_number, put_labeled_number_line,
+    put_labeled_right_aligned_line, put_labeled_text, put_labeled_text_line,
 };
 pub use pieces::{
     end_line, put_cents_column, put_column, put_integer_column, put_number_column, put_spaced_text,

@@ -128,7 +128,7 @@ pub fn balance_header_text(alloc: Global, row: &AccountRow) -> Result<Vec<u8>, F
 
 // Appends to `out` the word `Lot`, left-aligned in 6 places, a space, and the text `lot`. Fails
 // with `Memory` only; a part of these bytes may then be appended.
-fn put_word_before_lot(out: &mut Vec<u8>, lot: &[u8]) -> Result<(), Fault>
+fn put_lot_word_and_text(out: &mut Vec<u8>, lot: &[u8]) -> Result<(), Fault>
     ensures ok { OnOk result (out.new.items ≡ out.old.items ++ left_aligned_text 6 (codes "Lot") ++ 32 ∷ lot.now) }
     ensures fault { OnErr result (result ≡ Err Memory) }
 {
@@ -146,7 +146,7 @@ pub fn open_lot_text(alloc: Global, row: &HoldingRow) -> Result<Vec<u8>, Fault>
 {
     let lot = lot_line(alloc, row)?;
     let mut line = Vec::new(alloc);
-    put_word_before_lot(&mut line, &lot)?;
+    put_lot_word_and_text(&mut line, &lot)?;
     Ok(line)
 }
 

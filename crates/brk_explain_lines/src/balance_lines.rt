@@ -12,8 +12,8 @@ ghost use Rattle.brk_report_lines.specs.Written.{line_with_line_feed};
 use crate::sums::balance_change_of_trade;
 use brk_changes::MoveRow;
 use brk_explain_columns::{
-    add_amounts, end_line, put_labeled_amount_line, put_labeled_number, put_labeled_value_line,
-    put_spaced_text_line, put_text_and_number,
+    add_amounts, end_line, put_labeled_amount_line, put_labeled_number,
+    put_labeled_right_aligned_line, put_spaced_text_line, put_text_and_number,
 };
 use brk_explain_rows::{OrderDetails, ResultDetails};
 use brk_money::{Fault, Wide};
@@ -27,7 +27,7 @@ fn put_cash_row_line(out: &mut Vec<u8>, row: &Option<MoveRow>) -> Result<(), Fau
     ensures fault { OnErr result (result ≡ Err Memory) }
 {
     let Some(row) = row else {
-        return put_labeled_value_line(out, "Cash row", b"none");
+        return put_labeled_right_aligned_line(out, "Cash row", b"none");
     };
     put_labeled_number(out, "Cash row", row.id.get())?;
     put_spaced_text_line(out, row.name.as_bytes())

@@ -46,15 +46,15 @@ fn put_price_and_lot_header_lines(
 // the buy value and the sell value of these shares, and the lot's quantity after the closing. Fails
 // with `Memory` or `Store`; with `Store` if a value overflows. After an error a part of the line
 // may be appended.
-#[tactic(auto, unfolding(brk_explain_model::specs::TradeLines::closed_lot_line))]
-fn put_closed_lot_line(
+#[tactic(auto, unfolding(brk_explain_model::specs::TradeLines::lot_closing_line))]
+fn put_closing_line(
     alloc: Global,
     out: &mut Vec<u8>,
     side: Side,
     price: Price,
     closing: &Closing,
 ) -> Result<(), Fault>
-    ensures ok { OnOk result (out.new.items ≡ out.old.items ++ line_with_line_feed (lines.closed_lot_line side price (abstract_closing closing.now))) }
+    ensures ok { OnOk result (out.new.items ≡ out.old.items ++ line_with_line_feed (lines.lot_closing_line side price (abstract_closing closing.now))) }
     ensures fault { IfErr result IsCallFault }
 {
     let bought = wide_amount_of_cents(buy_value_of_closing(side, price, closing))?;
@@ -78,18 +78,18 @@ fn put_closed_lot_line(
 // Appends to `out` a line for each closing by a trade on `side` at `price`, in the order of
 // `closings`. Fails with `Memory` or `Store`; with `Store` if a value overflows. After an error a
 // part of the lines may be appended.
-fn put_closed_lot_lines(
+fn put_closing_lines(
     alloc: Global,
     out: &mut Vec<u8>,
     side: Side,
     price: Price,
     closings: &[Closing],
 ) -> Result<(), Fault>
-    ensures ok { OnOk result (out.new.items ≡ out.old.items ++ text_of_lines (map (lines.closed_lot_line side price) (map abstract_closing closings.now))) }
+    ensures ok { OnOk result (out.new.items ≡ out.old.items ++ text_of_lines (map (lines.lot_closing_line side price) (map abstract_closing closings.now))) }
     ensures fault { IfErr result IsCallFault }
 {
     for closing in closings {
-        put_closed_lot_line(alloc, out, side, price, closing)?;
+        put_closing_line(alloc, out, side, price, closing)?;
     }
     Ok(())
 }
@@ -185,7 +185,7 @@ fn put_realised_gain_lines(
 /// of closed and opened shares, and of the buy value, the sell value and the realised gain. Fails
 /// with `Memory` or `Store`; with `Store` if a number of shares or an amount overflows. After an
 /// error a part of the lines may be appended.
-#[tactic(auto, unfolding(brk_explain_model::specs::TradeLines::lot_and_gain_lines, brk_explain_model::specs::TradeLines::closed_lot_lines))]
+#[tactic(auto, unfolding(brk_explain_model::specs::TradeLines::lot_and_gain_lines, brk_explain_model::specs::TradeLines::lot_closing_lines))]
 pub(crate) fn put_lot_and_gain_lines(
     alloc: Global,
     out: &mut Vec<u8>,
@@ -198,7 +198,7 @@ pub(crate) fn put_lot_and_gain_lines(
 {
     let side = order.trade.kind.side();
     put_price_and_lot_header_lines(alloc, out, details)?;
-    put_closed_lot_lines(alloc, out, side, details.price, &details.closings)?;
+    put_closing_lines(alloc, out, side, details.price, &details.closings)?;
     put_opened_lot_line_if_any(alloc, out, &order.trade, details.price, &details.own_lot)?;
     put_share_count_lines(out, details)?;
     put_realised_gain_lines(alloc, out, order, details)

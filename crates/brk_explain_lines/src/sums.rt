@@ -8,7 +8,7 @@ ghost use Rattle.brk_model.specs.Run.{IsCallFault};
 ghost use Rattle.brk_money.specs.Amounts as amounts;
 ghost use Rattle.brk_ref.specs.Records.{abstract_tax_rate};
 
-use brk_explain_columns::{cents_within_limits, subtract_amounts, wide_amount_of_cents};
+use brk_explain_columns::{cents_of_wide_amount, subtract_amounts, wide_amount_of_cents};
 use brk_explain_rows::{Closing, OrderDetails, ResultDetails};
 use brk_money::{Amount, Fault, Price, Qty, Side, TaxRate, TaxStatus, Wide, commission, tax};
 use brk_ref::{Tax, tax_sum};
@@ -148,7 +148,7 @@ fn tax_on_gain(status: TaxStatus, gain: Wide, rates: TaxRate) -> Result<Wide, Fa
     if !is_taxable_status(status) {
         return Ok(Wide::new(0));
     }
-    let gain = cents_within_limits(gain)?;
+    let gain = cents_of_wide_amount(gain)?;
     Ok(Wide::from(tax(gain, rates)))
 }
 

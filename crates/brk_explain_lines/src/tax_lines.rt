@@ -13,8 +13,8 @@ ghost use Rattle.brk_report_lines.specs.Written.{line_with_line_feed};
 use crate::sums::{commission_in_current_band, sum_of_tax_rates, tax_at_current_rates};
 use brk_explain_columns::{
     end_line, put_labeled_amount_line, put_labeled_number, put_labeled_number_line,
-    put_labeled_value_line, put_number_column, put_spaced_text_line, put_text, put_text_and_number,
-    put_text_line,
+    put_labeled_right_aligned_line, put_number_column, put_spaced_text_line, put_text,
+    put_text_and_number, put_text_line,
 };
 use brk_explain_rows::{OrderDetails, ResultDetails};
 use brk_money::{Amount, Fault, TaxRate, Wide};
@@ -147,7 +147,7 @@ fn put_commission_band_line(out: &mut Vec<u8>, band: &Option<Band>) -> Result<()
     ensures fault { OnErr result (result ≡ Err Memory) }
 {
     let Some(band) = band else {
-        return put_labeled_value_line(out, "Band now", b"none");
+        return put_labeled_right_aligned_line(out, "Band now", b"none");
     };
     put_labeled_number(out, "Band now", u64::from(band.rate.get()))?;
     put_band_bounds(out, band)?;
@@ -169,7 +169,7 @@ fn put_current_commission_line(
 {
     match commission {
         Some(amount) => put_labeled_amount_line(alloc, out, "Commission now", Wide::from(amount)),
-        None => put_labeled_value_line(out, "Commission now", b"none"),
+        None => put_labeled_right_aligned_line(out, "Commission now", b"none"),
     }
 }
 

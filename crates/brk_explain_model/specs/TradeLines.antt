@@ -126,8 +126,8 @@ uncompleted_trade_lines o =
 -- `Closed`, the timestamp and the id of the trade that opened the lot, the number of closed shares,
 -- the lot's price, the buy value and the sell value of these shares, and the lot's quantity after
 -- the closing.
-unfoldable pub closed_lot_line : Side → ℕ → Closing → Text
-closed_lot_line side price c =
+unfoldable pub lot_closing_line : Side → ℕ → Closing → Text
+lot_closing_line side price c =
     leading_row_columns (codes "Closed") (timestamp_text c.stamp) c.lot (pos (shares_of_closing c)) c.price
     ++ value_column (pos (buy_value_of_closing side price c))
     ++ value_column (pos (sell_value_of_closing side price c)) ++ shares_column c.after
@@ -153,8 +153,8 @@ price_and_lot_header_lines r =
     ∷ []
 
 -- A line for each lot of which the trade closed shares, in the order of closing.
-unfoldable pub closed_lot_lines : OrderDetails → ResultDetails → List Text
-closed_lot_lines o r = map (closed_lot_line (side_of_trade_type o.trade.kind) r.price) r.closings
+unfoldable pub lot_closing_lines : OrderDetails → ResultDetails → List Text
+lot_closing_lines o r = map (lot_closing_line (side_of_trade_type o.trade.kind) r.price) r.closings
 
 -- The lines of the number of closed shares and of the number of opened shares.
 unfoldable pub share_count_lines : ResultDetails → List Text
@@ -173,7 +173,7 @@ realised_gain_lines o r =
 -- and of the realised gain.
 unfoldable pub lot_and_gain_lines : OrderDetails → ResultDetails → List Text
 lot_and_gain_lines o r =
-    price_and_lot_header_lines r ++ closed_lot_lines o r ++ opened_lot_lines o.trade r.price r.own_lot ++ share_count_lines r ++ realised_gain_lines o r
+    price_and_lot_header_lines r ++ lot_closing_lines o r ++ opened_lot_lines o.trade r.price r.own_lot ++ share_count_lines r ++ realised_gain_lines o r
 
 -- The line of the tax rate `rate`: the word `Rate`, its id, the rate in hundred-thousandths, and
 -- its name.

@@ -120,7 +120,7 @@ fn read_priced_lot_change<S: Alter>(
 // Returns the change with which a lot was opened, if any, and the lot's changes by other trades,
 // sorted by trade id, ascending. If the database is still open, it is unchanged. Fails with
 // `Memory` or `Store`; with `Store` also if one of the other trades does not exist or has no price.
-fn read_lot_changes_by_trade_id<S: Alter>(
+fn read_changes_sorted_by_trade<S: Alter>(
     alloc: Global,
     store: &mut Store<S>,
     lot: Id,
@@ -160,7 +160,7 @@ fn sort_changes_by_stamp(
 /// sorted by the stamps of these trades, ascending. If the database is still open, it is unchanged.
 /// Fails with `Memory` or `Store`; with `Store` also if one of the other trades does not exist or
 /// has no price.
-pub(crate) fn read_lot_changes_by_completion<S: Alter>(
+pub(crate) fn read_changes_sorted_by_completion<S: Alter>(
     alloc: Global,
     store: &mut Store<S>,
     lot: Id,
@@ -168,7 +168,7 @@ pub(crate) fn read_lot_changes_by_completion<S: Alter>(
     ensures read { ReadPost S.Store store.old store.new result (λ all t. AreLotChangesByCompletion t lot all) }
     ensures fault { IfErr result IsCallFault }
 {
-    let all = read_lot_changes_by_trade_id(alloc, store, lot)?;
+    let all = read_changes_sorted_by_trade(alloc, store, lot)?;
     let later_changes = sort_changes_by_stamp(alloc, all.later_changes)?;
     Ok(OpeningAndLaterChanges {
         opening: all.opening,

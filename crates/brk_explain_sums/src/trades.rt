@@ -63,7 +63,7 @@ fn is_below(one: Wide, other: Wide) -> bool
 }
 
 // Returns the amount if it is above 0, otherwise 0.
-fn positive_part(amount: Wide) -> Wide
+fn amount_if_above_zero(amount: Wide) -> Wide
     ensures { result ≡ (if int_lt (pos 0) amount then amount else pos 0) }
 {
     let zero = Wide::new(0);
@@ -71,7 +71,7 @@ fn positive_part(amount: Wide) -> Wide
 }
 
 // Returns the amount if it is below 0, otherwise 0.
-fn negative_part(amount: Wide) -> Wide
+fn amount_if_below_zero(amount: Wide) -> Wide
     ensures { result ≡ (if int_lt amount (pos 0) then amount else pos 0) }
 {
     let zero = Wide::new(0);
@@ -87,7 +87,7 @@ pub(crate) fn total_purchase_value(done: &[TradeRow]) -> Result<Wide, Fault>
     let mut total = Wide::new(0);
     for row in done {
         let value = signed_value_of_trade(row)?;
-        total = add_amounts(total, positive_part(value))?;
+        total = add_amounts(total, amount_if_above_zero(value))?;
     }
     Ok(total)
 }
@@ -102,7 +102,7 @@ pub(crate) fn total_sale_value(done: &[TradeRow]) -> Result<Wide, Fault>
     let mut total = Wide::new(0);
     for row in done {
         let value = signed_value_of_trade(row)?;
-        total = add_amounts(total, negative_part(value))?;
+        total = add_amounts(total, amount_if_below_zero(value))?;
     }
     Ok(total)
 }

@@ -14,7 +14,7 @@ use Rattle.brk_model.specs.Derived.{Posting, settlement_amount, balance_of_accou
 use Rattle.brk_model.specs.Derived.{postings, postings_of_base, signed_proceeds}
 use Rattle.brk_model.specs.Lists.{total_by}
 use Rattle.brk_model.specs.Records.{Account, Movement, Trade}
-use Rattle.brk_model.specs.Results.{completed_trade}
+use Rattle.brk_model.specs.Results.{trade_after_completion}
 use Rattle.brk_model.specs.Tests.{stamp_of_next_command, refusal_of_command}
 use Rattle.brk_book_theorems.specs.Books.{BooksInvariant, TradeStampIsAtMostLastStamp, MovementStampIsAtMostLastStamp}
 use Rattle.brk_book_theorems.specs.Steps.{base_after_command}
@@ -140,7 +140,7 @@ stays_after base now id price t books e accepted calls outcomes later u run foun
     mid = base_after_command base now (CompleteTrade id price)
 
     v : Trade
-    v = completed_trade base stamp price t
+    v = trade_after_completion base stamp price t
 
     books_mid : BooksInvariant mid
     books_mid = books_command base now (CompleteTrade id price) books accepted

@@ -10,7 +10,7 @@ use lib.IntN.{+ℤ_assoc, +ℤ_idr}
 use Rattle.brk_model.specs.Adopted.{is_posting_of_trade, posting_of_cash_move_row}
 use Rattle.brk_model.specs.Base.{Base, account_with_id, is_completed, last_status_stamp_of_trade, opening_balance_in_accounts, trade_with_id}
 use Rattle.brk_model.specs.Derived.{Posting, settlement_amount, balance_of_account, cash_trades, postings_sorted_by_stamp, posting_of_movement, posting_of_trade, postings, postings_of_base}
-use Rattle.brk_model.specs.Joins.{account_row_with_id, move_rows_of_account}
+use Rattle.brk_model.specs.Joins.{account_row_with_id, cash_move_rows_of_account}
 use Rattle.brk_model.specs.Lists.{sort_by, total_by}
 use Rattle.brk_model.specs.LookupView.{is_cash_row_of_trade}
 use Rattle.brk_model.specs.Records.{Account, Movement, Trade}
@@ -57,7 +57,8 @@ pub last_is_balance : (base : Base) (id : ℕ) (r : AccountRow) → BooksInvaria
 last_is_balance base id r books e =
     running_ends (λ (row : MoveRow). row.amount) r.opening (sorted_cash_rows_of_account (sheets base) r.id)
     ∙ ap (λ z. r.opening +ℤ z) (total_sorted (λ (row : MoveRow). row.amount) (λ a b. nat_lt a.stamp b.stamp) (filter (λ (row : MoveRow). row.account == r.id) (sheets base).moves)
-    ∙ ap (λ (n : ℕ). total_by (λ (row : MoveRow). row.amount) (move_rows_of_account (sheets base) n)) (eqb-true r.id id (found_passes (λ (a : AccountRow). a.id == id) (sheets base).accounts r e)))
+    ∙ ap (λ (n : ℕ). total_by (λ (row : MoveRow). row.amount) (cash_move_rows_of_account (sheets base) n))
+    (eqb-true r.id id (found_passes (λ (a : AccountRow). a.id == id) (sheets base).accounts r e)))
     ∙ sym (balance_sums base id r books e)
   where
     found_passes : {X : Type 0} (p : X → Bool) (xs : List X) (x : X) → find p xs ≡ Some x → p x ≡ true

@@ -16,8 +16,8 @@ use Rattle.brk_model.specs.Records.{StatusChange, Trade}
 use Rattle.brk_model.specs.Shares.{Deal, Share, lot_quantity, opened_share, replay, signed_by_side}
 use Rattle.brk_model.specs.Sheets.{sheets}
 use Rattle.brk_model.specs.Tables.{HoldingHistoryRow, Tables, TradeRow, trade_row}
-use Rattle.brk_lots.specs.HistoryRows.{has_quantity_change, changing_rows_of_lot, lot_history_rows_per_deal, touch_of_row}
-use Rattle.brk_lots.specs.Books.{realised_gain_sum, lot_cost_basis, purchase_value_minus_sale_value}
+use Rattle.brk_lots.specs.HistoryRows.{has_quantity_change, lot_rows_with_quantity_change, lot_history_rows_per_deal, touch_of_row}
+use Rattle.brk_lots.specs.Books.{realised_gain_sum, cost_basis_of_lots, purchase_value_minus_sale_value}
 use Rattle.brk_lots.specs.Chains.{ShrinksTowardZero, IsLotHistory}
 use Rattle.brk_lots.specs.declared.lot.Lot.{Lot}
 use Rattle.brk_explain_model.specs.Holdings.{LotChange, LotDetails, realised_gain_of_change, remaining_cost_of_lot, remaining_cost_of_lots}
@@ -82,7 +82,7 @@ done_are base account symbol books =
 record IsOf (base : Base) (account : ℕ) (symbol : Text) (v : Trade) : Type 0 where
   found : trade_with_id base v.id ≡ Some v
   among_all : Among base v
-  history : changing_rows_of_lot (completed_trades base) v ≡ filter has_quantity_change (lot_history_rows_per_deal v.id [] (deals_of_position (completed_trades base) account symbol))
+  history : lot_rows_with_quantity_change (completed_trades base) v ≡ filter has_quantity_change (lot_history_rows_per_deal v.id [] (deals_of_position (completed_trades base) account symbol))
 
 each_is : (base : Base) (account : ℕ) (symbol : Text) → BooksInvariant base → AllByRecursion (IsOf base account symbol) (trades_held base account symbol)
 each_is base account symbol books =
@@ -109,7 +109,7 @@ each_is base account symbol books =
     all_done ts = all_pass is_completed ts
 
     rows : (v : Trade) → (v.account == account) ≡ true → bytes_eq v.symbol symbol ≡ true
-        → changing_rows_of_lot (completed_trades base) v
+        → lot_rows_with_quantity_change (completed_trades base) v
         ≡ filter has_quantity_change (lot_history_rows_per_deal v.id [] (deals_of_position (completed_trades base) account symbol))
     rows v a s = λ i. filter has_quantity_change (lot_history_rows_per_deal v.id [] (deals_of_position (completed_trades base) (eqb-true v.account account a i) (same_text v.symbol symbol s i)))
 
@@ -136,8 +136,8 @@ gain_is : (base : Base) (account : ℕ) (symbol : Text) (v : Trade) → BooksInv
     → realised_gain_of_lot (lot_with_later_changes (sheets base) (trade_row v)) ≡ lot_gains (completion_price v) v.id [] (deals_of_position (completed_trades base) account symbol)
 gain_is base account symbol v books k =
     ap (total_by (realised_gain_of_change (completion_price v))) (changes_are_rest base v books k.among_all)
-    ∙ changed_total base v (rest (changing_rows_of_lot (completed_trades base) v))
-    ∙ first_gains base v (changing_rows_of_lot (completed_trades base) v) k.found (opened_by_own base v books k.among_all)
+    ∙ changed_total base v (rest (lot_rows_with_quantity_change (completed_trades base) v))
+    ∙ first_gains base v (lot_rows_with_quantity_change (completed_trades base) v) k.found (opened_by_own base v books k.among_all)
     ∙ ap (total_by (row_gain (trade_price_or_zero (sheets base)) (completion_price v))) k.history
     ∙ rows_gain (trade_price_or_zero (sheets base)) (completion_price v) v.id [] (deals_of_position (completed_trades base) account symbol)
     (All-mapped (λ d. trade_price_or_zero (sheets base) d.trade ≡ d.price) deal_of_trade (trades_held base account symbol) prices)
@@ -174,8 +174,8 @@ told_sum base account symbol f books h =
     has_own u = is_some (opened_lot_row T u.id)
 
 -- a lot without a row of its own trade has no rows
-no_history : (base : Base) (v : Trade) → BooksInvariant base → Among base v → is_some (opened_lot_row (sheets base) v.id) ≡ false → changing_rows_of_lot (completed_trades base) v ≡ []
-no_history base v books a e = empty (changing_rows_of_lot (completed_trades base) v) (sym (ap is_some (own_is_first base v books a)) ∙ e)
+no_history : (base : Base) (v : Trade) → BooksInvariant base → Among base v → is_some (opened_lot_row (sheets base) v.id) ≡ false → lot_rows_with_quantity_change (completed_trades base) v ≡ []
+no_history base v books a e = empty (lot_rows_with_quantity_change (completed_trades base) v) (sym (ap is_some (own_is_first base v books a)) ∙ e)
   where
     empty : (rows : List HoldingHistoryRow) → is_some (first rows) ≡ false → rows ≡ []
     empty [] e = refl
@@ -231,7 +231,7 @@ life_ends T [] to h = h
 life_ends T (x ∷ xs) to h = falls_end T x.after xs to h.1
 
 left_rows : (base : Base) (v : Trade) → BooksInvariant base → Among base v
-    → remaining_quantity_of_lot (lot_with_later_changes (sheets base) (trade_row v)) ≡ rows_leave (sheets base) (changing_rows_of_lot (completed_trades base) v)
+    → remaining_quantity_of_lot (lot_with_later_changes (sheets base) (trade_row v)) ≡ rows_leave (sheets base) (lot_rows_with_quantity_change (completed_trades base) v)
 left_rows base v books a =
     λ i. unwrap_or (last_or None (map (λ (c : LotChange). c.after) (changes_are_rest base v books a i))) (option_map_or (λ (r : HoldingHistoryRow). r.after) (own_is_first base v books a i) (pos 0))
 
@@ -268,7 +268,7 @@ lots_sum base account symbol f books none =
     each (l ∷ ls) = ((λ e. none l (zero_is l.qty (not_not (is_zero l.qty) e))), each ls)
 
 pub costs_are : (base : Base) (account : ℕ) (symbol : Text) → BooksInvariant base
-    → remaining_cost_of_lots (lots_opened_in_symbol (sheets base) account symbol) ≡ lot_cost_basis (lots_of_position (sheets base) account symbol)
+    → remaining_cost_of_lots (lots_opened_in_symbol (sheets base) account symbol) ≡ cost_basis_of_lots (lots_of_position (sheets base) account symbol)
 costs_are base account symbol books =
     told_sum base account symbol remaining_cost_of_lot books
     (All-map W (λ v k e. ap (λ z. z *ℤ pos (completion_price v)) (none_left base v books k.among_all e) ∙ zero-*ℤ (pos (completion_price v))) known)

@@ -16,7 +16,7 @@ use Rattle.brk_model.specs.Lists.{contains_number, update_where}
 use Rattle.brk_model.specs.Movements.{deposit_movement, withdrawal_movement}
 use Rattle.brk_model.specs.Derived.{due_day}
 use Rattle.brk_model.specs.Records.{Account, Key, Movement, SettleRule, Trade}
-use Rattle.brk_model.specs.Results.{completed_trade, base_after_result}
+use Rattle.brk_model.specs.Results.{trade_after_completion, base_after_result}
 use Rattle.brk_model.specs.Run.{Call, Outcome, Run}
 use Rattle.brk_model.specs.Step.{base_after_command_unstamped}
 use Rattle.brk_model.specs.Tests.{stamp_of_next_command, refusal_of_command, checks_of_command}
@@ -150,7 +150,7 @@ keeps_result s base now id price books past e =
     let f : Found base now price t.0 = found_at base now id price t.0 books t.1 (submitted base now id price t.0 t.1 e) in
     let A : List Trade = filter is_completed f.front in
     let Z : List Trade = filter is_completed f.back in
-    let u : Trade = completed_trade base stamp price t.0 in
+    let u : Trade = trade_after_completion base stamp price t.0 in
     let E : Trade → Bool = λ v. nat_le (last_status_stamp_of_trade v) s in
     let out : E u ≡ false = ap (λ (n : ℕ). nat_le n s) (moment_then base stamp price t.0) ∙ not_by s stamp (next_after base.last now s past) in
     let same : done_by (base_after_result base stamp price t.0) s ≡ done_by base s =

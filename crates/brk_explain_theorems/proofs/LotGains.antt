@@ -13,7 +13,7 @@ use Rattle.brk_model.specs.Records.{Trade}
 use Rattle.brk_model.specs.Tables.{HoldingHistoryRow}
 use Rattle.brk_lots.specs.HistoryRows.{has_quantity_change, lot_history_rows_per_deal}
 use Rattle.brk_model.specs.Shares.{Share, Deal, realised_gain, lot_quantity, net_share_count, shares_opened_by_trade, opened_share, replay, shares_after_deal, signed_by_side}
-use Rattle.brk_lots.specs.Books.{realised_gain_sum, share_cost_basis}
+use Rattle.brk_lots.specs.Books.{realised_gain_sum, cost_basis_of_shares}
 use Rattle.brk_lots.proofs.Deals.{all_after}
 use Rattle.brk_book_theorems.proofs.Bools.{numbers_back}
 use Rattle.brk_book_theorems.proofs.LotReading.{IdsApart}
@@ -104,7 +104,7 @@ at_one ts p us a h =
     by_trade ts (λ v. p) (λ u. p) us a (All-map us (λ u k. (k.0, k.1, refl)) h) ∙ total_times (λ u. signed_by_side u.side 1) p us
 
 -- and at their own
-at_own : (ts : List Trade) (us : List Share) → IdsApart ts → AllByRecursion (IsHeld ts) us → total_by (λ v. lot_quantity us v.id *ℤ pos (completion_price v)) ts ≡ share_cost_basis us
+at_own : (ts : List Trade) (us : List Share) → IdsApart ts → AllByRecursion (IsHeld ts) us → total_by (λ v. lot_quantity us v.id *ℤ pos (completion_price v)) ts ≡ cost_basis_of_shares us
 at_own ts us a h =
     by_trade ts completion_price (λ u. u.price) us a h
     ∙ total_by-same (λ u. signed_by_side u.side 1 *ℤ pos u.price) (λ u. signed_by_side u.side u.price) us (All-of us (λ u. signed_price u.side u.price))
@@ -117,8 +117,8 @@ step_gain ts before d a h k =
     ∙ total_less (λ v. at_price us v -ℤ at_price vs v) (λ v. at_cost us v -ℤ at_cost vs v) ts
     ∙ (λ i. total_less (at_price us) (at_price vs) ts i -ℤ total_less (at_cost us) (at_cost vs) ts i)
     ∙ (λ i. (at_one ts d.price us a h i -ℤ at_one ts d.price vs a k i) -ℤ (at_own ts us a h i -ℤ at_own ts vs a k i))
-    ∙ (λ i. (net_share_count us *ℤ pos d.price -ℤ later i) -ℤ (share_cost_basis us -ℤ cost_step before d i))
-    ∙ gathered (net_share_count us *ℤ pos d.price) (signed_by_side d.side (d.qty * d.price)) (share_cost_basis us) (realised_gain d us)
+    ∙ (λ i. (net_share_count us *ℤ pos d.price -ℤ later i) -ℤ (cost_basis_of_shares us -ℤ cost_step before d i))
+    ∙ gathered (net_share_count us *ℤ pos d.price) (signed_by_side d.side (d.qty * d.price)) (cost_basis_of_shares us) (realised_gain d us)
   where
     us : List Share
     us = replay before

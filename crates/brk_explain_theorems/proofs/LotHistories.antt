@@ -12,7 +12,7 @@ use Rattle.brk_model.specs.Records.{Trade}
 use Rattle.brk_model.specs.Shares.{Deal, Share, shares_after_deal}
 use Rattle.brk_model.specs.Sheets.{sheets}
 use Rattle.brk_model.specs.Tables.{HoldingHistoryRow, Tables}
-use Rattle.brk_lots.specs.HistoryRows.{has_quantity_change, changing_rows_of_lot, lot_history_rows_per_deal}
+use Rattle.brk_lots.specs.HistoryRows.{has_quantity_change, lot_rows_with_quantity_change, lot_history_rows_per_deal}
 use Rattle.brk_explain_model.specs.Holdings.{LotChange, is_later_change_of_lot, recorded_lot_change, later_changes_of_lot}
 use Rattle.brk_explain_model.specs.Trades.{trade_stamp_or_zero, opened_lot_row}
 use Rattle.brk_book_theorems.specs.Books.{BooksInvariant}
@@ -78,7 +78,7 @@ rows_rise base lot shares (u ∷ ts) o h = (behind (shares_after_deal shares (de
           behind (shares_after_deal left (deal_of_trade v)) vs f.1 k.1,
         )
 
-history_rises : (base : Base) (v : Trade) → BooksInvariant base → Rise (made_at base) (changing_rows_of_lot (completed_trades base) v)
+history_rises : (base : Base) (v : Trade) → BooksInvariant base → Rise (made_at base) (lot_rows_with_quantity_change (completed_trades base) v)
 history_rises base v books =
     rise_left (made_at base) has_quantity_change (lot_history_rows_per_deal v.id [] (deals_of_position (completed_trades base) v.account v.symbol))
     (rows_rise base v.id [] (trades_held base v.account v.symbol) (held_in_order base v.account v.symbol books)
@@ -88,20 +88,22 @@ lots_same : (lot : ℕ) (shares : List Share) (deals : List Deal) → AllByRecur
 lots_same lot shares [] = tt
 lots_same lot shares (d ∷ deals) = (refl, lots_same lot (shares_after_deal shares d) deals)
 
-own_lots : (done : List Trade) (u : Trade) → AllByRecursion (λ r. r.lot ≡ u.id) (changing_rows_of_lot done u)
+own_lots : (done : List Trade) (u : Trade) → AllByRecursion (λ r. r.lot ≡ u.id) (lot_rows_with_quantity_change done u)
 own_lots done u = All-filter (λ r. r.lot ≡ u.id) has_quantity_change (lot_history_rows_per_deal u.id [] (deals_of_position done u.account u.symbol))
     (lots_same u.id [] (deals_of_position done u.account u.symbol))
 
 abbrev of_lot : ℕ → HoldingHistoryRow → Bool
 of_lot lot r = r.lot == lot
 
-none_other : (done : List Trade) (lot : ℕ) (ts : List Trade) → NonePass (λ u. u.id == lot) ts → flat_map (λ u. filter (of_lot lot) (changing_rows_of_lot done u)) ts ≡ []
+none_other : (done : List Trade) (lot : ℕ) (ts : List Trade) → NonePass (λ u. u.id == lot) ts → flat_map (λ u. filter (of_lot lot) (lot_rows_with_quantity_change done u)) ts ≡ []
 none_other done lot ts h =
-    flat_map-empty (λ u. filter (of_lot lot) (changing_rows_of_lot done u)) ts
-    (All-map ts (λ u e. filter-none (of_lot lot) (changing_rows_of_lot done u) (All-map (changing_rows_of_lot done u) (λ r same. ap (λ (n : ℕ). n == lot) same ∙ e) (own_lots done u))) h)
+    flat_map-empty (λ u. filter (of_lot lot) (lot_rows_with_quantity_change done u)) ts
+    (All-map ts (λ u e. filter-none (of_lot lot) (lot_rows_with_quantity_change done u)
+    (All-map (lot_rows_with_quantity_change done u) (λ r same. ap (λ (n : ℕ). n == lot) same ∙ e) (own_lots done u))) h)
 
 -- the rows of the lot, in the order of the table
-rows_of_lot : (base : Base) (v : Trade) → Among base v → filter (of_lot v.id) (sheets base).holding_history ≡ rows_sorted_by_key holding_history_key (changing_rows_of_lot (completed_trades base) v)
+rows_of_lot : (base : Base) (v : Trade) → Among base v
+    → filter (of_lot v.id) (sheets base).holding_history ≡ rows_sorted_by_key holding_history_key (lot_rows_with_quantity_change (completed_trades base) v)
 rows_of_lot base v a =
     ap (filter (of_lot v.id)) (history_is base) ∙ sym (by_key-filter holding_history_key (of_lot v.id) (flat_map L done))
     ∙ ap (rows_sorted_by_key holding_history_key) (filter-flat_map (of_lot v.id) L done ∙ ap (flat_map F) a.stands ∙ flat_map-append F a.front (v ∷ a.back)
@@ -112,16 +114,16 @@ rows_of_lot base v a =
     done = completed_trades base
 
     L : Trade → List HoldingHistoryRow
-    L = changing_rows_of_lot done
+    L = lot_rows_with_quantity_change done
 
     F : Trade → List HoldingHistoryRow
     F u = filter (of_lot v.id) (L u)
 
 -- by the stamps of the trades that made them they are those of the deals
-pub in_turn_of : (base : Base) (v : Trade) → BooksInvariant base → Among base v → lot_changes_by_stamp (sheets base) v.id ≡ changing_rows_of_lot (completed_trades base) v
+pub in_turn_of : (base : Base) (v : Trade) → BooksInvariant base → Among base v → lot_changes_by_stamp (sheets base) v.id ≡ lot_rows_with_quantity_change (completed_trades base) v
 in_turn_of base v books a =
     ap (sort_by (by (made_at base))) (rows_of_lot base v a)
-    ∙ as_they_rise (made_at base) (is_row_key_less holding_history_key) (changing_rows_of_lot (completed_trades base) v) (history_rises base v books)
+    ∙ as_they_rise (made_at base) (is_row_key_less holding_history_key) (lot_rows_with_quantity_change (completed_trades base) v) (history_rises base v books)
 
 -- ---- the first, and the later ones
 
@@ -158,11 +160,11 @@ filter_later base id (x ∷ xs) o r =
     ap (λ b. cond (not b) (x ∷ filter (λ r. not (r.trade == id)) xs) (filter (λ r. not (r.trade == id)) xs)) (eq-eqb x.trade id o)
     ∙ filter-all (λ r. not (r.trade == id)) xs (All-map xs (λ y e. ap not e) (later_others base id x xs o r.0))
 
-pub opened_by_own : (base : Base) (v : Trade) → BooksInvariant base → Among base v → BeginsWithTradeOfLot v.id (changing_rows_of_lot (completed_trades base) v)
+pub opened_by_own : (base : Base) (v : Trade) → BooksInvariant base → Among base v → BeginsWithTradeOfLot v.id (lot_rows_with_quantity_change (completed_trades base) v)
 opened_by_own base v books a = subst (BeginsWithTradeOfLot v.id) (in_turn_of base v books a) (lots_live_on base books v.id).opened
 
 -- the row of the lot's own trade is the first
-pub own_is_first : (base : Base) (v : Trade) → BooksInvariant base → Among base v → opened_lot_row (sheets base) v.id ≡ first (changing_rows_of_lot (completed_trades base) v)
+pub own_is_first : (base : Base) (v : Trade) → BooksInvariant base → Among base v → opened_lot_row (sheets base) v.id ≡ first (lot_rows_with_quantity_change (completed_trades base) v)
 unfolding sort_by
 own_is_first base v books a =
     find_first (λ r. (r.trade == v.id) && (r.lot == v.id)) H
@@ -174,7 +176,7 @@ own_is_first base v books a =
     H = (sheets base).holding_history
 
     L : List HoldingHistoryRow
-    L = changing_rows_of_lot (completed_trades base) v
+    L = lot_rows_with_quantity_change (completed_trades base) v
 
     E : HoldingHistoryRow → Bool
     E r = r.trade == v.id
@@ -185,13 +187,13 @@ own_is_first base v books a =
 
 -- the changes by later trades are the others
 pub changes_are_rest : (base : Base) (v : Trade) → BooksInvariant base → Among base v
-    → later_changes_of_lot (sheets base) v.id ≡ map (recorded_lot_change (sheets base)) (rest (changing_rows_of_lot (completed_trades base) v))
+    → later_changes_of_lot (sheets base) v.id ≡ map (recorded_lot_change (sheets base)) (rest (lot_rows_with_quantity_change (completed_trades base) v))
 changes_are_rest base v books a =
     sort_map (λ (c : LotChange). c.stamp) (recorded_lot_change T) (filter (is_later_change_of_lot v.id) T.holding_history)
     ∙ ap (map (recorded_lot_change T)) (ap (sort_by (by (made_at base))) (filter-both (of_lot v.id) N T.holding_history)
     ∙ sort_filter (by (made_at base)) N (filter (of_lot v.id) T.holding_history) (by_splits (made_at base)) (by_one_way (made_at base))
     ∙ ap (filter N) (in_turn_of base v books a)
-    ∙ filter_later base v.id (changing_rows_of_lot (completed_trades base) v) (opened_by_own base v books a) (history_rises base v books))
+    ∙ filter_later base v.id (lot_rows_with_quantity_change (completed_trades base) v) (opened_by_own base v books a) (history_rises base v books))
   where
     T : Tables
     T = sheets base

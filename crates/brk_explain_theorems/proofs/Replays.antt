@@ -6,7 +6,7 @@ use Rattle.brk_money.specs.declared.side.Side.{Side}
 use Rattle.brk_money.specs.declared.side.Side.TheVariants.{Buy, Sell}
 use Rattle.brk_model.specs.Lists.{total_by}
 use Rattle.brk_model.specs.Shares.{Share, Deal, realised_gain, net_share_count, replay, shares_after_deal, signed_by_side}
-use Rattle.brk_lots.specs.Books.{deal_quantity_sum, realised_gain_sum, lot_cost_basis, share_cost_basis, purchase_value_minus_sale_value}
+use Rattle.brk_lots.specs.Books.{deal_quantity_sum, realised_gain_sum, cost_basis_of_lots, cost_basis_of_shares, purchase_value_minus_sale_value}
 use Rattle.brk_lots.specs.Lots.{share_of_lot, shares_of_lots, side_of_qty}
 use Rattle.brk_lots.specs.declared.lot.Lot.{Lot}
 use Rattle.brk_lots.proofs.Books.{costs_add_up, lots_net, quantities_add_up}
@@ -35,14 +35,14 @@ pub signed_price : (s : Side) (p : ℕ) → signed_by_side s 1 *ℤ pos p ≡ si
 signed_price Buy p = ap (signed_by_side Buy) (times_one p)
 signed_price Sell p = ap (signed_by_side Sell) (times_one p)
 
-cost_single : (us : List Share) → lot_cost_basis (map single us) ≡ share_cost_basis us
+cost_single : (us : List Share) → cost_basis_of_lots (map single us) ≡ cost_basis_of_shares us
 unfolding single total_by
 cost_single [] = refl
 cost_single (u ∷ us) = λ i. signed_price u.side u.price i +ℤ cost_single us i
 
 -- ---- all deals
 
-cost_replayed : (ds : List Deal) → share_cost_basis (replay ds) ≡ realised_gain_sum ds [] +ℤ purchase_value_minus_sale_value ds
+cost_replayed : (ds : List Deal) → cost_basis_of_shares (replay ds) ≡ realised_gain_sum ds [] +ℤ purchase_value_minus_sale_value ds
 cost_replayed ds = sym (cost_single (replay ds)) ∙ costs_add_up ds (map single (replay ds)) (shares_single (replay ds))
 
 pub net_replayed : (ds : List Deal) → net_share_count (replay ds) ≡ deal_quantity_sum ds
@@ -75,10 +75,10 @@ net_step ds d =
     ∙ ap (λ z. z +ℤ signed_by_side d.side d.qty) (sym (net_replayed ds))
 
 pub cost_step : (ds : List Deal) (d : Deal)
-    → share_cost_basis (shares_after_deal (replay ds) d)
-    ≡ share_cost_basis (replay ds) +ℤ (realised_gain d (replay ds) +ℤ signed_by_side d.side (d.qty * d.price))
+    → cost_basis_of_shares (shares_after_deal (replay ds) d)
+    ≡ cost_basis_of_shares (replay ds) +ℤ (realised_gain d (replay ds) +ℤ signed_by_side d.side (d.qty * d.price))
 cost_step ds d =
-    ap share_cost_basis (sym (fold_last [] ds d)) ∙ cost_replayed (ds ++ d ∷ [])
+    ap cost_basis_of_shares (sym (fold_last [] ds d)) ∙ cost_replayed (ds ++ d ∷ [])
     ∙ (λ i. gains_last ds d [] i +ℤ last_total (λ e. signed_by_side e.side (e.qty * e.price)) ds d i)
     ∙ regroup (realised_gain_sum ds []) (realised_gain d (replay ds)) (purchase_value_minus_sale_value ds) (signed_by_side d.side (d.qty * d.price))
     ∙ ap (λ z. z +ℤ (realised_gain d (replay ds) +ℤ signed_by_side d.side (d.qty * d.price))) (sym (cost_replayed ds))

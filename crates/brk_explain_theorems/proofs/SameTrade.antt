@@ -7,7 +7,7 @@ use Rattle.std.proofs.lemmas.Bool.Decides.{nat_tests}
 use Rattle.brk_model.specs.Base.{Base, completed_trades, is_completed, last_status_stamp_of_trade, trade_with_id}
 use Rattle.brk_model.specs.Commands.{CompleteTrade}
 use Rattle.brk_model.specs.Records.{Trade}
-use Rattle.brk_model.specs.Results.{completed_trade, base_after_result}
+use Rattle.brk_model.specs.Results.{trade_after_completion, base_after_result}
 use Rattle.brk_model.specs.Step.{base_after_command_unstamped}
 use Rattle.brk_model.specs.Tests.{stamp_of_next_command, refusal_of_command}
 use Rattle.brk_model.specs.Names.{TradesAreNumberedFrom}
@@ -112,17 +112,17 @@ none_in base s id e =
 
 -- ---- after its result
 
-id_then : (base : Base) (stamp price : ℕ) (t : Trade) → (completed_trade base stamp price t).id ≡ t.id
-unfolding completed_trade
+id_then : (base : Base) (stamp price : ℕ) (t : Trade) → (trade_after_completion base stamp price t).id ≡ t.id
+unfolding trade_after_completion
 id_then base stamp price t = refl
 
 pub found_then : (base : Base) (now id price : ℕ) (t : Trade) → BooksInvariant base → trade_with_id base id ≡ Some t → refusal_of_command base now (CompleteTrade id price) ≡ None
-    → trade_with_id (base_after_command base now (CompleteTrade id price)) id ≡ Some (completed_trade base (stamp_of_next_command base now) price t)
+    → trade_with_id (base_after_command base now (CompleteTrade id price)) id ≡ Some (trade_after_completion base (stamp_of_next_command base now) price t)
 unfolding base_after_command_unstamped
 found_then base now id price t books e accepted =
     ap (λ o. find (λ u. u.id == id) (option_map_or (base_after_result base stamp price) o base).trades) e
     ∙ ap (find (λ u. u.id == id)) (trades_then base stamp price t f.front f.back f.result)
-    ∙ find_there (λ u. u.id == id) f.front (completed_trade base stamp price t) f.back others (ap (λ (n : ℕ). n == id) (same_id ∙ id_of base id t e) ∙ eq-eqb id id refl)
+    ∙ find_there (λ u. u.id == id) f.front (trade_after_completion base stamp price t) f.back others (ap (λ (n : ℕ). n == id) (same_id ∙ id_of base id t e) ∙ eq-eqb id id refl)
   where
     stamp : ℕ
     stamp = stamp_of_next_command base now
@@ -136,5 +136,5 @@ found_then base now id price t books e accepted =
     others : NonePass (λ u. u.id == id) f.front
     others = subst (λ (m : ℕ). NonePass (λ u. u.id == m) f.front) (id_of base id t e) (numbered_before 1 f.front t f.back n)
 
-    same_id : (completed_trade base stamp price t).id ≡ t.id
+    same_id : (trade_after_completion base stamp price t).id ≡ t.id
     same_id = id_then base stamp price t

@@ -10,7 +10,7 @@ use Rattle.brk_model.specs.Base.{Base, completed_trades, is_completed, last_stat
 use Rattle.brk_model.specs.Commands.{Booked, CompleteTrade, CompletedTrade, Completion, Reply}
 use Rattle.brk_model.specs.Derived.{shares_of_position}
 use Rattle.brk_model.specs.Records.{Trade}
-use Rattle.brk_model.specs.Results.{completed_trade, completion_of_trade, base_after_result}
+use Rattle.brk_model.specs.Results.{trade_after_completion, completion_of_trade, base_after_result}
 use Rattle.brk_model.specs.Shares.{buy_value, sell_value}
 use Rattle.brk_model.specs.Step.{base_after_accepted_command, base_after_command_unstamped, reply_to_command, step, value_unless_refused}
 use Rattle.brk_model.specs.Tests.{stamp_of_next_command, refusal_of_command}
@@ -49,7 +49,7 @@ unfolding base_after_command_unstamped
 then_is base now id price t e = ap (λ o. record (option_map_or (base_after_result base (stamp_of_next_command base now) price) o base) { last = Some (stamp_of_next_command base now) }) e
 
 before_result : (base : Base) (now id price : ℕ) (t : Trade) → BooksInvariant base → trade_with_id base id ≡ Some t → refusal_of_command base now (CompleteTrade id price) ≡ None
-    → trades_completed_before_stamp (then_of base now price t) (last_status_stamp_of_trade (completed_trade base (stamp_of_next_command base now) price t)) ≡ completed_trades base
+    → trades_completed_before_stamp (then_of base now price t) (last_status_stamp_of_trade (trade_after_completion base (stamp_of_next_command base now) price t)) ≡ completed_trades base
 before_result base now id price t books e accepted =
     ap (λ (n : ℕ). filter (λ v. nat_lt (last_status_stamp_of_trade v) n) (completed_trades (base_after_result base stamp price t))) (moment_then base stamp price t)
     ∙ ap (filter E) (done_then base stamp price t f.front f.back f.result)
@@ -70,7 +70,7 @@ before_result base now id price t books e accepted =
     Z = filter is_completed f.back
 
     u : Trade
-    u = completed_trade base stamp price t
+    u = trade_after_completion base stamp price t
 
     E : Trade → Bool
     E v = nat_lt (last_status_stamp_of_trade v) stamp
@@ -78,7 +78,7 @@ before_result base now id price t books e accepted =
 -- ---- the figures
 
 tells : (base : Base) (now id price : ℕ) (t : Trade) → BooksInvariant base → trade_with_id base id ≡ Some t → refusal_of_command base now (CompleteTrade id price) ≡ None
-    → PrintsReplyFigures (then_of base now price t) (completed_trade base (stamp_of_next_command base now) price t) (completion_of_trade base (stamp_of_next_command base now) price t)
+    → PrintsReplyFigures (then_of base now price t) (trade_after_completion base (stamp_of_next_command base now) price t) (completion_of_trade base (stamp_of_next_command base now) price t)
 unfolding completion_of_trade
 tells base now id price t books e accepted = record {
   commission = refl;
@@ -97,7 +97,7 @@ tells base now id price t books e accepted = record {
     mid = then_of base now price t
 
     u : Trade
-    u = completed_trade base stamp price t
+    u = trade_after_completion base stamp price t
 
     is_then : base_after_command base now (CompleteTrade id price) ≡ mid
     is_then = then_is base now id price t e
@@ -146,10 +146,10 @@ told_of base after now id price stamp c books None e k =
     (Booked (stamp_of_next_command base now))) t.1) ∙ reply in
     let figures : completion_of_trade base (stamp_of_next_command base now) price t.0 ≡ c = cc in
     let later : then_of base now price t.0 ≡ after = sym (then_is base now id price t.0 t.1) ∙ ap (λ p. p.1) both in (
-      completed_trade base (stamp_of_next_command base now) price t.0,
-      subst (λ b. trade_with_id b id ≡ Some (completed_trade base (stamp_of_next_command base now) price t.0)) (ap (λ p. p.1) both) (found_then base now id price t.0 books t.1 e),
-      subst (PrintsReplyFigures after (completed_trade base (stamp_of_next_command base now) price t.0)) figures
-          (subst (λ b. PrintsReplyFigures b (completed_trade base (stamp_of_next_command base now) price t.0)
+      trade_after_completion base (stamp_of_next_command base now) price t.0,
+      subst (λ b. trade_with_id b id ≡ Some (trade_after_completion base (stamp_of_next_command base now) price t.0)) (ap (λ p. p.1) both) (found_then base now id price t.0 books t.1 e),
+      subst (PrintsReplyFigures after (trade_after_completion base (stamp_of_next_command base now) price t.0)) figures
+          (subst (λ b. PrintsReplyFigures b (trade_after_completion base (stamp_of_next_command base now) price t.0)
           (completion_of_trade base (stamp_of_next_command base now) price t.0)) later (tells base now id price t.0 books t.1 e)),
     )
 

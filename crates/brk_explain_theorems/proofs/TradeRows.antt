@@ -13,7 +13,7 @@ use Rattle.brk_model.specs.Shares.{Deal, Share, shares_after_deal, touch_of_lot}
 use Rattle.brk_model.specs.Sheets.{sheets, tables_sorted_by_key}
 use Rattle.brk_model.specs.Tables.{HoldingHistoryRow, tables_of_base_in_schema, holding_history_row, trade_row}
 use Rattle.brk_lots.proofs.HistoryRows.{rows_of_lots_are}
-use Rattle.brk_lots.specs.HistoryRows.{has_quantity_change, changing_rows_of_lot, lot_history_rows_per_deal}
+use Rattle.brk_lots.specs.HistoryRows.{has_quantity_change, lot_rows_with_quantity_change, lot_history_rows_per_deal}
 use Rattle.brk_explain_model.specs.Trades.{trade_stamp_or_zero}
 use Rattle.brk_book_theorems.specs.Books.{BooksInvariant}
 use Rattle.brk_book_theorems.proofs.Completing.{here_deals, is_here, other_way}
@@ -156,7 +156,7 @@ abbrev pub passes : (HoldingHistoryRow → Bool) → List Share → Trade → Tr
 passes p us t v = p (row_by us (deal_of_trade t) v) && has_quantity_change (row_by us (deal_of_trade t) v)
 
 lot_row : (base : Base) (t : Trade) (front back : List Trade) → IsPlaced base t front back → (p : HoldingHistoryRow → Bool) → OnlyOf t.id p → (v : Trade) (b : Bool) → is_here t v ≡ b
-    → filter p (changing_rows_of_lot (completed_trades base) v) ≡ cond (b && passes p (left_by front) t v) (row_by (left_by front) (deal_of_trade t) v ∷ []) []
+    → filter p (lot_rows_with_quantity_change (completed_trades base) v) ≡ cond (b && passes p (left_by front) t v) (row_by (left_by front) (deal_of_trade t) v ∷ []) []
 lot_row base t front back k p only v true e =
     let o : InOrder (front ++ t ∷ back) = placed_order base t front back k in
     ap (λ ds. filter p (filter has_quantity_change (lot_history_rows_per_deal v.id [] ds)))
@@ -169,10 +169,10 @@ lot_row base t front back k p only v false e =
     (all_others t.id (trades_held base v.account v.symbol) (elsewhere base t v.account v.symbol k.books k.found (other_way t v e)))
 
 rows_of : (base : Base) (t : Trade) (front back : List Trade) → IsPlaced base t front back → (p : HoldingHistoryRow → Bool) → OnlyOf t.id p → (vs : List Trade)
-    → filter p (flat_map (changing_rows_of_lot (completed_trades base)) vs) ≡ map (row_by (left_by front) (deal_of_trade t)) (filter (λ v. is_here t v && passes p (left_by front) t v) vs)
+    → filter p (flat_map (lot_rows_with_quantity_change (completed_trades base)) vs) ≡ map (row_by (left_by front) (deal_of_trade t)) (filter (λ v. is_here t v && passes p (left_by front) t v) vs)
 rows_of base t front back k p only [] = refl
 rows_of base t front back k p only (v ∷ vs) =
-    filter-append p (changing_rows_of_lot (completed_trades base) v) (flat_map (changing_rows_of_lot (completed_trades base)) vs)
+    filter-append p (lot_rows_with_quantity_change (completed_trades base) v) (flat_map (lot_rows_with_quantity_change (completed_trades base)) vs)
     ∙ (λ i. lot_row base t front back k p only v (is_here t v) refl i ++ rows_of base t front back k p only vs i)
     ∙ put (is_here t v && passes p (left_by front) t v)
   where
@@ -186,7 +186,7 @@ rows_of base t front back k p only (v ∷ vs) =
     put true = refl
     put false = refl
 
-pub history_is : (base : Base) → (sheets base).holding_history ≡ rows_sorted_by_key holding_history_key (flat_map (changing_rows_of_lot (completed_trades base)) (completed_trades base))
+pub history_is : (base : Base) → (sheets base).holding_history ≡ rows_sorted_by_key holding_history_key (flat_map (lot_rows_with_quantity_change (completed_trades base)) (completed_trades base))
 unfolding tables_of_base_in_schema tables_sorted_by_key
 history_is base = ap (rows_sorted_by_key holding_history_key) (rows_of_lots_are (completed_trades base) (completed_trades base))
 
@@ -195,5 +195,5 @@ pub rows_found : (base : Base) (t : Trade) (front back : List Trade) → IsPlace
     → filter p (sheets base).holding_history
     ≡ rows_sorted_by_key holding_history_key (map (row_by (left_by front) (deal_of_trade t)) (filter (λ v. is_here t v && passes p (left_by front) t v) (completed_trades base)))
 rows_found base t front back k p only =
-    ap (filter p) (history_is base) ∙ sym (by_key-filter holding_history_key p (flat_map (changing_rows_of_lot (completed_trades base)) (completed_trades base)))
+    ap (filter p) (history_is base) ∙ sym (by_key-filter holding_history_key p (flat_map (lot_rows_with_quantity_change (completed_trades base)) (completed_trades base)))
     ∙ ap (rows_sorted_by_key holding_history_key) (rows_of base t front back k p only (completed_trades base))

@@ -9,7 +9,7 @@ use Rattle.brk_model.specs.Lists.{total_by}
 use Rattle.brk_model.specs.Shares.{signed_by_side}
 use Rattle.brk_model.specs.Sheets.{sheets}
 use Rattle.brk_model.specs.Tables.{Tables}
-use Rattle.brk_lots.specs.Books.{realised_gain_sum, lot_cost_basis}
+use Rattle.brk_lots.specs.Books.{realised_gain_sum, cost_basis_of_lots}
 use Rattle.brk_explain_model.specs.Holdings.{remaining_cost_of_lots, completed_trades_in_symbol, realised_gain_in_symbol, remaining_quantity_of_lot}
 use Rattle.brk_explain_model.specs.Holdings.{lots_opened_in_symbol, total_purchase_value, total_sale_value, signed_quantity_of_trade}
 use Rattle.brk_explain_model.specs.Running.{running_totals}
@@ -29,7 +29,7 @@ pub record PrintedHoldingMatchesDeals (base : Base) (account : ℕ) (symbol : Te
   -- The gains, added up by lot, are the gains of the deals, added up by trade.
   pub gained : realised_gain_in_symbol (sheets base) account symbol ≡ realised_gain_sum (deals_of_position (completed_trades base) account symbol) []
   -- The costs of the remaining shares of the lots sum to the cost basis of the position.
-  pub costs : remaining_cost_of_lots (lots_opened_in_symbol (sheets base) account symbol) ≡ lot_cost_basis (lots_of_position (sheets base) account symbol)
+  pub costs : remaining_cost_of_lots (lots_opened_in_symbol (sheets base) account symbol) ≡ cost_basis_of_lots (lots_of_position (sheets base) account symbol)
   -- Cost basis is Realised gain plus Purchases plus Sales.
   pub balance : remaining_cost_of_lots (lots_opened_in_symbol (sheets base) account symbol)
       ≡ (realised_gain_in_symbol (sheets base) account symbol +ℤ total_purchase_value (completed_trades_in_symbol (sheets base) account symbol))

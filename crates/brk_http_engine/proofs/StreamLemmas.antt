@@ -7,7 +7,7 @@ use Rattle.std.proofs.KnownBytes.{Appends-trans, Appends-nil}
 use Rattle.std.proofs.lemmas.List.{append-nil, length_push}
 use Rattle.brk_money.specs.Spelling.{Text}
 use Rattle.brk_io.specs.Span.{EnvironmentChange}
-use Rattle.brk_io.specs.Moments.{ClockReturnsInOrder}
+use Rattle.brk_io.specs.Moments.{ClockReturnsMomentsInSequence}
 use Rattle.brk_http_model.specs.Asked.{RequestParsers}
 use Rattle.brk_http_model.specs.Found.{NoBytesLeft, ReadsFirstRequest}
 use Rattle.brk_http_model.specs.Stream.{CallRelation, StreamState, Finished, Continues, IsEffectOfFirstRequest, AreRepliesOfStream, AreFirstReplies}
@@ -29,9 +29,9 @@ from_zero : {n m : ℕ} → n ≡ m → 0 + m ≡ n
 from_zero e = omega (arith, e)
 
 -- moments after moments
-moments_more : {C : Type 0} (gives : C → ℕ → C → Type 0) (first mid last : C) (ms ns : List ℕ) → ClockReturnsInOrder gives first ms mid
-    → ClockReturnsInOrder gives mid ns last → ClockReturnsInOrder gives first (ms ++ ns) last
-moments_more gives first mid last [] ns e h = subst (λ c. ClockReturnsInOrder gives c ns last) e h
+moments_more : {C : Type 0} (gives : C → ℕ → C → Type 0) (first mid last : C) (ms ns : List ℕ) → ClockReturnsMomentsInSequence gives first ms mid
+    → ClockReturnsMomentsInSequence gives mid ns last → ClockReturnsMomentsInSequence gives first (ms ++ ns) last
+moments_more gives first mid last [] ns e h = subst (λ c. ClockReturnsMomentsInSequence gives c ns last) e h
 moments_more gives first mid last (m ∷ ms) ns (c, g, more) h = (c, g, moments_more gives c mid last ms ns more h)
 
 module _ {B C : Type 0} (forms : RequestParsers) (does : CallRelation B) (gives : C → ℕ → C → Type 0) where
@@ -68,7 +68,7 @@ module _ {B C : Type 0} (forms : RequestParsers) (does : CallRelation B) (gives 
   pub record HasFirstReplies (input : Text) (span : EnvironmentChange B C) (n : ℕ) (rest : Text) : Type 0 where
     pub moments : List ℕ
     pub replies : List Text
-    pub taken : ClockReturnsInOrder gives span.clock moments span.later
+    pub taken : ClockReturnsMomentsInSequence gives span.clock moments span.later
     pub begun : AreFirstReplies forms does 0 input span.base moments replies rest span.after
     pub written : Appends span.old span.new (concat replies)
     pub counted : n ≡ length replies
@@ -132,8 +132,8 @@ module _ {B C : Type 0} (forms : RequestParsers) (does : CallRelation B) (gives 
         counted = ap (λ m. m + 1) p.counted ∙ sym (length_push p.replies u.0);
       }
 
-  same_moments : (first mid last : C) (ms : List ℕ) → ClockReturnsInOrder gives first ms mid → last ≡ mid → ClockReturnsInOrder gives first ms last
-  same_moments first mid last ms h e = subst (λ c. ClockReturnsInOrder gives first ms c) (sym e) h
+  same_moments : (first mid last : C) (ms : List ℕ) → ClockReturnsMomentsInSequence gives first ms mid → last ≡ mid → ClockReturnsMomentsInSequence gives first ms last
+  same_moments first mid last ms h e = subst (λ c. ClockReturnsMomentsInSequence gives first ms c) (sym e) h
 
   pub ended_here : (a : Option Text) (span : EnvironmentChange B C) (n : ℕ) (buffer : Text) (left : Option Text) (after : B) (later : C) (new left' : Option Text)
       → HasFirstRepliesIfKnown a span n buffer left → IfSome left (λ xs. ExchangeCompletesWith forms does gives n (buffer ++ xs) (change_after span after later new) left' turn.Ended)

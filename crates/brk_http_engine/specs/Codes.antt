@@ -48,12 +48,12 @@ route_in_model text (route.ToView view) = routes.ToView (text view)
 
 -- The model's call that the call of a request represents or, if the request makes no call, the
 -- model's response to it; `command` and `query` map commands and queries to those of the model.
-abbrev pub call_in_model : {X Q : Type 0} → (X → model.Command) → (Q → queries.Query) → RequestedCall X Q → asked.RequestDemand
-call_in_model command query (asking.Wrong problem) = asked.ResponseOnly (FromProblem problem)
-call_in_model command query (asking.BadRow refusal) = asked.ResponseOnly (FromOutcome (run.Did (model.Refused refusal)))
-call_in_model command query (asking.BadQuery refusal) = asked.ResponseOnly (FromOutcome (run.NoView refusal))
-call_in_model command query (asking.Row x key) = asked.DeskCall (run.Do (command x) (key_in_model key))
-call_in_model command query (asking.View q) = asked.DeskCall (run.Ask (query q))
+abbrev pub demand_in_model : {X Q : Type 0} → (X → model.Command) → (Q → queries.Query) → RequestedCall X Q → asked.RequestDemand
+demand_in_model command query (asking.Wrong problem) = asked.ResponseOnly (FromProblem problem)
+demand_in_model command query (asking.BadRow refusal) = asked.ResponseOnly (FromOutcome (run.Did (model.Refused refusal)))
+demand_in_model command query (asking.BadQuery refusal) = asked.ResponseOnly (FromOutcome (run.NoView refusal))
+demand_in_model command query (asking.Row x key) = asked.DeskCall (run.Do (command x) (key_in_model key))
+demand_in_model command query (asking.View q) = asked.DeskCall (run.Ask (query q))
 
 -- The model's response that a response represents; `reply` and `shown` map replies and views to
 -- those of the model.

@@ -16,11 +16,11 @@ call_limit_at_fault kinds.Memory = 1
 -- The greatest number of calls of the desk that an exchange of a stream with this result makes: 0
 -- if no input was left, 1 after a reply, and after a fault the limit at this fault
 -- (`call_limit_at_fault`).
-abbrev pub call_limit_of_turn : Result ExchangeResult FaultKind → ℕ
-call_limit_of_turn (Ok turn.Ended) = 0
-call_limit_of_turn (Ok turn.Open) = 1
-call_limit_of_turn (Ok turn.Closed) = 1
-call_limit_of_turn (Err kind) = call_limit_at_fault kind
+abbrev pub call_limit_of_exchange : Result ExchangeResult FaultKind → ℕ
+call_limit_of_exchange (Ok turn.Ended) = 0
+call_limit_of_exchange (Ok turn.Open) = 1
+call_limit_of_exchange (Ok turn.Closed) = 1
+call_limit_of_exchange (Err kind) = call_limit_at_fault kind
 
 -- The greatest number of calls of the desk that a stream with this result makes: 1 for each reply,
 -- and after a fault also the limit at this fault (`call_limit_at_fault`).

@@ -1,7 +1,7 @@
 -- The first lines of a reply's head.
 use Rattle.std.specs.Prelude.{ℕ, ◌∷◌, ◌++◌, [], codes, decimal, unwrap_or}
 use Rattle.brk_money.specs.Spelling.{Text}
-use Rattle.brk_http_model.specs.Replies.{head_line}
+use Rattle.brk_http_model.specs.Replies.{http_head_line}
 use Rattle.http.specs.StatusCode.{code_digits, reason_phrase}
 
 -- The status `code` as it is written in a head: its three digits, a space and its reason phrase,
@@ -13,4 +13,5 @@ status_text code = code_digits code ++ 32 ∷ unwrap_or (reason_phrase code) []
 -- `status`, the content type `application/json`, and the content length `len` in bytes.
 unfoldable pub first_head_lines : Text → ℕ → Text
 first_head_lines status len =
-    head_line (codes "HTTP/1.1 " ++ status) ++ head_line (codes "Content-Type: application/json") ++ head_line (codes "Content-Length: " ++ decimal len)
+    http_head_line (codes "HTTP/1.1 " ++ status) ++ http_head_line (codes "Content-Type: application/json")
+    ++ http_head_line (codes "Content-Length: " ++ decimal len)

@@ -16,7 +16,7 @@ use Rattle.brk_http_model.specs.Replies.{Response, is_fault_response, reply_text
 use Rattle.brk_http_model.specs.Stream.{CallRelation, IsResponseToDemand, most_requests_per_stream, StreamState}
 use Rattle.brk_http_model.specs.Stream.{Finished, Continues, IsEffectOfFirstRequest, AreRepliesOfStream, AreFirstReplies}
 use Rattle.brk_io.specs.Span.{IsUnchangedEnvironment, EnvironmentChange}
-use Rattle.brk_io.specs.Moments.{ClockReturnsInOrder}
+use Rattle.brk_io.specs.Moments.{ClockReturnsMomentsInSequence}
 use Rattle.brk_http_engine.specs.declared.turning.ExchangeResult.{ExchangeResult}
 use Rattle.brk_http_engine.specs.declared.turning.ExchangeResult.TheVariants as turn
 use Rattle.brk_http_engine.specs.declared.turning.FaultKind.{FaultKind}
@@ -32,7 +32,7 @@ pub record ExchangeHasReply {B C : Type 0} (forms : RequestParsers) (does : Call
     (span : EnvironmentChange B C) (reply : Text) (next : StreamState) : Type 0 where
   pub taken : List ℕ
   -- The clock returned these timestamps, in order.
-  pub moments : ClockReturnsInOrder gives span.clock taken span.later
+  pub moments : ClockReturnsMomentsInSequence gives span.clock taken span.later
   -- In the model it is the effect of the first request of the input.
   pub one : IsEffectOfFirstRequest forms does n input (record { base = span.base; moments = taken; reply = reply; next = next; after = span.after })
 
@@ -46,7 +46,7 @@ pub record ExecutesRequest {B C : Type 0} (forms : RequestParsers) (does : CallR
   pub taken : List ℕ
   pub response : Response
   -- The clock returned these timestamps, in order.
-  pub moments : ClockReturnsInOrder gives span.clock taken span.later
+  pub moments : ClockReturnsMomentsInSequence gives span.clock taken span.later
   -- In the model `response` is the response to the call that the request makes or, if it makes
   -- none, the response that it has without a call.
   pub responds : IsResponseToDemand does (demand_of_request forms request) span.base taken response span.after
@@ -86,7 +86,7 @@ pub record StreamCompletesWith {B C : Type 0} (forms : RequestParsers) (does : C
     (span : EnvironmentChange B C) (count : ℕ) : Type 0 where
   pub moments : List ℕ
   pub replies : List Text
-  pub taken : ClockReturnsInOrder gives span.clock moments span.later
+  pub taken : ClockReturnsMomentsInSequence gives span.clock moments span.later
   pub replied : AreRepliesOfStream forms does 0 (Continues input) span.base moments replies span.after
   pub written : Appends span.old span.new (concat replies)
   pub counted : count ≡ length replies
@@ -105,7 +105,7 @@ pub record StreamFailsWith {B C : Type 0} (forms : RequestParsers) (does : CallR
   pub mid : B
   pub later : C
   pub between : Option Text
-  pub taken : ClockReturnsInOrder gives span.clock moments later
+  pub taken : ClockReturnsMomentsInSequence gives span.clock moments later
   -- In the model these are the first replies of the stream.
   pub begun : AreFirstReplies forms does 0 input span.base moments replies rest mid
   pub written : Appends span.old between (concat replies)

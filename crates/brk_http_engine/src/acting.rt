@@ -1,9 +1,9 @@
 ghost use Rattle.std.specs.Prelude.{◌≡◌, ℕ, List};
 ghost use Rattle.brk_model.specs.Run.{Ask, Do, Outcome};
 ghost use Rattle.brk_http_model.specs.Replies.{FromOutcome};
-ghost use Rattle.brk_io.specs.Moments.{ClockReturnsInOrder};
+ghost use Rattle.brk_io.specs.Moments.{ClockReturnsMomentsInSequence};
 ghost use Rattle.brk_http_model.specs.Stream.{IsResponseToDemand};
-ghost use Rattle.brk_http_engine.specs.Codes.{call_in_model, key_in_model, response_in_model};
+ghost use Rattle.brk_http_engine.specs.Codes.{demand_in_model, key_in_model, response_in_model};
 
 use crate::asking::RequestedCall;
 use crate::service::Service;
@@ -79,8 +79,8 @@ pub fn execute_call_of_request<C: Clock, D: Service>(
     desk: &mut D::Desk,
     asking: RequestedCall<D::Command, D::Query>,
 ) -> ServiceResponse<D::Reply, D::View>
-    ensures { (taken : List ℕ) × ClockReturnsInOrder C.gives clock.old taken clock.new
-        × IsResponseToDemand D.acts (call_in_model D.command_of D.query_of asking) desk.old taken (response_in_model D.told D.shown result) desk.new }
+    ensures { (taken : List ℕ) × ClockReturnsMomentsInSequence C.gives clock.old taken clock.new
+        × IsResponseToDemand D.acts (demand_in_model D.command_of D.query_of asking) desk.old taken (response_in_model D.told D.shown result) desk.new }
 {
     match asking {
         RequestedCall::Wrong(problem) => ServiceResponse::Wrong(problem),

@@ -3,7 +3,7 @@ ghost use Rattle.std.specs.List.{list_all};
 ghost use Rattle.brk_http_engine.specs.Rows.{is_nonempty, all_router_rows};
 ghost use Rattle.brk_http_model.specs.Asked.{demand_of_texts, demand_of_request};
 ghost use Rattle.brk_money.specs.declared.fault.Fault.TheVariants.{Memory};
-ghost use Rattle.brk_http_engine.specs.Codes.{call_in_model, route_in_model};
+ghost use Rattle.brk_http_engine.specs.Codes.{demand_in_model, route_in_model};
 
 use crate::bodies::texts_of_body;
 use crate::pieces::borrow_bytes_of_texts;
@@ -39,7 +39,7 @@ fn parse_call_of_route<D: Service>(
     route: Route<D::ViewName>,
     texts: &[String],
 ) -> Result<RequestedCall<D::Command, D::Query>, Fault>
-    ensures call { IfOk result (λ asking. call_in_model D.command_of D.query_of asking
+    ensures call { IfOk result (λ asking. demand_in_model D.command_of D.query_of asking
         ≡ demand_of_texts D.forms (route_in_model D.view_text route) (map string_bytes texts.now)) }
     ensures fault { OnErr result (result ≡ Err Memory) }
 {
@@ -71,7 +71,7 @@ pub fn parse_call_of_request<D: Service>(
 ) -> Result<RequestedCall<D::Command, D::Query>, Fault>
     requires routes { router.now ≡ all_router_rows }
     requires named { list_all is_nonempty D.forms.views ≡ Bool.true }
-    ensures call { (closes : Bool) → IfOk result (λ asking. call_in_model D.command_of D.query_of asking
+    ensures call { (closes : Bool) → IfOk result (λ asking. demand_in_model D.command_of D.query_of asking
         ≡ demand_of_request D.forms (record { method = method.now; target = target.now; closes = closes; body = body.now })) }
     ensures fault { OnErr result (result ≡ Err Memory) }
 {

@@ -1,6 +1,6 @@
 ghost use Rattle.std.specs.Prelude.{◌≡◌, ◌++◌, [], IfOk, OnOk, Bool, codes, decimal, map, string_bytes, unwrap_or};
 ghost use Rattle.http.specs.StatusCode.{reason_phrase};
-ghost use Rattle.brk_http_model.specs.Replies.{FromOutcome, FromProblem, is_method_not_allowed, response_body, fault_word, head_line, is_fault_response};
+ghost use Rattle.brk_http_model.specs.Replies.{FromOutcome, FromProblem, is_method_not_allowed, response_body, fault_word, http_head_line, is_fault_response};
 ghost use Rattle.brk_http_model.specs.Replies.{http_status_of_problem, text_of_problem, reply_text, reply_bytes, http_status_of_response, head_line_if};
 ghost use Rattle.brk_model.specs.Commands as model;
 ghost use Rattle.brk_model.specs.Queries as queries;
@@ -146,7 +146,7 @@ fn response_body<D: Service>(
 // Appends a line and its line end, CR LF, to the head. Fails only if memory runs out; a part of the
 // line may then be appended.
 fn append_head_line(head: &mut String, line: &str) -> Result<(), AllocError>
-    ensures { OnOk result (string_bytes head.new ≡ string_bytes head.old ++ head_line line.now) }
+    ensures { OnOk result (string_bytes head.new ≡ string_bytes head.old ++ http_head_line line.now) }
 {
     write!(head, "{line}\r\n")
 }

@@ -5,7 +5,7 @@ ghost use Rattle.brk_http_engine.specs.Rows.{is_nonempty, all_router_rows};
 ghost use Rattle.brk_http_model.specs.Stream.{most_requests_per_stream};
 ghost use Rattle.httparse.specs.Spans.{IsWithin};
 ghost use Rattle.brk_http_reader.specs.FirstRequests.{request_at_positions};
-ghost use Rattle.brk_http_engine.specs.Limits.{call_limit_of_turn};
+ghost use Rattle.brk_http_engine.specs.Limits.{call_limit_of_exchange};
 ghost use Rattle.brk_http_engine.specs.Promises.{ChangesOnlyByCalls};
 ghost use Rattle.brk_http_engine.specs.Turns.{ExecutesRequest, ExchangeFailsWith, ExchangeCompletesWith};
 
@@ -149,7 +149,7 @@ pub fn serve_next_request<R: Read, W: Write, C: Clock, D: Service>(
     requires named { list_all is_nonempty D.forms.views ≡ Bool.true }
 
     // At most one call of the desk; at `Open` fewer than 1,000 requests are answered so far.
-    ensures called { ChangesOnlyByCalls D.acts (call_limit_of_turn result) desk.old desk.new }
+    ensures called { ChangesOnlyByCalls D.acts (call_limit_of_exchange result) desk.old desk.new }
     ensures open { result ≡ Ok ExchangeResult.Open → done + 1 < most_requests_per_stream }
 
     // If the content of the reader is specified: the request, its reply, and what was written.

@@ -20,8 +20,8 @@ abbrev pub get_request : Text → Request
 get_request target = record { method = codes "GET"; target = target; closes = false; body = [] }
 
 -- The request `request` with `closes` set to true: it asks to close the stream after its reply.
-abbrev pub closing_request : Request → Request
-closing_request request = record request { closes = true }
+abbrev pub request_asking_to_close : Request → Request
+request_asking_to_close request = record request { closes = true }
 
 -- The bytes of a reply with the JSON body `body`: a status line with `status`, the content type of
 -- JSON, `len` as the length of the body, the further lines `fields` of the head, an empty line, and

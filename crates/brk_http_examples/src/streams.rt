@@ -2,7 +2,7 @@
 #![tactic(auto, unfolding(crate::proofs::OnLiterals::web_on_literals))]
 
 ghost use Rattle.std.specs.Prelude.{◌∷◌, [], codes};
-ghost use Rattle.brk_http_examples.specs.Streams.{HasRepliesInSetting, get_request, closing_request, post_request, expected_reply_bytes};
+ghost use Rattle.brk_http_examples.specs.Streams.{HasRepliesInSetting, get_request, request_asking_to_close, post_request, expected_reply_bytes};
 
 /// Shows the replies to a row with a key, to its retry under this key, which returns the stored
 /// reply, and to the row without a key, which is refused with `Exists` (15), since the first row
@@ -38,7 +38,7 @@ pub fn stream_continues_after_refusals()
 /// reply.
 pub fn stream_ends_after_close_request()
     ensures { HasRepliesInSetting
-        (closing_request (get_request (codes "/rows")) ∷ post_request (codes "/rows") (codes "[]") ∷ [])
+        (request_asking_to_close (get_request (codes "/rows")) ∷ post_request (codes "/rows") (codes "[]") ∷ [])
         (expected_reply_bytes (codes "405 Method Not Allowed") (codes "Allow: POST" ∷ codes "Connection: close" ∷ []) (codes "30")
         (codes "{\"error\":\"method not allowed\"}") ∷ []) }
 {}

@@ -22,8 +22,8 @@ pub record ResponseAndBase : Type 0 where
 
 -- The response with the answer to a command, the clock readings `moments` that remain, and the base
 -- after the command.
-abbrev pub response_to_command : List ℕ → Answer × Base → ResponseAndBase
-response_to_command moments (answer, base) = record { response = FromOutcome (Did answer); moments = moments; base = base }
+abbrev pub response_with_command_answer : List ℕ → Answer × Base → ResponseAndBase
+response_with_command_answer moments (answer, base) = record { response = FromOutcome (Did answer); moments = moments; base = base }
 
 -- The outcome of a query: its view or its refusal.
 abbrev pub outcome_of_query_result : Result View Refusal → Outcome
@@ -38,7 +38,7 @@ abbrev pub response_to_demand : Base → List ℕ → RequestDemand → Response
 response_to_demand base moments (ResponseOnly said) = record { response = said; moments = moments; base = base }
 response_to_demand base moments (DeskCall (Ask query)) =
     record { response = FromOutcome (outcome_of_query_result (ask base query)); moments = moments; base = base }
-response_to_demand base (now ∷ moments) (DeskCall (Do command key)) = response_to_command moments (keyed_step base now command key)
+response_to_demand base (now ∷ moments) (DeskCall (Do command key)) = response_with_command_answer moments (keyed_step base now command key)
 response_to_demand base [] (DeskCall (Do command key)) = record { response = FromOutcome (Failed Store); moments = []; base = base }
 
 -- True if the response is the last of its stream, after `n` earlier requests: the request is number

@@ -99,25 +99,25 @@ is_fault_response (FromOutcome (NoView refusal)) = false
 is_fault_response (FromProblem problem) = false
 
 -- The line of a head with the text `text`, ended by CR LF.
-abbrev pub head_line : Text → Text
-head_line text = text ++ 13 ∷ 10 ∷ []
+abbrev pub http_head_line : Text → Text
+http_head_line text = text ++ 13 ∷ 10 ∷ []
 
 -- The line of a head with the text `text`, ended by CR LF, if `is_there` is true, otherwise no
 -- bytes.
 abbrev pub head_line_if : Bool → Text → Text
-head_line_if is_there text = if is_there then head_line text else []
+head_line_if is_there text = if is_there then http_head_line text else []
 
 -- The bytes of a reply: the status line with `status`, the fields of the head, an empty line and
 -- `body`. The head states the type and the length of the body, and has the field `Allow: POST` if
 -- `asks_post` is true, and `Connection: close` if `closes` is true.
 unfoldable pub reply_bytes : Text → Bool → Bool → Text → Text
 reply_bytes status asks_post closes body =
-    head_line (codes "HTTP/1.1 " ++ status)
-    ++ head_line (codes "Content-Type: application/json")
-    ++ head_line (codes "Content-Length: " ++ decimal (length body))
+    http_head_line (codes "HTTP/1.1 " ++ status)
+    ++ http_head_line (codes "Content-Type: application/json")
+    ++ http_head_line (codes "Content-Length: " ++ decimal (length body))
     ++ head_line_if asks_post (codes "Allow: POST")
     ++ head_line_if closes (codes "Connection: close")
-    ++ head_line [] ++ body
+    ++ http_head_line [] ++ body
 
 -- The bytes of the reply for the response; `closes` is true if it is the last reply of the stream.
 abbrev pub reply_text : Response → Bool → Text

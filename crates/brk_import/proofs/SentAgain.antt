@@ -24,7 +24,7 @@ use Rattle.brk_model_theorems.specs.Laws.{NextRowLeadsTo, IsCompletedByRetry}
 use Rattle.brk_model_theorems.proofs.BatchLaws.{All-front}
 use Rattle.brk_model_theorems.proofs.LeftLaws.{done-kept, left-over, one-run}
 use Rattle.brk_model_theorems.proofs.StoppedLaws.{booked-completed, completed, next-goes-on, rows-go-on}
-use Rattle.brk_io.specs.Moments.{ClockReturnsInOrder}
+use Rattle.brk_io.specs.Moments.{ClockReturnsMomentsInSequence}
 use Rattle.brk_io.specs.Span.{ClockAndWriterChange, environment_change_with_bases}
 use Rattle.brk_store.specs.Audited.{AdoptPost, AuditAnswerSatisfies, Represents, IsConsistent}
 use Rattle.brk_store.specs.Holds.{IsDiskContentOfRows}
@@ -51,7 +51,7 @@ module _ {S C : Type 0} (g : Ghosts S) (rests : RecoversOnlyLastCommit g) (form 
     pub answers : List Answer
     pub moments : List ℕ
     pub mid : C
-    pub taken : ClockReturnsInOrder gives one.clock moments mid
+    pub taken : ClockReturnsMomentsInSequence gives one.clock moments mid
     pub settled : BatchRowsAreDecided form step_of_row name base moments rows answers after
     pub begins : BeginsWithRecords (Some text) (batch_header name ∷ rows)
 
@@ -287,7 +287,7 @@ module _ {S C : Type 0} (g : Ghosts S) (rests : RecoversOnlyLastCommit g) (form 
 
     -- whatever was refused, both runs are one: the rows that the first run accepted, then the
     -- others
-    one_run_of : (front back : List Fields) (moments : List ℕ) (mid : C) (answers : List Answer) → ClockReturnsInOrder gives one.clock moments mid → c.answered.rows ≡ front ++ back
+    one_run_of : (front back : List Fields) (moments : List ℕ) (mid : C) (answers : List Answer) → ClockReturnsMomentsInSequence gives one.clock moments mid → c.answered.rows ≡ front ++ back
         → BatchRowsAreDecided form step_of_row c.answered.name base moments front answers stood → RunAndRetryEqualOneRun form gives (Some text) base last one two
     one_run_of front back moments mid answers taken split first = record {
       name = c.answered.name;

@@ -5,7 +5,7 @@ use Rattle.std.specs.List.{AllByRecursion}
 use Rattle.std.proofs.lemmas.List.{length-append}
 use Rattle.brk_money.specs.Spelling.{Text}
 use Rattle.brk_model.specs.Answers.{Fields, RowStep}
-use Rattle.brk_model_theorems.specs.RowCalls.{CallsHaveAnswers, RowCall, result_of_row_call, calls_of_rows, well_formed_rows_from, prepended_if_well_formed}
+use Rattle.brk_model_theorems.specs.RowCalls.{CallsHaveAnswers, RowCall, result_of_row_call, calls_of_rows, well_formed_rows_from, rows_with_well_formed_row}
 use Rattle.brk_model_theorems.specs.RowCalls.{answers_interleaved_with_refusals, RowsAreAnsweredByCalls}
 use Rattle.brk_model.specs.Batch.{BatchRowsAreDecided}
 use Rattle.brk_model.specs.Commands.{Answer}
@@ -28,7 +28,7 @@ module _ {S X : Type 0} (form : Fields → ReadResult X) (step : RowStep S X) (n
   asked = calls-of-decided h
 
   calls : well_formed_rows_from form 1 (rows ++ row ∷ []) ≡ well_formed_rows_from form 1 rows ++ (1 + length rows, command) ∷ []
-  calls = formed_push form 1 rows row ∙ ap (λ (o : ReadResult X). well_formed_rows_from form 1 rows ++ prepended_if_well_formed o (1 + length rows) []) formed
+  calls = formed_push form 1 rows row ∙ ap (λ (o : ReadResult X). well_formed_rows_from form 1 rows ++ rows_with_well_formed_row o (1 + length rows) []) formed
 
   longer : length (well_formed_rows_from form 1 (rows ++ row ∷ [])) ≡ length (well_formed_rows_from form 1 rows) + 1
   longer = ap length calls ∙ length-append (well_formed_rows_from form 1 rows) ((1 + length rows, command) ∷ [])

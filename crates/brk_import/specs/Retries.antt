@@ -11,7 +11,7 @@ use Rattle.brk_model.specs.Forms.{ReadResult}
 use Rattle.brk_model.specs.Lines.{refused_answer_count, batch_end_line, answer_lines_from}
 use Rattle.brk_model_theorems.specs.Laws.{AnswersMatchStoredReplies, AcceptedCallsAreStored, IsCompletedByRetry, answers_for_new_keys}
 use Rattle.brk_model_theorems.specs.Laws.{calls_with_new_keys, accepted_answers, accepted_calls}
-use Rattle.brk_io.specs.Moments.{ClockReturnsInOrder}
+use Rattle.brk_io.specs.Moments.{ClockReturnsMomentsInSequence}
 use Rattle.brk_io.specs.Span.{ClockAndWriterChange}
 use Rattle.brk_batch_engine.specs.Batch.{BeginsWithWholeBatch}
 
@@ -30,11 +30,11 @@ pub record RetryCompletesBatch {C : Type 0} (form : Fields → ReadResult Comman
   pub answers : List Answer
   pub moments : List ℕ
   pub mid : C
-  pub taken : ClockReturnsInOrder gives one.clock moments mid
+  pub taken : ClockReturnsMomentsInSequence gives one.clock moments mid
   -- The answers of the retry to all rows, its timestamps, and its lines.
   pub retry_answers : List Answer
   pub others : List ℕ
-  pub asked : ClockReturnsInOrder gives two.clock others two.later
+  pub asked : ClockReturnsMomentsInSequence gives two.clock others two.later
   pub written : Appends two.old two.new (answer_lines_from 1 retry_answers ++ batch_end_line retry_answers)
   -- If the first run refused none of the rows that it answered, both runs equal one uninterrupted
   -- run. A row that was committed but not answered is decided at its own timestamp.
@@ -59,7 +59,7 @@ pub record RunAndRetryEqualOneRun {C : Type 0} (form : Fields → ReadResult Com
   pub split : rows ≡ front ++ back
   pub moments : List ℕ
   pub mid : C
-  pub taken : ClockReturnsInOrder gives one.clock moments mid
+  pub taken : ClockReturnsMomentsInSequence gives one.clock moments mid
   pub answers : List Answer
   pub mid_base : Base
   pub first : BatchRowsAreDecided form step_of_row name base moments front answers mid_base
@@ -68,7 +68,7 @@ pub record RunAndRetryEqualOneRun {C : Type 0} (form : Fields → ReadResult Com
   -- The answers of the retry to all rows, its timestamps, and its lines.
   pub retry_answers : List Answer
   pub others : List ℕ
-  pub asked : ClockReturnsInOrder gives two.clock others two.later
+  pub asked : ClockReturnsMomentsInSequence gives two.clock others two.later
   pub second : BatchRowsAreDecided form step_of_row name mid_base others rows retry_answers after
   -- The calls of the retry, with their answers.
   pub retry_calls : RowsAreAnsweredByCalls form step_of_row name mid_base others rows retry_answers after

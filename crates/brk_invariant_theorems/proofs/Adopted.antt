@@ -23,7 +23,7 @@ use Rattle.brk_book_theorems.specs.Books.{BooksInvariant, HasDistinctMovementSta
 use Rattle.brk_book_theorems.proofs.Same.{All-map, All-mapped}
 use Rattle.brk_book_theorems.proofs.Reading.{find-id, find-map}
 use Rattle.brk_audit_theorems.specs.Passing.{PassesAudit}
-use Rattle.brk_audit_theorems.specs.Told.{HasValidStatusSequence, HasTextsOnlyIfCompleted, HasValidHistories, HasAscendingStatusStamps}
+use Rattle.brk_audit_theorems.specs.Told.{HasValidStatusSequence, HasSettlementAndCashTextsOnlyIfCompleted, HasValidHistories, HasAscendingStatusStamps}
 use Rattle.brk_audit_theorems.proofs.Again.{IsRead, reads, found_first, posted_in, posting_again, turn_one}
 use Rattle.brk_audit_theorems.proofs.Climbs.{list_all_true}
 use Rattle.brk_model_theorems.proofs.Conjunctions.{parts3}
@@ -58,7 +58,7 @@ no_name base t r e =
     ∙ turn_one (is_completed t && t.is_cash) (posting_of_trade base.accounts t))
     ∙ ap (λ b. find (λ p. true) (cond b (posting_of_trade base.accounts t ∷ []) [])) e)
 
-words_of : (t : Tables) → PassesAudit third_schema t → (r : TradeRow) → IsRead (base_of_tables t) (trade_of_row t r) → HasTextsOnlyIfCompleted (trade_of_row t r)
+words_of : (t : Tables) → PassesAudit third_schema t → (r : TradeRow) → IsRead (base_of_tables t) (trade_of_row t r) → HasSettlementAndCashTextsOnlyIfCompleted (trade_of_row t r)
 words_of t p r k = record {
   settled = λ e. ap (λ T. option_map_or (λ s. s.cash_type) (find (λ s. s.trade == r.id) T.settlements) []) (sym (passing_tables third_schema t p)) ∙ no_type (base_of_tables t) (trade_of_row t r) k e;
   moved = λ e. ap (λ T. option_map_or (λ p. p.name) (find (is_posting_of_trade r.id) (postings_of_tables T)) []) (sym (passing_tables third_schema t p))
@@ -94,7 +94,8 @@ told_of t p s k rises =
     record {
       stamps = All-mapped HasAscendingStatusStamps (trade_of_row t) t.trades (All-map t.trades (λ r e. e.1) status);
       ways = All-mapped HasValidStatusSequence (trade_of_row t) t.trades (All-map t.trades (λ r e. e.0) status);
-      words = All-mapped HasTextsOnlyIfCompleted (trade_of_row t) t.trades (All-map t.trades (λ r e. words_of t p r e) (All-unmapped (IsRead (base_of_tables t)) (trade_of_row t) t.trades k));
+      words = All-mapped HasSettlementAndCashTextsOnlyIfCompleted (trade_of_row t) t.trades
+          (All-map t.trades (λ r e. words_of t p r e) (All-unmapped (IsRead (base_of_tables t)) (trade_of_row t) t.trades k));
       movements = rises;
     }
 

@@ -13,7 +13,7 @@ use Rattle.brk_money.specs.declared.status.Status.TheVariants.{Completed}
 use Rattle.brk_book_theorems.proofs.MoveReading.{moves_counted, rows_posted}
 use Rattle.brk_audit_theorems.proofs.UpgradedForm.{HasForm, move_posted}
 use Rattle.brk_model.specs.Schemas.{third_schema}
-use Rattle.brk_model.specs.Limits.{greatest_amount, greatest_charge, greatest_summary, greatest_tax_rate, most_accounts_per_customer, greatest_id}
+use Rattle.brk_model.specs.Limits.{greatest_amount, greatest_charge, greatest_summary_quantity, greatest_tax_rate, most_accounts_per_customer, greatest_id}
 use Rattle.brk_model.specs.Lists.{insert_by, is_zero, sort_by, total_by}
 use Rattle.brk_model.specs.Records.{Account, Customer, Trade}
 use Rattle.brk_model.specs.Base.{Base, account_with_id, broker_with_id, completed_trades, customer_with_id, is_completed, last_status_stamp_of_trade}
@@ -47,7 +47,7 @@ use Rattle.brk_book_theorems.proofs.References.{no_broker_trades, no_trades_of, 
 use Rattle.brk_book_theorems.proofs.LotReading.{numbered_rise, rise_apart}
 use Rattle.brk_book_theorems.proofs.TradeReading.{reads_trade}
 use Rattle.brk_book_theorems.proofs.Tested.{All-back, All-front}
-use Rattle.brk_audit_theorems.specs.Told.{HasValidStatusSequence, HasTextsOnlyIfCompleted, HasValidHistories, HasAscendingStatusStamps, broker_id_key}
+use Rattle.brk_audit_theorems.specs.Told.{HasValidStatusSequence, HasSettlementAndCashTextsOnlyIfCompleted, HasValidHistories, HasAscendingStatusStamps, broker_id_key}
 use Rattle.brk_audit_theorems.proofs.Again.{IsRead, both_all, reads}
 use Rattle.brk_audit_theorems.proofs.Climbs.{Climbs, list_all_true, not_itself, of_all}
 use Rattle.brk_audit_theorems.proofs.Members.{found_in}
@@ -202,10 +202,10 @@ rates_back base customer payers h =
 
 -- the summary of a position whose row is in form, if there is one
 row_low : (T : Tables) (done : List Trade) (account : ℕ) (symbol : Text) → AllByRecursion (λ r. is_well_formed_summary_row third_schema T r ≡ true) (summary_rows done account symbol)
-    → nat_abs (holding_summary_quantity done account symbol) ≤ greatest_summary
+    → nat_abs (holding_summary_quantity done account symbol) ≤ greatest_summary_quantity
 row_low T done account symbol h = by_zero (not (is_zero (holding_summary_quantity done account symbol))) refl h
   where
-    zero_low : (z : ℤ) → not (is_zero z) ≡ false → nat_abs z ≤ greatest_summary
+    zero_low : (z : ℤ) → not (is_zero z) ≡ false → nat_abs z ≤ greatest_summary_quantity
     zero_low (pos zero) e = omega arith
     zero_low (pos (suc n)) e = false_true (sym e)
     zero_low (negsuc n) e = false_true (sym e)
@@ -213,27 +213,27 @@ row_low T done account symbol h = by_zero (not (is_zero (holding_summary_quantit
     by_zero : (b : Bool) → not (is_zero (holding_summary_quantity done account symbol)) ≡ b
         → AllByRecursion (λ r. is_well_formed_summary_row third_schema T r ≡ true)
         (cond b (record { account = account; symbol = symbol; qty = holding_summary_quantity done account symbol } ∷ []) [])
-        → nat_abs (holding_summary_quantity done account symbol) ≤ greatest_summary
+        → nat_abs (holding_summary_quantity done account symbol) ≤ greatest_summary_quantity
     by_zero true e k =
-        leb-true (nat_abs (holding_summary_quantity done account symbol)) greatest_summary
-        (parts3 (has_account T account) (has_security T symbol) (nat_le (nat_abs (holding_summary_quantity done account symbol)) greatest_summary) k.0).2
+        leb-true (nat_abs (holding_summary_quantity done account symbol)) greatest_summary_quantity
+        (parts3 (has_account T account) (has_security T symbol) (nat_le (nat_abs (holding_summary_quantity done account symbol)) greatest_summary_quantity) k.0).2
     by_zero false e k = zero_low (holding_summary_quantity done account symbol) e
 
-no_summary_low : (done : List Trade) (account : ℕ) (symbol : Text) → trades_of_position done account symbol ≡ [] → nat_abs (holding_summary_quantity done account symbol) ≤ greatest_summary
+no_summary_low : (done : List Trade) (account : ℕ) (symbol : Text) → trades_of_position done account symbol ≡ [] → nat_abs (holding_summary_quantity done account symbol) ≤ greatest_summary_quantity
 unfolding holding_summary_quantity total_by
-no_summary_low done account symbol e = subst (λ ts. nat_abs (total_by (λ t. signed_by_side (side_of_trade_type t.kind) t.qty) ts) ≤ greatest_summary) (sym e) (omega arith)
+no_summary_low done account symbol e = subst (λ ts. nat_abs (total_by (λ t. signed_by_side (side_of_trade_type t.kind) t.qty) ts) ≤ greatest_summary_quantity) (sym e) (omega arith)
 
 summaries_back : (base : Base) (account : ℕ) (symbol : Text) → BooksInvariant base
-    → AllByRecursion (λ a. AllByRecursion (λ s. nat_abs (holding_summary_quantity (completed_trades base) a.id s.symbol) ≤ greatest_summary) base.securities) base.accounts
-    → nat_abs (holding_summary_quantity (completed_trades base) account symbol) ≤ greatest_summary
+    → AllByRecursion (λ a. AllByRecursion (λ s. nat_abs (holding_summary_quantity (completed_trades base) a.id s.symbol) ≤ greatest_summary_quantity) base.securities) base.accounts
+    → nat_abs (holding_summary_quantity (completed_trades base) account symbol) ≤ greatest_summary_quantity
 summaries_back base account symbol books h =
     let done : List Trade = completed_trades base in
     by_some (is_some (account_with_id base account)) _
-    (λ e. let f = found_item (λ a. a.id == account) base.accounts (λ a. AllByRecursion (λ s. nat_abs (holding_summary_quantity done a.id s.symbol) ≤ greatest_summary) base.securities) h e in
+    (λ e. let f = found_item (λ a. a.id == account) base.accounts (λ a. AllByRecursion (λ s. nat_abs (holding_summary_quantity done a.id s.symbol) ≤ greatest_summary_quantity) base.securities) h e in
     by_some (is_some (security_with_symbol base symbol)) _
-    (λ g. let s = found_item (λ s. bytes_eq s.symbol symbol) base.securities (λ s. nat_abs (holding_summary_quantity done f.0.id s.symbol) ≤ greatest_summary) f.1.0 g in
-    subst (λ n. nat_abs (holding_summary_quantity done n symbol) ≤ greatest_summary) (eqb-true f.0.id account f.1.1)
-    (subst (λ x. nat_abs (holding_summary_quantity done f.0.id x) ≤ greatest_summary) ((bytes_eq-Decides s.0.symbol symbol).0 s.1.1) s.1.0))
+    (λ g. let s = found_item (λ s. bytes_eq s.symbol symbol) base.securities (λ s. nat_abs (holding_summary_quantity done f.0.id s.symbol) ≤ greatest_summary_quantity) f.1.0 g in
+    subst (λ n. nat_abs (holding_summary_quantity done n symbol) ≤ greatest_summary_quantity) (eqb-true f.0.id account f.1.1)
+    (subst (λ x. nat_abs (holding_summary_quantity done f.0.id x) ≤ greatest_summary_quantity) ((bytes_eq-Decides s.0.symbol symbol).0 s.1.1) s.1.0))
     (λ g. no_summary_low done account symbol (filter-none (λ t. bytes_eq t.symbol symbol) (trades_of_account done account)
     (All-filter (λ t. bytes_eq t.symbol symbol ≡ false) (λ t. t.account == account) done
     (All-filter (λ t. bytes_eq t.symbol symbol ≡ false) is_completed base.trades (unused base symbol base.trades g books.securities))))))
@@ -247,7 +247,7 @@ record Read (base : Base) (t : Trade) : Type 0 where
   pub history : AllByRecursion (λ r. is_well_formed_history_row (sheets base) r ≡ true) (history_rows t)
   pub stamps : HasAscendingStatusStamps t
   pub way : HasValidStatusSequence t
-  pub words : HasTextsOnlyIfCompleted t
+  pub words : HasSettlementAndCashTextsOnlyIfCompleted t
   pub found : trade_with_id base t.id ≡ Some t
   pub read : IsRead base t
   pub settled : is_completed t ≡ true → is_well_formed_settlement_row (sheets base) (settlement_row base.accounts base.rule t) ≡ true

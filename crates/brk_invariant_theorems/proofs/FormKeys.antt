@@ -18,7 +18,7 @@ use Rattle.brk_model.specs.Shares.{Deal, Share, shares_after_deal}
 use Rattle.brk_model.specs.Tables.{HistoryRow, HoldingHistoryRow, SummaryRow, account_row, broker_row, cash_transaction_row, history_rows, holding_row}
 use Rattle.brk_model.specs.Tables.{last_trade_row, request_row, security_row, settlement_row, summary_rows, tables_of_base_in_schema, trade_row}
 use Rattle.brk_lots.proofs.HistoryRows.{rows_of_lots_are}
-use Rattle.brk_lots.specs.HistoryRows.{changing_rows_of_lot, lot_history_rows_per_deal}
+use Rattle.brk_lots.specs.HistoryRows.{lot_rows_with_quantity_change, lot_history_rows_per_deal}
 use Rattle.brk_model.specs.Sheets.{sheets, tables_sorted_by_key}
 use Rattle.brk_model.specs.Form.{has_tables_sorted_by_unique_key, is_sorted_by_unique_key}
 use Rattle.brk_model.specs.Keys.{KeyPart, number, word, rows_sorted_by_key, kept_key, broker_key, customer_key, account_key, permission_key, security_key}
@@ -132,7 +132,7 @@ All-lots P lot shares [] h = tt
 All-lots P lot shares (d ∷ deals) h = (h.0, All-lots P lot (shares_after_deal shares d) deals h.1)
 
 pub All-history : (P : ℕ → ℕ → Type 0) (done : List Trade) (t : Trade) → AllByRecursion (λ d. P t.id d.trade) (deals_of_position done t.account t.symbol)
-    → AllByRecursion (λ r. P r.lot r.trade) (changing_rows_of_lot done t)
+    → AllByRecursion (λ r. P r.lot r.trade) (lot_rows_with_quantity_change done t)
 All-history P done t h =
     All-filter (λ r. P r.lot r.trade) (λ row. not (is_zero (row.before -ℤ row.after)))
     (lot_history_rows_per_deal t.id [] (deals_of_position done t.account t.symbol)) (All-lots P t.id [] (deals_of_position done t.account t.symbol) h)
@@ -145,7 +145,7 @@ lots_apart lot shares (d ∷ deals) a = (
   lots_apart lot (shares_after_deal shares d) deals a.1,
 )
 
-history_apart : (done : List Trade) (t : Trade) → HasDistinctKeys id_key done → HasDistinctKeys holding_history_key (changing_rows_of_lot done t)
+history_apart : (done : List Trade) (t : Trade) → HasDistinctKeys id_key done → HasDistinctKeys holding_history_key (lot_rows_with_quantity_change done t)
 history_apart done t a =
     let before : Trade → Trade → Bool = λ x y. nat_lt (last_status_stamp_of_trade x) (last_status_stamp_of_trade y) in
     apart_filter holding_history_key (λ row. not (is_zero (row.before -ℤ row.after))) (lot_history_rows_per_deal t.id [] (deals_of_position done t.account t.symbol))
@@ -154,11 +154,12 @@ history_apart done t a =
     (apart_sort id_key before (trades_of_position done t.account t.symbol)
     (apart_filter id_key (λ u. bytes_eq u.symbol t.symbol) (trades_of_account done t.account) (apart_filter id_key (λ u. u.account == t.account) done a)))))
 
-lots_other : (done ts : List Trade) → IdsApart ts → OthersApart holding_history_key (changing_rows_of_lot done) ts
+lots_other : (done ts : List Trade) → IdsApart ts → OthersApart holding_history_key (lot_rows_with_quantity_change done) ts
 lots_other done [] d = tt
 lots_other done (t ∷ ts) d = (
   All-map ts (λ u h.
-      All-history (λ l n. AllByRecursion (λ s. holding_history_key s ≡ number l ∷ number n ∷ [] → ⊥) (changing_rows_of_lot done u)) done t (All-of (deals_of_position done t.account t.symbol) (λ x.
+      All-history (λ l n. AllByRecursion (λ s. holding_history_key s ≡ number l ∷ number n ∷ [] → ⊥) (lot_rows_with_quantity_change done u)) done t
+      (All-of (deals_of_position done t.account t.symbol) (λ x.
       All-history (λ l n. number l ∷ number n ∷ [] ≡ number t.id ∷ number x.trade ∷ [] → ⊥) done u (All-of (deals_of_position done u.account u.symbol) (λ y e.
       eqb-false u.id t.id h (first_part u.id t.id (number y.trade ∷ []) (number x.trade ∷ []) e)))))) d.0,
   lots_other done ts d.1,
@@ -203,8 +204,8 @@ keys_of base books k =
           (symbols_other done a.id base.securities books.symbols)))
           (accounts_other done base.securities base.accounts books.owners));
       holding_history = subst (λ (rows : List HoldingHistoryRow). is_sorted_by_unique_key holding_history_key (rows_sorted_by_key holding_history_key rows) ≡ true) (sym (rows_of_lots_are done done))
-          (apart_rises holding_history_key (flat_map (changing_rows_of_lot done) done)
-          (apart_flat_map holding_history_key (changing_rows_of_lot done) done (All-of done (λ t. history_apart done t dones)) (lots_other done done doneIds)));
+          (apart_rises holding_history_key (flat_map (lot_rows_with_quantity_change done) done)
+          (apart_flat_map holding_history_key (lot_rows_with_quantity_change done) done (All-of done (λ t. history_apart done t dones)) (lots_other done done doneIds)));
       settlements = apart_rises settlement_key (map (settlement_row base.accounts base.rule) done) (apart_map id_key settlement_key (settlement_row base.accounts base.rule) done (λ t. refl) dones);
       cash = apart_rises cash_transaction_key [] tt;
       moves = ap (is_sorted_by_unique_key cash_move_key) (numbered_stay 1 (postings_sorted_by_stamp (postings_of_base base))) ∙ numbered_rises 1 (postings_sorted_by_stamp (postings_of_base base));

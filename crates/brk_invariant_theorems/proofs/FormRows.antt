@@ -13,7 +13,7 @@ use Rattle.brk_book_theorems.proofs.MoveReading.{moves_counted}
 use Rattle.brk_audit_theorems.proofs.UpgradedBase.{moves_own}
 use Rattle.brk_audit_theorems.proofs.UpgradedForm.{HasForm, few_postings, numbered_form}
 use Rattle.brk_model.specs.Schemas.{third_schema}
-use Rattle.brk_model.specs.Limits.{greatest_amount, greatest_charge, greatest_summary, greatest_tax_rate, most_accounts_per_customer, greatest_id}
+use Rattle.brk_model.specs.Limits.{greatest_amount, greatest_charge, greatest_summary_quantity, greatest_tax_rate, most_accounts_per_customer, greatest_id}
 use Rattle.brk_model.specs.Lists.{all_distinct, is_zero, sort_by}
 use Rattle.brk_model.specs.Records.{Account, Customer, StatusChange, Permission, Security, Trade, Movement}
 use Rattle.brk_model.specs.Base.{Base, account_with_id, broker_id_in_accounts, broker_with_id, completed_trades, customer_with_id, has_last_status}
@@ -25,7 +25,7 @@ use Rattle.brk_model.specs.Derived.{posting_of_trade, postings_of_base, due_day_
 use Rattle.brk_model.specs.Tables.{HistoryRow, HoldingHistoryRow, Tables, account_row, broker_row, history_rows, holding_row, last_trade_row, request_row}
 use Rattle.brk_model.specs.Tables.{security_row, settlement_row, summary_rows, tables_of_base_in_schema, trade_row, numbered_move_rows}
 use Rattle.brk_lots.proofs.HistoryRows.{rows_of_lots_are}
-use Rattle.brk_lots.specs.HistoryRows.{changing_rows_of_lot}
+use Rattle.brk_lots.specs.HistoryRows.{lot_rows_with_quantity_change}
 use Rattle.brk_model.specs.Sheets.{sheets, tables_sorted_by_key}
 use Rattle.brk_model.specs.Adopted.{base_of_tables}
 use Rattle.brk_model.specs.Joins.{history_rows_with_trade_id, trade_row_with_id}
@@ -413,14 +413,14 @@ form_of base books k =
           (All-flat_map (λ r. is_well_formed_summary_row third_schema T r ≡ true) (λ a. flat_map (λ s. summary_rows done a.id s.symbol) base.securities) base.accounts (All-map base.accounts (λ a f.
           All-flat_map (λ r. is_well_formed_summary_row third_schema T r ≡ true) (λ s. summary_rows done a.id s.symbol) base.securities (All-map base.securities (λ s g.
           All-rows (λ r. is_well_formed_summary_row third_schema T r ≡ true) done a.id s.symbol
-          (and3 (has_account T a.id) (has_security T s.symbol) (nat_le (nat_abs (holding_summary_quantity done a.id s.symbol)) greatest_summary)
+          (and3 (has_account T a.id) (has_security T s.symbol) (nat_le (nat_abs (holding_summary_quantity done a.id s.symbol)) greatest_summary_quantity)
           (has_account_is base a.id ∙ f) (has_security_is base s.symbol ∙ g)
-          (le-leb _ greatest_summary (k.summaries a.id s.symbol)))) listed)) (held_each base)));
+          (le-leb _ greatest_summary_quantity (k.summaries a.id s.symbol)))) listed)) (held_each base)));
       holding_history = subst
           (λ (rows : List HoldingHistoryRow). list_all (is_well_formed_holding_history_row T) (rows_sorted_by_key holding_history_key rows) ≡ true)
           (sym (rows_of_lots_are done done))
-          (rows_form (is_well_formed_holding_history_row T) holding_history_key (flat_map (changing_rows_of_lot done) done)
-          (All-flat_map (λ r. is_well_formed_holding_history_row T r ≡ true) (changing_rows_of_lot done) done (All-map done (λ t h.
+          (rows_form (is_well_formed_holding_history_row T) holding_history_key (flat_map (lot_rows_with_quantity_change done) done)
+          (All-flat_map (λ r. is_well_formed_holding_history_row T r ≡ true) (lot_rows_with_quantity_change done) done (All-map done (λ t h.
           All-history (λ l n. has_trade T l && has_trade T n ≡ true) done t
           (All-mapped (λ d. has_trade T t.id && has_trade T d.trade ≡ true) deal_of_trade
           (sort_by (λ x y. nat_lt (last_status_stamp_of_trade x) (last_status_stamp_of_trade y)) (trades_of_position done t.account t.symbol))

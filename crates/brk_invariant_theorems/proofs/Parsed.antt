@@ -20,18 +20,18 @@ use Rattle.brk_model.specs.Commands.{AddTaxRate, AddCustomerTax, PlaceOrder, Fee
 use Rattle.brk_model.specs.Commands.{ChangeCashNames, DepositCash, WithdrawCash, SetOneDay}
 use Rattle.brk_model.specs.Form.{is_well_formed_charge_row, is_well_formed_customer_row, is_id, is_price, is_quantity_in_schema, is_tier, is_well_formed_tax_rate_row, has_well_formed_permission_texts}
 use Rattle.brk_model.specs.Forms.{ReadResult, ◌⊛◌, is_acl, is_exchange, is_name, is_symbol, is_tax_id, order_type_with_price, market_type_if_price_is_empty}
-use Rattle.brk_model.specs.Forms.{refusal_of_unknown_type_by_price_text, priced_order_type, read_acl, read_cash_or_margin, read_charge_amount}
+use Rattle.brk_model.specs.Forms.{refusal_of_unknown_type_by_price_text, read_priced_order_type, read_acl, read_cash_or_margin, read_charge_amount}
 use Rattle.brk_model.specs.Forms.{read_commission_rate, read_lifo_or_fifo, read_exchange, read_id, value_if_valid, read_distinct_ids, read_name}
 use Rattle.brk_model.specs.Forms.{read_number_in_range, read_opening_balance, read_order_type, read_price, read_quantity, read_tax_rate_number, read_stamp}
 use Rattle.brk_model.specs.Forms.{read_symbol, read_tax_id, read_tax_status, read_valid_text, read_tier, read_trade_type, one_to_twenty_elements}
 use Rattle.brk_model.specs.Forms.{check_read_value, trade_type_with_code, nonnegative_amount, read_movement_amount, read_day}
 use Rattle.brk_model.specs.Parse.{NamedParser, bounds_if_ascending, parse_row, read_account, read_commission_band, read_quantity_bounds, read_broker}
 use Rattle.brk_model.specs.Parse.{read_with_parser, read_id_of_trade_to_cancel, read_charge, read_customer, read_customer_tax, read_executor, read_feed}
-use Rattle.brk_model.specs.Parse.{read_order, read_permission, read_result_command, read_listing, read_tax_rate, read_ticks, read_cash_type_update}
+use Rattle.brk_model.specs.Parse.{read_order, read_permission, read_complete_trade_command, read_listing, read_tax_rate, read_ticks, read_cash_type_update}
 use Rattle.brk_model.specs.Parse.{read_cash_name_update, row_parsers, read_movement_command, read_settlement_day}
 use Rattle.brk_book_theorems.proofs.Same.{find-All}
 use Rattle.brk_invariant_theorems.specs.Sound.{is_well_formed_account, is_well_formed_broker}
-use Rattle.brk_invariant_theorems.specs.InForm.{MeetsAuditFormats, OrderMeetsAuditFormats, TickMeetsAuditFormats, is_well_formed_band, is_well_formed_listing, is_movement_amount}
+use Rattle.brk_invariant_theorems.specs.InForm.{MeetsAuditFormats, OrderMeetsAuditFormats, TickMeetsAuditFormats, is_well_formed_band, is_well_formed_listing, is_movement_amount_within_limits}
 use Rattle.brk_model_theorems.proofs.Conjunctions.{and3, and4}
 use Rattle.brk_model_theorems.proofs.Conjunctions.{and5}
 use Rattle.std.proofs.lemmas.Bool.{and_from, and_parts}
@@ -82,8 +82,8 @@ on_qty text = on_if (λ n. is_quantity_in_schema third_schema n) BadQty (decimal
 on_price : (text : Text) → IfOk (read_price text) (λ n. is_price n ≡ true)
 on_price text = on_if (λ n. is_price n) BadPrice (nonnegative_amount (cents_of_text text))
 
-on_amount : (text : Text) → IfOk (read_movement_amount text) (λ n. is_movement_amount n ≡ true)
-on_amount text = on_if (λ n. is_movement_amount n) BadText (nonnegative_amount (cents_of_text text))
+on_amount : (text : Text) → IfOk (read_movement_amount text) (λ n. is_movement_amount_within_limits n ≡ true)
+on_amount text = on_if (λ n. is_movement_amount_within_limits n) BadText (nonnegative_amount (cents_of_text text))
 
 on_day : (text : Text) → IfOk (read_day text) (λ n. nat_le n greatest_day ≡ true)
 on_day text = on_if (λ n. nat_le n greatest_day) BadText (day_of_text text)
@@ -265,7 +265,7 @@ without_price_on t [] h = h
 without_price_on t (c ∷ text) h = tt
 
 with_price_on : (f : ℕ → OrderType) (text : Text) → ((n : ℕ) → is_price n ≡ true → IfSome (price_of_order_type (f n)) (λ n. is_price n ≡ true))
-    → IfOk (priced_order_type f text) (λ o. IfSome (price_of_order_type o) (λ n. is_price n ≡ true))
+    → IfOk (read_priced_order_type f text) (λ o. IfSome (price_of_order_type o) (λ n. is_price n ≡ true))
 with_price_on f text h = on_apply (λ n. is_price n ≡ true) (λ o. IfSome (price_of_order_type o) (λ n. is_price n ≡ true)) (Ok f) (read_price text) h (on_price text)
 
 without_type_on : (text : Text) → IfOk (refusal_of_unknown_type_by_price_text text) (λ o. IfSome (price_of_order_type o) (λ n. is_price n ≡ true))
@@ -315,7 +315,7 @@ order_on (account ∷ kind ∷ symbol ∷ qty ∷ price ∷ cash ∷ end ∷ fir
     (order_type_on kind price)) (on_any (read_cash_or_margin cash))) (on_any (read_lifo_or_fifo end))) (on_any (read_executor first last tax_id))
 order_on _ = tt
 
-result_on : (fields : List Text) → IfOk (read_result_command fields) (λ x. MeetsAuditFormats x)
+result_on : (fields : List Text) → IfOk (read_complete_trade_command fields) (λ x. MeetsAuditFormats x)
 result_on (trade ∷ price ∷ []) =
     let P : Command → Type 0 = λ x. MeetsAuditFormats x in
     on_apply (λ p. is_price p ≡ true) P (Ok (λ t p. CompleteTrade t p) ⊛ read_id trade) (read_price price)
@@ -366,14 +366,14 @@ feed_on fields = on_then (AllByRecursion TickMeetsAuditFormats) (AllByRecursion 
     some [] h = tt
     some (t ∷ ticks) h = by_length (t ∷ ticks) (nat_le (length (t ∷ ticks)) 20) h
 
-movement_on : (moved : ℕ → ℕ → Command) → ((account n : ℕ) → is_movement_amount n ≡ true → MeetsAuditFormats (moved account n)) → (fields : List Text)
+movement_on : (moved : ℕ → ℕ → Command) → ((account n : ℕ) → is_movement_amount_within_limits n ≡ true → MeetsAuditFormats (moved account n)) → (fields : List Text)
     → IfOk (read_movement_command moved fields) (λ x. MeetsAuditFormats x)
 movement_on moved form [] = tt
 movement_on moved form (account ∷ []) = tt
 movement_on moved form (account ∷ amount ∷ []) =
     let P : Command → Type 0 = λ x. MeetsAuditFormats x in
-    on_apply (λ n. is_movement_amount n ≡ true) P (Ok (λ a n. moved a n) ⊛ read_id account) (read_movement_amount amount)
-    (on_apply (λ a. ⊤) (λ z. (n : ℕ) → is_movement_amount n ≡ true → P (z n)) (Ok (λ a n. moved a n)) (read_id account)
+    on_apply (λ n. is_movement_amount_within_limits n ≡ true) P (Ok (λ a n. moved a n) ⊛ read_id account) (read_movement_amount amount)
+    (on_apply (λ a. ⊤) (λ z. (n : ℕ) → is_movement_amount_within_limits n ≡ true → P (z n)) (Ok (λ a n. moved a n)) (read_id account)
     (λ a a' n n'. form a n n') (on_any (read_id account))) (on_amount amount)
 movement_on moved form (account ∷ amount ∷ more ∷ fields) = tt
 

@@ -25,19 +25,19 @@ use Rattle.brk_book_theorems.proofs.Movements.{others_stay, unset}
 use Rattle.brk_book_theorems.proofs.Same.{All-append, All-map, All-mapped, map-last}
 use Rattle.brk_book_theorems.proofs.Tested.{passed}
 use Rattle.brk_invariant_theorems.specs.Sound.{HasDueDayInCalendar, AuditInvariant, TradeAuditInvariant, BaseTradeAuditInvariant, is_well_formed_movement}
-use Rattle.brk_invariant_theorems.specs.InForm.{MeetsAuditFormats, is_movement_amount}
+use Rattle.brk_invariant_theorems.specs.InForm.{MeetsAuditFormats, is_movement_amount_within_limits}
 use Rattle.brk_invariant_theorems.proofs.OneTrade.{rising_more, sound_last}
 use Rattle.brk_invariant_theorems.proofs.SoundRecords.{LeavesSound}
 
 -- ---- a movement
 
-deposited : (n : ℕ) → is_movement_amount n ≡ true → is_movement_name_and_amount (codes "Deposit") (pos n) && is_within_amount_limit (pos n) ≡ true
+deposited : (n : ℕ) → is_movement_amount_within_limits n ≡ true → is_movement_name_and_amount (codes "Deposit") (pos n) && is_within_amount_limit (pos n) ≡ true
 deposited zero e = e
 deposited (suc n) e =
     let k = and_parts (nat_le 1 (suc n)) (nat_le (suc n) greatest_amount) e in
     and_from (nat_le 1 (suc n) || false) (nat_le (suc n) greatest_amount) (or_left (nat_le 1 (suc n)) false k.0) k.1
 
-withdrawn : (n : ℕ) → is_movement_amount n ≡ true → is_movement_name_and_amount (codes "Withdrawal") (neg_ℤ (pos n)) && is_within_amount_limit (neg_ℤ (pos n)) ≡ true
+withdrawn : (n : ℕ) → is_movement_amount_within_limits n ≡ true → is_movement_name_and_amount (codes "Withdrawal") (neg_ℤ (pos n)) && is_within_amount_limit (neg_ℤ (pos n)) ≡ true
 withdrawn zero e = e
 withdrawn (suc n) e = (and_parts (nat_le 1 (suc n)) (nat_le (suc n) greatest_amount) e).1
 

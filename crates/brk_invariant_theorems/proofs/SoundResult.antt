@@ -10,14 +10,14 @@ use Rattle.brk_money.specs.Kinds.{side_of_trade_type}
 use Rattle.brk_money.specs.declared.trade_type.TradeType.{TradeType}
 use Rattle.brk_money.specs.declared.status.Status.TheVariants.{Completed, Submitted}
 use Rattle.brk_model.specs.Schemas.{third_schema}
-use Rattle.brk_model.specs.Limits.{greatest_amount, greatest_charge, greatest_commission_rate, greatest_summary}
+use Rattle.brk_model.specs.Limits.{greatest_amount, greatest_charge, greatest_commission_rate, greatest_summary_quantity}
 use Rattle.brk_model.specs.Records.{Account, Band, Trade, Movement}
 use Rattle.brk_model.specs.Base.{Base, commission_band_for_quantity, broker_id_in_accounts, completed_trades, customer_id_of_account, exchange_of_security}
 use Rattle.brk_model.specs.Base.{has_last_status, is_completed, is_withholding_status, tax_status_in_accounts, tier_of_account, trade_with_id}
 use Rattle.brk_model.specs.Derived.{balance_of_account, commission_total_of_broker, shares_of_position, holding_summary_quantity, postings, due_day_of_completion_stamp}
 use Rattle.brk_model.specs.Commands.{CompleteTrade}
 use Rattle.brk_model.specs.Orders.{commission_by_band}
-use Rattle.brk_model.specs.Results.{cash_row_name, completed_trade, deal_of_result, base_after_result}
+use Rattle.brk_model.specs.Results.{cash_row_name, trade_after_completion, deal_of_result, base_after_result}
 use Rattle.brk_model.specs.Form.{is_well_formed_band_row, is_cash_type_of_trade, is_price, is_quantity_in_schema, is_tier, is_id}
 use Rattle.brk_model.specs.Forms.{is_exchange}
 use Rattle.brk_model.specs.Tests.{stamp_of_next_command, refusal_of_command}
@@ -37,17 +37,17 @@ use Rattle.brk_invariant_theorems.proofs.OneTrade.{cheap_shares, completes_way, 
 
 -- ---- sums with one trade more
 
-summary_then : (xs : List Trade) (u : Trade) (ys : List Trade) → ((account : ℕ) → (symbol : Text) → nat_abs (holding_summary_quantity (xs ++ ys) account symbol) ≤ greatest_summary)
-    → nat_abs (holding_summary_quantity (xs ++ u ∷ ys) u.account u.symbol) ≤ greatest_summary → (account : ℕ) → (symbol : Text)
-    → nat_abs (holding_summary_quantity (xs ++ u ∷ ys) account symbol) ≤ greatest_summary
+summary_then : (xs : List Trade) (u : Trade) (ys : List Trade) → ((account : ℕ) → (symbol : Text) → nat_abs (holding_summary_quantity (xs ++ ys) account symbol) ≤ greatest_summary_quantity)
+    → nat_abs (holding_summary_quantity (xs ++ u ∷ ys) u.account u.symbol) ≤ greatest_summary_quantity → (account : ℕ) → (symbol : Text)
+    → nat_abs (holding_summary_quantity (xs ++ u ∷ ys) account symbol) ≤ greatest_summary_quantity
 summary_then xs u ys h new account symbol = by_test ((u.account == account) && bytes_eq u.symbol symbol) refl
   where
-    by_test : (b : Bool) → ((u.account == account) && bytes_eq u.symbol symbol) ≡ b → nat_abs (holding_summary_quantity (xs ++ u ∷ ys) account symbol) ≤ greatest_summary
+    by_test : (b : Bool) → ((u.account == account) && bytes_eq u.symbol symbol) ≡ b → nat_abs (holding_summary_quantity (xs ++ u ∷ ys) account symbol) ≤ greatest_summary_quantity
     by_test true e =
         let p = and_parts (u.account == account) (bytes_eq u.symbol symbol) e in
-        subst (λ a. nat_abs (holding_summary_quantity (xs ++ u ∷ ys) a symbol) ≤ greatest_summary) (eqb-true u.account account p.0)
-        (subst (λ s. nat_abs (holding_summary_quantity (xs ++ u ∷ ys) u.account s) ≤ greatest_summary) (same_text u.symbol symbol p.1) new)
-    by_test false e = subst (λ z. nat_abs z ≤ greatest_summary) (sym (summary_other xs u ys account symbol e)) (h account symbol)
+        subst (λ a. nat_abs (holding_summary_quantity (xs ++ u ∷ ys) a symbol) ≤ greatest_summary_quantity) (eqb-true u.account account p.0)
+        (subst (λ s. nat_abs (holding_summary_quantity (xs ++ u ∷ ys) u.account s) ≤ greatest_summary_quantity) (same_text u.symbol symbol p.1) new)
+    by_test false e = subst (λ z. nat_abs z ≤ greatest_summary_quantity) (sym (summary_other xs u ys account symbol e)) (h account symbol)
 
 balance_then : (accounts : List Account) (xs : List Trade) (u : Trade) (ys : List Trade) (ms : List Movement)
     → ((account : ℕ) → nat_abs (balance_of_account accounts (postings accounts (xs ++ ys) ms) account) ≤ greatest_amount)
@@ -113,11 +113,11 @@ no_words b text e = ap (λ b. cond b text []) e
 completed_sound : (base : Base) (now id price : ℕ) (t : Trade) → AuditInvariant base → BooksInvariant base → is_price price ≡ true → trade_with_id base id ≡ Some t
     → refusal_of_command base now (CompleteTrade id price) ≡ None → BaseTradeAuditInvariant base t
     → BaseTradeAuditInvariant (record (base_after_result base (stamp_of_next_command base now) price t) { last = Some (stamp_of_next_command base now) })
-    (completed_trade base (stamp_of_next_command base now) price t)
-unfolding completed_trade
+    (trade_after_completion base (stamp_of_next_command base now) price t)
+unfolding trade_after_completion
 completed_sound base now id price t k books form e accepted h =
     let stamp : ℕ = stamp_of_next_command base now in
-    let u : Trade = completed_trade base stamp price t in
+    let u : Trade = trade_after_completion base stamp price t in
     let s : has_last_status Submitted t ≡ true = submitted base now id price t e accepted in
     let p = result_passed base now id price t e accepted in
     let done : is_completed u ≡ true = status_then base stamp price t Completed in
@@ -161,11 +161,11 @@ completed_sound base now id price t k books form e accepted h =
 pub sound_then : (base : Base) (now id price : ℕ) (t : Trade) → AuditInvariant base → BooksInvariant base → is_price price ≡ true → trade_with_id base id ≡ Some t
     → refusal_of_command base now (CompleteTrade id price) ≡ None
     → AuditInvariant (record (base_after_result base (stamp_of_next_command base now) price t) { last = Some (stamp_of_next_command base now) })
-unfolding completed_trade
+unfolding trade_after_completion
 sound_then base now id price t k books form e accepted =
     let stamp : ℕ = stamp_of_next_command base now in
     let l : AuditInvariant (record base { last = Some stamp }) = sound_last base now k in
-    let u : Trade = completed_trade base stamp price t in
+    let u : Trade = trade_after_completion base stamp price t in
     let after : Base = record (base_after_result base stamp price t) { last = Some stamp } in
     let f : Found base now price t = found_at base now id price t books e (submitted base now id price t e accepted) in
     let A : List Trade = filter is_completed f.front in
@@ -186,9 +186,9 @@ sound_then base now id price t k books form e accepted =
           (completed_sound base now id price t k books form e accepted back.0, All-map f.back stays back.1));
       cash = l.cash;
       sums = record {
-        summaries = subst (λ ts. (account : ℕ) → (symbol : Text) → nat_abs (holding_summary_quantity ts account symbol) ≤ greatest_summary) (sym is)
-            (summary_then A u Z (subst (λ ts. (account : ℕ) → (symbol : Text) → nat_abs (holding_summary_quantity ts account symbol) ≤ greatest_summary) was k.summaries)
-            (subst (λ ts. nat_abs (holding_summary_quantity ts t.account t.symbol) ≤ greatest_summary) is (ltb-false greatest_summary _ p.1.1.0)));
+        summaries = subst (λ ts. (account : ℕ) → (symbol : Text) → nat_abs (holding_summary_quantity ts account symbol) ≤ greatest_summary_quantity) (sym is)
+            (summary_then A u Z (subst (λ ts. (account : ℕ) → (symbol : Text) → nat_abs (holding_summary_quantity ts account symbol) ≤ greatest_summary_quantity) was k.summaries)
+            (subst (λ ts. nat_abs (holding_summary_quantity ts t.account t.symbol) ≤ greatest_summary_quantity) is (ltb-false greatest_summary_quantity _ p.1.1.0)));
         balances = subst (λ ts. (account : ℕ) → nat_abs (balance_of_account base.accounts (postings base.accounts ts base.movements) account) ≤ greatest_amount) (sym is)
             (balance_then base.accounts A u Z base.movements
             (subst (λ ts. (account : ℕ) → nat_abs (balance_of_account base.accounts (postings base.accounts ts base.movements) account) ≤ greatest_amount)

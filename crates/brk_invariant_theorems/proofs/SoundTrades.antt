@@ -15,7 +15,7 @@ use Rattle.brk_money.specs.declared.status.Status.{Status}
 use Rattle.brk_money.specs.declared.status.Status.TheVariants.{Completed, Submitted, Pending, Canceled}
 use Rattle.brk_book_theorems.proofs.Postings.{balance_parts}
 use Rattle.brk_model.specs.Schemas.{third_schema}
-use Rattle.brk_model.specs.Limits.{greatest_amount, greatest_charge, greatest_summary, greatest_id}
+use Rattle.brk_model.specs.Limits.{greatest_amount, greatest_charge, greatest_summary_quantity, greatest_id}
 use Rattle.brk_model.specs.Lists.{contains_number, contains_text, is_pair_less, total_by, update_where}
 use Rattle.brk_model.specs.Records.{Account, Charge, StatusChange, Security, Trade, Movement}
 use Rattle.brk_model.specs.Base.{Base, broker_id_in_accounts, charge_for_type_and_tier, completed_trades, has_last_status, is_completed, last_price}
@@ -72,7 +72,7 @@ sound_moved c ss ts k f m h e =
       trades = h;
       cash = k.cash;
       sums = record {
-        summaries = subst (λ ts. (account : ℕ) → (symbol : Text) → nat_abs (holding_summary_quantity ts account symbol) ≤ greatest_summary) (sym e) k.summaries;
+        summaries = subst (λ ts. (account : ℕ) → (symbol : Text) → nat_abs (holding_summary_quantity ts account symbol) ≤ greatest_summary_quantity) (sym e) k.summaries;
         balances = subst (λ ts. (account : ℕ) → nat_abs (balance_of_account c.accounts (postings c.accounts ts c.movements) account) ≤ greatest_amount) (sym e) k.balances;
         commissions = subst (λ ts. (broker : ℕ) → commission_total_of_broker c.accounts ts broker ≤ greatest_amount) (sym e) k.commissions;
       };
@@ -398,7 +398,7 @@ sound_reworded c p x y z k h =
       trades = h;
       cash = k.cash;
       sums = record {
-        summaries = λ account symbol. subst (λ n. nat_abs n ≤ greatest_summary) (sym (same_summary p x y z c.trades account symbol)) (k.summaries account symbol);
+        summaries = λ account symbol. subst (λ n. nat_abs n ≤ greatest_summary_quantity) (sym (same_summary p x y z c.trades account symbol)) (k.summaries account symbol);
         balances = λ account. subst (λ n. nat_abs n ≤ greatest_amount) (sym (same_balance c.accounts p x y z c.trades c.movements account)) (k.balances account);
         commissions = λ broker. subst (λ n. n ≤ greatest_amount) (sym (same_commissions c.accounts p x y z c.trades broker)) (k.commissions broker);
       };

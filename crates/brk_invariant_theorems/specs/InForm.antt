@@ -40,8 +40,8 @@ abbrev pub TickMeetsAuditFormats : Tick → Type 0
 TickMeetsAuditFormats tick = is_price tick.price ≡ true
 
 -- True if the amount of a movement, in cents, is at least 1 and at most the greatest amount.
-abbrev pub is_movement_amount : ℕ → Bool
-is_movement_amount n = is_in_range 1 greatest_amount n
+abbrev pub is_movement_amount_within_limits : ℕ → Bool
+is_movement_amount_within_limits n = is_in_range 1 greatest_amount n
 
 -- The fields of the command whose formats and limits an audit checks are well-formed. Whether ids
 -- and symbols exist, whether the lower bound of a band is at most its upper bound, and how many ids
@@ -64,8 +64,8 @@ MeetsAuditFormats (CompleteTrade id price) = is_price price ≡ true
 MeetsAuditFormats (ChangeExecutors ids) = ⊤
 MeetsAuditFormats (ChangeCashTypes account first last) = ⊤
 MeetsAuditFormats (ChangeCashNames symbol first last) = ⊤
-MeetsAuditFormats (DepositCash account amount) = is_movement_amount amount ≡ true
-MeetsAuditFormats (WithdrawCash account amount) = is_movement_amount amount ≡ true
+MeetsAuditFormats (DepositCash account amount) = is_movement_amount_within_limits amount ≡ true
+MeetsAuditFormats (WithdrawCash account amount) = is_movement_amount_within_limits amount ≡ true
 MeetsAuditFormats (SetOneDay day) = nat_le day greatest_day ≡ true
 
 -- The batch name of the key is well-formed, and its row number is from 1 to the greatest id, both

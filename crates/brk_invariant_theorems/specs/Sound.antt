@@ -3,7 +3,7 @@
 use Rattle.std.specs.Prelude.{◌≡◌, ◌≤◌, ⊤, ℕ, ◌==◌, ◌&&◌, ◌||◌, Bool, true, List, [], ◌∷◌, Option, is_some, nat_abs, length, filter, map, codes, bytes_eq}
 use Rattle.std.specs.List.{AllByRecursion}
 use Rattle.brk_money.specs.Spelling.{Text, is_within_amount_limit}
-use Rattle.brk_model.specs.Limits.{greatest_amount, greatest_id, greatest_summary, greatest_tax_rate, most_accounts_per_customer}
+use Rattle.brk_model.specs.Limits.{greatest_amount, greatest_id, greatest_summary_quantity, greatest_tax_rate, most_accounts_per_customer}
 use Rattle.brk_model.specs.Records.{Account, Band, Broker, Charge, Customer, CustomerTax, Kept, StatusChange}
 use Rattle.brk_model.specs.Records.{Movement, Permission, Security, SettleRule, TaxRate, Trade}
 use Rattle.brk_model.specs.Base.{Base, completed_trades, account_with_id_in_list, is_completed, customer_with_id_in_list}
@@ -12,12 +12,12 @@ use Rattle.brk_model.specs.Derived.{settlement_amount, balance_of_account, commi
 use Rattle.brk_model.specs.Results.{cash_row_name_from_parts}
 use Rattle.brk_model.specs.Schemas.{third_schema}
 use Rattle.brk_model.specs.Form.{is_well_formed_band_row, is_well_formed_charge_row, is_well_formed_customer_row, is_cash_type_of_trade}
-use Rattle.brk_model.specs.Form.{is_due_within_calendar, is_movement_name_and_amount, is_up_to_last_stamp, is_price, has_price_exactly_if}
+use Rattle.brk_model.specs.Form.{settles_in_calendar_if_completed, is_movement_name_and_amount, is_up_to_last_stamp, is_price, has_price_exactly_if}
 use Rattle.brk_model.specs.Form.{is_well_formed_kept_row, are_well_formed_listing_texts, is_well_formed_tax_rate_row, are_well_formed_account_fields}
 use Rattle.brk_model.specs.Form.{are_well_formed_id_and_name, has_well_formed_permission_texts, are_trade_numbers_in_range, is_settlement_day_in_calendar}
 use Rattle.brk_model.specs.Ways.{is_strictly_ascending}
 use Rattle.brk_model.specs.Keys.{KeyPart, word, charge_key, customer_key, customer_tax_key, kept_key, tax_rate_key}
-use Rattle.brk_audit_theorems.specs.Told.{HasValidStatusSequence, HasTextsOnlyIfCompleted, HasAscendingStatusStamps, broker_id_key}
+use Rattle.brk_audit_theorems.specs.Told.{HasValidStatusSequence, HasSettlementAndCashTextsOnlyIfCompleted, HasAscendingStatusStamps, broker_id_key}
 
 -- No two records of the list have the same key, where `key` returns the key of a record.
 abbrev pub HasDistinctKeys : {Row : Type 0} → (Row → List KeyPart) → List Row → Type 0
@@ -58,7 +58,7 @@ StatusStampIsAtMostLastStamp last m = is_up_to_last_stamp last m.stamp ≡ true
 -- If the status change is a completion, its due day is at most the greatest day, 9999-12-31, where
 -- `rule` is the first day of one-day settlement, if it is set. Vacuous for other statuses.
 abbrev pub HasDueDayInCalendar : SettleRule → StatusChange → Type 0
-HasDueDayInCalendar rule m = is_due_within_calendar rule m.status m.stamp ≡ true
+HasDueDayInCalendar rule m = settles_in_calendar_if_completed rule m.status m.stamp ≡ true
 
 -- True if the trade is completed and has a price from 1 cent to the greatest price, both included,
 -- or is not completed and has no price.
@@ -89,10 +89,10 @@ pub record TradeOnlyAuditInvariant (t : Trade) : Type 0 where
   pub stamps : HasAscendingStatusStamps t
   pub way : HasValidStatusSequence t
   -- It has a price, within its limits, if and only if it is completed, a settlement or cash text
-  -- only if it may have one (`HasTextsOnlyIfCompleted`), and one of the two settlement texts if it
-  -- is completed.
+  -- only if it may have one (`HasSettlementAndCashTextsOnlyIfCompleted`), and one of the two
+  -- settlement texts if it is completed.
   pub priced : has_price_exactly_if_completed t ≡ true
-  pub words : HasTextsOnlyIfCompleted t
+  pub words : HasSettlementAndCashTextsOnlyIfCompleted t
   pub cash_type : is_completed t ≡ true → is_cash_type_of_trade t.is_cash t.cash_type ≡ true
 
 -- The trade satisfies the conditions of the audit invariant on a trade: the conditions that depend
@@ -212,7 +212,7 @@ pub record SecurityAuditInvariant (last : Option ℕ) (all_securities : List Sec
 -- broker, in cents, are at most the greatest amount. The limits hold for every account, symbol and
 -- broker, existing or not.
 pub record SumAuditInvariant (accounts : List Account) (done : List Trade) (movements : List Movement) : Type 0 where
-  pub summaries : (account : ℕ) → (symbol : Text) → nat_abs (holding_summary_quantity done account symbol) ≤ greatest_summary
+  pub summaries : (account : ℕ) → (symbol : Text) → nat_abs (holding_summary_quantity done account symbol) ≤ greatest_summary_quantity
   pub balances : (account : ℕ) → nat_abs (balance_of_account accounts (postings accounts done movements) account) ≤ greatest_amount
   pub commissions : (broker : ℕ) → commission_total_of_broker accounts done broker ≤ greatest_amount
 

@@ -13,7 +13,7 @@ use Rattle.brk_model.specs.Shares.{Share, Deal, signed_by_side, net_share_count,
 use Rattle.brk_lots.specs.declared.lot.Lot.{Lot}
 use Rattle.brk_lots.specs.Lots.{side_of_qty, share_of_lot, shares_of_lots, list_reversed_if_lifo}
 use Rattle.brk_lots.specs.Walks.{buy_value_by_side, sell_value_by_side}
-use Rattle.brk_lots.specs.Books.{lot_quantity_sum, lot_cost_basis, share_cost_basis, deal_quantity_sum, realised_gain_sum, purchase_value_minus_sale_value}
+use Rattle.brk_lots.specs.Books.{lot_quantity_sum, cost_basis_of_lots, cost_basis_of_shares, deal_quantity_sum, realised_gain_sum, purchase_value_minus_sale_value}
 use Rattle.brk_lots.proofs.Runs.{cost, without, cost_run, signed_back}
 use Rattle.brk_lots.proofs.Ends.{all_join, cost_parts}
 use Rattle.brk_lots.proofs.Counts.{OneSide, net_of, owes, all_run}
@@ -30,12 +30,12 @@ signed_add Sell zero n = let e : 0 + n ≡ n = omega arith in rw e (none n) wher
 signed_add Sell (suc m) zero = let e : suc m + 0 ≡ suc m = omega arith in rw e (omega (arith, ints))
 signed_add Sell (suc m) (suc n) = let e : suc m + suc n ≡ suc (suc (m + n)) = omega arith in rw e (omega (arith, ints))
 
-cost_of : (s : Side) (us : List Share) → OneSide s us → share_cost_basis us ≡ signed_by_side s (cost us)
+cost_of : (s : Side) (us : List Share) → OneSide s us → cost_basis_of_shares us ≡ signed_by_side s (cost us)
 unfolding total_by
 cost_of Buy [] h = refl
 cost_of Sell [] h = refl
 cost_of s (u ∷ us) h =
-    ap (λ t. signed_by_side t u.price +ℤ share_cost_basis us) h.0 ∙ ap (λ z. signed_by_side s u.price +ℤ z) (cost_of s us h.1)
+    ap (λ t. signed_by_side t u.price +ℤ cost_basis_of_shares us) h.0 ∙ ap (λ z. signed_by_side s u.price +ℤ z) (cost_of s us h.1)
     ∙ signed_add s u.price (cost us) ∙ ap (signed_by_side s) (sym (sum_by-cons (λ (v : Share). v.price) u us))
 
 net_join : (us vs : List Share) → net_share_count (us ++ vs) ≡ net_share_count us +ℤ net_share_count vs
@@ -43,7 +43,7 @@ unfolding total_by
 net_join [] vs = omega (arith, ints)
 net_join (u ∷ us) vs = omega (arith, ints, net_join us vs)
 
-cost_join : (us vs : List Share) → share_cost_basis (us ++ vs) ≡ share_cost_basis us +ℤ share_cost_basis vs
+cost_join : (us vs : List Share) → cost_basis_of_shares (us ++ vs) ≡ cost_basis_of_shares us +ℤ cost_basis_of_shares vs
 unfolding total_by
 cost_join [] vs = omega (arith, ints)
 cost_join (u ∷ us) vs = omega (arith, ints, cost_join us vs)
@@ -114,20 +114,20 @@ gain_is d us = ap (λ n. pos n -ℤ pos (buy_value d us)) (sold_is d us)
     (cost (take (closed_share_count_of_deal d us) (list_reversed_if_lifo d.is_lifo us)))) -ℤ pos n) (bought_is d us)
 
 cost_after_one : (s : Side) (d : Deal) (us : List Share) → OneSide s us
-    → share_cost_basis (shares_after_deal us d) ≡ share_cost_basis us +ℤ (realised_gain d us +ℤ signed_by_side d.side (d.qty * d.price))
+    → cost_basis_of_shares (shares_after_deal us d) ≡ cost_basis_of_shares us +ℤ (realised_gain d us +ℤ signed_by_side d.side (d.qty * d.price))
 cost_after_one s d us h =
     let k = closed_share_count_of_deal d us in
     let u = opened_share d in
     let x = cost (take k (list_reversed_if_lifo d.is_lifo us)) in
     let f = count_fits d us in
-    let w : share_cost_basis (without d.is_lifo k us) ≡ signed_by_side s (cost (without d.is_lifo k us)) = cost_of s (without d.is_lifo k us) (stays s d us h) in
+    let w : cost_basis_of_shares (without d.is_lifo k us) ≡ signed_by_side s (cost (without d.is_lifo k us)) = cost_of s (without d.is_lifo k us) (stays s d us h) in
     let rc : cost (replicate (d.qty - k) u) ≡ (d.qty - k) * d.price = ap cost (sym (append-nil (replicate (d.qty - k) u))) ∙ cost_run (d.qty - k) u [] ∙ omega arith in
-    let r : share_cost_basis (replicate (d.qty - k) u) ≡ signed_by_side d.side ((d.qty - k) * d.price) =
+    let r : cost_basis_of_shares (replicate (d.qty - k) u) ≡ signed_by_side d.side ((d.qty - k) * d.price) =
     cost_of d.side (replicate (d.qty - k) u) (opens d (d.qty - k)) ∙ ap (signed_by_side d.side) rc in
     let total : d.qty * d.price ≡ k * d.price + (d.qty - k) * d.price = parts d.qty k d.price f.0 in
     let e = cost_step s d.side (cost us) (cost (without d.is_lifo k us)) x (k * d.price) ((d.qty - k) * d.price) (d.qty * d.price) (cost_parts d.is_lifo k us) total
     (λ z. (ap (λ n. cost (take n (list_reversed_if_lifo d.is_lifo us))) (count_own d s us h z), ap (λ n. n * d.price) (count_own d s us h z) ∙ omega arith)) in
-    ap share_cost_basis (after_is d us) ∙ cost_join (without d.is_lifo k us) (replicate (d.qty - k) u) ∙ rw (w, r, cost_of s us h, gain_is d us) e where
+    ap cost_basis_of_shares (after_is d us) ∙ cost_join (without d.is_lifo k us) (replicate (d.qty - k) u) ∙ rw (w, r, cost_of s us h, gain_is d us) e where
       parts : (q k p : ℕ) → k ≤ q → q * p ≡ k * p + (q - k) * p
       parts q k p h = let e : q ≡ k + (q - k) = omega arith in ap (λ n. n * p) e ∙ omega arith
 
@@ -163,7 +163,7 @@ net_after s (d ∷ ds) us h =
     omega (arith, ints, net_after a.0 ds (shares_after_deal us d) a.1, net_after_one s d us h)
 
 cost_after : (s : Side) (ds : List Deal) (us : List Share) → OneSide s us
-    → share_cost_basis (fold shares_after_deal us ds) ≡ share_cost_basis us +ℤ (realised_gain_sum ds us +ℤ purchase_value_minus_sale_value ds)
+    → cost_basis_of_shares (fold shares_after_deal us ds) ≡ cost_basis_of_shares us +ℤ (realised_gain_sum ds us +ℤ purchase_value_minus_sale_value ds)
 unfolding total_by
 cost_after s [] us h = omega (arith, ints)
 cost_after s (d ∷ ds) us h =
@@ -186,7 +186,7 @@ signed_times : (z : ℤ) (p : ℕ) → z *ℤ pos p ≡ signed_by_side (side_of_
 signed_times (pos n) p = refl
 signed_times (negsuc n) p = refl
 
-lots_worth : (ls : List Lot) → lot_cost_basis ls ≡ share_cost_basis (shares_of_lots ls)
+lots_worth : (ls : List Lot) → cost_basis_of_lots ls ≡ cost_basis_of_shares (shares_of_lots ls)
 unfolding total_by
 lots_worth [] = refl
 lots_worth (l ∷ ls) =
@@ -194,8 +194,8 @@ lots_worth (l ∷ ls) =
     let s = side_of_qty l.qty in
     let run : OneSide s (replicate n (share_of_lot l)) = all_run (λ v. v.side ≡ s) n (share_of_lot l) refl in
     let c : cost (replicate n (share_of_lot l)) ≡ n * l.price = ap cost (sym (append-nil (replicate n (share_of_lot l)))) ∙ cost_run n (share_of_lot l) [] ∙ omega arith in
-    let r : share_cost_basis (replicate n (share_of_lot l)) ≡ l.qty *ℤ pos l.price = cost_of s (replicate n (share_of_lot l)) run ∙ ap (signed_by_side s) c ∙ sym (signed_times l.qty l.price) in
-    ap (λ z. l.qty *ℤ pos l.price +ℤ z) (lots_worth ls) ∙ ap (λ z. z +ℤ share_cost_basis (shares_of_lots ls)) (sym r) ∙ sym (cost_join (replicate n (share_of_lot l)) (shares_of_lots ls))
+    let r : cost_basis_of_shares (replicate n (share_of_lot l)) ≡ l.qty *ℤ pos l.price = cost_of s (replicate n (share_of_lot l)) run ∙ ap (signed_by_side s) c ∙ sym (signed_times l.qty l.price) in
+    ap (λ z. l.qty *ℤ pos l.price +ℤ z) (lots_worth ls) ∙ ap (λ z. z +ℤ cost_basis_of_shares (shares_of_lots ls)) (sym r) ∙ sym (cost_join (replicate n (share_of_lot l)) (shares_of_lots ls))
 
 -- ---- the laws, from the empty position
 
@@ -203,6 +203,6 @@ pub quantities_add_up : (ds : List Deal) (ls : List Lot) → shares_of_lots ls �
 unfolding total_by
 quantities_add_up ds ls e = lots_net ls ∙ ap net_share_count e ∙ net_after Buy ds [] tt ∙ omega (arith, ints)
 
-pub costs_add_up : (ds : List Deal) (ls : List Lot) → shares_of_lots ls ≡ replay ds → lot_cost_basis ls ≡ realised_gain_sum ds [] +ℤ purchase_value_minus_sale_value ds
+pub costs_add_up : (ds : List Deal) (ls : List Lot) → shares_of_lots ls ≡ replay ds → cost_basis_of_lots ls ≡ realised_gain_sum ds [] +ℤ purchase_value_minus_sale_value ds
 unfolding total_by
-costs_add_up ds ls e = lots_worth ls ∙ ap share_cost_basis e ∙ cost_after Buy ds [] tt ∙ omega (arith, ints)
+costs_add_up ds ls e = lots_worth ls ∙ ap cost_basis_of_shares e ∙ cost_after Buy ds [] tt ∙ omega (arith, ints)

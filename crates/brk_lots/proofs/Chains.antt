@@ -10,7 +10,7 @@ use Rattle.brk_money.specs.declared.side.Side.{Side}
 use Rattle.brk_money.specs.declared.side.Side.TheVariants.{Buy, Sell}
 use Rattle.brk_model.specs.Lists.{is_zero}
 use Rattle.brk_model.specs.Shares.{Share, Deal, Touch, signed_by_side, replay, shares_after_deal, opened_share, closed_share_count_of_deal, lot_quantity, changes_lot_quantity, touch_of_lot}
-use Rattle.brk_lots.specs.Deals.{IsLaterDealOfOtherTrade, AreDistinctAscendingDeals}
+use Rattle.brk_lots.specs.Deals.{PrecedesDealOfOtherTrade, AreDistinctAscendingDeals}
 use Rattle.brk_model.specs.Tables.{HoldingHistoryRow, holding_history_row}
 use Rattle.brk_lots.specs.HistoryRows.{has_quantity_change, lot_history_rows_per_deal, touch_of_row}
 use Rattle.brk_lots.specs.Chains.{changes_of_lot, ShrinksTowardZero, IsLotHistory}
@@ -126,7 +126,7 @@ life t (d ∷ ds) s us one a z = let b = side_after s d us one in step b.0 b.1 (
 
   step : (r : Side) → OneSide r after → (d.trade ≡ t) ⊎ (d.trade ≡ t → ⊥) → (count_of t after ≡ 0 → IsLotHistory rows to) → IsLotHistory (changes_of_lot t (d ∷ ds) us) to
   step r side (inl own) rest =
-      let others : AllByRecursion (λ e. e.trade ≢ t) ds = all_from (IsLaterDealOfOtherTrade d) (IsLaterDealOfOtherTrade d) (λ e. e.trade ≢ t) (λ e l m x. l.0 (own ∙ sym x)) ds a.0 a.0 in
+      let others : AllByRecursion (λ e. e.trade ≢ t) ds = all_from (PrecedesDealOfOtherTrade d) (PrecedesDealOfOtherTrade d) (λ e. e.trade ≢ t) (λ e l m x. l.0 (own ∙ sym x)) ds a.0 a.0 in
       opened (changes_lot_quantity (touch_of_lot t d us)) refl (falls t ds r after side others)
   step r side (inr other) rest =
       let fewer = count_after t d us other in

@@ -5,7 +5,7 @@ use Rattle.brk_model.specs.Shares.{Share, Deal, opened_share, closed_share_count
 use Rattle.brk_lots.specs.declared.lot.Lot.{Lot}
 use Rattle.brk_lots.specs.Lots.{share_of_lot, shares_of_lots}
 use Rattle.brk_lots.specs.Position.{IsPosition, AreOpenedByOtherTrades, AreOpenedBeforeStamp}
-use Rattle.brk_lots.specs.Deals.{IsLaterDealOfOtherTrade}
+use Rattle.brk_lots.specs.Deals.{PrecedesDealOfOtherTrade}
 use Rattle.brk_lots.proofs.Runs.{without, size_positive}
 use Rattle.brk_lots.proofs.Changes.{all_from}
 use Rattle.brk_lots.proofs.Ends.{all_join}
@@ -52,7 +52,7 @@ old_lots d (l ∷ ls) p h =
     ((one.0, rest.0), (one.1, rest.1))
 
 -- the shares after a deal are older than each later deal
-pub older_after : (d : Deal) (ds : List Deal) (us : List Share) → AllByRecursion (IsLaterDealOfOtherTrade d) ds
+pub older_after : (d : Deal) (ds : List Deal) (us : List Share) → AllByRecursion (PrecedesDealOfOtherTrade d) ds
     → AllByRecursion (λ e. AllByRecursion (IsOlder e) us) ds → AllByRecursion (λ e. AllByRecursion (IsOlder e) (shares_after_deal us d)) ds
 older_after d ds us l h =
-    all_from (IsLaterDealOfOtherTrade d) (λ e. AllByRecursion (IsOlder e) us) (λ e. AllByRecursion (IsOlder e) (shares_after_deal us d)) (λ e b c. all_after (IsOlder e) d us b c) ds l h
+    all_from (PrecedesDealOfOtherTrade d) (λ e. AllByRecursion (IsOlder e) us) (λ e. AllByRecursion (IsOlder e) (shares_after_deal us d)) (λ e b c. all_after (IsOlder e) d us b c) ds l h

@@ -11,7 +11,7 @@ use Rattle.brk_model.specs.Shares.{Share}
 use Rattle.brk_lots.specs.declared.lot.Lot.{Lot}
 use Rattle.brk_lots.specs.Lots.{side_of_qty, share_of_lot, shares_of_lots, list_reversed_if_lifo}
 use Rattle.brk_lots.specs.Walks.{closed_share_count}
-use Rattle.brk_lots.specs.Position.{HasSameSideAndOtherTrade, IsPositionInAnyOrder, IsLaterInPosition, IsPosition}
+use Rattle.brk_lots.specs.Position.{HasSameSideAndOtherTrade, IsPositionInAnyOrder, PrecedesInPosition, IsPosition}
 use Rattle.brk_lots.proofs.Runs.{count_of, cost, without, length_run}
 use Rattle.brk_lots.proofs.Walks.{met_first}
 use Rattle.brk_lots.proofs.Changes.{all_from}
@@ -37,7 +37,7 @@ all_end P false xs p = p
 
 pub walk_of : (ls : List Lot) → IsPosition ls → IsPositionInAnyOrder ls
 walk_of [] h = tt
-walk_of (l ∷ ls) h = (h.0, all_from (IsLaterInPosition l) (IsLaterInPosition l) (HasSameSideAndOtherTrade l) (λ m p q. p.0) ls h.1 h.1, walk_of ls h.2)
+walk_of (l ∷ ls) h = (h.0, all_from (PrecedesInPosition l) (PrecedesInPosition l) (HasSameSideAndOtherTrade l) (λ m p q. p.0) ls h.1 h.1, walk_of ls h.2)
 
 walk_push : (ls : List Lot) (l : Lot) → IsPositionInAnyOrder ls → l.qty ≢ pos 0 → AllByRecursion (HasSameSideAndOtherTrade l) ls → IsPositionInAnyOrder (ls ++ l ∷ [])
 walk_push [] l w n b = (n, tt, tt)

@@ -18,7 +18,7 @@ use Rattle.brk_lots.specs.declared.lot.Touch.{Touch}
 use Rattle.brk_lots.specs.declared.closing.Closing.{Closing}
 use Rattle.brk_lots.specs.Closing.{IsApplicableClosing}
 use Rattle.brk_lots.specs.Lots.{side_of_qty, share_of_lot, shares_of_lots, list_reversed_if_lifo}
-use Rattle.brk_lots.specs.Position.{HasSameSideAndOtherTrade, IsPositionInAnyOrder, IsLaterInPosition, IsPosition, AreOpenedByOtherTrades, AreOpenedBeforeStamp}
+use Rattle.brk_lots.specs.Position.{HasSameSideAndOtherTrade, IsPositionInAnyOrder, PrecedesInPosition, IsPosition, AreOpenedByOtherTrades, AreOpenedBeforeStamp}
 use Rattle.brk_lots.specs.Walks.{closed_share_count, touches_of_first_shares, quantity_after_touches, lot_with_nonzero_quantity, rest_of_lot_after_touches, lots_after_touches}
 use Rattle.brk_lots.proofs.Runs.{without, run_lots, size_positive, signed_back, drop_run, length_run}
 use Rattle.brk_lots.proofs.Walks.{touches_none}
@@ -169,16 +169,16 @@ pub signed_differs : (s : Side) (m : ℕ) → signed_by_side s (suc m) ≢ pos 0
 signed_differs Buy m e = omega (arith, ints, e)
 signed_differs Sell m e = omega (arith, ints, e)
 
-after_shares : (l m : Lot) → IsLaterInPosition l m → OfShares (IsLaterInPosition l) m
+after_shares : (l m : Lot) → PrecedesInPosition l m → OfShares (PrecedesInPosition l) m
 after_shares l m a zero = tt
 after_shares l m a (suc n) = (((side_signed (side_of_qty m.qty) n ∙ a.0.0, a.0.1), a.1), tt)
 
-position_with : (n : ℕ) (l : Lot) (ls : List Lot) → AllByRecursion (IsLaterInPosition l) ls → IsPosition ls → IsPosition (with_shares n l ++ ls)
+position_with : (n : ℕ) (l : Lot) (ls : List Lot) → AllByRecursion (PrecedesInPosition l) ls → IsPosition ls → IsPosition (with_shares n l ++ ls)
 position_with zero l ls a p = p
 position_with (suc n) l ls a p =
     let l' : Lot = record { trade = l.trade; price = l.price; qty = signed_by_side (side_of_qty l.qty) (suc n); stamp = l.stamp } in (
       signed_differs (side_of_qty l.qty) n,
-      all_from (IsLaterInPosition l) (IsLaterInPosition l) (IsLaterInPosition l') (λ m b c. ((b.0.0 ∙ sym (side_signed (side_of_qty l.qty) n), b.0.1), b.1)) ls a a,
+      all_from (PrecedesInPosition l) (PrecedesInPosition l) (PrecedesInPosition l') (λ m b c. ((b.0.0 ∙ sym (side_signed (side_of_qty l.qty) n), b.0.1), b.1)) ls a a,
       p,
     )
 
@@ -187,12 +187,12 @@ position_left ts [] p s = tt
 position_left ts (l ∷ ls) p s =
     rw (left_with ts l s.0.0 s.0.1)
     (position_with s.0.0 l (lots_after_touches ts ls)
-    (all_left (IsLaterInPosition l) ts ls s.1 (all_from (IsLaterInPosition l) (IsLaterInPosition l) (OfShares (IsLaterInPosition l)) (λ m a b. after_shares l m a) ls p.1 p.1))
+    (all_left (PrecedesInPosition l) ts ls s.1 (all_from (PrecedesInPosition l) (PrecedesInPosition l) (OfShares (PrecedesInPosition l)) (λ m a b. after_shares l m a) ls p.1 p.1))
     (position_left ts ls p.2 s.1))
 
-position_push : (ls : List Lot) (l : Lot) → IsPosition ls → l.qty ≢ pos 0 → AllByRecursion (λ m. IsLaterInPosition m l) ls → IsPosition (ls ++ l ∷ [])
+position_push : (ls : List Lot) (l : Lot) → IsPosition ls → l.qty ≢ pos 0 → AllByRecursion (λ m. PrecedesInPosition m l) ls → IsPosition (ls ++ l ∷ [])
 position_push [] l p n a = (n, tt, tt)
-position_push (m ∷ ls) l p n a = (p.0, all_join (IsLaterInPosition m) ls (l ∷ []) p.1 (a.0, tt), position_push ls l p.2 n a.1)
+position_push (m ∷ ls) l p n a = (p.0, all_join (PrecedesInPosition m) ls (l ∷ []) p.1 (a.0, tt), position_push ls l p.2 n a.1)
 
 nothing_left : (ls : List Lot) → IsPosition ls → length (shares_of_lots ls) ≡ 0 → ls ≡ []
 nothing_left [] p h = refl
@@ -227,7 +227,7 @@ length_without false k us = length-drop k us
 -- where a lot is opened, it may stand after what is left
 opened_after : (lifo : Bool) (q n : ℕ) (u : Share) (ls : List Lot) → IsPosition ls → AreOpenedByOtherTrades u.trade ls
     → AllByRecursion (λ l. l.stamp < u.stamp) ls → q - closed_share_count u.side q ls ≡ suc n
-    → AllByRecursion (λ m. IsLaterInPosition m (new_lot u n))
+    → AllByRecursion (λ m. PrecedesInPosition m (new_lot u n))
     (lots_after_touches (touches_of_first_shares (closed_share_count u.side q ls) (list_reversed_if_lifo lifo ls)) ls)
 opened_after lifo q n u [] p f a e = tt
 opened_after lifo q n u (l ∷ ls) p f a e = each (is_same_side (side_of_qty l.qty) u.side) refl where
@@ -238,7 +238,7 @@ opened_after lifo q n u (l ∷ ls) p f a e = each (is_same_side (side_of_qty l.q
   w = walk_of (l ∷ ls) p
 
   one_side : AllByRecursion (λ m. side_of_qty m.qty ≡ side_of_qty l.qty) (l ∷ ls)
-  one_side = (refl, all_from (IsLaterInPosition l) (IsLaterInPosition l) (λ m. side_of_qty m.qty ≡ side_of_qty l.qty) (λ m b c. b.0.0) ls p.1 p.1)
+  one_side = (refl, all_from (PrecedesInPosition l) (PrecedesInPosition l) (λ m. side_of_qty m.qty ≡ side_of_qty l.qty) (λ m b c. b.0.0) ls p.1 p.1)
 
   met_is : k ≡ cond (is_same_side (side_of_qty l.qty) u.side) 0 (min q (length (shares_of_lots (l ∷ ls))))
   met_is = met_all u.side (side_of_qty l.qty) q (l ∷ ls) one_side
@@ -247,16 +247,16 @@ opened_after lifo q n u (l ∷ ls) p f a e = each (is_same_side (side_of_qty l.q
   shrinks = end_shrinks lifo k (l ∷ ls) w
 
   each : (b : Bool) → is_same_side (side_of_qty l.qty) u.side ≡ b
-      → AllByRecursion (λ m. IsLaterInPosition m (new_lot u n)) (lots_after_touches (touches_of_first_shares k (list_reversed_if_lifo lifo (l ∷ ls))) (l ∷ ls))
+      → AllByRecursion (λ m. PrecedesInPosition m (new_lot u n)) (lots_after_touches (touches_of_first_shares k (list_reversed_if_lifo lifo (l ∷ ls))) (l ∷ ls))
   each true s =
       let side : side_of_qty l.qty ≡ u.side = same_is (side_of_qty l.qty) u.side s in
       let sides : AllByRecursion (λ m. (side_of_qty m.qty ≡ u.side) × (m.stamp < u.stamp)) (l ∷ ls) =
       all_from (λ m. side_of_qty m.qty ≡ side_of_qty l.qty) (λ m. m.stamp < u.stamp) (λ m. (side_of_qty m.qty ≡ u.side) × (m.stamp < u.stamp))
       (λ m b c. (b ∙ side, c)) (l ∷ ls) one_side a in
-      all_left (λ m. IsLaterInPosition m (new_lot u n)) (touches_of_first_shares k (list_reversed_if_lifo lifo (l ∷ ls))) (l ∷ ls) shrinks
-      (all_from (λ m. (side_of_qty m.qty ≡ u.side) × (m.stamp < u.stamp)) (λ m. m.trade ≢ u.trade) (OfShares (λ m. IsLaterInPosition m (new_lot u n)))
+      all_left (λ m. PrecedesInPosition m (new_lot u n)) (touches_of_first_shares k (list_reversed_if_lifo lifo (l ∷ ls))) (l ∷ ls) shrinks
+      (all_from (λ m. (side_of_qty m.qty ≡ u.side) × (m.stamp < u.stamp)) (λ m. m.trade ≢ u.trade) (OfShares (λ m. PrecedesInPosition m (new_lot u n)))
       (λ m b c. before m b.0 b.1 c) (l ∷ ls) sides f) where
-        before : (m : Lot) → side_of_qty m.qty ≡ u.side → m.stamp < u.stamp → m.trade ≢ u.trade → OfShares (λ m'. IsLaterInPosition m' (new_lot u n)) m
+        before : (m : Lot) → side_of_qty m.qty ≡ u.side → m.stamp < u.stamp → m.trade ≢ u.trade → OfShares (λ m'. PrecedesInPosition m' (new_lot u n)) m
         before m b c d zero = tt
         before m b c d (suc i) = (((side_signed u.side n ∙ sym (side_signed (side_of_qty m.qty) i ∙ b), λ e. d (sym e)), c), tt)
   each false s =
@@ -266,7 +266,7 @@ opened_after lifo q n u (l ∷ ls) p f a e = each (is_same_side (side_of_qty l.q
       let none : lots_after_touches (touches_of_first_shares k (list_reversed_if_lifo lifo (l ∷ ls))) (l ∷ ls) ≡ [] =
       nothing_left (lots_after_touches (touches_of_first_shares k (list_reversed_if_lifo lifo (l ∷ ls))) (l ∷ ls))
       (position_left (touches_of_first_shares k (list_reversed_if_lifo lifo (l ∷ ls))) (l ∷ ls) p shrinks) (omega (arith, len, all, e)) in
-      subst (AllByRecursion (λ m. IsLaterInPosition m (new_lot u n))) (sym none) tt
+      subst (AllByRecursion (λ m. PrecedesInPosition m (new_lot u n))) (sym none) tt
 
 -- ---- a deal upon lots leaves lots
 

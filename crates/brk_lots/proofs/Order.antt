@@ -9,7 +9,7 @@ use Rattle.std.proofs.lemmas.List.Sums.{sum_by-cons}
 use Rattle.std.proofs.lemmas.List.Sorted.{sum_by-IsPermutation}
 use Rattle.brk_lots.specs.declared.lot.Lot.{Lot}
 use Rattle.brk_lots.specs.Order.{FirstLotSatisfies, PrecedesOnSameSide, IsOneSidedAndAscending, NeighboursDifferInTrade}
-use Rattle.brk_lots.specs.Position.{IsLaterInPosition, IsPosition, AreOpenedByOtherTrades}
+use Rattle.brk_lots.specs.Position.{PrecedesInPosition, IsPosition, AreOpenedByOtherTrades}
 use Rattle.brk_lots.proofs.Changes.{all_from}
 
 -- No two lots of the list were opened by the same trade.
@@ -38,15 +38,20 @@ higher_all l (m ∷ ls) h c = (
 
 pub climbs_of : (ls : List Lot) → IsPosition ls → IsOneSidedAndAscending ls
 climbs_of [] p = tt
-climbs_of (l ∷ ls) p = (p.0, first_of_all (PrecedesOnSameSide l) ls (all_from (IsLaterInPosition l) (IsLaterInPosition l) (PrecedesOnSameSide l) (λ m a b. (a.0.0, a.1)) ls p.1 p.1), climbs_of ls p.2)
+climbs_of (l ∷ ls) p = (
+  p.0,
+  first_of_all (PrecedesOnSameSide l) ls
+      (all_from (PrecedesInPosition l) (PrecedesInPosition l) (PrecedesOnSameSide l) (λ m a b. (a.0.0, a.1)) ls p.1 p.1),
+  climbs_of ls p.2,
+)
 
 pub distinct_of : (ls : List Lot) → IsPosition ls → Distinct ls
 distinct_of [] p = tt
-distinct_of (l ∷ ls) p = (all_from (IsLaterInPosition l) (IsLaterInPosition l) (λ m. m.trade ≢ l.trade) (λ m a b. a.0.1) ls p.1 p.1, distinct_of ls p.2)
+distinct_of (l ∷ ls) p = (all_from (PrecedesInPosition l) (PrecedesInPosition l) (λ m. m.trade ≢ l.trade) (λ m a b. a.0.1) ls p.1 p.1, distinct_of ls p.2)
 
 pub position_of : (ls : List Lot) → IsOneSidedAndAscending ls → Distinct ls → IsPosition ls
 position_of [] c d = tt
-position_of (l ∷ ls) c d = (c.0, all_from (PrecedesOnSameSide l) (λ m. m.trade ≢ l.trade) (IsLaterInPosition l) (λ m a b. ((a.0, b), a.1)) ls (higher_all l ls c.1 c.2) d.0, position_of ls c.2 d.1)
+position_of (l ∷ ls) c d = (c.0, all_from (PrecedesOnSameSide l) (λ m. m.trade ≢ l.trade) (PrecedesInPosition l) (λ m a b. ((a.0, b), a.1)) ls (higher_all l ls c.1 c.2) d.0, position_of ls c.2 d.1)
 
 -- ---- neighbours of sorted lots
 

@@ -10,13 +10,13 @@ lot_quantity_sum ls = total_by (λ l. l.qty) ls
 
 -- The cost basis of the lots, in cents: the sum of signed quantity times price. Lots of shares that
 -- were sold short count below 0.
-abbrev pub lot_cost_basis : List Lot → ℤ
-lot_cost_basis ls = total_by (λ l. l.qty *ℤ pos l.price) ls
+abbrev pub cost_basis_of_lots : List Lot → ℤ
+cost_basis_of_lots ls = total_by (λ l. l.qty *ℤ pos l.price) ls
 
 -- The cost basis of open shares, in cents: the sum of the prices at which they were opened. Shares
 -- that were sold short count below 0.
-abbrev pub share_cost_basis : List Share → ℤ
-share_cost_basis us = total_by (λ u. signed_by_side u.side u.price) us
+abbrev pub cost_basis_of_shares : List Share → ℤ
+cost_basis_of_shares us = total_by (λ u. signed_by_side u.side u.price) us
 
 -- The sum of the quantities of the deals, in shares; the quantity of a sale counts below 0.
 abbrev pub deal_quantity_sum : List Deal → ℤ

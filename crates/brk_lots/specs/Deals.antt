@@ -4,11 +4,11 @@ use Rattle.std.specs.List.{AllByRecursion}
 use Rattle.brk_model.specs.Shares.{Deal}
 
 -- The deal `e` belongs to another trade than the deal `d`, and has a later stamp than `d`.
-abbrev pub IsLaterDealOfOtherTrade : Deal → Deal → Type 0
-IsLaterDealOfOtherTrade d e = (d.trade ≢ e.trade) × (d.stamp < e.stamp)
+abbrev pub PrecedesDealOfOtherTrade : Deal → Deal → Type 0
+PrecedesDealOfOtherTrade d e = (d.trade ≢ e.trade) × (d.stamp < e.stamp)
 
 -- The deals belong to distinct trades, and their stamps are strictly ascending. True of an empty
 -- list.
 abbrev pub AreDistinctAscendingDeals : List Deal → Type 0
 AreDistinctAscendingDeals [] = ⊤
-AreDistinctAscendingDeals (d ∷ ds) = AllByRecursion (IsLaterDealOfOtherTrade d) ds × AreDistinctAscendingDeals ds
+AreDistinctAscendingDeals (d ∷ ds) = AllByRecursion (PrecedesDealOfOtherTrade d) ds × AreDistinctAscendingDeals ds

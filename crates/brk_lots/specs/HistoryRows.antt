@@ -25,5 +25,5 @@ lot_history_rows_per_deal lot shares (d ∷ deals) =
 -- The HOLDING_HISTORY rows of the lot that the trade `t` opened: one row for each deal of the
 -- account and the symbol of `t`, over the completed trades `done`, that changes the quantity of the
 -- lot, sorted by completion stamp, ascending; none if `t` opened no share.
-abbrev pub changing_rows_of_lot : List Trade → Trade → List HoldingHistoryRow
-changing_rows_of_lot done t = filter has_quantity_change (lot_history_rows_per_deal t.id [] (deals_of_position done t.account t.symbol))
+abbrev pub lot_rows_with_quantity_change : List Trade → Trade → List HoldingHistoryRow
+lot_rows_with_quantity_change done t = filter has_quantity_change (lot_history_rows_per_deal t.id [] (deals_of_position done t.account t.symbol))

@@ -16,14 +16,14 @@ IsPositionInAnyOrder (l ∷ ls) = (l.qty ≢ pos 0) × AllByRecursion (HasSameSi
 
 -- The lot `m` has the side of the lot `l`, was opened by another trade than `l`, and has a later
 -- stamp than `l`.
-abbrev pub IsLaterInPosition : Lot → Lot → Type 0
-IsLaterInPosition l m = HasSameSideAndOtherTrade l m × (l.stamp < m.stamp)
+abbrev pub PrecedesInPosition : Lot → Lot → Type 0
+PrecedesInPosition l m = HasSameSideAndOtherTrade l m × (l.stamp < m.stamp)
 
 -- The lots form a position, the oldest first: no lot has 0 shares, all have one side, no two were
 -- opened by the same trade, and the stamps are strictly ascending. True of an empty list.
 abbrev pub IsPosition : List Lot → Type 0
 IsPosition [] = ⊤
-IsPosition (l ∷ ls) = (l.qty ≢ pos 0) × AllByRecursion (IsLaterInPosition l) ls × IsPosition ls
+IsPosition (l ∷ ls) = (l.qty ≢ pos 0) × AllByRecursion (PrecedesInPosition l) ls × IsPosition ls
 
 -- All lots of the list were opened by other trades than `trade`. True of an empty list.
 abbrev pub AreOpenedByOtherTrades : ℕ → List Lot → Type 0

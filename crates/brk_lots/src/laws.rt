@@ -6,7 +6,7 @@ ghost use Rattle.brk_money.specs.declared.side.Side.{Side};
 ghost use Rattle.brk_model.specs.Shares.{Deal, replay, lot_quantity, lots_of_shares, lot_touches_of_deal, touches_of_existing_lots};
 ghost use Rattle.brk_model.specs.Shares.{opened_shares, shares_after_deal, closed_share_count_of_deal, signed_by_side};
 ghost use Rattle.brk_lots.specs.declared.lot.Lot.{Lot};
-ghost use Rattle.brk_lots.specs.Books.{deal_quantity_sum, realised_gain_sum, lot_cost_basis, lot_quantity_sum, purchase_value_minus_sale_value};
+ghost use Rattle.brk_lots.specs.Books.{deal_quantity_sum, realised_gain_sum, cost_basis_of_lots, lot_quantity_sum, purchase_value_minus_sale_value};
 ghost use Rattle.brk_lots.specs.Chains.{IsLotHistory, opening_touch, changes_of_lot};
 ghost use Rattle.brk_lots.specs.Deals.{AreDistinctAscendingDeals};
 ghost use Rattle.brk_lots.specs.Lots.{shares_of_lots, abstract_lot};
@@ -21,7 +21,7 @@ pub fn replayed_lots_match_their_deals()
     ensures one_side { (deals : List Deal) → (side : Side) × AllByRecursion (λ u. u.side ≡ side) (replay deals) }
     ensures quantities { (deals : List Deal) (ls : List Lot) → shares_of_lots ls ≡ replay deals → lot_quantity_sum ls ≡ deal_quantity_sum deals }
     ensures costs { (deals : List Deal) (ls : List Lot) → shares_of_lots ls ≡ replay deals
-        → lot_cost_basis ls ≡ realised_gain_sum deals [] +ℤ purchase_value_minus_sale_value deals }
+        → cost_basis_of_lots ls ≡ realised_gain_sum deals [] +ℤ purchase_value_minus_sale_value deals }
 {}
 
 /// Proves for deals of distinct trades with strictly ascending stamps, applied from the empty
@@ -41,7 +41,7 @@ pub fn lot_histories_are_chains()
 /// Proves for a deal whose trade opened no lot of the position that the changes of lots by the deal
 /// are the changes of the lots that it closes or reduces, followed by the change that opens its own
 /// lot, if it opens one.
-pub fn history_is_touched_and_opened_lots()
+pub fn lot_changes_are_closings_then_opening()
     ensures { (d : Deal) (ls : List Lot) → IsPosition ls → AreOpenedByOtherTrades d.trade ls →
         lot_touches_of_deal d (shares_of_lots ls)
         ≡ touches_of_existing_lots d (shares_of_lots ls) ++ map opening_touch (lots_of_shares (opened_shares d (shares_of_lots ls))) }

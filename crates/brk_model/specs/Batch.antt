@@ -81,11 +81,11 @@ MatchesEnding text NoEnd name rows answers told out = EndsWithoutEndRecord text 
 MatchesEnding text BadEnd name rows answers told out = EndsWithWrongEndRecord text name rows × (told ≡ answers) × (out ≡ answer_lines_from 1 answers)
 MatchesEnding text BadHeader name rows answers told out = ⊥
 
--- The batch is the result of a text with a header of the batch `name`: the records `rows`, parsed
--- by `form` and executed by `step` from `base` on with the clock readings `moments`, have the
--- answers `answers` and result in the base of the batch (`BatchRowsAreDecided`). Its ending and its
--- output match the text, `rows` and `answers` (`MatchesEnding`), and its number of decided rows is
--- the number of the printed answers `told`.
+-- `batch` is the result of executing a text with a header of the batch `name`: the records `rows`,
+-- parsed by `form` and executed by `step` from `base` on with the clock readings `moments`, have
+-- the answers `answers` and result in the base of `batch` (`BatchRowsAreDecided`). Its ending and
+-- its output match the text, `rows` and `answers` (`MatchesEnding`), and its number of decided rows
+-- is the number of the printed answers `told`.
 pub record IsResultOfTextWithHeader {B C : Type 0} (form : Fields → ReadResult C) (step : RowStep B C) (base : B) (moments : List ℕ) (text : Option Text)
     (batch : BatchResult B) : Type 0 where
   pub name : Text
@@ -96,9 +96,9 @@ pub record IsResultOfTextWithHeader {B C : Type 0} (form : Fields → ReadResult
   pub ends : MatchesEnding text batch.ending name rows answers told batch.text
   pub counted : batch.rows ≡ length told
 
--- The batch is the result of a text without a header that has a well-formed batch name: its ending
--- is `BadHeader`, `moments` is empty (no clock reading is used), the base is unchanged, the output
--- is empty, and no row was decided. An unknown text may have this result.
+-- `batch` is the result of executing a text without a header that has a well-formed batch name: its
+-- ending is `BadHeader`, `moments` is empty (no clock reading is used), the base is unchanged, the
+-- output is empty, and no row was decided. An unknown text may have this result.
 pub record IsResultOfTextWithoutHeader {B : Type 0} (base : B) (moments : List ℕ) (text : Option Text) (batch : BatchResult B) : Type 0 where
   pub headless : HasNoHeader text
   pub ending : batch.ending ≡ BadHeader
@@ -107,10 +107,10 @@ pub record IsResultOfTextWithoutHeader {B : Type 0} (base : B) (moments : List �
   pub told : batch.text ≡ []
   pub counted : batch.rows ≡ 0
 
--- The batch is the result of the text of the bytes `input` (`input_text`: at most their first
--- `most_input_bytes`), with or without a header. Its rows are answered by `form` and `step` from
--- `base` on (`BatchRowsAreDecided`), with `moments` as the clock readings of the executed rows, one
--- each.
+-- `batch` is the result of executing the text of the bytes `input` (`input_text`: at most their
+-- first `most_input_bytes`) on `base`. If the text has a header, `form` parses its rows and `step`
+-- executes them from `base` on (`BatchRowsAreDecided`), with `moments` as the clock readings of the
+-- executed rows, one each. If it has none, no row is executed, and the ending is `BadHeader`.
 abbrev pub IsResultOfBatch : {B C : Type 0} → (Fields → ReadResult C) → RowStep B C → B → List ℕ → Text → BatchResult B → Type 0
 IsResultOfBatch form step base moments input batch =
     IsResultOfTextWithHeader form step base moments (Some (input_text input)) batch ⊎ IsResultOfTextWithoutHeader base moments (Some (input_text input)) batch

@@ -100,16 +100,16 @@ result_of_batch_rows form step name base moments (rows, None) = result_without_e
 -- The result of a batch with the records `rows` after its header; records after the first end
 -- record are ignored. Without a batch name the ending is `BadHeader`, the base is unchanged, the
 -- output is empty, and no row is decided.
-abbrev pub result_with_optional_name : {B C : Type 0} → (Fields → ReadResult C) → RowStep B C → Option Text → B → List ℕ → List Fields → BatchResult B
-result_with_optional_name form step None base moments rows = record { text = []; base = base; ending = BadHeader; rows = 0 }
-result_with_optional_name form step (Some name) base moments rows = result_of_batch_rows form step name base moments (split_at_end_record rows)
+abbrev pub result_of_optionally_named_batch : {B C : Type 0} → (Fields → ReadResult C) → RowStep B C → Option Text → B → List ℕ → List Fields → BatchResult B
+result_of_optionally_named_batch form step None base moments rows = record { text = []; base = base; ending = BadHeader; rows = 0 }
+result_of_optionally_named_batch form step (Some name) base moments rows = result_of_batch_rows form step name base moments (split_at_end_record rows)
 
 -- The result of a batch with the given records; records after the first end record are ignored. If
 -- there is no record, or the first is no header with a well-formed batch name, the ending is
 -- `BadHeader`, the base is unchanged, the output is empty, and no row is decided.
 abbrev pub result_of_batch_records : {B C : Type 0} → (Fields → ReadResult C) → RowStep B C → B → List ℕ → List Fields → BatchResult B
-result_of_batch_records form step base moments [] = result_with_optional_name form step None base moments []
-result_of_batch_records form step base moments (header ∷ rows) = result_with_optional_name form step (batch_name_of_header header) base moments rows
+result_of_batch_records form step base moments [] = result_of_optionally_named_batch form step None base moments []
+result_of_batch_records form step base moments (header ∷ rows) = result_of_optionally_named_batch form step (batch_name_of_header header) base moments rows
 
 -- The result of a batch with the text of the bytes `input` (`input_text`: at most their first
 -- `most_input_bytes`), executed from `base` on with the clock readings `moments`.

@@ -233,8 +233,8 @@ is_well_formed_trade_row schema t row =
 
 -- True if the status is not `Completed`, or a completion at the stamp settles, by the settlement
 -- day `rule`, at the latest on the greatest day, 9999-12-31.
-abbrev pub is_due_within_calendar : SettleRule → Status → ℕ → Bool
-is_due_within_calendar rule status stamp = not (is_same_trade_status status Completed) || nat_le (due_day_of_completion_stamp rule stamp) greatest_day
+abbrev pub settles_in_calendar_if_completed : SettleRule → Status → ℕ → Bool
+settles_in_calendar_if_completed rule status stamp = not (is_same_trade_status status Completed) || nat_le (due_day_of_completion_stamp rule stamp) greatest_day
 
 -- True if the trade of a row of TRADE_HISTORY exists, its stamp is not after the last stamp, which
 -- must exist, and, for a completion, the due day is at most the greatest day, 9999-12-31.
@@ -242,7 +242,7 @@ abbrev pub is_well_formed_history_row : Tables → HistoryRow → Bool
 is_well_formed_history_row t h =
     has_trade t h.trade
     && is_at_most_last_stamp t h.stamp
-    && is_due_within_calendar t.rule h.status h.stamp
+    && settles_in_calendar_if_completed t.rule h.status h.stamp
 
 -- True if the quantity of a row of TRADE_REQUEST is within the limits of the schema `schema`, its
 -- bid is within the limits of a price (`is_price`), and its trade, security and broker exist.
@@ -271,7 +271,7 @@ abbrev pub is_well_formed_summary_row : Schema → Tables → SummaryRow → Boo
 is_well_formed_summary_row schema t s =
     has_account t s.account
     && has_security t s.symbol
-    && nat_le (nat_abs s.qty) schema.greatest_summary
+    && nat_le (nat_abs s.qty) schema.greatest_summary_quantity
 
 -- True if both trades of a row of HOLDING_HISTORY exist; the quantities are not checked.
 abbrev pub is_well_formed_holding_history_row : Tables → HoldingHistoryRow → Bool

@@ -201,8 +201,8 @@ market_type_if_price_is_empty order_type _ = Err BadPrice
 
 -- The order type `order_type` with the price that the text parses as, otherwise the refusal
 -- `BadPrice`.
-abbrev pub priced_order_type : (ℕ → OrderType) → Text → ReadResult OrderType
-priced_order_type order_type text = Ok order_type ⊛ read_price text
+abbrev pub read_priced_order_type : (ℕ → OrderType) → Text → ReadResult OrderType
+read_priced_order_type order_type text = Ok order_type ⊛ read_price text
 
 -- The refusal of an order whose type is unknown, by the text of its price: `BadPrice` if this text
 -- is malformed and not empty, otherwise `BadType`.
@@ -218,9 +218,9 @@ abbrev pub order_type_with_price : Option TradeType → Text → ReadResult Orde
 order_type_with_price None = refusal_of_unknown_type_by_price_text
 order_type_with_price (Some MarketBuy) = market_type_if_price_is_empty asked.MarketBuy
 order_type_with_price (Some MarketSell) = market_type_if_price_is_empty asked.MarketSell
-order_type_with_price (Some StopLoss) = priced_order_type (λ price. asked.StopLoss price)
-order_type_with_price (Some LimitSell) = priced_order_type (λ price. asked.LimitSell price)
-order_type_with_price (Some LimitBuy) = priced_order_type (λ price. asked.LimitBuy price)
+order_type_with_price (Some StopLoss) = read_priced_order_type (λ price. asked.StopLoss price)
+order_type_with_price (Some LimitSell) = read_priced_order_type (λ price. asked.LimitSell price)
+order_type_with_price (Some LimitBuy) = read_priced_order_type (λ price. asked.LimitBuy price)
 
 -- The order type that two texts parse as, the code of the trade type and the price, which must be
 -- empty for a market type and well-formed for any other; otherwise a refusal, `BadType` if the code

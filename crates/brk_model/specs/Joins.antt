@@ -34,8 +34,8 @@ abbrev pub trade_rows_of_account : Tables → ℕ → List TradeRow
 trade_rows_of_account tables account = filter (λ row. row.account == account) tables.trades
 
 -- The CASH_MOVE rows of the account `account`, in the sequence of the table.
-abbrev pub move_rows_of_account : Tables → ℕ → List MoveRow
-move_rows_of_account tables account = filter (λ row. row.account == account) tables.moves
+abbrev pub cash_move_rows_of_account : Tables → ℕ → List MoveRow
+cash_move_rows_of_account tables account = filter (λ row. row.account == account) tables.moves
 
 -- The TRADE_HISTORY rows of the trade with the id `trade`, in the sequence of the table.
 abbrev pub history_rows_with_trade_id : Tables → ℕ → List HistoryRow

@@ -40,8 +40,8 @@ abbrev pub greatest_amount : ℕ
 greatest_amount = Cents.GREATEST
 
 -- The greatest absolute value of a holding summary, in shares.
-abbrev pub greatest_summary : ℕ
-greatest_summary = 9999999999
+abbrev pub greatest_summary_quantity : ℕ
+greatest_summary_quantity = 9999999999
 
 -- The greatest id, and the greatest row number in a key; also the greatest number of trades, and of
 -- movements.

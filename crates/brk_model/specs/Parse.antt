@@ -131,9 +131,9 @@ read_id_of_trade_to_cancel _ = Err BadText
 -- The command `CompleteTrade` that exactly two fields parse as (trade, price); otherwise a refusal,
 -- `BadPrice` if there are two fields of which only the price is malformed, and `BadText` in any
 -- other case.
-abbrev pub read_result_command : List Text → ReadResult Command
-read_result_command (trade ∷ price ∷ []) = Ok (λ t p. CompleteTrade t p) ⊛ read_id trade ⊛ read_price price
-read_result_command _ = Err BadText
+abbrev pub read_complete_trade_command : List Text → ReadResult Command
+read_complete_trade_command (trade ∷ price ∷ []) = Ok (λ t p. CompleteTrade t p) ⊛ read_id trade ⊛ read_price price
+read_complete_trade_command _ = Err BadText
 
 -- The command `ChangeCashTypes` that exactly three fields parse as (account, first stamp, last
 -- stamp), otherwise the refusal `BadText`.
@@ -193,15 +193,15 @@ abbrev pub reference_row_parsers : List (NamedParser Command)
 reference_row_parsers = party_and_account_parsers ++ other_reference_row_parsers
 
 -- The parsers of the row kinds for orders, feeds and cancels, each with the word of its kind.
-abbrev pub order_row_parsers : List (NamedParser Command)
-order_row_parsers =
+abbrev pub order_feed_and_cancel_parsers : List (NamedParser Command)
+order_feed_and_cancel_parsers =
     (codes "order", read_and_wrap PlaceOrder read_order)
     ∷ (codes "feed", read_and_wrap FeedTicks read_feed)
     ∷ (codes "cancel", read_and_wrap CancelTrade read_id_of_trade_to_cancel) ∷ []
 
 -- The parser of the row kind for results with the word of the kind, as a list of one.
 abbrev pub result_row_parsers : List (NamedParser Command)
-result_row_parsers = (codes "result", read_result_command) ∷ []
+result_row_parsers = (codes "result", read_complete_trade_command) ∷ []
 
 -- The parsers of the row kinds for the three text updates, each with the word of its kind.
 abbrev pub update_row_parsers : List (NamedParser Command)
@@ -220,7 +220,7 @@ movement_and_settlement_day_row_parsers =
 
 -- The parsers of all row kinds, each with the word of its kind.
 abbrev pub row_parsers : List (NamedParser Command)
-row_parsers = reference_row_parsers ++ order_row_parsers ++ result_row_parsers ++ update_row_parsers ++ movement_and_settlement_day_row_parsers
+row_parsers = reference_row_parsers ++ order_feed_and_cancel_parsers ++ result_row_parsers ++ update_row_parsers ++ movement_and_settlement_day_row_parsers
 
 -- The value that the parser reads from the fields, or its refusal; the refusal `BadText` if there
 -- is no parser.

@@ -39,8 +39,8 @@ cash_row_name_at_completion base t = if t.is_cash then cash_row_name (codes " sh
 -- The trade `t` after its completion at `price` cents a share: with this price, the commission and
 -- the tax that follow from `base`, its cash type and cash row name at completion, and one more
 -- status change, to `Completed` at `stamp`. The commission is 0 if no band applies.
-unfoldable pub completed_trade : Base → ℕ → ℕ → Trade → Trade
-completed_trade base stamp price t = trade_with_status_change stamp Completed (record t {
+unfoldable pub trade_after_completion : Base → ℕ → ℕ → Trade → Trade
+trade_after_completion base stamp price t = trade_with_status_change stamp Completed (record t {
   price = Some price;
   commission = unwrap_or (commission_by_band base t.account t.kind t.symbol t.qty price) 0;
   tax = tax_on_deal base t.account (deal_of_result stamp price t) (shares_of_position (completed_trades base) t.account t.symbol);
@@ -49,9 +49,9 @@ completed_trade base stamp price t = trade_with_status_change stamp Completed (r
 })
 
 -- The base `base` in which each trade with the id of `t` is completed at `price` cents a share with
--- the stamp `stamp` (`completed_trade`); all else is unchanged.
+-- the stamp `stamp` (`trade_after_completion`); all else is unchanged.
 abbrev pub base_after_result : Base → ℕ → ℕ → Trade → Base
-base_after_result base stamp price t = base_with_updated_trades (λ u. u.id == t.id) (completed_trade base stamp price) base
+base_after_result base stamp price t = base_with_updated_trades (λ u. u.id == t.id) (trade_after_completion base stamp price) base
 
 -- The figures of a completion: the commission and the tax of the completed trade `t`, the
 -- settlement amount, the due day and the account's balance in the base `after` the completion, and
@@ -72,4 +72,4 @@ completion_between_bases base after d t = record {
 -- `stamp`, as the reply to a result states them.
 unfoldable pub completion_of_trade : Base → ℕ → ℕ → Trade → Completion
 completion_of_trade base stamp price t =
-    completion_between_bases base (base_after_result base stamp price t) (deal_of_result stamp price t) (completed_trade base stamp price t)
+    completion_between_bases base (base_after_result base stamp price t) (deal_of_result stamp price t) (trade_after_completion base stamp price t)

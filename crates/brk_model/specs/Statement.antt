@@ -10,7 +10,7 @@ use Rattle.brk_model.specs.Limits.{is_in_range}
 use Rattle.brk_model.specs.Lists.{sort_by, sort_by_key, total_by, is_text_less}
 use Rattle.brk_model.specs.Tables.{Tables, AccountRow, HoldingRow, MoveRow}
 use Rattle.brk_model.specs.Rows.{nonnegative_cents_text}
-use Rattle.brk_model.specs.Joins.{account_row_with_id, move_rows_of_account}
+use Rattle.brk_model.specs.Joins.{account_row_with_id, cash_move_rows_of_account}
 use Rattle.brk_model.specs.PositionView.{market_value_of_account_row}
 
 -- The text padded with spaces on its right to `places` bytes; unchanged if it is not shorter.
@@ -28,7 +28,7 @@ amount_line word amount = left_aligned_text 10 word ++ 32 ∷ right_aligned_text
 
 -- The CASH_MOVE rows of the account `account`, sorted by stamp, ascending; the sort is stable.
 abbrev pub sorted_cash_rows_of_account : Tables → ℕ → List MoveRow
-sorted_cash_rows_of_account tables account = sort_by_key (λ row. row.stamp) (move_rows_of_account tables account)
+sorted_cash_rows_of_account tables account = sort_by_key (λ row. row.stamp) (cash_move_rows_of_account tables account)
 
 -- The CASH_MOVE rows of the list whose stamps are before the UTC day `from`, which is in days since
 -- 1970-01-01.

@@ -14,7 +14,7 @@ use Rattle.brk_money.specs.declared.refusal.Refusal.TheVariants.{BadQty, NoAccou
 use Rattle.brk_money.specs.declared.refusal.Refusal.TheVariants.{Exists, Overlap, TaxSum, NoCharge, NoRate, Range, ClockEnd, TooEarly}
 use Rattle.brk_money.specs.declared.refusal.Limit.TheVariants as limit
 use Rattle.brk_money.specs.declared.status.Status.TheVariants.{Pending, Submitted}
-use Rattle.brk_model.specs.Limits.{greatest_amount, greatest_summary, greatest_tax_rate, greatest_id, most_accounts_per_customer}
+use Rattle.brk_model.specs.Limits.{greatest_amount, greatest_summary_quantity, greatest_tax_rate, greatest_id, most_accounts_per_customer}
 use Rattle.brk_model.specs.Records.{Band, Trade, Movement}
 use Rattle.brk_model.specs.Base.{Base, broker_with_id, customer_with_id, account_with_id, security_with_symbol, tax_rate_record_with_id, trade_with_id}
 use Rattle.brk_model.specs.Base.{charge_for_type_and_tier, commission_band_for_quantity, broker_id_of_account, tier_of_account, exchange_of_security}
@@ -98,14 +98,15 @@ status_check right t = (not right, WrongStatus (last_status_of_trade t))
 
 -- The checks of a result of the trade `t` at `stamp`, in sequence: `t` is submitted; a commission
 -- band applies; in `after`, the absolute value of the holding summary is at most
--- `greatest_summary`, that of the balance of the account at most `greatest_amount` (checked for a
--- cash trade only), and the commission total of the broker at most `greatest_amount`; and the due
--- day is at most `greatest_day`. `after` is the base that would follow the result.
+-- `greatest_summary_quantity`, that of the balance of the account at most `greatest_amount`
+-- (checked for a cash trade only), and the commission total of the broker at most
+-- `greatest_amount`; and the due day is at most `greatest_day`. `after` is the base that would
+-- follow the result.
 abbrev pub checks_of_result : Base → Base → ℕ → Trade → List RefusalCheck
 checks_of_result base after stamp t =
     status_check (has_last_status Submitted t) t
     ∷ (is_none (commission_band_for_quantity base (tier_of_account base t.account) t.kind (exchange_of_security base t.symbol) t.qty), NoRate)
-    ∷ (nat_lt greatest_summary (nat_abs (holding_summary_quantity (completed_trades after) t.account t.symbol)), Range limit.Summary)
+    ∷ (nat_lt greatest_summary_quantity (nat_abs (holding_summary_quantity (completed_trades after) t.account t.symbol)), Range limit.Summary)
     ∷ (t.is_cash && nat_lt greatest_amount (nat_abs (balance_of_account after.accounts (postings_of_base after) t.account)), Range limit.Balance)
     ∷ (nat_lt greatest_amount (commission_total_of_broker after.accounts (completed_trades after) (broker_id_of_account base t.account)), Range limit.Broker)
     ∷ (nat_lt greatest_day (due_day_of_completion_stamp base.rule stamp), ClockEnd)
@@ -122,8 +123,8 @@ checks_of_movement base m =
 
 -- The checks that `tests` returns for the trade with the id `id`; if there is no such trade, one
 -- check that refuses with `NoTrade`.
-abbrev pub checks_of_existing_trade : Base → ℕ → (Trade → List RefusalCheck) → List RefusalCheck
-checks_of_existing_trade base id tests = option_map_or tests (trade_with_id base id) ((true, NoTrade) ∷ [])
+abbrev pub checks_of_trade_with_id : Base → ℕ → (Trade → List RefusalCheck) → List RefusalCheck
+checks_of_trade_with_id base id tests = option_map_or tests (trade_with_id base id) ((true, NoTrade) ∷ [])
 
 -- The checks of a command at the stamp `stamp`, in the sequence in which they are made, except the
 -- checks of the stamp itself (`checks_of_stamp`).
@@ -148,9 +149,9 @@ checks_of_command base stamp (PlaceOrder o) = checks_of_order base o ++ (nat_le 
 checks_of_command base stamp (FeedTicks ticks) =
     (list_any (λ tick. is_none (security_with_symbol base tick.symbol)) ticks, NoSecurity)
     ∷ (list_any (λ s. nat_lt greatest_amount s.volume) (base_after_ticks stamp base ticks).securities, Range limit.Volume) ∷ []
-checks_of_command base stamp (CancelTrade id) = checks_of_existing_trade base id (λ t. status_check (has_last_status Pending t) t ∷ [])
+checks_of_command base stamp (CancelTrade id) = checks_of_trade_with_id base id (λ t. status_check (has_last_status Pending t) t ∷ [])
 checks_of_command base stamp (CompleteTrade id price) =
-    checks_of_existing_trade base id (λ t. checks_of_result base (base_after_result base stamp price t) stamp t)
+    checks_of_trade_with_id base id (λ t. checks_of_result base (base_after_result base stamp price t) stamp t)
 checks_of_command base stamp (ChangeExecutors ids) = (list_any (λ id. is_none (trade_with_id base id)) ids, NoTrade) ∷ []
 checks_of_command base stamp (ChangeCashTypes account first last) = account_exists_check base account ∷ []
 checks_of_command base stamp (ChangeCashNames symbol first last) = security_exists_check base symbol ∷ []

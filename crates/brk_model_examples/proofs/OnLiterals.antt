@@ -12,7 +12,7 @@ use Rattle.brk_model.specs.Tables.{tables_of_base_in_schema}
 use Rattle.brk_model.specs.Sheets.{tables_sorted_by_key}
 use Rattle.brk_model.specs.Orders.{estimate}
 use Rattle.brk_model.specs.Feed.{base_after_ticks, triggered_trade_ids}
-use Rattle.brk_model.specs.Results.{completed_trade, completion_of_trade}
+use Rattle.brk_model.specs.Results.{trade_after_completion, completion_of_trade}
 use Rattle.brk_model.specs.Tests.{checks_of_command, refusal_of_command}
 use Rattle.brk_model.specs.Step.{base_after_command_unstamped, reply_to_command, step}
 use Rattle.brk_model.specs.Rows.{row_fields, reply_fields}
@@ -54,7 +54,7 @@ unfoldable pub model_on_literals : ⊤
 unfolding digits civil_date_of_day day_of_civil_date lib.Utf8.encode is_utf8 chars csv_on_literals sort_by total_by replace_text empty_base shares_after_deal
     buy_value sell_value lots_of_shares touches_of_existing_lots lot_touches_of_deal shares_of_position holding_summary_quantity balance_of_account
     holdings_market_value trade_count_of_broker commission_total_of_broker tables_of_base_in_schema tables_sorted_by_key estimate base_after_ticks
-    triggered_trade_ids completed_trade completion_of_trade checks_of_command refusal_of_command base_after_command_unstamped reply_to_command step row_fields
+    triggered_trade_ids trade_after_completion completion_of_trade checks_of_command refusal_of_command base_after_command_unstamped reply_to_command step row_fields
     reply_fields parse_row keyed_step result_of_batch_input customer_position_view recent_trades_view trade_status_view submitted_trades_view trade_lookup_view
     touched_lots_of_oldest_trade broker_volume_view view_of_tables checks_of_query view_of_base ask parse_query statement base_of_tables
     has_tables_sorted_by_unique_key satisfies_form_condition satisfies_status_condition ConditionHolds tables_with_merged_cash_rows setting_base

@@ -43,7 +43,7 @@ pub fn tax_is_withheld_at_one_status()
 {}
 
 /// Shows that a cash trade changes the balance, and a margin trade does not.
-pub fn only_cash_trades_change_balance()
+pub fn trade_changes_balance_if_cash()
     ensures cash { balance_of_account (account_with_tax_status Withheld ∷ []) (postings (account_with_tax_status Withheld ∷ []) (first_purchase ∷ []) []) 100
         ≡ pos 897490 }
     ensures margin { balance_of_account (account_with_tax_status Withheld

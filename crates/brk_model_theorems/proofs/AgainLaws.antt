@@ -11,7 +11,7 @@ use Rattle.brk_model.specs.Forms.{ReadResult}
 use Rattle.brk_model.specs.Commands.{Command, Answer, Refused}
 use Rattle.brk_model.specs.Keyed.{keyed_step}
 use Rattle.brk_model.specs.Answers.{Fields}
-use Rattle.brk_model_theorems.specs.RowCalls.{RowCall, CallsHaveAnswers, result_of_row_call, prepended_if_well_formed, well_formed_rows_from, calls_of_rows}
+use Rattle.brk_model_theorems.specs.RowCalls.{RowCall, CallsHaveAnswers, result_of_row_call, rows_with_well_formed_row, well_formed_rows_from, calls_of_rows}
 use Rattle.brk_model_theorems.specs.RowCalls.{answers_interleaved_with_refusals, answers_to_row_and_rest, RowsAreAnsweredByCalls}
 use Rattle.brk_model.specs.Input.{input_text, IsBatchName, IsEndRecord, batch_header, correct_end_record}
 use Rattle.brk_model.specs.Lines.{answer_lines_from, batch_end_line, is_refused_answer, refused_answer_count}
@@ -98,7 +98,7 @@ none-woven form n (row ∷ rows) replies l h = one (form row) n (well_formed_row
   where
     one : {C : Type 0} (r : ReadResult C) (n : ℕ) (rest : List (ℕ × C)) (more : List Answer → List Answer) (replies : List Answer)
         → ((others : List Answer) → length others ≡ length rest → refused_answer_count (more others) ≡ 0 → NoAnswerIsRefused others)
-        → length replies ≡ length (prepended_if_well_formed r n rest) → refused_answer_count (answers_to_row_and_rest r more replies) ≡ 0 → NoAnswerIsRefused replies
+        → length replies ≡ length (rows_with_well_formed_row r n rest) → refused_answer_count (answers_to_row_and_rest r more replies) ≡ 0 → NoAnswerIsRefused replies
     one (Ok command) n rest more [] each l h = tt
     one (Ok command) n rest more (reply ∷ replies) each l h =
         let k = none-first reply (more replies) h in (k.0, each replies (omega (l, arith)) k.1)

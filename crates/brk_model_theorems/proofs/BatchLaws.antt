@@ -13,12 +13,12 @@ use Rattle.brk_model.specs.Parse.{parse_row}
 use Rattle.brk_model.specs.Commands.{Answer, Refused}
 use Rattle.brk_model.specs.Answers.{Fields, RowStep}
 use Rattle.brk_model_theorems.specs.RowCalls.{RowCall, CallsHaveAnswers, result_of_row_call, RowsAreAnsweredByCalls, well_formed_rows_from}
-use Rattle.brk_model_theorems.specs.RowCalls.{prepended_if_well_formed, calls_of_rows, answers_interleaved_with_refusals, answers_to_row_and_rest}
+use Rattle.brk_model_theorems.specs.RowCalls.{rows_with_well_formed_row, calls_of_rows, answers_interleaved_with_refusals, answers_to_row_and_rest}
 use Rattle.brk_model.specs.Input.{input_text, BeginsWithRecords, HasExactlyRecords, IsBatchName, IsEndRecord, batch_header, correct_end_record}
 use Rattle.brk_model.specs.Batch.{BatchResult, BadEnd, BatchRowsAreDecided, IsResultOfTextWithHeader, IsResultOfTextWithoutHeader, IsResultOfBatch, step_of_row}
 use Rattle.brk_model.specs.Computed.{AnswersAndBase, answers_and_base_of_rows, is_end_record, RowsAndEndRecord, split_with_row_in_front, split_at_end_record}
 use Rattle.brk_model.specs.Computed.{batch_name_of_header, has_correct_row_count, result_without_end_line, result_of_complete_batch, result_with_end_record}
-use Rattle.brk_model.specs.Computed.{result_without_end_record, result_of_batch_rows, result_with_optional_name, result_of_batch_records, result_of_batch_input}
+use Rattle.brk_model.specs.Computed.{result_without_end_record, result_of_batch_rows, result_of_optionally_named_batch, result_of_batch_records, result_of_batch_input}
 use Rattle.brk_model_theorems.proofs.RowLaws.{takes-first}
 
 -- ---- the calls of rows
@@ -35,7 +35,7 @@ pub formed-few : {C : Type 0} (form : Fields → ReadResult C) (n : ℕ) (rows :
 formed-few form n [] = omega arith
 formed-few form n (row ∷ rows) = one (form row) n (well_formed_rows_from form (n + 1) rows) (length rows) (formed-few form (n + 1) rows)
   where
-    one : {C : Type 0} (r : ReadResult C) (n : ℕ) (rest : List (ℕ × C)) (k : ℕ) → length rest ≤ k → length (prepended_if_well_formed r n rest) ≤ suc k
+    one : {C : Type 0} (r : ReadResult C) (n : ℕ) (rest : List (ℕ × C)) (k : ℕ) → length rest ≤ k → length (rows_with_well_formed_row r n rest) ≤ suc k
     one (Ok command) n rest k h = omega (h, arith)
     one (Err refusal) n rest k h = omega (h, arith)
 
@@ -47,7 +47,7 @@ length-woven form n (row ∷ rows) answers h =
     (length-woven form (n + 1) rows) h
   where
     one : {C : Type 0} (r : ReadResult C) (n : ℕ) (rest : List (ℕ × C)) (more : List Answer → List Answer) (k : ℕ) (answers : List Answer)
-        → ((others : List Answer) → length others ≡ length rest → length (more others) ≡ k) → length answers ≡ length (prepended_if_well_formed r n rest)
+        → ((others : List Answer) → length others ≡ length rest → length (more others) ≡ k) → length answers ≡ length (rows_with_well_formed_row r n rest)
         → length (answers_to_row_and_rest r more answers) ≡ suc k
     one (Ok command) n rest more k [] each h = absurd (omega (h, arith))
     one (Ok command) n rest more k (answer ∷ answers) each h = ap suc (each answers (omega (h, arith)))
@@ -294,14 +294,14 @@ comes_named form step name base moments text rest (rows, None) named all h s =
 -- a batch without a header
 pub comes_headless : {B C : Type 0} (form : Fields → ReadResult C) (step : RowStep B C) (base : B) (moments : List ℕ) (text : Text)
     → (HasExactlyRecords (Some text) [] ⊎ ((first : Fields) × BeginsWithRecords (Some text) (first ∷ []) × ((name : Text) → IsBatchName name → first ≡ batch_header name → ⊥)))
-    → Comes form step base moments text (result_with_optional_name form step None base moments [])
+    → Comes form step base moments text (result_of_optionally_named_batch form step None base moments [])
 comes_headless form step base moments text h =
     (0, inr (record { headless = h; ending = refl; asked = refl; unchanged = refl; told = refl; counted = refl }))
 
 -- by the name in the header
 pub comes_headed : {B C : Type 0} (form : Fields → ReadResult C) (step : RowStep B C) (base : B) (moments : List ℕ) (text : Text) (header : Fields) (rest : List Fields) (name : Option Text)
     → records default_config text ≡ header ∷ rest → length rest ≤ length moments → HeaderHasOptionalName header name
-    → Comes form step base moments text (result_with_optional_name form step name base moments rest)
+    → Comes form step base moments text (result_of_optionally_named_batch form step name base moments rest)
 comes_headed form step base moments text header rest (Some name) all h says =
     comes_named form step name base moments text rest (split_at_end_record rest) says.1 (all ∙ ap (λ r. r ∷ rest) says.0) h (splits rest)
 comes_headed form step base moments text header rest None all h says =

@@ -12,7 +12,7 @@ use Rattle.brk_model.specs.Commands.{Command, Reply, Tick, AddBroker, AddCustome
 use Rattle.brk_model.specs.Commands.{AddCustomerTax, PlaceOrder, FeedTicks, CancelTrade, CompleteTrade, ChangeExecutors, ChangeCashTypes, ChangeCashNames}
 use Rattle.brk_model.specs.Commands.{DepositCash, WithdrawCash, SetOneDay}
 use Rattle.brk_model.specs.Feed.{security_after_tick, base_after_tick, base_after_ticks}
-use Rattle.brk_model.specs.Results.{base_after_result, completed_trade}
+use Rattle.brk_model.specs.Results.{base_after_result, trade_after_completion}
 use Rattle.brk_model.specs.Movements.{base_after_movement}
 use Rattle.brk_model.specs.Tests.{stamp_of_next_command, checks_of_command, refusal_of_command}
 use Rattle.brk_model.specs.Step.{base_after_command_unstamped, base_after_accepted_command}
@@ -147,8 +147,8 @@ pub ticks-named : (stamp : ℕ) (base : Base) (ticks : List Tick) → BaseRefere
 ticks-named stamp base [] n = n
 ticks-named stamp base (tick ∷ ticks) n = ticks-named stamp (base_after_tick stamp base tick) ticks (tick-named stamp base tick n)
 
-completed-leaves : (base : Base) (stamp price : ℕ) → Leaves (completed_trade base stamp price)
-unfolding completed_trade
+completed-leaves : (base : Base) (stamp price : ℕ) → Leaves (trade_after_completion base stamp price)
+unfolding trade_after_completion
 completed-leaves base stamp price = record { id = λ t. refl; account = λ t. refl; symbol = λ t. refl }
 
 -- a base with the same lists but for the trades
@@ -170,7 +170,7 @@ trades-named base test change l n =
 
 result-named : (base : Base) (stamp price : ℕ) (found : Option Trade) → BaseReferencesResolve base → BaseReferencesResolve (option_map_or (base_after_result base stamp price) found base)
 result-named base stamp price None n = n
-result-named base stamp price (Some t) n = trades-named base (λ u. u.id == t.id) (completed_trade base stamp price) (completed-leaves base stamp price) n
+result-named base stamp price (Some t) n = trades-named base (λ u. u.id == t.id) (trade_after_completion base stamp price) (completed-leaves base stamp price) n
 
 -- a movement of an account that is there
 movement-named : (base : Base) (m : Movement) → is_none (account_with_id base m.account) ≡ false → BaseReferencesResolve base → BaseReferencesResolve (base_after_movement base m)

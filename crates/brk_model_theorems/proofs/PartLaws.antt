@@ -7,7 +7,7 @@ use Rattle.brk_model.specs.Base.{Base}
 use Rattle.brk_model.specs.Forms.{ReadResult}
 use Rattle.brk_model.specs.Commands.{Command, Answer, Refused}
 use Rattle.brk_model.specs.Answers.{Fields}
-use Rattle.brk_model_theorems.specs.RowCalls.{RowCall, CallsHaveAnswers, result_of_row_call, prepended_if_well_formed, well_formed_rows_from, calls_of_rows}
+use Rattle.brk_model_theorems.specs.RowCalls.{RowCall, CallsHaveAnswers, result_of_row_call, rows_with_well_formed_row, well_formed_rows_from, calls_of_rows}
 use Rattle.brk_model_theorems.specs.RowCalls.{answers_interleaved_with_refusals, answers_to_row_and_rest, RowsAreAnsweredByCalls}
 use Rattle.brk_model.specs.Batch.{BatchRowsAreDecided, BatchResult, IsResultOfTextWithHeader, step_of_row}
 use Rattle.brk_model.specs.Input.{BeginsWithRecords, IsEndRecord, correct_end_record, batch_header, input_text}
@@ -47,10 +47,10 @@ formed-joined : {C : Type 0} (form : Fields → ReadResult C) (n : ℕ) (front m
     → well_formed_rows_from form n (front ++ more) ≡ well_formed_rows_from form n front ++ well_formed_rows_from form (n + length front) more
 formed-joined form n [] more = ap (λ m. well_formed_rows_from form m more) (omega arith)
 formed-joined form n (row ∷ front) more =
-    ap (prepended_if_well_formed (form row) n) (formed-joined form (n + 1) front more ∙ ap (λ m. well_formed_rows_from form (n + 1) front ++ well_formed_rows_from form m more) (omega arith))
+    ap (rows_with_well_formed_row (form row) n) (formed-joined form (n + 1) front more ∙ ap (λ m. well_formed_rows_from form (n + 1) front ++ well_formed_rows_from form m more) (omega arith))
     ∙ one (form row) n (well_formed_rows_from form (n + 1) front) (well_formed_rows_from form (n + length (row ∷ front)) more)
   where
-    one : {C : Type 0} (r : ReadResult C) (n : ℕ) (xs ys : List (ℕ × C)) → prepended_if_well_formed r n (xs ++ ys) ≡ prepended_if_well_formed r n xs ++ ys
+    one : {C : Type 0} (r : ReadResult C) (n : ℕ) (xs ys : List (ℕ × C)) → rows_with_well_formed_row r n (xs ++ ys) ≡ rows_with_well_formed_row r n xs ++ ys
     one (Ok command) n xs ys = refl
     one (Err refusal) n xs ys = refl
 
@@ -98,7 +98,7 @@ woven-joined form n (row ∷ front) more first rest e =
   where
     one : {C : Type 0} (r : ReadResult C) (n : ℕ) (formed : List (ℕ × C)) (whole part : List Answer → List Answer) (back first rest : List Answer)
         → ((answers : List Answer) → length answers ≡ length formed → whole (answers ++ rest) ≡ part answers ++ back)
-        → length first ≡ length (prepended_if_well_formed r n formed) → answers_to_row_and_rest r whole (first ++ rest) ≡ answers_to_row_and_rest r part first ++ back
+        → length first ≡ length (rows_with_well_formed_row r n formed) → answers_to_row_and_rest r whole (first ++ rest) ≡ answers_to_row_and_rest r part first ++ back
     one (Ok command) n formed whole part back [] rest each e = absurd (omega (e, arith))
     one (Ok command) n formed whole part back (answer ∷ first) rest each e = ap (λ l. answer ∷ l) (each first (omega (e, arith)))
     one (Err refusal) n formed whole part back first rest each e = ap (λ l. Refused refusal ∷ l) (each first e)

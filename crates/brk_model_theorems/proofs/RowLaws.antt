@@ -5,7 +5,7 @@ use Rattle.brk_model.specs.Forms.{ReadResult}
 use Rattle.brk_model.specs.Commands.{Answer, Refused}
 use Rattle.brk_model.specs.Answers.{Fields, RowStep, ResultOfRows, result_with_answer_in_front, result_of_row_and_later_rows, result_of_rows, RowsAreAnswered}
 use Rattle.brk_model.specs.Batch.{BatchRowsAreDecided}
-use Rattle.brk_model_theorems.specs.RowCalls.{CallsHaveAnswers, prepended_if_well_formed, well_formed_rows_from, calls_of_rows, answers_to_row_and_rest}
+use Rattle.brk_model_theorems.specs.RowCalls.{CallsHaveAnswers, rows_with_well_formed_row, well_formed_rows_from, calls_of_rows, answers_to_row_and_rest}
 use Rattle.brk_model_theorems.specs.RowCalls.{answers_interleaved_with_refusals, RowsAreAnsweredByCalls}
 
 -- The result with these answers and this base, of rows that take all clock readings.
@@ -27,7 +27,7 @@ module _ {B C : Type 0} (form : Fields → ReadResult C) (step : RowStep B C) (b
       one : (r : ReadResult C) (rest : List (ℕ × C)) (more : B → List ℕ → ResultOfRows B) (woven : List Answer → List Answer) (base : B) (moments : List ℕ) (replies : List Answer)
           → ((b : B) (left : List ℕ) (others : List Answer) → length left ≡ length rest → CallsHaveAnswers step b (calls_of_rows batch left rest) others after
           → more b left ≡ whole_result (woven others) after)
-          → length moments ≡ length (prepended_if_well_formed r n rest) → CallsHaveAnswers step base (calls_of_rows batch moments (prepended_if_well_formed r n rest)) replies after
+          → length moments ≡ length (rows_with_well_formed_row r n rest) → CallsHaveAnswers step base (calls_of_rows batch moments (rows_with_well_formed_row r n rest)) replies after
           → result_of_row_and_later_rows step r (record { batch = batch; row = n }) base moments more ≡ whole_result (answers_to_row_and_rest r woven replies) after
       one (Err refusal) rest more woven base moments replies each e r = ap (result_with_answer_in_front (Refused refusal)) (each base moments replies e r)
       one (Ok command) rest more woven base [] replies each e r = absurd (omega (e, arith))
@@ -62,7 +62,8 @@ module _ {B C : Type 0} (form : Fields → ReadResult C) (step : RowStep B C) (b
           → ((b : B) (left : List ℕ) → length (more b left).answers ≡ size → (more b left).moments ≡ [] → ResultByCalls b left rest woven (more b left))
           → length (result_of_row_and_later_rows step r (record { batch = batch; row = n }) base moments more).answers ≡ suc size
           → (result_of_row_and_later_rows step r (record { batch = batch; row = n }) base moments more).moments ≡ []
-          → ResultByCalls base moments (prepended_if_well_formed r n rest) (answers_to_row_and_rest r woven) (result_of_row_and_later_rows step r (record { batch = batch; row = n }) base moments more)
+          → ResultByCalls base moments (rows_with_well_formed_row r n rest) (answers_to_row_and_rest r woven)
+          (result_of_row_and_later_rows step r (record { batch = batch; row = n }) base moments more)
       one (Err refusal) rest more woven size base moments each l h =
           let k = each base moments (omega (l, arith)) h in
           record { replies = k.replies; one_each = k.one_each; run = k.run; all = ap (λ (l : List Answer). Refused refusal ∷ l) k.all }
@@ -104,8 +105,8 @@ module _ {B C : Type 0} (form : Fields → ReadResult C) (step : RowStep B C) (b
     where
       one : (r : ReadResult C) (rest : List (ℕ × C)) (more : B → List ℕ → ResultOfRows B) (size : ℕ) (base : B) (moments : List ℕ)
           → ((b : B) (left : List ℕ) → length rest ≤ length left → TakesFirst (length rest) (more b) left size)
-          → length (prepended_if_well_formed r n rest) ≤ length moments
-          → TakesFirst (length (prepended_if_well_formed r n rest)) (λ ms. result_of_row_and_later_rows step r (record { batch = batch; row = n }) base ms more) moments (suc size)
+          → length (rows_with_well_formed_row r n rest) ≤ length moments
+          → TakesFirst (length (rows_with_well_formed_row r n rest)) (λ ms. result_of_row_and_later_rows step r (record { batch = batch; row = n }) base ms more) moments (suc size)
       one (Err refusal) rest more size base moments each h =
           let k = each base moments h in (ap (result_with_answer_in_front (Refused refusal)) k.0, ap suc k.1)
       one (Ok command) rest more size base [] each h = absurd (omega (h, arith))

@@ -10,7 +10,7 @@ use Rattle.brk_model.specs.Forms.{ReadResult}
 use Rattle.brk_model.specs.Records.{Key}
 use Rattle.brk_model.specs.Commands.{Command, Answer, Done, Again, Refused}
 use Rattle.brk_model.specs.Answers.{Fields}
-use Rattle.brk_model_theorems.specs.RowCalls.{CallsHaveAnswers, calls_of_rows, well_formed_rows_from, prepended_if_well_formed, answers_interleaved_with_refusals, answers_to_row_and_rest}
+use Rattle.brk_model_theorems.specs.RowCalls.{CallsHaveAnswers, calls_of_rows, well_formed_rows_from, rows_with_well_formed_row, answers_interleaved_with_refusals, answers_to_row_and_rest}
 use Rattle.brk_model.specs.Batch.{BatchRowsAreDecided, step_of_row}
 use Rattle.brk_model.specs.Input.{BeginsWithRecords, IsEndRecord, correct_end_record, batch_header}
 use Rattle.brk_model.specs.Lines.{refused_answer_count, is_refused_answer}
@@ -50,8 +50,8 @@ module _ (form : Fields → ReadResult Command) (name : Text) (base mid stood : 
       number : ℕ
       number = 1 + length front
 
-      calls : prepended_if_well_formed (form row) number [] ≡ (number, command) ∷ []
-      calls = ap (λ (r : ReadResult Command). prepended_if_well_formed r number []) formed
+      calls : rows_with_well_formed_row (form row) number [] ≡ (number, command) ∷ []
+      calls = ap (λ (r : ReadResult Command). rows_with_well_formed_row r number []) formed
 
       lates : length (moment ∷ []) ≡ length (well_formed_rows_from form number (row ∷ []))
       lates = sym (ap (λ (l : List (ℕ × Command)). length l) calls)

@@ -29,14 +29,14 @@ CallsHaveAnswers step base (call ∷ calls) [] after = ⊥
 
 -- The list `rest` with the row number `n` and the command of a row in front if the row is
 -- well-formed (`Ok`), or `rest` unchanged if the row is malformed (`Err`).
-abbrev pub prepended_if_well_formed : {C : Type 0} → ReadResult C → ℕ → List (ℕ × C) → List (ℕ × C)
-prepended_if_well_formed (Ok command) n rest = (n, command) ∷ rest
-prepended_if_well_formed (Err refusal) n rest = rest
+abbrev pub rows_with_well_formed_row : {C : Type 0} → ReadResult C → ℕ → List (ℕ × C) → List (ℕ × C)
+rows_with_well_formed_row (Ok command) n rest = (n, command) ∷ rest
+rows_with_well_formed_row (Err refusal) n rest = rest
 
 -- The commands of the well-formed rows, each with its row number; the first row has the number `n`.
 abbrev pub well_formed_rows_from : {C : Type 0} → (Fields → ReadResult C) → ℕ → List Fields → List (ℕ × C)
 well_formed_rows_from form n [] = []
-well_formed_rows_from form n (row ∷ rows) = prepended_if_well_formed (form row) n (well_formed_rows_from form (n + 1) rows)
+well_formed_rows_from form n (row ∷ rows) = rows_with_well_formed_row (form row) n (well_formed_rows_from form (n + 1) rows)
 
 -- The calls of the well-formed rows of the batch `batch`, which are given as row numbers with
 -- commands; each call has the next clock reading. Surplus clock readings or rows are dropped.

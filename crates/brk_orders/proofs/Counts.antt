@@ -5,7 +5,7 @@ use Rattle.std.specs.Prelude.{Ok, Err}
 use Rattle.brk_money.specs.declared.refusal.Refusal.TheVariants.{BadText}
 use Rattle.brk_model.specs.Commands.{Command, CompleteTrade}
 use Rattle.brk_model.specs.Forms.{◌⊛◌, read_movement_amount, read_id, read_price}
-use Rattle.brk_model.specs.Parse.{read_id_of_trade_to_cancel, read_movement_command, read_settlement_day, read_order, read_result_command}
+use Rattle.brk_model.specs.Parse.{read_id_of_trade_to_cancel, read_movement_command, read_settlement_day, read_order, read_complete_trade_command}
 use Rattle.brk_ref.specs.Fields.{texts_of_fields}
 use Rattle.brk_ref.proofs.Applied.{text_left, text_right}
 
@@ -16,14 +16,15 @@ not_cancel (a ∷ []) h = absurd (h refl)
 not_cancel (a ∷ b ∷ rest) h = refl
 
 -- a result has two
-pub not_result : (fields : List (Bor (List ℕ))) → (length fields ≡ 2 → ⊥) → read_result_command (texts_of_fields fields) ≡ Err BadText
+pub not_result : (fields : List (Bor (List ℕ))) → (length fields ≡ 2 → ⊥) → read_complete_trade_command (texts_of_fields fields) ≡ Err BadText
 not_result [] h = refl
 not_result (a ∷ []) h = refl
 not_result (a ∷ b ∷ []) h = absurd (h refl)
 not_result (a ∷ b ∷ c ∷ rest) h = refl
 
 -- and where its trade is refused, it is
-pub no_trade : (fields : List (Bor (List ℕ))) (d : Bor (List ℕ)) → length fields ≡ 2 → read_id (get_or fields 0 d).now ≡ Err BadText → read_result_command (texts_of_fields fields) ≡ Err BadText
+pub no_trade : (fields : List (Bor (List ℕ))) (d : Bor (List ℕ)) → length fields ≡ 2 → read_id (get_or fields 0 d).now ≡ Err BadText
+    → read_complete_trade_command (texts_of_fields fields) ≡ Err BadText
 no_trade [] d h e = absurd (omega (arith, h))
 no_trade (a ∷ []) d h e = absurd (omega (arith, h))
 no_trade (a ∷ b ∷ []) d h e =

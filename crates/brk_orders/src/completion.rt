@@ -1,4 +1,4 @@
-ghost use Rattle.brk_model.specs.Parse.{read_result_command};
+ghost use Rattle.brk_model.specs.Parse.{read_complete_trade_command};
 ghost use Rattle.brk_orders.specs.Records.{completion_command};
 ghost use Rattle.brk_ref.specs.Fields.{ParsesAs, texts_of_fields};
 
@@ -19,7 +19,7 @@ pub struct Completion {
 /// Refuses with `BadText` (18) if there are not exactly two fields or TRADE is not an id, otherwise
 /// with `BadPrice` (9) if PRICE is not a price. Never allocates.
 pub fn parse_completion(fields: &[&[u8]]) -> Result<Completion, Refusal>
-    ensures { ParsesAs completion_command result (read_result_command (texts_of_fields fields.now)) }
+    ensures { ParsesAs completion_command result (read_complete_trade_command (texts_of_fields fields.now)) }
 {
     let [trade, price] = fields else {
         return Err(Refusal::BadText);

@@ -58,26 +58,26 @@ update_checks u found = (is_none found, missing_target_refusal u) ∷ []
 
 -- The function on tables that sets the executor's name in the TRADE row of `trade` to the new one
 -- (`updated_executor_name`) of the name in `trade`. Tables without such a row are unchanged.
-abbrev pub executor_name_update : TradeRow → Tables → Tables
-executor_name_update trade = tables_with_executor_name trade.id (updated_executor_name (string_bytes trade.executor))
+abbrev pub tables_with_updated_executor_name : TradeRow → Tables → Tables
+tables_with_updated_executor_name trade = tables_with_executor_name trade.id (updated_executor_name (string_bytes trade.executor))
 
 -- The function on tables that sets the settlement text of the trade of `s` to the new one
 -- (`toggled_cash_type_text`) of the text in `s`. Tables without this settlement are unchanged.
-abbrev pub cash_type_update : SettlementText → Tables → Tables
-cash_type_update s = tables_with_cash_type s.trade (toggled_cash_type_text s.is_cash (cash_type_text s.cash_type))
+abbrev pub tables_with_toggled_cash_type : SettlementText → Tables → Tables
+tables_with_toggled_cash_type s = tables_with_cash_type s.trade (toggled_cash_type_text s.is_cash (cash_type_text s.cash_type))
 
 -- The function on tables that sets the cash text of the trade of `p` to the new one
 -- (`toggled_cash_text_of_trade`) of the text in `p`, where `security` is the name of its security.
 -- Tables without a cash row of the trade are unchanged.
-abbrev pub cash_text_update : Text → CashText → Tables → Tables
-cash_text_update security p = tables_with_cash_text p.trade (toggled_cash_text_of_trade security p)
+abbrev pub tables_with_toggled_cash_text : Text → CashText → Tables → Tables
+tables_with_toggled_cash_text security p = tables_with_cash_text p.trade (toggled_cash_text_of_trade security p)
 
 -- The functions on tables that replace the text of each selected trade by its new one, in the
 -- sequence of the trades.
 abbrev pub table_updates_of_text_update : TextUpdate → List (Tables → Tables)
-table_updates_of_text_update (corrected.Executors trades) = map executor_name_update trades.items
-table_updates_of_text_update (corrected.CashTypes settled) = map cash_type_update settled.items
-table_updates_of_text_update (corrected.CashNames security paid) = map (cash_text_update security) paid.items
+table_updates_of_text_update (corrected.Executors trades) = map tables_with_updated_executor_name trades.items
+table_updates_of_text_update (corrected.CashTypes settled) = map tables_with_toggled_cash_type settled.items
+table_updates_of_text_update (corrected.CashNames security paid) = map (tables_with_toggled_cash_text security) paid.items
 
 -- The number of trades whose text a text update replaces.
 abbrev pub count_of_updated_trades : TextUpdate → ℕ

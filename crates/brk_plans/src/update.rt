@@ -4,8 +4,8 @@ ghost use Rattle.brk_money.specs.declared.fault.Fault.TheVariants.{Memory};
 ghost use Rattle.brk_changes.specs.Changes.{tables_after_change};
 ghost use Rattle.brk_plans.specs.Reference.{later_stamp_check};
 ghost use Rattle.brk_plans.specs.Update as spec;
-ghost use Rattle.brk_plans.specs.Update.{IsUpdatePlan, cash_text_update, cash_type_update, count_of_updated_trades};
-ghost use Rattle.brk_plans.specs.Update.{executor_name_update, update_checks, table_updates_of_text_update};
+ghost use Rattle.brk_plans.specs.Update.{IsUpdatePlan, tables_with_toggled_cash_text, tables_with_toggled_cash_type, count_of_updated_trades};
+ghost use Rattle.brk_plans.specs.Update.{tables_with_updated_executor_name, update_checks, table_updates_of_text_update};
 
 use crate::corrected::{CashText, SettlementText, TextUpdate};
 use crate::plan::Plan;
@@ -32,7 +32,7 @@ fn refusal_of_missing_target(update: &Update) -> Refusal
 // Returns the row change that replaces the executor's name of a trade by its new one
 // (`toggle_executor_name`). Fails with `Memory` only.
 fn create_executor_name_change(alloc: Global, trade: &TradeRow) -> Result<Change, Fault>
-    ensures change { IfOk result (λ change. tables_after_change change ≡ executor_name_update trade.now) }
+    ensures change { IfOk result (λ change. tables_after_change change ≡ tables_with_updated_executor_name trade.now) }
     ensures fault { OnErr result (result ≡ Err Memory) }
 {
     let executor = toggle_executor_name(alloc, trade.executor.as_str())?;
@@ -45,7 +45,7 @@ fn create_executor_name_change(alloc: Global, trade: &TradeRow) -> Result<Change
 // Returns the row change that replaces the settlement text of a trade by its new one
 // (`toggle_cash_type`).
 fn create_cash_type_change(settled: &SettlementText) -> Change
-    ensures { tables_after_change result ≡ cash_type_update settled.now }
+    ensures { tables_after_change result ≡ tables_with_toggled_cash_type settled.now }
 {
     Change::SetCashType {
         trade: settled.trade,
@@ -56,7 +56,7 @@ fn create_cash_type_change(settled: &SettlementText) -> Change
 // Returns the row change that replaces the cash text of a trade by its new one
 // (`toggle_cash_text`). `security` is the name of its security. Fails with `Memory` only.
 fn create_cash_text_change(alloc: Global, security: &Name, paid: &CashText) -> Result<Change, Fault>
-    ensures change { IfOk result (λ change. tables_after_change change ≡ cash_text_update security.now paid.now) }
+    ensures change { IfOk result (λ change. tables_after_change change ≡ tables_with_toggled_cash_text security.now paid.now) }
     ensures fault { OnErr result (result ≡ Err Memory) }
 {
     let name = toggle_cash_text(alloc, paid, security)?;
@@ -69,7 +69,7 @@ fn create_cash_text_change(alloc: Global, security: &Name, paid: &CashText) -> R
 // Returns the row changes that replace the executors' names of the trades by their new ones
 // (`toggle_executor_name`), in the sequence of the trades. Fails with `Memory` only.
 fn create_executor_name_changes(alloc: Global, trades: &[TradeRow]) -> Result<Vec<Change>, Fault>
-    ensures changes { IfOk result (λ changes. map tables_after_change changes.items ≡ map executor_name_update trades.now) }
+    ensures changes { IfOk result (λ changes. map tables_after_change changes.items ≡ map tables_with_updated_executor_name trades.now) }
     ensures fault { OnErr result (result ≡ Err Memory) }
 {
     let mut changes = Vec::new(alloc);
@@ -82,7 +82,7 @@ fn create_executor_name_changes(alloc: Global, trades: &[TradeRow]) -> Result<Ve
 // Returns the row changes that replace the settlement texts of the trades by their new ones
 // (`toggle_cash_type`), in the sequence of the trades. Fails with `Memory` only.
 fn create_cash_type_changes(alloc: Global, settled: &[SettlementText]) -> Result<Vec<Change>, Fault>
-    ensures changes { IfOk result (λ changes. map tables_after_change changes.items ≡ map cash_type_update settled.now) }
+    ensures changes { IfOk result (λ changes. map tables_after_change changes.items ≡ map tables_with_toggled_cash_type settled.now) }
     ensures fault { OnErr result (result ≡ Err Memory) }
 {
     let mut changes = Vec::new(alloc);
@@ -100,7 +100,7 @@ fn create_cash_text_changes(
     security: &Name,
     paid: &[CashText],
 ) -> Result<Vec<Change>, Fault>
-    ensures changes { IfOk result (λ changes. map tables_after_change changes.items ≡ map (cash_text_update security.now) paid.now) }
+    ensures changes { IfOk result (λ changes. map tables_after_change changes.items ≡ map (tables_with_toggled_cash_text security.now) paid.now) }
     ensures fault { OnErr result (result ≡ Err Memory) }
 {
     let mut changes = Vec::new(alloc);

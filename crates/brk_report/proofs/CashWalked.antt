@@ -23,14 +23,14 @@ use Rattle.brk_report_lines.specs.declared.fault.LinesFault.{LinesFault}
 use Rattle.brk_report_lines.specs.declared.fault.LinesFault.TheVariants.{Desk, Write}
 use Rattle.brk_report_lines.proofs.Composed.{appends_none, lines_parts, then_all}
 use Rattle.brk_report.specs.CashWalk.{lines_of_cash_row, lines_of_cash_rows, progress_after_cash_row, progress_after_cash_rows}
-use Rattle.brk_report.specs.Stated.{IsMemoryStoreOrWriteFault}
+use Rattle.brk_report.specs.Stated.{IsLinesFaultOtherThanDamage}
 use Rattle.brk_report.specs.WalkFaults.{fault_of_walk_error}
 use Rattle.brk_report.specs.declared.statements.visitors.CashProgress.{CashProgress}
 use Rattle.brk_report.proofs.CashLists.{lines_of_cash_rows-append}
 
 -- ---- lines that may end with any line
 
-pub first_broken : (lines : List Text) (a b : Option Text) (e : LinesFault) → FailsWithinFirstLines lines a b e → IsMemoryStoreOrWriteFault e
+pub first_broken : (lines : List Text) (a b : Option Text) (e : LinesFault) → FailsWithinFirstLines lines a b e → IsLinesFaultOtherThanDamage e
 first_broken lines a b (Desk f) h = h.0
 first_broken lines a b Write h = tt
 

@@ -7,7 +7,7 @@ use Rattle.std.proofs.lemmas.Bool.Decides.{nat_tests}
 use Rattle.brk_book_theorems.proofs.Order.{Sorted, nat_one_way, nat_splits, sorted_sort}
 use Rattle.brk_money.specs.Moments.{day_of}
 use Rattle.brk_model.specs.Limits.{is_in_range}
-use Rattle.brk_model.specs.Joins.{move_rows_of_account}
+use Rattle.brk_model.specs.Joins.{cash_move_rows_of_account}
 use Rattle.brk_model.specs.Statement.{cash_move_rows_before_day, sorted_cash_rows_of_account, cash_move_rows_within_days}
 use Rattle.brk_model.specs.Tables.{MoveRow, Tables}
 use Rattle.brk_store.specs.Walked.{cash_rows_in_span}
@@ -115,4 +115,4 @@ pub rows_up_to : (t : Tables) (account from to last : ℕ) → from ≤ to → l
     → cash_rows_in_span account 0 last t ≡ cash_move_rows_before_day from (sorted_cash_rows_of_account t account) ++ cash_move_rows_within_days from to (sorted_cash_rows_of_account t account)
 rows_up_to t account from to last span l =
     split from to last span l (sorted_cash_rows_of_account t account)
-    (sorted_sort (λ (x y : MoveRow). nat_lt x.stamp y.stamp) (move_rows_of_account t account) (λ x y w. nat_splits x.stamp y.stamp w.stamp) (λ x y. nat_one_way x.stamp y.stamp))
+    (sorted_sort (λ (x y : MoveRow). nat_lt x.stamp y.stamp) (cash_move_rows_of_account t account) (λ x y w. nat_splits x.stamp y.stamp w.stamp) (λ x y. nat_one_way x.stamp y.stamp))

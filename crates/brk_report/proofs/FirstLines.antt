@@ -8,7 +8,7 @@ use Rattle.brk_model.specs.Statement.{text_of_lines}
 use Rattle.brk_report_lines.specs.Written.{FailsWithinLines, FailsWithinFirstLines, WritesLines}
 use Rattle.brk_report_lines.specs.declared.fault.LinesFault.{LinesFault}
 use Rattle.brk_report_lines.proofs.Composed.{breaks_off}
-use Rattle.brk_report.specs.Stated.{IsMemoryStoreOrWriteFault}
+use Rattle.brk_report.specs.Stated.{IsLinesFaultOtherThanDamage}
 use Rattle.brk_report.proofs.Section.{in_written}
 
 -- the lines have a first one
@@ -39,5 +39,5 @@ text_written lines text a b r some writes made fails =
 -- the fault of writing the text is one of memory, of the store or of the writer
 pub text_fault : {R : Type 0} (lines : List Text) (text : Result (Vec ℕ Global) Fault) (a b : Option Text) (r : Result R LinesFault) → HasFirst lines
     → ((line : Text) (rest : List Text) → IfOk text (λ t. t.items ≡ text_of_lines (line ∷ rest)) → IfErr text IsCallFault → WritesLines (line ∷ rest) a b r)
-    → IfOk text (λ t. t.items ≡ text_of_lines lines) → IfErr text IsCallFault → IfErr r IsMemoryStoreOrWriteFault
+    → IfOk text (λ t. t.items ≡ text_of_lines lines) → IfErr text IsCallFault → IfErr r IsLinesFaultOtherThanDamage
 text_fault lines text a b r some writes made fails = in_written lines a b r (text_written lines text a b r some writes made fails)

@@ -7,7 +7,7 @@ use Rattle.brk_report_lines.specs.declared.fault.LinesFault.{LinesFault}
 use Rattle.brk_report_lines.specs.declared.fault.LinesFault.TheVariants.{Desk, Write}
 use Rattle.brk_report_lines.specs.declared.fault.ReportFault.{ReportFault}
 use Rattle.brk_report_lines.specs.declared.fault.ReportFault.TheVariants as report
-use Rattle.brk_report.specs.Stated.{IsMemoryStoreOrWriteFault, IsRefusalOrMemoryStoreOrWriteFault}
+use Rattle.brk_report.specs.Stated.{IsLinesFaultOtherThanDamage, IsReportFaultOtherThanDamage}
 
 -- the result of a report that fails because writing its lines does
 abbrev pub FailsAsLines : {Y : Type 0} → Result Y ReportFault → LinesFault → Type 0
@@ -18,10 +18,10 @@ pub reported : {Y : Type 0} (P : Result Y ReportFault → Type 0) (outer : Resul
 reported P (Err out) e is h = subst (λ f. P (Err f)) (sym is) h
 reported P (Ok y) e is h = absurd is
 
-pub reported_fault : {Y : Type 0} (outer : Result Y ReportFault) (e : LinesFault) → FailsAsLines outer e → IsMemoryStoreOrWriteFault e → IfErr outer IsRefusalOrMemoryStoreOrWriteFault
-reported_fault outer e is h = reported (λ r. IfErr r IsRefusalOrMemoryStoreOrWriteFault) outer e is (same e h)
+pub reported_fault : {Y : Type 0} (outer : Result Y ReportFault) (e : LinesFault) → FailsAsLines outer e → IsLinesFaultOtherThanDamage e → IfErr outer IsReportFaultOtherThanDamage
+reported_fault outer e is h = reported (λ r. IfErr r IsReportFaultOtherThanDamage) outer e is (same e h)
   where
-    same : (e : LinesFault) → IsMemoryStoreOrWriteFault e → IsRefusalOrMemoryStoreOrWriteFault (report_fault_of_lines_fault e)
+    same : (e : LinesFault) → IsLinesFaultOtherThanDamage e → IsReportFaultOtherThanDamage (report_fault_of_lines_fault e)
     same (Desk f) h = h
     same Write h = tt
 

@@ -14,7 +14,7 @@ use Rattle.brk_store.specs.Walked.{WalkPost}
 use Rattle.brk_tables_views.specs.declared.walking.WalkError.{WalkError}
 use Rattle.brk_tables_views.specs.declared.walking.WalkError.TheVariants.{Failed, Cause}
 use Rattle.brk_report_lines.specs.Written.{FailsWithinLines, FailsWithinFirstLines, WritesLines, line_with_line_feed}
-use Rattle.brk_report.specs.Stated.{IsMemoryStoreOrWriteFault}
+use Rattle.brk_report.specs.Stated.{IsLinesFaultOtherThanDamage}
 use Rattle.brk_report_lines.specs.declared.fault.LinesFault.{LinesFault}
 use Rattle.brk_report_lines.specs.declared.fault.LinesFault.TheVariants.{Desk, Write}
 use Rattle.brk_report_lines.proofs.Composed.{appends_none, breaks_before, breaks_behind}
@@ -31,21 +31,21 @@ weaker lines a b Write h = h
 
 -- ---- why it ended
 
-pub in_broken : (lines : List Text) (a b : Option Text) (e : LinesFault) → FailsWithinLines lines a b e → IsMemoryStoreOrWriteFault e
+pub in_broken : (lines : List Text) (a b : Option Text) (e : LinesFault) → FailsWithinLines lines a b e → IsLinesFaultOtherThanDamage e
 in_broken lines a b (Desk f) h = h.0
 in_broken lines a b Write h = tt
 
-pub in_written : {Y : Type 0} (lines : List Text) (a b : Option Text) (r : Result Y LinesFault) → WritesLines lines a b r → IfErr r IsMemoryStoreOrWriteFault
+pub in_written : {Y : Type 0} (lines : List Text) (a b : Option Text) (r : Result Y LinesFault) → WritesLines lines a b r → IfErr r IsLinesFaultOtherThanDamage
 in_written lines a b (Ok y) h = tt
 in_written lines a b (Err e) h = in_broken lines a b e h
 
 -- the fault of a walk, whatever the disk
 module _ {S X M V : Type 0} (g : Ghosts S) (old new : Held S) (of : X → M) (list : Tables → List M) (takes : V → X → V → Type 0) (stops : V → X → LinesFault → V → Type 0) (before after : V)
     (result : Result (Unit {0}) (WalkError LinesFault)) (walked : WalkPost g old new of list takes stops before after result) where
-  pub known_end : ((p : V) (x : X) (e : LinesFault) (q : V) → stops p x e q → IsMemoryStoreOrWriteFault e) → (stop : WalkError LinesFault) → result ≡ Err stop
-      → (e : LinesFault) → e ≡ fault_of_walk_error stop → IsMemoryStoreOrWriteFault e
-  known_end may (Failed cause) is e same = let h = rw is at (walked.fault) in subst IsMemoryStoreOrWriteFault (sym same) h
-  known_end may (Cause cause) is e same = let h = rw is at (walked.fault) in subst IsMemoryStoreOrWriteFault (sym same) (may h.0 h.1 cause after h.2)
+  pub known_end : ((p : V) (x : X) (e : LinesFault) (q : V) → stops p x e q → IsLinesFaultOtherThanDamage e) → (stop : WalkError LinesFault) → result ≡ Err stop
+      → (e : LinesFault) → e ≡ fault_of_walk_error stop → IsLinesFaultOtherThanDamage e
+  known_end may (Failed cause) is e same = let h = rw is at (walked.fault) in subst IsLinesFaultOtherThanDamage (sym same) h
+  known_end may (Cause cause) is e same = let h = rw is at (walked.fault) in subst IsLinesFaultOtherThanDamage (sym same) (may h.0 h.1 cause after h.2)
 
 module _ {S X M V : Type 0} (g : Ghosts S) (old new : Held S) (of : X → M) (list : Tables → List M) (takes : V → X → V → Type 0) (stops : V → X → LinesFault → V → Type 0) (before after : V)
     (t : Tables) (clean : HasCleanDisk (state g new)) (holds : HoldsRows g old t) (result : Result (Unit {0}) (WalkError LinesFault))

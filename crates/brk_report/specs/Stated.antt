@@ -39,9 +39,9 @@ abbrev pub HoldsForStoredTables : {S : Type 0} → Ghosts S → Held S → Held 
 HoldsForStoredTables g old new So = HasCleanDisk (state g new) → (t : Tables) → HoldsRows g old t → So t
 
 -- The fault is a fault of the desk, `Memory` or `Store`, or a fault of the writer.
-abbrev pub IsMemoryStoreOrWriteFault : LinesFault → Type 0
-IsMemoryStoreOrWriteFault (lines.Desk fault) = IsCallFault fault
-IsMemoryStoreOrWriteFault lines.Write = Unit {0}
+abbrev pub IsLinesFaultOtherThanDamage : LinesFault → Type 0
+IsLinesFaultOtherThanDamage (lines.Desk fault) = IsCallFault fault
+IsLinesFaultOtherThanDamage lines.Write = Unit {0}
 
 -- ---- the parts of a statement
 
@@ -76,10 +76,10 @@ WritesStatement t account from to old new (Err (Desk fault)) =
 WritesStatement t account from to old new (Err Write) = (lines : List Text) × AreStatementLines t account from to lines × WritesLinesAndPartOfNext lines old new
 
 -- The fault is a refusal, a fault of the desk, `Memory` or `Store`, or a fault of the writer.
-abbrev pub IsRefusalOrMemoryStoreOrWriteFault : ReportFault → Type 0
-IsRefusalOrMemoryStoreOrWriteFault (Refused refusal) = Unit {0}
-IsRefusalOrMemoryStoreOrWriteFault (Desk fault) = IsCallFault fault
-IsRefusalOrMemoryStoreOrWriteFault Write = Unit {0}
+abbrev pub IsReportFaultOtherThanDamage : ReportFault → Type 0
+IsReportFaultOtherThanDamage (Refused refusal) = Unit {0}
+IsReportFaultOtherThanDamage (Desk fault) = IsCallFault fault
+IsReportFaultOtherThanDamage Write = Unit {0}
 
 -- The postcondition of writing the statement of `account` from the day `from` to the day `to`,
 -- between the states `old` and `new` of the desk's store: the output is as `WritesStatement`
@@ -91,7 +91,7 @@ pub record StatementPost {S : Type 0} (g : Ghosts S) (old new : Held S) (account
   -- `HoldsForStoredTables` states when this is vacuous.
   pub written : HoldsForStoredTables g old new (λ t. WritesStatement t account from to before after result)
   -- A fault of the desk is `Memory` or `Store`. This does not depend on the disk assumption.
-  pub fault : IfErr result IsRefusalOrMemoryStoreOrWriteFault
+  pub fault : IfErr result IsReportFaultOtherThanDamage
   -- The desk is unchanged.
   pub desk_unchanged : PreservesDesk g old new
   -- Nothing is written if the statement is refused.

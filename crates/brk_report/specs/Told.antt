@@ -9,7 +9,7 @@ use Rattle.brk_money.specs.declared.refusal.Refusal.{Refusal}
 use Rattle.brk_model.specs.Run.{IsCallFault}
 use Rattle.brk_model.specs.Statement.{text_of_lines}
 use Rattle.brk_model.specs.Tables.{Tables}
-use Rattle.brk_report.specs.Stated.{PreservesDesk, IsRefusalOrMemoryStoreOrWriteFault, HoldsForStoredTables}
+use Rattle.brk_report.specs.Stated.{PreservesDesk, IsReportFaultOtherThanDamage, HoldsForStoredTables}
 use Rattle.brk_report_lines.specs.Written.{WritesProperPrefixOfLines, WritesLinesAndPartOfNext}
 use Rattle.brk_report_lines.specs.declared.fault.ReportFault.{ReportFault}
 use Rattle.brk_report_lines.specs.declared.fault.ReportFault.TheVariants.{Refused, Desk, Write}
@@ -38,7 +38,7 @@ pub record WriteLinesPost {S : Type 0} (g : Ghosts S) (old new : Held S) (told :
   -- call. `HoldsForStoredTables` states when this is vacuous.
   pub written : HoldsForStoredTables g old new (λ t. WritesLinesOrRefuses (told t) before after result)
   -- A fault of the desk is `Memory` or `Store`. This does not depend on the disk assumption.
-  pub fault : IfErr result IsRefusalOrMemoryStoreOrWriteFault
+  pub fault : IfErr result IsReportFaultOtherThanDamage
   -- The desk is unchanged.
   pub keeps : PreservesDesk g old new
   -- Nothing is written at a refusal.

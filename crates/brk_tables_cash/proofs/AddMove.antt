@@ -10,7 +10,7 @@ use Rattle.sqlite_tied.specs.Compute.{everything}
 use Rattle.brk_sql.specs.Desk.{IsTableAt}
 use Rattle.brk_sql.proofs.Meant.{meant, inserts}
 use Rattle.brk_sql.proofs.Texts.{read}
-use Rattle.brk_tables_schema.specs.Shapes.{move_table}
+use Rattle.brk_tables_schema.specs.Shapes.{cash_move_table}
 
 abbrev pub statement : List ℕ
 statement = codes "INSERT INTO CASH_MOVE (CM_ID, CM_CA_ID, CM_T_ID, CM_DTS, CM_AMT, CM_NAME) VALUES (?1, ?2, ?3, ?4, ?5, ?6)"
@@ -18,6 +18,6 @@ statement = codes "INSERT INTO CASH_MOVE (CM_ID, CM_CA_ID, CM_T_ID, CM_DTS, CM_A
 abbrev pub terms : List Term
 terms = col 0 0 ∷ lit Null ∷ col 0 1 ∷ col 0 2 ∷ col 0 3 ∷ col 0 4 ∷ col 0 5 ∷ []
 
-pub understood_as : (schema : Schema) (at tree : ℕ) → IsTableAt schema (move_table tree) at → compiled schema statement ≡ Ok (meant (read statement) [] (Insert at (Values terms 7)))
+pub understood_as : (schema : Schema) (at tree : ℕ) → IsTableAt schema (cash_move_table tree) at → compiled schema statement ≡ Ok (meant (read statement) [] (Insert at (Values terms 7)))
 unfolding everything
-understood_as schema at tree h = inserts schema statement (read statement) refl refl (codes "CASH_MOVE") at (move_table tree) h.named h.found _ _ _ refl refl
+understood_as schema at tree h = inserts schema statement (read statement) refl refl (codes "CASH_MOVE") at (cash_move_table tree) h.named h.found _ _ _ refl refl

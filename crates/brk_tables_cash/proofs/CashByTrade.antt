@@ -18,7 +18,7 @@ use Rattle.brk_sql.proofs.Meant.{meant, reads_or}
 use Rattle.brk_sql.proofs.Pick.{selection}
 use Rattle.brk_sql.proofs.Scoped.{column_is, heading_is}
 use Rattle.brk_sql.proofs.Texts.{read}
-use Rattle.brk_tables_schema.specs.Shapes.{cash_table}
+use Rattle.brk_tables_schema.specs.Shapes.{cash_transaction_table}
 use Rattle.sqlite_ast.specs.declared.Shown.TheVariants.{One}
 use Rattle.sqlite_ast.specs.declared.Origin.TheVariants.{Table}
 use Rattle.sqlite_ast.specs.declared.Source.{Source, roll-Source}
@@ -93,25 +93,25 @@ names = codes "CT_T_ID" ∷ codes "CT_DTS" ∷ codes "CT_AMT" ∷ codes "CT_NAME
 abbrev after : ℕ → Carried → State
 after spent last = record (fresh 2 max_budget) { budget = max_budget - spent; last = last }
 
-module _ (schema : Schema) (at tree : ℕ) (h : IsTableAt schema (cash_table tree) at) where
-  abbrev found : slice_get schema.tables at ≡ Some (cash_table tree)
+module _ (schema : Schema) (at tree : ℕ) (h : IsTableAt schema (cash_transaction_table tree) at) where
+  abbrev found : slice_get schema.tables at ≡ Some (cash_transaction_table tree)
   found = h.found
 
   shows : result lower (outermost schema) (level_one (codes "CASH_TRANSACTION") at []) core (fresh 2 max_budget) ≡ Ok (columns, after 4 binary)
   unfolding sql_lowering_definitions
   shows =
       rw (
-        column_is schema at (cash_table tree) found (codes "CASH_TRANSACTION") [] [] true true (codes "CT_T_ID") 0 (integer_column (codes "CT_T_ID")) refl refl,
-        heading_is schema at (cash_table tree) found (codes "CASH_TRANSACTION") [] [] true true (e.Column None (codes "CT_T_ID")) (codes "CT_T_ID")
+        column_is schema at (cash_transaction_table tree) found (codes "CASH_TRANSACTION") [] [] true true (codes "CT_T_ID") 0 (integer_column (codes "CT_T_ID")) refl refl,
+        heading_is schema at (cash_transaction_table tree) found (codes "CASH_TRANSACTION") [] [] true true (e.Column None (codes "CT_T_ID")) (codes "CT_T_ID")
             (codes "CT_T_ID") 0 (integer_column (codes "CT_T_ID")) refl refl refl,
-        column_is schema at (cash_table tree) found (codes "CASH_TRANSACTION") [] [] true true (codes "CT_DTS") 1 (integer_column (codes "CT_DTS")) refl refl,
-        heading_is schema at (cash_table tree) found (codes "CASH_TRANSACTION") [] [] true true (e.Column None (codes "CT_DTS")) (codes "CT_DTS") (codes "CT_DTS")
-            1 (integer_column (codes "CT_DTS")) refl refl refl,
-        column_is schema at (cash_table tree) found (codes "CASH_TRANSACTION") [] [] true true (codes "CT_AMT") 2 (integer_column (codes "CT_AMT")) refl refl,
-        heading_is schema at (cash_table tree) found (codes "CASH_TRANSACTION") [] [] true true (e.Column None (codes "CT_AMT")) (codes "CT_AMT") (codes "CT_AMT")
-            2 (integer_column (codes "CT_AMT")) refl refl refl,
-        column_is schema at (cash_table tree) found (codes "CASH_TRANSACTION") [] [] true true (codes "CT_NAME") 3 (text_column (codes "CT_NAME")) refl refl,
-        heading_is schema at (cash_table tree) found (codes "CASH_TRANSACTION") [] [] true true (e.Column None (codes "CT_NAME")) (codes "CT_NAME")
+        column_is schema at (cash_transaction_table tree) found (codes "CASH_TRANSACTION") [] [] true true (codes "CT_DTS") 1 (integer_column (codes "CT_DTS")) refl refl,
+        heading_is schema at (cash_transaction_table tree) found (codes "CASH_TRANSACTION") [] [] true true (e.Column None (codes "CT_DTS")) (codes "CT_DTS")
+            (codes "CT_DTS") 1 (integer_column (codes "CT_DTS")) refl refl refl,
+        column_is schema at (cash_transaction_table tree) found (codes "CASH_TRANSACTION") [] [] true true (codes "CT_AMT") 2 (integer_column (codes "CT_AMT")) refl refl,
+        heading_is schema at (cash_transaction_table tree) found (codes "CASH_TRANSACTION") [] [] true true (e.Column None (codes "CT_AMT")) (codes "CT_AMT")
+            (codes "CT_AMT") 2 (integer_column (codes "CT_AMT")) refl refl refl,
+        column_is schema at (cash_transaction_table tree) found (codes "CASH_TRANSACTION") [] [] true true (codes "CT_NAME") 3 (text_column (codes "CT_NAME")) refl refl,
+        heading_is schema at (cash_transaction_table tree) found (codes "CASH_TRANSACTION") [] [] true true (e.Column None (codes "CT_NAME")) (codes "CT_NAME")
             (codes "CT_NAME") 3 (text_column (codes "CT_NAME")) refl refl refl,
       )
 
@@ -123,7 +123,7 @@ module _ (schema : Schema) (at tree : ℕ) (h : IsTableAt schema (cash_table tre
   sorted : sorts lower (inside schema (level_one (codes "CASH_TRANSACTION") at columns) false) columns by (after 4 binary) ≡ Ok ((draft tree).order, after 5 nothing)
   unfolding sql_lowering_definitions
   sorted =
-      rw (column_is schema at (cash_table tree) found (codes "CASH_TRANSACTION") columns [] false true (codes "CT_T_ID") 0 (integer_column (codes "CT_T_ID")) refl refl)
+      rw (column_is schema at (cash_transaction_table tree) found (codes "CASH_TRANSACTION") columns [] false true (codes "CT_T_ID") 0 (integer_column (codes "CT_T_ID")) refl refl)
 
   meaning_is : meaning schema select ≡ Ok ((draft tree, names, None ∷ Some Binary ∷ Some Binary ∷ Some Binary ∷ []), [])
   unfolding everything

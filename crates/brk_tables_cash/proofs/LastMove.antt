@@ -18,7 +18,7 @@ use Rattle.brk_sql.proofs.Meant.{meant, reads_or}
 use Rattle.brk_sql.proofs.Pick.{selection}
 use Rattle.brk_sql.proofs.Scoped.{column_is, heading_is}
 use Rattle.brk_sql.proofs.Texts.{read}
-use Rattle.brk_tables_schema.specs.Shapes.{move_table}
+use Rattle.brk_tables_schema.specs.Shapes.{cash_move_table}
 use Rattle.sqlite_ast.specs.declared.Shown.TheVariants.{One}
 use Rattle.sqlite_ast.specs.declared.Origin.TheVariants.{Table}
 use Rattle.sqlite_ast.specs.declared.Source.{Source, roll-Source}
@@ -95,32 +95,32 @@ names = codes "CM_ID" ∷ codes "CM_CA_ID" ∷ codes "CM_T_ID" ∷ codes "CM_DTS
 abbrev after : ℕ → Carried → State
 after spent last = record (fresh 2 max_budget) { budget = max_budget - spent; last = last }
 
-module _ (schema : Schema) (at tree : ℕ) (h : IsTableAt schema (move_table tree) at) where
-  abbrev found : slice_get schema.tables at ≡ Some (move_table tree)
+module _ (schema : Schema) (at tree : ℕ) (h : IsTableAt schema (cash_move_table tree) at) where
+  abbrev found : slice_get schema.tables at ≡ Some (cash_move_table tree)
   found = h.found
 
   shows : result lower (outermost schema) (level_one (codes "CASH_MOVE") at []) core (fresh 2 max_budget) ≡ Ok (columns, after 6 binary)
   unfolding sql_lowering_definitions
   shows =
       rw (
-        column_is schema at (move_table tree) found (codes "CASH_MOVE") [] [] true true (codes "CM_ID") 0 (integer_column (codes "CM_ID")) refl refl,
-        heading_is schema at (move_table tree) found (codes "CASH_MOVE") [] [] true true (e.Column None (codes "CM_ID")) (codes "CM_ID") (codes "CM_ID") 0
+        column_is schema at (cash_move_table tree) found (codes "CASH_MOVE") [] [] true true (codes "CM_ID") 0 (integer_column (codes "CM_ID")) refl refl,
+        heading_is schema at (cash_move_table tree) found (codes "CASH_MOVE") [] [] true true (e.Column None (codes "CM_ID")) (codes "CM_ID") (codes "CM_ID") 0
             (integer_column (codes "CM_ID")) refl refl refl,
-        column_is schema at (move_table tree) found (codes "CASH_MOVE") [] [] true true (codes "CM_CA_ID") 1 (integer_column (codes "CM_CA_ID")) refl refl,
-        heading_is schema at (move_table tree) found (codes "CASH_MOVE") [] [] true true (e.Column None (codes "CM_CA_ID")) (codes "CM_CA_ID") (codes "CM_CA_ID")
-            1 (integer_column (codes "CM_CA_ID")) refl refl refl,
-        column_is schema at (move_table tree) found (codes "CASH_MOVE") [] [] true true (codes "CM_T_ID") 2 (nullable_integer_column (codes "CM_T_ID")) refl refl,
-        heading_is schema at (move_table tree) found (codes "CASH_MOVE") [] [] true true (e.Column None (codes "CM_T_ID")) (codes "CM_T_ID") (codes "CM_T_ID") 2
-            (nullable_integer_column (codes "CM_T_ID")) refl refl refl,
-        column_is schema at (move_table tree) found (codes "CASH_MOVE") [] [] true true (codes "CM_DTS") 3 (integer_column (codes "CM_DTS")) refl refl,
-        heading_is schema at (move_table tree) found (codes "CASH_MOVE") [] [] true true (e.Column None (codes "CM_DTS")) (codes "CM_DTS") (codes "CM_DTS") 3
+        column_is schema at (cash_move_table tree) found (codes "CASH_MOVE") [] [] true true (codes "CM_CA_ID") 1 (integer_column (codes "CM_CA_ID")) refl refl,
+        heading_is schema at (cash_move_table tree) found (codes "CASH_MOVE") [] [] true true (e.Column None (codes "CM_CA_ID")) (codes "CM_CA_ID")
+            (codes "CM_CA_ID") 1 (integer_column (codes "CM_CA_ID")) refl refl refl,
+        column_is schema at (cash_move_table tree) found (codes "CASH_MOVE") [] [] true true (codes "CM_T_ID") 2 (nullable_integer_column (codes "CM_T_ID")) refl refl,
+        heading_is schema at (cash_move_table tree) found (codes "CASH_MOVE") [] [] true true (e.Column None (codes "CM_T_ID")) (codes "CM_T_ID")
+            (codes "CM_T_ID") 2 (nullable_integer_column (codes "CM_T_ID")) refl refl refl,
+        column_is schema at (cash_move_table tree) found (codes "CASH_MOVE") [] [] true true (codes "CM_DTS") 3 (integer_column (codes "CM_DTS")) refl refl,
+        heading_is schema at (cash_move_table tree) found (codes "CASH_MOVE") [] [] true true (e.Column None (codes "CM_DTS")) (codes "CM_DTS") (codes "CM_DTS") 3
             (integer_column (codes "CM_DTS")) refl refl refl,
-        column_is schema at (move_table tree) found (codes "CASH_MOVE") [] [] true true (codes "CM_AMT") 4 (integer_column (codes "CM_AMT")) refl refl,
-        heading_is schema at (move_table tree) found (codes "CASH_MOVE") [] [] true true (e.Column None (codes "CM_AMT")) (codes "CM_AMT") (codes "CM_AMT") 4
+        column_is schema at (cash_move_table tree) found (codes "CASH_MOVE") [] [] true true (codes "CM_AMT") 4 (integer_column (codes "CM_AMT")) refl refl,
+        heading_is schema at (cash_move_table tree) found (codes "CASH_MOVE") [] [] true true (e.Column None (codes "CM_AMT")) (codes "CM_AMT") (codes "CM_AMT") 4
             (integer_column (codes "CM_AMT")) refl refl refl,
-        column_is schema at (move_table tree) found (codes "CASH_MOVE") [] [] true true (codes "CM_NAME") 5 (text_column (codes "CM_NAME")) refl refl,
-        heading_is schema at (move_table tree) found (codes "CASH_MOVE") [] [] true true (e.Column None (codes "CM_NAME")) (codes "CM_NAME") (codes "CM_NAME") 5
-            (text_column (codes "CM_NAME")) refl refl refl,
+        column_is schema at (cash_move_table tree) found (codes "CASH_MOVE") [] [] true true (codes "CM_NAME") 5 (text_column (codes "CM_NAME")) refl refl,
+        heading_is schema at (cash_move_table tree) found (codes "CASH_MOVE") [] [] true true (e.Column None (codes "CM_NAME")) (codes "CM_NAME")
+            (codes "CM_NAME") 5 (text_column (codes "CM_NAME")) refl refl refl,
       )
 
   matches : matching lower (outermost schema) (level_one (codes "CASH_MOVE") at columns) core (after 6 binary)
@@ -131,7 +131,7 @@ module _ (schema : Schema) (at tree : ℕ) (h : IsTableAt schema (move_table tre
   sorted : sorts lower (inside schema (level_one (codes "CASH_MOVE") at columns) false) columns by (after 6 binary) ≡ Ok ((draft tree).order, after 7 nothing)
   unfolding sql_lowering_definitions
   sorted =
-      rw (column_is schema at (move_table tree) found (codes "CASH_MOVE") columns [] false true (codes "CM_ID") 0 (integer_column (codes "CM_ID")) refl refl)
+      rw (column_is schema at (cash_move_table tree) found (codes "CASH_MOVE") columns [] false true (codes "CM_ID") 0 (integer_column (codes "CM_ID")) refl refl)
 
   meaning_is : meaning schema select ≡ Ok ((draft tree, names, None ∷ Some Binary ∷ Some Binary ∷ Some Binary ∷ Some Binary ∷ Some Binary ∷ []), [])
   unfolding everything

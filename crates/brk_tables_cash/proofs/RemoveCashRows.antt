@@ -15,7 +15,7 @@ use Rattle.brk_sql.specs.Desk.{IsTableAt}
 use Rattle.brk_sql.proofs.Meant.{meant, deletes_or}
 use Rattle.brk_sql.proofs.Pick.{selection, whole_page}
 use Rattle.brk_sql.proofs.Texts.{read}
-use Rattle.brk_tables_schema.specs.Shapes.{cash_table}
+use Rattle.brk_tables_schema.specs.Shapes.{cash_transaction_table}
 
 abbrev pub statement : List ℕ
 statement = codes "DELETE FROM CASH_TRANSACTION"
@@ -32,14 +32,14 @@ project = col 1 0 ∷ []
 abbrev pub draft : ℕ → Draft
 draft tree = simple (Inner tree ∷ []) terms project
 
-draft_is : (schema : Schema) (at tree : ℕ) → slice_get schema.tables at ≡ Some (cash_table tree) → deleted schema at (cash_table tree) test ≡ Ok (draft tree)
+draft_is : (schema : Schema) (at tree : ℕ) → slice_get schema.tables at ≡ Some (cash_transaction_table tree) → deleted schema at (cash_transaction_table tree) test ≡ Ok (draft tree)
 unfolding sql_lowering_definitions
 draft_is schema at tree found = refl
 
-pub understood_as : (schema : Schema) (at tree : ℕ) → IsTableAt schema (cash_table tree) at
+pub understood_as : (schema : Schema) (at tree : ℕ) → IsTableAt schema (cash_transaction_table tree) at
     → (compiled schema statement ≡ Ok (meant (read statement) [] (Delete at (record { lets = []; body = selection tree terms project [] whole_page }))))
     ⊎ (compiled schema statement ≡ Err Mismatch)
 unfolding everything
 understood_as schema at tree h =
-    deletes_or schema statement (read statement) refl refl (codes "CASH_TRANSACTION") at (cash_table tree) h.named h.found test (draft tree) refl
+    deletes_or schema statement (read statement) refl refl (codes "CASH_TRANSACTION") at (cash_transaction_table tree) h.named h.found test (draft tree) refl
     (draft_is schema at tree h.found)

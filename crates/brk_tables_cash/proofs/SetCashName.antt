@@ -23,7 +23,7 @@ use Rattle.brk_sql.proofs.Meant.{meant, updates_or}
 use Rattle.brk_sql.proofs.Pick.{selection, whole_page}
 use Rattle.brk_sql.proofs.Scoped.{column_is}
 use Rattle.brk_sql.proofs.Texts.{read}
-use Rattle.brk_tables_schema.specs.Shapes.{move_table}
+use Rattle.brk_tables_schema.specs.Shapes.{cash_move_table}
 
 abbrev pub statement : List ℕ
 statement = codes "UPDATE CASH_MOVE SET CM_NAME = ?1 WHERE CM_T_ID = ?2"
@@ -43,19 +43,19 @@ project = col 1 0 ∷ col 1 0 ∷ lit Null ∷ col 1 2 ∷ col 1 3 ∷ col 1 4 �
 abbrev pub draft : ℕ → Draft
 draft tree = simple (Inner tree ∷ []) terms project
 
-draft_is : (schema : Schema) (at tree : ℕ) → slice_get schema.tables at ≡ Some (move_table tree) → updated schema at (move_table tree) sets (Some test) ≡ Ok (draft tree)
+draft_is : (schema : Schema) (at tree : ℕ) → slice_get schema.tables at ≡ Some (cash_move_table tree) → updated schema at (cash_move_table tree) sets (Some test) ≡ Ok (draft tree)
 unfolding sql_lowering_definitions
 draft_is schema at tree found =
     rw (
-      column_is schema at (move_table tree) found (codes "CASH_MOVE") [] [] false true (codes "CM_T_ID") 2 (nullable_integer_column (codes "CM_T_ID")) refl
-          refl,
+      column_is schema at (cash_move_table tree) found (codes "CASH_MOVE") [] [] false true (codes "CM_T_ID") 2 (nullable_integer_column (codes "CM_T_ID"))
+          refl refl,
       found,
     )
 
-pub understood_as : (schema : Schema) (at tree : ℕ) → IsTableAt schema (move_table tree) at
+pub understood_as : (schema : Schema) (at tree : ℕ) → IsTableAt schema (cash_move_table tree) at
     → (compiled schema statement ≡ Ok (meant (read statement) [] (Update at (record { lets = []; body = selection tree terms project [] whole_page }))))
     ⊎ (compiled schema statement ≡ Err Mismatch)
 unfolding everything
 understood_as schema at tree h =
-    updates_or schema statement (read statement) refl refl (codes "CASH_MOVE") at (move_table tree) h.named h.found sets (Some test) (draft tree) refl
+    updates_or schema statement (read statement) refl refl (codes "CASH_MOVE") at (cash_move_table tree) h.named h.found sets (Some test) (draft tree) refl
     (draft_is schema at tree h.found)

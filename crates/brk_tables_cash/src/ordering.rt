@@ -9,7 +9,7 @@ use brk_money::Fault;
 
 /// Returns `rows`, rows of CASH_TRANSACTION, sorted by stamp, ascending. Rows with equal stamps are
 /// in the order of `rows`. Fails with `Memory` only.
-pub fn sort_cash_rows_by_stamp(rows: Vec<CashRow>) -> Result<Vec<CashRow>, Fault>
+pub fn sort_cash_transactions_by_stamp(rows: Vec<CashRow>) -> Result<Vec<CashRow>, Fault>
     ensures order { IfOk result (λ ordered. ordered.items ≡ sort_by_key (λ r. r.stamp) rows.items) }
     ensures fault { OnErr result (result ≡ Err Memory) }
 {

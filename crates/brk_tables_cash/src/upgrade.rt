@@ -8,7 +8,7 @@ ghost use Rattle.brk_tables_schema.specs.Statements.{WritesDeskTables};
 ghost use Rattle.brk_tables_cash.specs.Upgrade.{AddsTablesOfLaterSchemas, UpgradesTables, tables_with_cash_transactions_moved};
 
 use crate::numbering::add_numbered_cash_rows;
-use crate::ordering::sort_cash_rows_by_stamp;
+use crate::ordering::sort_cash_transactions_by_stamp;
 use crate::reading::all_cash_transactions;
 use crate::upgrade_statements::{remove_cash_transactions, set_schema_number_to_three};
 use brk_changes::Schema;
@@ -47,7 +47,7 @@ fn move_cash_transactions_to_cash_moves<S: Alter>(
     ensures fault { IfErr result IsCallFault }
 {
     let found = all_cash_transactions(tx, alloc)?;
-    let rows = sort_cash_rows_by_stamp(found)?;
+    let rows = sort_cash_transactions_by_stamp(found)?;
     add_numbered_cash_rows(tx, &rows)?;
     remove_cash_transactions(tx)
 }

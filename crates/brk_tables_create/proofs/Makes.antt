@@ -8,9 +8,9 @@ use Rattle.brk_sql.proofs.Created.{makes}
 use Rattle.brk_sql.proofs.Founded.{Among}
 use Rattle.brk_model.specs.Tables.{tables_without_rows}
 use Rattle.brk_tables_schema.specs.Shapes.{desk_row_table, kept_table, broker_table, customer_table, account_table, permission_table, security_table}
-use Rattle.brk_tables_schema.specs.Shapes.{last_trade_table, charge_table, band_table, tax_rate_table, customer_tax_table, trade_table, history_table}
-use Rattle.brk_tables_schema.specs.Shapes.{request_table, holding_table, summary_table, holding_history_table, settlement_table, cash_table, move_table}
-use Rattle.brk_tables_schema.specs.Shapes.{rule_table}
+use Rattle.brk_tables_schema.specs.Shapes.{last_trade_table, charge_table, band_table, tax_rate_table, customer_tax_table, trade_table, trade_history_table}
+use Rattle.brk_tables_schema.specs.Shapes.{request_table, holding_table, summary_table, holding_history_table, settlement_table, cash_transaction_table}
+use Rattle.brk_tables_schema.specs.Shapes.{cash_move_table, rule_table}
 use Rattle.brk_tables_schema.specs.Desk.{DeskTable, TheDesk, KeptRows, Brokers, Customers, Accounts, Permissions, Securities, LastTrades, Charges, Bands}
 use Rattle.brk_tables_schema.specs.Desk.{TaxRates, CustomerTaxes, Trades, TradeHistory, Requests, Holdings, Summaries, HoldingHistory, Settlements, CashRows}
 use Rattle.brk_tables_schema.specs.Desk.{CashMoves, SettleRules, table_definition_at_tree, all_tables}
@@ -115,9 +115,9 @@ makes_trade = makes trade_text trade_table refl (λ tree. refl) (λ tree. refl) 
 abbrev history_text : List ℕ
 history_text = create_table_text TradeHistory
 
-makes_history : (old new : State) (count : ℕ) → Executes history_text [] old new (Ok count) → CreatesTableOfShape old.now new.now history_table
+makes_history : (old new : State) (count : ℕ) → Executes history_text [] old new (Ok count) → CreatesTableOfShape old.now new.now trade_history_table
 unfolding everything
-makes_history = makes history_text history_table refl (λ tree. refl) (λ tree. refl) refl (read history_text) _ refl refl refl refl refl refl refl refl
+makes_history = makes history_text trade_history_table refl (λ tree. refl) (λ tree. refl) refl (read history_text) _ refl refl refl refl refl refl refl refl
 
 abbrev request_text : List ℕ
 request_text = create_table_text Requests
@@ -157,16 +157,16 @@ makes_settlement = makes settlement_text settlement_table refl (λ tree. refl) (
 abbrev cash_text : List ℕ
 cash_text = create_table_text CashRows
 
-makes_cash : (old new : State) (count : ℕ) → Executes cash_text [] old new (Ok count) → CreatesTableOfShape old.now new.now cash_table
+makes_cash : (old new : State) (count : ℕ) → Executes cash_text [] old new (Ok count) → CreatesTableOfShape old.now new.now cash_transaction_table
 unfolding everything
-makes_cash = makes cash_text cash_table refl (λ tree. refl) (λ tree. refl) refl (read cash_text) _ refl refl refl refl refl refl refl refl
+makes_cash = makes cash_text cash_transaction_table refl (λ tree. refl) (λ tree. refl) refl (read cash_text) _ refl refl refl refl refl refl refl refl
 
 abbrev move_text : List ℕ
 move_text = create_table_text CashMoves
 
-makes_move : (old new : State) (count : ℕ) → Executes move_text [] old new (Ok count) → CreatesTableOfShape old.now new.now move_table
+makes_move : (old new : State) (count : ℕ) → Executes move_text [] old new (Ok count) → CreatesTableOfShape old.now new.now cash_move_table
 unfolding everything
-makes_move = makes move_text move_table refl (λ tree. refl) (λ tree. refl) refl (read move_text) _ refl refl refl refl refl refl refl refl
+makes_move = makes move_text cash_move_table refl (λ tree. refl) (λ tree. refl) refl (read move_text) _ refl refl refl refl refl refl refl refl
 
 abbrev rule_text : List ℕ
 rule_text = create_table_text SettleRules

@@ -8,7 +8,7 @@ ghost use Rattle.brk_sql.specs.Model.{ExecutesStatement, IsConnectionStep};
 ghost use Rattle.brk_tables_schema.specs.Desk.{table_definition_at_tree};
 ghost use Rattle.brk_tables_schema.specs.Desk.{tables_of_later_schemas};
 ghost use Rattle.brk_tables_create.specs.Made.{CreatesDeskTables, insert_desk_row_text};
-ghost use Rattle.brk_tables_schema.specs.Texts.{specified_table};
+ghost use Rattle.brk_tables_schema.specs.Texts.{abstract_table};
 
 use brk_changes::Schema;
 use brk_money::Fault;
@@ -22,7 +22,7 @@ use sqlite::{Alter, Transaction};
 // unchanged. Fails with `Store` only, also if a table with its name exists.
 fn create_desk_table<S: Alter>(tx: &mut Transaction<'_, S>, table: Table) -> Result<(), Fault>
     ensures same_reference { tx.new.conn.ghost_name ≡ tx.old.conn.ghost_name }
-    ensures step { IsConnectionStep S.Store tx.old tx.new result (λ _ a b. CreatesTableOfShape a.now b.now (table_definition_at_tree (specified_table table))) }
+    ensures step { IsConnectionStep S.Store tx.old tx.new result (λ _ a b. CreatesTableOfShape a.now b.now (table_definition_at_tree (abstract_table table))) }
     ensures fault { OnErr result (result ≡ Err Store) }
 {
     execute_statement(tx, table.create_table_text(), &[])
@@ -34,7 +34,7 @@ fn create_desk_table<S: Alter>(tx: &mut Transaction<'_, S>, table: Table) -> Res
 fn create_each_table<S: Alter>(tx: &mut Transaction<'_, S>, tables: &[Table]) -> Result<(), Fault>
     ensures same_reference { tx.new.conn.ghost_name ≡ tx.old.conn.ghost_name }
     ensures step { IsConnectionStep S.Store tx.old tx.new result
-        (λ _ a b. CreatesEachTable (map (λ table. table_definition_at_tree (specified_table table)) tables.now) a.now b.now) }
+        (λ _ a b. CreatesEachTable (map (λ table. table_definition_at_tree (abstract_table table)) tables.now) a.now b.now) }
     ensures fault { OnErr result (result ≡ Err Store) }
 {
     for table in tables {

@@ -18,7 +18,7 @@ use Rattle.brk_sql.proofs.Meant.{meant, reads_or}
 use Rattle.brk_sql.proofs.Pick.{selection}
 use Rattle.brk_sql.proofs.Scoped.{column_is}
 use Rattle.brk_sql.proofs.Texts.{read}
-use Rattle.brk_tables_schema.specs.Shapes.{cash_table}
+use Rattle.brk_tables_schema.specs.Shapes.{cash_transaction_table}
 use Rattle.sqlite_ast.specs.declared.Shown.TheVariants.{One}
 use Rattle.sqlite_ast.specs.declared.Origin.TheVariants.{Table}
 use Rattle.sqlite_ast.specs.declared.Source.{Source, roll-Source}
@@ -99,14 +99,14 @@ is_read : (first statement ≡ Ok (read statement)) × ((read statement).formats
 unfolding everything
 is_read = (refl, refl, refl)
 
-module _ (schema : Schema) (at tree : ℕ) (h : IsTableAt schema (cash_table tree) at) where
-  abbrev found : slice_get schema.tables at ≡ Some (cash_table tree)
+module _ (schema : Schema) (at tree : ℕ) (h : IsTableAt schema (cash_transaction_table tree) at) where
+  abbrev found : slice_get schema.tables at ≡ Some (cash_transaction_table tree)
   found = h.found
 
   shows : result lower (outermost schema) (level_one (codes "CASH_TRANSACTION") at []) core (fresh 2 max_budget) ≡ Ok (columns, after 4 binary)
   unfolding sql_lowering_definitions
   shows =
-      columns_shown schema at (cash_table tree) found (codes "CASH_TRANSACTION") (cash_table tree).columns
+      columns_shown schema at (cash_transaction_table tree) found (codes "CASH_TRANSACTION") (cash_transaction_table tree).columns
       (refl, refl, (refl, refl, (refl, refl, (refl, refl, tt)))) max_budget (max_budget - 5) refl core refl
 
   matches : matching lower (outermost schema) (level_one (codes "CASH_TRANSACTION") at columns) core (after 4 binary)
@@ -117,7 +117,7 @@ module _ (schema : Schema) (at tree : ℕ) (h : IsTableAt schema (cash_table tre
   sorted : sorts lower (inside schema (level_one (codes "CASH_TRANSACTION") at columns) false) columns by (after 4 binary) ≡ Ok ((draft tree).order, after 5 nothing)
   unfolding sql_lowering_definitions
   sorted =
-      rw (column_is schema at (cash_table tree) found (codes "CASH_TRANSACTION") columns [] false true (codes "CT_T_ID") 0 (integer_column (codes "CT_T_ID")) refl refl)
+      rw (column_is schema at (cash_transaction_table tree) found (codes "CASH_TRANSACTION") columns [] false true (codes "CT_T_ID") 0 (integer_column (codes "CT_T_ID")) refl refl)
 
   meaning_is : meaning schema select ≡ Ok ((draft tree, names, None ∷ Some Binary ∷ Some Binary ∷ Some Binary ∷ []), [])
   unfolding everything

@@ -18,7 +18,7 @@ use Rattle.brk_sql.proofs.Meant.{meant, reads_or}
 use Rattle.brk_sql.proofs.Pick.{selection}
 use Rattle.brk_sql.proofs.Scoped.{column_is}
 use Rattle.brk_sql.proofs.Texts.{read}
-use Rattle.brk_tables_schema.specs.Shapes.{history_table}
+use Rattle.brk_tables_schema.specs.Shapes.{trade_history_table}
 use Rattle.sqlite_ast.specs.declared.Shown.TheVariants.{One}
 use Rattle.sqlite_ast.specs.declared.Origin.TheVariants.{Table}
 use Rattle.sqlite_ast.specs.declared.Source.{Source, roll-Source}
@@ -100,15 +100,15 @@ is_read : (first statement ≡ Ok (read statement)) × ((read statement).formats
 unfolding everything
 is_read = (refl, refl, refl)
 
-module _ (schema : Schema) (at tree : ℕ) (h : IsTableAt schema (history_table tree) at) where
-  abbrev found : slice_get schema.tables at ≡ Some (history_table tree)
+module _ (schema : Schema) (at tree : ℕ) (h : IsTableAt schema (trade_history_table tree) at) where
+  abbrev found : slice_get schema.tables at ≡ Some (trade_history_table tree)
   found = h.found
 
   shows : result lower (outermost schema) (level_one (codes "TRADE_HISTORY") at []) core (fresh 2 max_budget) ≡ Ok (columns, after 3 binary)
   unfolding sql_lowering_definitions
   shows =
-      columns_shown schema at (history_table tree) found (codes "TRADE_HISTORY") (history_table tree).columns (refl, refl, (refl, refl, (refl, refl, tt)))
-      max_budget (max_budget - 4) refl core refl
+      columns_shown schema at (trade_history_table tree) found (codes "TRADE_HISTORY") (trade_history_table tree).columns
+      (refl, refl, (refl, refl, (refl, refl, tt))) max_budget (max_budget - 4) refl core refl
 
   matches : matching lower (outermost schema) (level_one (codes "TRADE_HISTORY") at columns) core (after 3 binary)
       ≡ Ok (record { steps = Inner tree ∷ []; filter = terms }, after 3 binary)
@@ -119,8 +119,8 @@ module _ (schema : Schema) (at tree : ℕ) (h : IsTableAt schema (history_table 
   unfolding sql_lowering_definitions
   sorted =
       rw (
-        column_is schema at (history_table tree) found (codes "TRADE_HISTORY") columns [] false true (codes "TH_T_ID") 0 (integer_column (codes "TH_T_ID")) refl refl,
-        column_is schema at (history_table tree) found (codes "TRADE_HISTORY") columns [] false true (codes "TH_ST_ID") 1 (text_column (codes "TH_ST_ID")) refl refl,
+        column_is schema at (trade_history_table tree) found (codes "TRADE_HISTORY") columns [] false true (codes "TH_T_ID") 0 (integer_column (codes "TH_T_ID")) refl refl,
+        column_is schema at (trade_history_table tree) found (codes "TRADE_HISTORY") columns [] false true (codes "TH_ST_ID") 1 (text_column (codes "TH_ST_ID")) refl refl,
       )
 
   meaning_is : meaning schema select ≡ Ok ((draft tree, names, Some Binary ∷ Some Binary ∷ Some Binary ∷ []), [])

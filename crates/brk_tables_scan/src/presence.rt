@@ -7,7 +7,7 @@ ghost use Rattle.brk_money.specs.declared.fault.Fault.TheVariants.{Store};
 ghost use Rattle.brk_changes.specs.Schemas.{abstract_schema};
 ghost use Rattle.brk_sql.specs.Model.{IsConnectionStep};
 ghost use Rattle.brk_tables_scan.specs.Present.{has_table_of_desk, has_exact_table_names, has_table_named};
-ghost use Rattle.brk_tables_schema.specs.Texts.{specified_table};
+ghost use Rattle.brk_tables_schema.specs.Texts.{abstract_table};
 
 use brk_changes::Schema;
 use brk_money::Fault;
@@ -24,7 +24,7 @@ use sqlite::{Alter, Transaction};
 fn table_exists<S: Alter>(tx: &mut Transaction<'_, S>, table: Table) -> Result<bool, Fault>
     ensures same_reference { tx.new.conn.ghost_name ≡ tx.old.conn.ghost_name }
     ensures step { IsConnectionStep S.Store tx.old tx.new result (λ has a b. IsTrue a.is_open × (b.now ≡ a.now)
-        × (has ≡ has_table_named a.now.schema (specified_table table))) }
+        × (has ≡ has_table_named a.now.schema (abstract_table table))) }
     ensures fault { OnErr result (result ≡ Err Store) }
 {
     statement_compiles(tx, table.existence_probe_text())
@@ -35,7 +35,7 @@ fn table_exists<S: Alter>(tx: &mut Transaction<'_, S>, table: Table) -> Result<b
 fn has_any_of_tables<S: Alter>(tx: &mut Transaction<'_, S>, tables: &[Table]) -> Result<bool, Fault>
     ensures same_reference { tx.new.conn.ghost_name ≡ tx.old.conn.ghost_name }
     ensures step { IsConnectionStep S.Store tx.old tx.new result (λ has a b. (b.now ≡ a.now)
-        × (has ≡ list_any (λ table. has_table_named a.now.schema (specified_table table)) tables.now)) }
+        × (has ≡ list_any (λ table. has_table_named a.now.schema (abstract_table table)) tables.now)) }
     ensures fault { OnErr result (result ≡ Err Store) }
 {
     for table in tables {
@@ -54,7 +54,7 @@ fn has_each_of_tables<S: Alter>(
 ) -> Result<bool, Fault>
     ensures same_reference { tx.new.conn.ghost_name ≡ tx.old.conn.ghost_name }
     ensures step { IsConnectionStep S.Store tx.old tx.new result (λ has a b. (b.now ≡ a.now)
-        × (has ≡ list_all (λ table. has_table_named a.now.schema (specified_table table)) tables.now)) }
+        × (has ≡ list_all (λ table. has_table_named a.now.schema (abstract_table table)) tables.now)) }
     ensures fault { OnErr result (result ≡ Err Store) }
 {
     for table in tables {
@@ -87,8 +87,8 @@ fn has_present_and_no_absent_tables<S: Alter>(
     ensures same_reference { tx.new.conn.ghost_name ≡ tx.old.conn.ghost_name }
     ensures step { IsConnectionStep S.Store tx.old tx.new result (λ has a b. (b.now ≡ a.now)
         × (has
-        ≡ (list_all (λ table. has_table_named a.now.schema (specified_table table)) present.now
-        && not (list_any (λ table. has_table_named a.now.schema (specified_table table)) absent.now)))) }
+        ≡ (list_all (λ table. has_table_named a.now.schema (abstract_table table)) present.now
+        && not (list_any (λ table. has_table_named a.now.schema (abstract_table table)) absent.now)))) }
     ensures fault { OnErr result (result ≡ Err Store) }
 {
     if !has_each_of_tables(tx, present)? {

@@ -38,9 +38,9 @@ is_integer_cell _ = false
 
 -- True if the value is an INTEGER within the limits of an amount in cents, of either sign: at most
 -- 10^17 in absolute value.
-abbrev pub is_cents_cell : Value → Bool
-is_cents_cell (Int n) = is_within_amount_limit n
-is_cents_cell _ = false
+abbrev pub is_signed_amount_cell : Value → Bool
+is_signed_amount_cell (Int n) = is_within_amount_limit n
+is_signed_amount_cell _ = false
 
 -- True if the value is a TEXT whose bytes pass the check `form`.
 abbrev pub is_text_cell : (List ℕ → Bool) → Value → Bool
@@ -199,7 +199,7 @@ customer_column_cell_checks = is_id_cell ∷ is_tier_cell ∷ is_tax_id_cell ∷
 
 -- The checks of the columns of CUSTOMER_ACCOUNT, in the order of the columns.
 abbrev pub account_column_cell_checks : List (Value → Bool)
-account_column_cell_checks = is_id_cell ∷ is_id_cell ∷ is_id_cell ∷ is_name_cell ∷ is_tax_status_cell ∷ is_cents_cell ∷ is_cents_cell ∷ []
+account_column_cell_checks = is_id_cell ∷ is_id_cell ∷ is_id_cell ∷ is_name_cell ∷ is_tax_status_cell ∷ is_signed_amount_cell ∷ is_signed_amount_cell ∷ []
 
 -- The checks of the columns of ACCOUNT_PERMISSION, in the order of the columns.
 abbrev pub permission_column_cell_checks : List (Value → Bool)
@@ -258,15 +258,15 @@ holding_history_column_cell_checks = is_id_cell ∷ is_id_cell ∷ is_integer_ce
 
 -- The checks of the columns of SETTLEMENT, in the order of the columns.
 abbrev pub settlement_column_cell_checks : List (Value → Bool)
-settlement_column_cell_checks = is_id_cell ∷ is_text_cell is_cash_type_text ∷ is_day_cell ∷ is_cents_cell ∷ []
+settlement_column_cell_checks = is_id_cell ∷ is_text_cell is_cash_type_text ∷ is_day_cell ∷ is_signed_amount_cell ∷ []
 
 -- The checks of the columns of CASH_TRANSACTION, in the order of the columns.
 abbrev pub cash_column_cell_checks : List (Value → Bool)
-cash_column_cell_checks = is_id_cell ∷ is_stamp_cell ∷ is_cents_cell ∷ is_utf8_cell ∷ []
+cash_column_cell_checks = is_id_cell ∷ is_stamp_cell ∷ is_signed_amount_cell ∷ is_utf8_cell ∷ []
 
 -- The checks of the columns of CASH_MOVE, in the order of the columns.
 abbrev pub move_column_cell_checks : List (Value → Bool)
-move_column_cell_checks = is_cash_row_number_cell ∷ is_id_cell ∷ is_null_or_natural_cell is_id ∷ is_stamp_cell ∷ is_cents_cell ∷ is_utf8_cell ∷ []
+move_column_cell_checks = is_cash_row_number_cell ∷ is_id_cell ∷ is_null_or_natural_cell is_id ∷ is_stamp_cell ∷ is_signed_amount_cell ∷ is_utf8_cell ∷ []
 
 -- The checks of the columns of SETTLE_RULE, in the order of the columns.
 abbrev pub rule_column_cell_checks : List (Value → Bool)

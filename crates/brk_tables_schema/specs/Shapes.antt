@@ -102,8 +102,8 @@ trade_table tree = table_without_checks (codes "TRADE") tree
 
 -- The definition of the table TRADE_HISTORY, whose rows the database stores under the number
 -- `tree`: its columns, its primary key, and its UNIQUE constraints and foreign keys, if any.
-abbrev pub history_table : ℕ → Table
-history_table tree = table_without_checks (codes "TRADE_HISTORY") tree
+abbrev pub trade_history_table : ℕ → Table
+trade_history_table tree = table_without_checks (codes "TRADE_HISTORY") tree
     (integer_column (codes "TH_T_ID") ∷ text_column (codes "TH_ST_ID") ∷ integer_column (codes "TH_DTS") ∷ [])
     None (1 ∷ 2 ∷ []) ((1 ∷ 2 ∷ []) ∷ []) (foreign_key 1 (codes "TRADE") (codes "T_ID") ∷ [])
 
@@ -151,15 +151,15 @@ settlement_table tree = table_without_checks (codes "SETTLEMENT") tree
 
 -- The definition of the table CASH_TRANSACTION, whose rows the database stores under the number
 -- `tree`: its columns, its primary key, and its UNIQUE constraints and foreign keys, if any.
-abbrev pub cash_table : ℕ → Table
-cash_table tree = table_without_checks (codes "CASH_TRANSACTION") tree
+abbrev pub cash_transaction_table : ℕ → Table
+cash_transaction_table tree = table_without_checks (codes "CASH_TRANSACTION") tree
     (integer_column (codes "CT_T_ID") ∷ integer_column (codes "CT_DTS") ∷ integer_column (codes "CT_AMT") ∷ text_column (codes "CT_NAME") ∷ [])
     (Some 0) (0 ∷ []) ([]) (foreign_key 0 (codes "TRADE") (codes "T_ID") ∷ [])
 
 -- The definition of the table CASH_MOVE, whose rows the database stores under the number `tree`:
 -- its columns, its primary key, and its UNIQUE constraints and foreign keys, if any.
-abbrev pub move_table : ℕ → Table
-move_table tree = table_without_checks (codes "CASH_MOVE") tree
+abbrev pub cash_move_table : ℕ → Table
+cash_move_table tree = table_without_checks (codes "CASH_MOVE") tree
     (integer_column (codes "CM_ID") ∷ integer_column (codes "CM_CA_ID") ∷ nullable_integer_column (codes "CM_T_ID") ∷ integer_column (codes "CM_DTS")
     ∷ integer_column (codes "CM_AMT") ∷ text_column (codes "CM_NAME") ∷ [])
     (Some 0) (0 ∷ []) ((3 ∷ []) ∷ []) (foreign_key 2 (codes "CUSTOMER_ACCOUNT") (codes "CA_ID") ∷ foreign_key 3 (codes "TRADE") (codes "T_ID") ∷ [])

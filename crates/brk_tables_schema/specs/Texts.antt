@@ -7,29 +7,29 @@ use Rattle.brk_tables_schema.specs.declared.table.Table.{Table}
 use Rattle.brk_tables_schema.specs.declared.table.Table.TheVariants as table
 
 -- The table of the specification that a value of the code's type `Table` represents.
-abbrev pub specified_table : Table → DeskTable
-specified_table table.TheDesk = TheDesk
-specified_table table.KeptRows = KeptRows
-specified_table table.Brokers = Brokers
-specified_table table.Customers = Customers
-specified_table table.Accounts = Accounts
-specified_table table.Permissions = Permissions
-specified_table table.Securities = Securities
-specified_table table.LastTrades = LastTrades
-specified_table table.Charges = Charges
-specified_table table.Bands = Bands
-specified_table table.TaxRates = TaxRates
-specified_table table.CustomerTaxes = CustomerTaxes
-specified_table table.Trades = Trades
-specified_table table.TradeHistory = TradeHistory
-specified_table table.Requests = Requests
-specified_table table.Holdings = Holdings
-specified_table table.Summaries = Summaries
-specified_table table.HoldingHistory = HoldingHistory
-specified_table table.Settlements = Settlements
-specified_table table.CashRows = CashRows
-specified_table table.CashMoves = CashMoves
-specified_table table.SettleRules = SettleRules
+abbrev pub abstract_table : Table → DeskTable
+abstract_table table.TheDesk = TheDesk
+abstract_table table.KeptRows = KeptRows
+abstract_table table.Brokers = Brokers
+abstract_table table.Customers = Customers
+abstract_table table.Accounts = Accounts
+abstract_table table.Permissions = Permissions
+abstract_table table.Securities = Securities
+abstract_table table.LastTrades = LastTrades
+abstract_table table.Charges = Charges
+abstract_table table.Bands = Bands
+abstract_table table.TaxRates = TaxRates
+abstract_table table.CustomerTaxes = CustomerTaxes
+abstract_table table.Trades = Trades
+abstract_table table.TradeHistory = TradeHistory
+abstract_table table.Requests = Requests
+abstract_table table.Holdings = Holdings
+abstract_table table.Summaries = Summaries
+abstract_table table.HoldingHistory = HoldingHistory
+abstract_table table.Settlements = Settlements
+abstract_table table.CashRows = CashRows
+abstract_table table.CashMoves = CashMoves
+abstract_table table.SettleRules = SettleRules
 
 -- The CREATE TABLE statement of each table of a desk, with its columns, keys and foreign keys.
 abbrev pub create_table_text : DeskTable → List ℕ

@@ -8,7 +8,7 @@ ghost use Rattle.brk_money.specs.Kinds.{trade_status_code, tax_status_number, tr
 ghost use Rattle.brk_changes.specs.Rows.{cash_type_text};
 ghost use Rattle.brk_model.specs.Form.{is_id, is_price};
 ghost use Rattle.brk_tables_schema.specs.Cells.{flag_as_value, optional_natural_as_value};
-ghost use Rattle.brk_tables_schema.specs.Formed.{is_cents_cell, is_charge_cell, is_day_cell, is_flag_cell, is_id_cell, is_cash_type_text};
+ghost use Rattle.brk_tables_schema.specs.Formed.{is_signed_amount_cell, is_charge_cell, is_day_cell, is_flag_cell, is_id_cell, is_cash_type_text};
 ghost use Rattle.brk_tables_schema.specs.Formed.{is_status_code, is_tax_status_number, is_null_or_stamp_cell, is_null_or_natural_cell};
 ghost use Rattle.brk_tables_schema.specs.Formed.{is_cash_row_number_cell, is_natural_cell, is_integer_cell, is_price_cell, is_quantity_cell};
 ghost use Rattle.brk_tables_schema.specs.Formed.{is_commission_rate_cell, is_stamp_cell, is_status_cell, is_amount_cell, is_tax_rate_cell};
@@ -228,7 +228,7 @@ pub fn charge_amount_in_column(row: &Row, at: usize) -> Result<ChargeAmount, Dec
 /// the column is missing or malformed, or with `Memory`.
 pub fn cents_in_column(row: &Row, at: usize) -> Result<Cents, DecodeError>
     ensures value { IfOk result (λ cents. column row.now at ≡ Int cents) }
-    ensures form { result ≡ Err Formless → at < length row.now → is_cents_cell (column row.now at) ≡ false }
+    ensures form { result ≡ Err Formless → at < length row.now → is_signed_amount_cell (column row.now at) ≡ false }
 {
     Cents::new(integer_in_column(row, at)?).ok_or(DecodeError::Form)
 }

@@ -1,7 +1,7 @@
 //! Written by tools/tables.py: the tables of a desk, and their SQL texts.
 
 ghost use Rattle.std.specs.Prelude.{◌≡◌};
-ghost use Rattle.brk_tables_schema.specs.Texts.{create_table_text, existence_probe_text, specified_table};
+ghost use Rattle.brk_tables_schema.specs.Texts.{create_table_text, existence_probe_text, abstract_table};
 
 /// A table of a desk.
 #[derive(Clone, Copy)]
@@ -55,7 +55,7 @@ pub enum Table {
 impl Table {
     /// Returns the CREATE TABLE statement of the table, with its columns, keys and foreign keys.
     pub fn create_table_text(self) -> &'static str
-        ensures { result.now ≡ create_table_text (specified_table self) }
+        ensures { result.now ≡ create_table_text (abstract_table self) }
     {
         match self {
             Table::TheDesk => "CREATE TABLE DESK (\
@@ -151,7 +151,7 @@ impl Table {
     /// Returns the text of the statement that deletes all rows of the table. A look-up by name
     /// compiles it, without executing it, to test whether a table of this name exists.
     pub fn existence_probe_text(self) -> &'static str
-        ensures { result.now ≡ existence_probe_text (specified_table self) }
+        ensures { result.now ≡ existence_probe_text (abstract_table self) }
     {
         match self {
             Table::TheDesk => "DELETE FROM DESK",

@@ -10,7 +10,7 @@ use Rattle.sqlite_tied.specs.Compute.{everything}
 use Rattle.brk_sql.specs.Desk.{IsTableAt}
 use Rattle.brk_sql.proofs.Meant.{meant, inserts}
 use Rattle.brk_sql.proofs.Texts.{read}
-use Rattle.brk_tables_schema.specs.Shapes.{history_table}
+use Rattle.brk_tables_schema.specs.Shapes.{trade_history_table}
 
 abbrev pub statement : List ℕ
 statement = codes "INSERT INTO TRADE_HISTORY (TH_T_ID, TH_ST_ID, TH_DTS) VALUES (?1, ?2, ?3)"
@@ -18,6 +18,6 @@ statement = codes "INSERT INTO TRADE_HISTORY (TH_T_ID, TH_ST_ID, TH_DTS) VALUES 
 abbrev pub terms : List Term
 terms = lit Null ∷ col 0 0 ∷ col 0 1 ∷ col 0 2 ∷ []
 
-pub understood_as : (schema : Schema) (at tree : ℕ) → IsTableAt schema (history_table tree) at → compiled schema statement ≡ Ok (meant (read statement) [] (Insert at (Values terms 4)))
+pub understood_as : (schema : Schema) (at tree : ℕ) → IsTableAt schema (trade_history_table tree) at → compiled schema statement ≡ Ok (meant (read statement) [] (Insert at (Values terms 4)))
 unfolding everything
-understood_as schema at tree h = inserts schema statement (read statement) refl refl (codes "TRADE_HISTORY") at (history_table tree) h.named h.found _ _ _ refl refl
+understood_as schema at tree h = inserts schema statement (read statement) refl refl (codes "TRADE_HISTORY") at (trade_history_table tree) h.named h.found _ _ _ refl refl

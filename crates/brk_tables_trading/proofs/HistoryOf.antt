@@ -21,7 +21,7 @@ use Rattle.brk_sql.proofs.Meant.{meant, reads_or}
 use Rattle.brk_sql.proofs.Pick.{selection}
 use Rattle.brk_sql.proofs.Scoped.{column_is, heading_is}
 use Rattle.brk_sql.proofs.Texts.{read}
-use Rattle.brk_tables_schema.specs.Shapes.{history_table}
+use Rattle.brk_tables_schema.specs.Shapes.{trade_history_table}
 use Rattle.sqlite_ast.specs.declared.Shown.TheVariants.{One}
 use Rattle.sqlite_ast.specs.declared.Origin.TheVariants.{Table}
 use Rattle.sqlite_ast.specs.declared.Source.{Source, roll-Source}
@@ -97,36 +97,41 @@ names = codes "TH_T_ID" ∷ codes "TH_ST_ID" ∷ codes "TH_DTS" ∷ []
 abbrev after : ℕ → Carried → State
 after spent last = record (fresh 2 max_budget) { budget = max_budget - spent; last = last }
 
-module _ (schema : Schema) (at tree : ℕ) (h : IsTableAt schema (history_table tree) at) where
-  abbrev found : slice_get schema.tables at ≡ Some (history_table tree)
+module _ (schema : Schema) (at tree : ℕ) (h : IsTableAt schema (trade_history_table tree) at) where
+  abbrev found : slice_get schema.tables at ≡ Some (trade_history_table tree)
   found = h.found
 
   shows : result lower (outermost schema) (level_one (codes "TRADE_HISTORY") at []) core (fresh 2 max_budget) ≡ Ok (columns, after 3 binary)
   unfolding sql_lowering_definitions
   shows =
       rw (
-        column_is schema at (history_table tree) found (codes "TRADE_HISTORY") [] [] true true (codes "TH_T_ID") 0 (integer_column (codes "TH_T_ID")) refl refl,
-        heading_is schema at (history_table tree) found (codes "TRADE_HISTORY") [] [] true true (e.Column None (codes "TH_T_ID")) (codes "TH_T_ID")
+        column_is schema at (trade_history_table tree) found (codes "TRADE_HISTORY") [] [] true true (codes "TH_T_ID") 0 (integer_column (codes "TH_T_ID")) refl refl,
+        heading_is schema at (trade_history_table tree) found (codes "TRADE_HISTORY") [] [] true true (e.Column None (codes "TH_T_ID")) (codes "TH_T_ID")
             (codes "TH_T_ID") 0 (integer_column (codes "TH_T_ID")) refl refl refl,
-        column_is schema at (history_table tree) found (codes "TRADE_HISTORY") [] [] true true (codes "TH_ST_ID") 1 (text_column (codes "TH_ST_ID")) refl refl,
-        heading_is schema at (history_table tree) found (codes "TRADE_HISTORY") [] [] true true (e.Column None (codes "TH_ST_ID")) (codes "TH_ST_ID")
+        column_is schema at (trade_history_table tree) found (codes "TRADE_HISTORY") [] [] true true (codes "TH_ST_ID") 1 (text_column (codes "TH_ST_ID")) refl refl,
+        heading_is schema at (trade_history_table tree) found (codes "TRADE_HISTORY") [] [] true true (e.Column None (codes "TH_ST_ID")) (codes "TH_ST_ID")
             (codes "TH_ST_ID") 1 (text_column (codes "TH_ST_ID")) refl refl refl,
-        column_is schema at (history_table tree) found (codes "TRADE_HISTORY") [] [] true true (codes "TH_DTS") 2 (integer_column (codes "TH_DTS")) refl refl,
-        heading_is schema at (history_table tree) found (codes "TRADE_HISTORY") [] [] true true (e.Column None (codes "TH_DTS")) (codes "TH_DTS") (codes "TH_DTS")
-            2 (integer_column (codes "TH_DTS")) refl refl refl,
+        column_is schema at (trade_history_table tree) found (codes "TRADE_HISTORY") [] [] true true (codes "TH_DTS") 2 (integer_column (codes "TH_DTS")) refl refl,
+        heading_is schema at (trade_history_table tree) found (codes "TRADE_HISTORY") [] [] true true (e.Column None (codes "TH_DTS")) (codes "TH_DTS")
+            (codes "TH_DTS") 2 (integer_column (codes "TH_DTS")) refl refl refl,
       )
 
   matches : matching lower (outermost schema) (level_one (codes "TRADE_HISTORY") at columns) core (after 3 binary)
       ≡ Ok (record { steps = Inner tree ∷ []; filter = terms }, after 6 nothing)
   unfolding sql_lowering_definitions
-  matches = rw (found, column_is schema at (history_table tree) found (codes "TRADE_HISTORY") columns [] false true (codes "TH_T_ID") 0 (integer_column (codes "TH_T_ID")) refl refl, found)
+  matches = rw (
+    found,
+    column_is schema at (trade_history_table tree) found (codes "TRADE_HISTORY") columns [] false true (codes "TH_T_ID") 0
+        (integer_column (codes "TH_T_ID")) refl refl,
+    found,
+  )
 
   sorted : sorts lower (inside schema (level_one (codes "TRADE_HISTORY") at columns) false) columns by (after 6 nothing) ≡ Ok ((draft tree).order, after 8 binary)
   unfolding sql_lowering_definitions
   sorted =
       rw (
-        column_is schema at (history_table tree) found (codes "TRADE_HISTORY") columns [] false true (codes "TH_T_ID") 0 (integer_column (codes "TH_T_ID")) refl refl,
-        column_is schema at (history_table tree) found (codes "TRADE_HISTORY") columns [] false true (codes "TH_ST_ID") 1 (text_column (codes "TH_ST_ID")) refl refl,
+        column_is schema at (trade_history_table tree) found (codes "TRADE_HISTORY") columns [] false true (codes "TH_T_ID") 0 (integer_column (codes "TH_T_ID")) refl refl,
+        column_is schema at (trade_history_table tree) found (codes "TRADE_HISTORY") columns [] false true (codes "TH_ST_ID") 1 (text_column (codes "TH_ST_ID")) refl refl,
       )
 
   meaning_is : meaning schema select ≡ Ok ((draft tree, names, Some Binary ∷ Some Binary ∷ Some Binary ∷ []), [])

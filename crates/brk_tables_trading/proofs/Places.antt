@@ -6,7 +6,7 @@ use Rattle.sqlite_value.proofs.OrderLemmas.{then-Equal}
 use Rattle.brk_model.specs.Tables.{Tables, TradeRow, HistoryRow, RequestRow, HoldingRow, SummaryRow, HoldingHistoryRow, SettlementRow}
 use Rattle.brk_model.specs.Keys.{trade_key, history_key, request_key, holding_key, summary_key, holding_history_key, settlement_key}
 use Rattle.brk_sql.proofs.Writes.{Place, IsRowidKey, IsUniqueKey}
-use Rattle.brk_tables_schema.specs.Shapes.{trade_table, history_table, request_table, holding_table, summary_table, holding_history_table, settlement_table}
+use Rattle.brk_tables_schema.specs.Shapes.{trade_table, trade_history_table, request_table, holding_table, summary_table, holding_history_table, settlement_table}
 use Rattle.brk_tables_schema.specs.Cells.{trade_cells, history_cells, request_cells, holding_cells, summary_cells, holding_history_cells, settlement_cells}
 use Rattle.brk_tables_schema.specs.Desk.{DeskTable, Trades, TradeHistory, Requests, ordering_by_primary_key, rows_of_table, desk_tables, Holdings, Summaries, HoldingHistory, Settlements}
 use Rattle.brk_tables_schema.proofs.Order.{key_total}
@@ -19,7 +19,7 @@ trade_keyed tree r s x y e f = let a : column r 0 ≡ Int (pos x.id) = cc in let
 pub request_keyed : IsRowidKey request_table request_cells (ordering_by_primary_key Requests)
 request_keyed tree r s x y e f = let a : column r 0 ≡ Int (pos x.trade) = cc in let b : column s 0 ≡ Int (pos y.trade) = cc in rw (a, b) (ap is_eq (then-Equal _))
 
-pub history_keyed : IsUniqueKey history_table history_cells (ordering_by_primary_key TradeHistory)
+pub history_keyed : IsUniqueKey trade_history_table history_cells (ordering_by_primary_key TradeHistory)
 history_keyed = record { key = 1 ∷ 2 ∷ []; first = λ tree. refl; tied = λ tree r s x y e f. same_key (history_key x) (history_key y) (1 ∷ 2 ∷ []) r s (ap (take 2) e) (ap (take 2) f) }
 
 pub trades_alone : (v : DeskTable) → v ≢ Trades → (xs : List TradeRow) (t : Tables) → rows_of_table v (record t { trades = xs }) ≡ rows_of_table v t

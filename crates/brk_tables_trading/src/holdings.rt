@@ -22,7 +22,7 @@ use sqlite_value::value::ValueRef;
 use std::alloc::Global;
 
 // Converts the number of rows to skip to an INTEGER, as the parameter of a statement.
-fn skipped_rows_as_parameter<'a>(skipped: u32) -> ValueRef<'a>
+fn skip_count_as_parameter<'a>(skipped: u32) -> ValueRef<'a>
     ensures { owned result ≡ Int (pos skipped) }
 {
     ValueRef::Int(skipped as i64)
@@ -50,7 +50,7 @@ pub fn page_of_lots_oldest_first<S: Alter>(
         &[
             id_as_parameter(account),
             text_as_parameter(symbol.as_str()),
-            skipped_rows_as_parameter(skipped),
+            skip_count_as_parameter(skipped),
         ],
     )?;
     decode_rows(alloc, &rows)
@@ -80,7 +80,7 @@ pub fn page_of_lots_newest_first<S: Alter>(
         &[
             id_as_parameter(account),
             text_as_parameter(symbol.as_str()),
-            skipped_rows_as_parameter(skipped),
+            skip_count_as_parameter(skipped),
         ],
     )?;
     decode_rows(alloc, &rows)

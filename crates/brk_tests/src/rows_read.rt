@@ -53,7 +53,7 @@ fn store_with_forty_lots<S: Alter + Drop>(
 // that the sale closes or reduces, without a lot that it opens, and the number of rows that were
 // read. Changes no lot. Fails if `count` is not within the limits of a quantity, if the closing
 // fails, or if memory runs out.
-fn lots_touched_and_rows_read<S: Alter>(
+fn touched_lot_and_row_counts<S: Alter>(
     alloc: Global,
     store: &mut Store<S>,
     count: u32,
@@ -96,7 +96,7 @@ fn expect_rows_read_by_sales<S: Alter>(
     lifo: bool,
 ) -> Result<(), Fail> {
     for (count, touched, read) in SALES {
-        let found = lots_touched_and_rows_read(alloc, store, count, lifo)?;
+        let found = touched_lot_and_row_counts(alloc, store, count, lifo)?;
         expect(
             found == (touched, read),
             format_args!("a sale of {count} shares"),

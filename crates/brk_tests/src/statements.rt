@@ -108,7 +108,7 @@ const WANTED: &str = "Statement of account 100\n\
 // Returns the error with which a writer with room for `room` bytes fails, by the remainder of
 // `room` divided by 3: `None` for 0, which means that it accepts no byte, `Other` for 1, and
 // `Interrupted` for 2.
-fn write_error_for_room(room: usize) -> Option<ErrorKind> {
+fn error_kind_for_room(room: usize) -> Option<ErrorKind> {
     match room % 3 {
         0 => None,
         1 => Some(ErrorKind::Other),
@@ -118,7 +118,7 @@ fn write_error_for_room(room: usize) -> Option<ErrorKind> {
 
 // Writes the statement of account 100 for March 2024, which must be `WANTED`, with a writer that
 // has room for `room` bytes, at most as many as `WANTED` has, and then fails once
-// (`write_error_for_room`). Checks that the statement fails with `Write`, or completes if there is
+// (`error_kind_for_room`). Checks that the statement fails with `Write`, or completes if there is
 // room for all its bytes, and that exactly its first `room` bytes are written. Fails if not.
 fn expect_statement_write_fault<S: Alter>(
     alloc: Global,
@@ -126,7 +126,7 @@ fn expect_statement_write_fault<S: Alter>(
     room: usize,
 ) -> Result<(), Fail> {
     let asked = account_and_days(100, "2024-03-01", "2024-03-31")?;
-    let mut writer = Narrow::new(alloc, room, write_error_for_room(room));
+    let mut writer = Narrow::new(alloc, room, error_kind_for_room(room));
     let ended = write_statement(alloc, asked, &mut writer, desk);
     let is_cut = matches!(&ended, Err(ReportFault::Write));
     let taken = writer.taken.as_slice();

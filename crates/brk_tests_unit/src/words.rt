@@ -344,9 +344,10 @@ const WRONG_SERVES: [(&str, &str, &str); 6] = [
 // The end of an error text.
 const MORE: &str = "For more information, try '--help'.\n";
 
-// Checks that each command line in `faults`, which its cause and its usage follow, is reported as
-// wrong, with the whole error text: the cause, the usage, which may be empty, and a line about
-// help. Fails with the text that is reported if not. Fails also if memory runs out.
+// Checks that each command line in `faults` is reported as wrong with its whole error text. An
+// element is a command line, the cause of the error, and the usage, which may be empty. The error
+// text is `error: `, the cause, an empty line, the usage and a line about help. Fails with the text
+// that is reported if it differs. Fails also if memory runs out.
 fn expect_usage_faults(alloc: Global, faults: &[(&str, &str, &str)]) -> Result<(), Fail> {
     for (line, cause, usage) in faults {
         let text = ["wrong: error: ", cause, "\n\n", usage, MORE];

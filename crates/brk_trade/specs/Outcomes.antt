@@ -5,7 +5,7 @@ use Rattle.brk_trade.specs.Estimates.{tax_on_gain_at_status}
 use Rattle.brk_lots.specs.declared.values.Values.{Values}
 use Rattle.brk_model.specs.Base.{is_withholding_status}
 use Rattle.brk_model.specs.Derived.{due_day_of_completion_stamp, signed_proceeds}
-use Rattle.brk_model.specs.Limits.{greatest_amount, greatest_price, greatest_qty, greatest_summary}
+use Rattle.brk_model.specs.Limits.{greatest_amount, greatest_price, greatest_qty, greatest_summary_quantity}
 use Rattle.brk_model.specs.Shares.{Deal, signed_by_side}
 use Rattle.brk_model.specs.Tests.{RefusalCheck}
 use Rattle.brk_money.specs.Amounts.{commission}
@@ -79,7 +79,7 @@ broker_commissions_after_result found price = found.broker.commissions + commiss
 abbrev pub checks_before_reading_lots : ResultPlanFacts → List RefusalCheck
 checks_before_reading_lots found =
     (not (is_same_trade_status found.trade.status Submitted), WrongStatus found.trade.status) ∷ (is_none found.rate, NoRate)
-    ∷ (nat_lt greatest_summary (nat_abs (shares_held_after_trade found)), Range limit.Summary) ∷ []
+    ∷ (nat_lt greatest_summary_quantity (nat_abs (shares_held_after_trade found)), Range limit.Summary) ∷ []
 
 -- The check that `stamp` is not `None` and that the due day of a completion at `stamp` is not after
 -- 9999-12-31 (`ClockEnd` for both). `rule` is the first day whose completions settle after one day,

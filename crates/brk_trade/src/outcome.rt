@@ -1,7 +1,7 @@
 //! The figures of a result for the trade that it completes.
 
 ghost use Rattle.std.specs.Prelude.{◌≡◌, ◌*◌, ◌≤◌, true, false, nat_lt, nat_abs, MatchOption, MatchResult, None, Some};
-ghost use Rattle.brk_model.specs.Limits.{greatest_price, greatest_summary};
+ghost use Rattle.brk_model.specs.Limits.{greatest_price, greatest_summary_quantity};
 ghost use Rattle.brk_model.specs.Shares as shares;
 ghost use Rattle.brk_model.specs.Tests.{first_refusal};
 ghost use Rattle.brk_trade.specs.Outcomes as spec;
@@ -51,12 +51,13 @@ fn signed_quantity_of_side(side: Side, qty: u32) -> i128
 // below 0 if sold short, or `None` if the absolute value of this number exceeds 9,999,999,999.
 fn shares_held_if_within_limit(found: &ResultPlanFacts) -> Option<i64>
     ensures { MatchOption result
-        (nat_lt greatest_summary (nat_abs (spec.shares_held_after_trade found.now)) ≡ true)
-        (λ summary. (summary ≡ spec.shares_held_after_trade found.now) × (nat_lt greatest_summary (nat_abs (spec.shares_held_after_trade found.now)) ≡ false)) }
+        (nat_lt greatest_summary_quantity (nat_abs (spec.shares_held_after_trade found.now)) ≡ true)
+        (λ summary. (summary ≡ spec.shares_held_after_trade found.now)
+        × (nat_lt greatest_summary_quantity (nat_abs (spec.shares_held_after_trade found.now)) ≡ false)) }
 {
     let held = i128::from(found.summary.unwrap_or(0));
     let after = held + signed_quantity_of_side(found.trade.kind.side(), found.trade.qty.get());
-    if after.unsigned_abs() > u128::from(Schema::Third.greatest_summary()) {
+    if after.unsigned_abs() > u128::from(Schema::Third.greatest_summary_quantity()) {
         return None;
     }
     Some(after as i64)

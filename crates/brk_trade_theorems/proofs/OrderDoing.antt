@@ -39,7 +39,7 @@ use Rattle.brk_plans.specs.declared.plan.Plan.{Plan}
 use Rattle.brk_changes.specs.declared.request_row.RequestRow.{RequestRow}
 use Rattle.brk_changes.specs.declared.trade_row.TradeRow.{TradeRow}
 use Rattle.brk_book_theorems.specs.Books.{BooksInvariant}
-use Rattle.brk_trade_theorems.specs.OrderPlans.{OrderLotsSatisfy, EstimateFactsMatchTables, OrderFactsMatchTables, PlanOrderPrecondition}
+use Rattle.brk_trade_theorems.specs.OrderPlans.{OrderPositionLotsSatisfy, EstimateFactsMatchTables, OrderFactsMatchTables, PlanOrderPrecondition}
 use Rattle.brk_trade_theorems.specs.Plans.{PlanImplementsCommand}
 use Rattle.brk_book_theorems.specs.Steps.{IsAcceptedWithEffect, base_after_command}
 use Rattle.brk_book_theorems.specs.TradeReads.{lots_of_position}
@@ -84,7 +84,7 @@ found_refuses_none found last now e =
 -- ---- the estimate
 
 pub estimate_told : (base : Base) (order : Order) (found : OrderPlanFacts) (given : List Lot → Type 0) (e : Estimate) → BooksInvariant base → EstimateFactsMatchTables (sheets base) order found
-    → OrderLotsSatisfy (sheets base) order given → EstimatesCheckedOrder order found given e → e ≡ estimate_from_model (estimate base (abstract_order order))
+    → OrderPositionLotsSatisfy (sheets base) order given → EstimatesCheckedOrder order found given e → e ≡ estimate_from_model (estimate base (abstract_order order))
 estimate_told base order found given e books k l h =
     h.estimated base (abstract_order order) (lots_of_position (sheets base) order.account order.symbol) (terms_read base order found books k h.accepted)
     (sym (shares_read base order.account order.symbol books)) (lots_given base order.account order.symbol order.is_lifo given books l) (all_found base order found books k h.accepted).held
@@ -99,7 +99,7 @@ estimate_refused base order found refusal books k e =
     ap (λ o. value_unless_refused o (view_of_base base (EstimateOf (abstract_order order)))) (sym (tests_read base order found [] [] books k (λ n. refl)) ∙ e)
 
 pub estimate_answered : (base : Base) (order : Order) (found : OrderPlanFacts) (given : List Lot → Type 0) (e : Estimate) → BooksInvariant base → EstimateFactsMatchTables (sheets base) order found
-    → OrderLotsSatisfy (sheets base) order given → EstimatesCheckedOrder order found given e → ask base (EstimateOf (abstract_order order)) ≡ Ok (estimate_fields (abstract_estimate e) ∷ [])
+    → OrderPositionLotsSatisfy (sheets base) order given → EstimatesCheckedOrder order found given e → ask base (EstimateOf (abstract_order order)) ≡ Ok (estimate_fields (abstract_estimate e) ∷ [])
 unfolding ask checks_of_query view_of_base
 estimate_answered base order found given e books k l h =
     ap (λ o. value_unless_refused o (estimate_fields (estimate base (abstract_order order)) ∷ [])) (sym (tests_read base order found [] [] books k (λ n. refl)) ∙ h.accepted)
@@ -180,7 +180,7 @@ order_made base order found last now stamp k t s =
     (books_order base now o)
 
 pub plan_order_does : (base : Base) (order : Order) (found : OrderPlanFacts) (given : List Lot → Type 0) (last : Option ℕ) (now : ℕ) (plan : Plan) → PlanOrderPrecondition base order found last now
-    → OrderLotsSatisfy (sheets base) order given → IsOrderPlan order found given last now plan → PlanImplementsCommand base now (PlaceOrder (abstract_order order)) plan
+    → OrderPositionLotsSatisfy (sheets base) order given → IsOrderPlan order found given last now plan → PlanImplementsCommand base now (PlaceOrder (abstract_order order)) plan
 plan_order_does base order found given last now plan k l p =
     let o : model.Order = abstract_order order in
     let tested = found_refuses_none found last now p.accepted in

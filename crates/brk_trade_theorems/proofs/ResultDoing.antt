@@ -18,7 +18,7 @@ use Rattle.brk_model.specs.Derived.{holding_summary_quantity, trade_count_of_bro
 use Rattle.brk_model.specs.Lists.{is_zero}
 use Rattle.brk_model.specs.Records.{Trade}
 use Rattle.brk_model.specs.Results as results
-use Rattle.brk_model.specs.Results.{completed_trade, completion_of_trade, deal_of_result, base_after_result}
+use Rattle.brk_model.specs.Results.{trade_after_completion, completion_of_trade, deal_of_result, base_after_result}
 use Rattle.brk_model.specs.Shares.{lots_of_shares, opened_shares, signed_by_side, touches_of_existing_lots}
 use Rattle.brk_model.specs.Sheets.{sheets}
 use Rattle.brk_model.specs.Step.{reply_to_command}
@@ -148,10 +148,10 @@ outcome_planned found price closed stamp = figures_of_result found price closed.
 
 -- what it comes to is what the definitions say
 record Agrees (base : Base) (price : ℕ) (t : Trade) (found : ResultPlanFacts) (closed : ClosedLots) (stamp : ℕ) : Type 0 where
-  pub commission : (outcome_planned found price closed stamp).completed.commission ≡ (completed_trade base stamp price t).commission
-  pub tax : (outcome_planned found price closed stamp).completed.tax ≡ (completed_trade base stamp price t).tax
-  pub amount : (outcome_planned found price closed stamp).completed.amount ≡ derived.settlement_amount base.accounts (completed_trade base stamp price t)
-  pub due : (outcome_planned found price closed stamp).completed.due_day ≡ due_day base.rule (completed_trade base stamp price t)
+  pub commission : (outcome_planned found price closed stamp).completed.commission ≡ (trade_after_completion base stamp price t).commission
+  pub tax : (outcome_planned found price closed stamp).completed.tax ≡ (trade_after_completion base stamp price t).tax
+  pub amount : (outcome_planned found price closed stamp).completed.amount ≡ derived.settlement_amount base.accounts (trade_after_completion base stamp price t)
+  pub due : (outcome_planned found price closed stamp).completed.due_day ≡ due_day base.rule (trade_after_completion base stamp price t)
   pub summary : (outcome_planned found price closed stamp).summary ≡ holding_summary_quantity (completed_trades (base_after_result base stamp price t)) t.account t.symbol
   pub balance : (outcome_planned found price closed stamp).completed.balance ≡ balance_of_account base.accounts (postings_of_base (base_after_result base stamp price t)) t.account
   pub commissions : (outcome_planned found price closed stamp).commissions
@@ -183,7 +183,7 @@ agrees base price last now t found closed stamp k =
 
 told_read : (base : Base) (price : ℕ) (last : Option ℕ) (now : ℕ) (t : Trade) (found : ResultPlanFacts) (closed : ClosedLots) (stamp : ℕ) → Planned base price last now t found closed stamp
     → CompletedTrade stamp (completion_of_trade base stamp price t) ≡ abstract_reply (reply.Completed (outcome_planned found price closed stamp).completed)
-unfolding completion_of_trade completed_trade
+unfolding completion_of_trade trade_after_completion
 told_read base price last now t found closed stamp k =
     let a = agrees base price last now t found closed stamp k in
     sym (λ i. CompletedTrade stamp (record {
@@ -200,19 +200,19 @@ told_read base price last now t found closed stamp k =
 
 trade_made : (base : Base) (price : ℕ) (last : Option ℕ) (now : ℕ) (t : Trade) (found : ResultPlanFacts) (closed : ClosedLots) (stamp : ℕ) → Planned base price last now t found closed stamp
     → (x : Tables) → tables_after_changes (row_changes_of_completed_trade found.trade.id price (outcome_planned found price closed stamp).completed) x
-    ≡ tables_with_trade_completed_and_history (trade_row (completed_trade base stamp price t)) x
-unfolding completed_trade
+    ≡ tables_with_trade_completed_and_history (trade_row (trade_after_completion base stamp price t)) x
+unfolding trade_after_completion
 trade_made base price last now t found closed stamp k x =
     let a = agrees base price last now t found closed stamp k in
-    let m : stamp ≡ last_status_stamp_of_trade (completed_trade base stamp price t) = sym (moment_then base stamp price t) in
+    let m : stamp ≡ last_status_stamp_of_trade (trade_after_completion base stamp price t) = sym (moment_then base stamp price t) in
     λ i. tables_with_history_row (history_row_of_status (k.found_it.row i).id Completed (m i)) (tables_with_trade_completed (k.found_it.row i).id (m i) price (a.commission i) (a.tax i) x)
 
 lots_made : (base : Base) (price : ℕ) (last : Option ℕ) (now : ℕ) (t : Trade) (found : ResultPlanFacts) (closed : ClosedLots) (stamp : ℕ) → Planned base price last now t found closed stamp
     → (x : Tables) → tables_after_changes (flat_map (row_changes_of_opened_lot found.trade) (option_to_list closed.opened))
     (tables_after_changes (flat_map (row_changes_of_touched_lot found.trade.id) closed.touched.items) x)
-    ≡ tables_with_lots_opened (trade_row (completed_trade base stamp price t)) (result_rows_of_trade base stamp price t).opened
+    ≡ tables_with_lots_opened (trade_row (trade_after_completion base stamp price t)) (result_rows_of_trade base stamp price t).opened
     (tables_with_lots_touched t.id (result_rows_of_trade base stamp price t).touched x)
-unfolding completed_trade
+unfolding trade_after_completion
 lots_made base price last now t found closed stamp k x =
     ap (tables_after_changes (flat_map (row_changes_of_opened_lot found.trade) (option_to_list closed.opened))) (touched_made found.trade.id closed.touched.items x)
     ∙ opened_made found.trade (option_to_list closed.opened) (tables_with_lots_touched found.trade.id (map abstract_touch closed.touched.items) x)
@@ -264,7 +264,7 @@ sums_made : (base : Base) (price : ℕ) (last : Option ℕ) (now : ℕ) (t : Tra
     (tables_with_summary_changed (holding_summary_quantity (completed_trades base) t.account t.symbol)
     (holding_summary_quantity (completed_trades (base_after_result base stamp price t)) t.account t.symbol)
     (record { account = t.account; symbol = t.symbol; qty = holding_summary_quantity (completed_trades (base_after_result base stamp price t)) t.account t.symbol }) x))
-unfolding completed_trade
+unfolding trade_after_completion
 sums_made base price last now t found closed stamp k x =
     let a = agrees base price last now t found closed stamp k in
     let f = k.found_it in
@@ -280,7 +280,7 @@ cash_made : (base : Base) (price : ℕ) (last : Option ℕ) (now : ℕ) (t : Tra
     → (cash : Option MoveRow) → option_map abstract_move_row cash ≡ planner.cash_row_of_result found (outcome_planned found price closed stamp).completed → (x : Tables)
     → tables_after_changes (flat_map (row_changes_of_cash_row found.trade.account (outcome_planned found price closed stamp).completed.balance) (option_to_list cash)) x
     ≡ tables_with_cash_row_if_cash_trade t.is_cash (result_rows_of_trade base stamp price t).cash t.account (result_rows_of_trade base stamp price t).balance x
-unfolding completed_trade
+unfolding trade_after_completion
 cash_made base price last now t found closed stamp k cash moved x = by_cash t.is_cash refl cash (moved ∙ told)
   where
     a : Agrees base price t found closed stamp
@@ -297,7 +297,7 @@ cash_made base price last now t found closed stamp k cash moved x = by_cash t.is
       id = length (postings_of_base base) + 1;
       account = t.account;
       trade = Some t.id;
-      stamp = last_status_stamp_of_trade (completed_trade base stamp price t);
+      stamp = last_status_stamp_of_trade (trade_after_completion base stamp price t);
       amount = row.amount;
       name = results.cash_row_name (codes " shares of ") base t;
     }
@@ -347,7 +347,7 @@ changes_made : (base : Base) (price : ℕ) (last : Option ℕ) (now : ℕ) (t : 
     → (cash : Option MoveRow) → option_map abstract_move_row cash ≡ planner.cash_row_of_result found (outcome_planned found price closed stamp).completed → (x : Tables)
     → tables_after_changes (row_changes_of_result found price closed (outcome_planned found price closed stamp) cash) x
     ≡ tables_with_last_stamp stamp (tables_after_result (result_rows_of_trade base stamp price t) x)
-unfolding completed_trade
+unfolding trade_after_completion
 changes_made base price last now t found closed stamp k cash moved x =
     let o : ResultFigures = outcome_planned found price closed stamp in
     let T : List Change = row_changes_of_completed_trade found.trade.id price o.completed in
@@ -360,7 +360,7 @@ changes_made base price last now t found closed stamp k cash moved x =
     ∙ ap (tables_after_changes C) (after_more ((T ++ L) ++ O) S x
     ∙ ap (tables_after_changes S) (after_more (T ++ L) O x ∙ ap (tables_after_changes O) (after_more T L x)
     ∙ ap (λ y. tables_after_changes O (tables_after_changes L y)) (trade_made base price last now t found closed stamp k x)
-    ∙ lots_made base price last now t found closed stamp k (tables_with_trade_completed_and_history (trade_row (completed_trade base stamp price t)) x))
+    ∙ lots_made base price last now t found closed stamp k (tables_with_trade_completed_and_history (trade_row (trade_after_completion base stamp price t)) x))
     ∙ sums_made base price last now t found closed stamp k _)
     ∙ cash_made base price last now t found closed stamp k cash moved _)
 

@@ -14,9 +14,9 @@ use Rattle.brk_model.specs.Derived as derived
 use Rattle.brk_model.specs.Derived.{balance_of_account, commission_total_of_broker, due_day_of_completion_stamp, postings_of_base, signed_proceeds}
 use Rattle.brk_model.specs.Derived.{shares_of_position, holding_summary_quantity, trade_count_of_broker}
 use Rattle.brk_model.specs.Joins.{account_row_with_id, security_row_with_symbol}
-use Rattle.brk_model.specs.Limits.{greatest_amount, greatest_summary}
+use Rattle.brk_model.specs.Limits.{greatest_amount, greatest_summary_quantity}
 use Rattle.brk_model.specs.Records.{Account, Band, Broker, StatusChange, Security, Trade}
-use Rattle.brk_model.specs.Results.{completed_trade, deal_of_result, base_after_result}
+use Rattle.brk_model.specs.Results.{trade_after_completion, deal_of_result, base_after_result}
 use Rattle.brk_model.specs.Shares.{realised_gain, signed_by_side}
 use Rattle.brk_model.specs.Sheets.{sheets, tables_sorted_by_key}
 use Rattle.brk_model.specs.Tables.{TradeRow, broker_row, security_row, last_status_of_trade, tables_of_base_in_schema, trade_row}
@@ -88,7 +88,7 @@ pub passes_rate : (found : ResultPlanFacts) → not (is_same_trade_status found.
 passes_rate found a b = rw (a, b) refl
 
 pub passes_summary : (found : ResultPlanFacts) → not (is_same_trade_status found.trade.status Submitted) ≡ false → is_none found.rate ≡ false
-    → nat_lt greatest_summary (nat_abs (shares_held_after_trade found)) ≡ false → PassesFirstResultChecks 3 found
+    → nat_lt greatest_summary_quantity (nat_abs (shares_held_after_trade found)) ≡ false → PassesFirstResultChecks 3 found
 passes_summary found a b c = rw (a, b, c) refl
 
 rate_read : (base : Base) (t : Trade) (found : ResultPlanFacts) → TradeFound base t found → PassesFirstResultChecks 1 found
@@ -187,23 +187,23 @@ band_rate None rate qty price e h = let k : true ≡ false = sym (ap is_none e) 
 band_rate (Some b) rate qty price e h = ap (λ r. commission (unwrap_or r 0) qty price) e
 
 pub commission_read : (base : Base) (stamp price : ℕ) (t : Trade) (found : ResultPlanFacts) → TradeFound base t found → PassesFirstResultChecks 1 found → is_none found.rate ≡ false
-    → commission_of_result found price ≡ (completed_trade base stamp price t).commission
-unfolding completed_trade
+    → commission_of_result found price ≡ (trade_after_completion base stamp price t).commission
+unfolding trade_after_completion
 commission_read base stamp price t found k p h =
     ap (λ (r : TradeRow). commission (unwrap_or found.rate 0) r.qty price) k.row
     ∙ band_rate (commission_band_for_quantity base (tier_of_account base t.account) t.kind (exchange_of_security base t.symbol) t.qty) found.rate t.qty price (rate_read base t found k p) h
 
 pub tax_read : (base : Base) (stamp price : ℕ) (t : Trade) (found : ResultPlanFacts) → TradeFound base t found → PassesFirstResultChecks 3 found
-    → tax_of_result found (result_values base stamp price t) ≡ (completed_trade base stamp price t).tax
-unfolding completed_trade
+    → tax_of_result found (result_values base stamp price t) ≡ (trade_after_completion base stamp price t).tax
+unfolding trade_after_completion
 tax_read base stamp price t found k p =
     let g : ℤ = realised_gain (deal_of_result stamp price t) (shares_of_position (completed_trades base) t.account t.symbol) in
     λ i. cond (is_taxable_status (account_found base t found k p i).tax_status) (tax g (rates_found base t found k p i)) 0
 
 pub amount_read : (base : Base) (stamp price : ℕ) (t : Trade) (found : ResultPlanFacts) → TradeFound base t found → PassesFirstResultChecks 3 found
     → is_none found.rate ≡ false → PassesFirstResultChecks 1 found
-    → settlement_amount_of_result found price (result_values base stamp price t) ≡ derived.settlement_amount base.accounts (completed_trade base stamp price t)
-unfolding completed_trade
+    → settlement_amount_of_result found price (result_values base stamp price t) ≡ derived.settlement_amount base.accounts (trade_after_completion base stamp price t)
+unfolding trade_after_completion
 amount_read base stamp price t found k p h q =
     let c = commission_read base stamp price t found k q h in
     let x = tax_read base stamp price t found k p in
@@ -220,20 +220,20 @@ balance_read base stamp price t xs ys found k r p h q =
     a : found.account ≡ account_is base t
     a = account_found base t found k p
 
-    m : settlement_amount_of_result found price (result_values base stamp price t) ≡ derived.settlement_amount base.accounts (completed_trade base stamp price t)
+    m : settlement_amount_of_result found price (result_values base stamp price t) ≡ derived.settlement_amount base.accounts (trade_after_completion base stamp price t)
     m = amount_read base stamp price t found k p h q
 
     by_cash : (b : Bool) → t.is_cash ≡ b
         → cond t.is_cash (balance_of_account base.accounts (postings_of_base base) t.account +ℤ derived.settlement_amount base.accounts
-        (completed_trade base stamp price t)) (balance_of_account base.accounts (postings_of_base base) t.account)
+        (trade_after_completion base stamp price t)) (balance_of_account base.accounts (postings_of_base base) t.account)
         ≡ balance_of_account base.accounts (postings_of_base (base_after_result base stamp price t)) t.account
     by_cash true e =
         ap (λ b. cond b (balance_of_account base.accounts (postings_of_base base) t.account +ℤ derived.settlement_amount base.accounts
-        (completed_trade base stamp price t)) (balance_of_account base.accounts (postings_of_base base) t.account)) e
+        (trade_after_completion base stamp price t)) (balance_of_account base.accounts (postings_of_base base) t.account)) e
         ∙ sym (balance_grows base stamp price t xs ys r e)
     by_cash false e =
         ap (λ b. cond b (balance_of_account base.accounts (postings_of_base base) t.account +ℤ derived.settlement_amount base.accounts
-        (completed_trade base stamp price t)) (balance_of_account base.accounts (postings_of_base base) t.account)) e
+        (trade_after_completion base stamp price t)) (balance_of_account base.accounts (postings_of_base base) t.account)) e
         ∙ sym (balance_stays base stamp price t xs ys r e)
 
 pub summary_read : (base : Base) (stamp price : ℕ) (t : Trade) (xs ys : List Trade) (found : ResultPlanFacts) → TradeFound base t found
@@ -295,7 +295,7 @@ all_alike base now id price t found last k e l h =
     let f : Found base now price t = found_at base now id price t k.books e (not_not (has_last_status Submitted t) (sym (status_read t found k.row) ∙ a)) in
     let one = passes_status found a in
     same_first _ _ (Range limit.Summary) _ _
-    (ap (λ q. nat_lt greatest_summary (nat_abs q)) (summary_read base stamp price t f.front f.back found k f.result (passes_rate found a b))) (λ c.
+    (ap (λ q. nat_lt greatest_summary_quantity (nat_abs q)) (summary_read base stamp price t f.front f.back found k f.result (passes_rate found a b))) (λ c.
     let three = passes_summary found a b c in
     same_first _ _ (Range limit.Balance) _ _
     (λ i. (k.row i).is_cash && nat_lt greatest_amount (nat_abs (balance_read base stamp price t f.front f.back found k f.result three b one i))) (λ d.
@@ -313,7 +313,7 @@ all_alike base now id price t found last k e l h =
     V = result_values base stamp price t
 
     F : List RefusalCheck
-    F = (is_none found.rate, NoRate) ∷ (nat_lt greatest_summary (nat_abs (shares_held_after_trade found)), Range limit.Summary)
+    F = (is_none found.rate, NoRate) ∷ (nat_lt greatest_summary_quantity (nat_abs (shares_held_after_trade found)), Range limit.Summary)
         ∷ (found.trade.is_cash && nat_lt greatest_amount (nat_abs (balance_after_result found price V)), Range limit.Balance)
         ∷ (nat_lt greatest_amount (broker_commissions_after_result found price), Range limit.Broker) ∷ due_day_check found.rule (stamp_after last now) ∷ []
 

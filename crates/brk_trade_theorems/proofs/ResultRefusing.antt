@@ -26,7 +26,7 @@ use Rattle.brk_trade.proofs.Results.{first_refuses}
 use Rattle.brk_changes.specs.Rows.{abstract_trade_row}
 use Rattle.brk_trade.specs.declared.result_found.ResultPlanFacts.{ResultPlanFacts}
 use Rattle.brk_book_theorems.specs.Books.{BooksInvariant}
-use Rattle.brk_trade_theorems.specs.ResultPlans.{TradeLotsSatisfy, PlanResultPrecondition, PassesFirstResultChecks}
+use Rattle.brk_trade_theorems.specs.ResultPlans.{TradePositionLotsSatisfy, PlanResultPrecondition, PassesFirstResultChecks}
 use Rattle.brk_book_theorems.specs.TradeReads.{lots_of_position}
 use Rattle.brk_book_theorems.proofs.Holding.{lots_given, total_is}
 use Rattle.brk_book_theorems.proofs.LotOrder.{shares_read}
@@ -56,7 +56,7 @@ lots_shares base t found f =
 
 -- a trade at the market meets those of a position, from one of its ends, none of which it opened
 pub lots_met : (base : Base) (id : ℕ) (found : ResultPlanFacts) (given : List Lot → Type 0) → BooksInvariant base → trade_row_with_id (sheets base) id ≡ Some (abstract_trade_row found.trade)
-    → is_same_trade_status found.trade.status Submitted ≡ true → TradeLotsSatisfy (sheets base) found.trade given
+    → is_same_trade_status found.trade.status Submitted ≡ true → TradePositionLotsSatisfy (sheets base) found.trade given
     → shares_held_before_trade found ≡ holding_summary_quantity (completed_trades base) found.trade.account found.trade.symbol
     → AreLotsBeforeTrade given found (lots_of_position (sheets base) found.trade.account found.trade.symbol)
 lots_met base id found given books e s k h =

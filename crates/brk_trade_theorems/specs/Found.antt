@@ -7,7 +7,7 @@ use Rattle.brk_plans.specs.declared.reference.ReferenceFacts.{ReferenceFacts}
 use Rattle.brk_plans.specs.declared.reference.Reference.{Reference}
 use Rattle.brk_plans.specs.declared.reference.Reference.TheVariants as reference
 use Rattle.brk_model.specs.Form.{has_account, has_broker, has_customer, has_security}
-use Rattle.brk_book_theorems.specs.Reads.{contains_tax_id, account_count_of_customer, contains_permission, contains_charge, overlaps_some_band}
+use Rattle.brk_book_theorems.specs.Reads.{contains_customer_with_tax_id, account_count_of_customer, contains_permission, contains_charge, overlaps_some_band}
 use Rattle.brk_book_theorems.specs.Reads.{contains_tax_rate, rate_of_tax_rate_with_id, contains_customer_tax, customer_tax_rate_sum}
 
 -- The facts `found` about a new account are true of the tables: whether an account with the id `id`
@@ -38,7 +38,7 @@ pub record CustomerTaxFactsMatchTables (t : Tables) (customer tax : ℕ) (found 
 abbrev pub ReferenceFactsMatchTables : Tables → Reference → ReferenceFacts → Type 0
 ReferenceFactsMatchTables t (reference.Broker broker) found = found.same_id ≡ has_broker t broker.id
 ReferenceFactsMatchTables t (reference.Customer customer) found =
-    (found.same_id ≡ has_customer t customer.id) × (found.same_tax_id ≡ contains_tax_id t customer.tax_id)
+    (found.same_id ≡ has_customer t customer.id) × (found.same_tax_id ≡ contains_customer_with_tax_id t customer.tax_id)
 ReferenceFactsMatchTables t (reference.Account account) found = AccountFactsMatchTables t account.id account.customer account.broker found
 ReferenceFactsMatchTables t (reference.Permission permission) found =
     (found.account ≡ has_account t permission.account) × (found.same_id ≡ contains_permission t permission.account permission.tax_id)

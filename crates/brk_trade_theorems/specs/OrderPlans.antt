@@ -77,8 +77,8 @@ pub record OrderFactsMatchTables (t : Tables) (order : Order) (found : OrderPlan
 
 -- The lots of the order's account in the order's symbol satisfy `given`. They are listed from the
 -- newest on if the order closes last in, first out, and otherwise from the oldest on.
-abbrev pub OrderLotsSatisfy : Tables → Order → (List Lot → Type 0) → Type 0
-OrderLotsSatisfy t order given = PositionLotsSatisfy t order.account order.symbol order.is_lifo given
+abbrev pub OrderPositionLotsSatisfy : Tables → Order → (List Lot → Type 0) → Type 0
+OrderPositionLotsSatisfy t order given = PositionLotsSatisfy t order.account order.symbol order.is_lifo given
 
 -- ---- an order
 

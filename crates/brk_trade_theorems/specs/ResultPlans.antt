@@ -60,8 +60,8 @@ pub record ResultFactsMatchTables (t : Tables) (found : ResultPlanFacts) : Type 
 
 -- The lots of the trade's account in the trade's symbol satisfy `given`. They are listed from the
 -- newest on if the trade closes last in, first out, and otherwise from the oldest on.
-abbrev pub TradeLotsSatisfy : Tables → TradeRow → (List Lot → Type 0) → Type 0
-TradeLotsSatisfy t trade given = PositionLotsSatisfy t trade.account trade.symbol trade.is_lifo given
+abbrev pub TradePositionLotsSatisfy : Tables → TradeRow → (List Lot → Type 0) → Type 0
+TradePositionLotsSatisfy t trade given = PositionLotsSatisfy t trade.account trade.symbol trade.is_lifo given
 
 -- ---- a result
 
@@ -69,12 +69,12 @@ TradeLotsSatisfy t trade given = PositionLotsSatisfy t trade.account trade.symbo
 -- invariant, the trade and its facts (`found` is `None` if it does not exist) and the last stamp
 -- are read from its tables, and the clock reading `now` is within the range of stamps. If the trade
 -- exists, its quantity is above 0, and, if it is submitted, the lots of its account in its symbol
--- satisfy `given` (`TradeLotsSatisfy`).
+-- satisfy `given` (`TradePositionLotsSatisfy`).
 pub record PlanResultPrecondition (base : Base) (id : ℕ) (found : Option ResultPlanFacts) (given : List Lot → Type 0) (last : Option ℕ) (now : ℕ) : Type 0 where
   pub books : BooksInvariant base
   pub trade_read : trade_row_with_id (sheets base) id ≡ option_map (λ f. abstract_trade_row f.trade) found
   pub looked_up : IfSome found (ResultFactsMatchTables (sheets base))
-  pub lots_read : IfSome found (λ f. PassesFirstResultChecks 1 f → TradeLotsSatisfy (sheets base) f.trade given)
+  pub lots_read : IfSome found (λ f. PassesFirstResultChecks 1 f → TradePositionLotsSatisfy (sheets base) f.trade given)
   pub some_shares : IfSome found (λ f. 0 < f.trade.qty)
   pub last_read : last ≡ (sheets base).last
   pub moment : now ≤ greatest_stamp

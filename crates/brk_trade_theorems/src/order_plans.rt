@@ -24,7 +24,7 @@ ghost use Rattle.brk_plans.specs.Replies.{abstract_estimate};
 ghost use Rattle.brk_trade.specs.declared.order.OrderPlanFacts.{OrderPlanFacts};
 ghost use Rattle.brk_plans.specs.declared.plan.Plan.{Plan};
 ghost use Rattle.brk_book_theorems.specs.Books.{BooksInvariant};
-ghost use Rattle.brk_trade_theorems.specs.OrderPlans.{OrderLotsSatisfy, EstimateFactsMatchTables, PlanOrderPrecondition};
+ghost use Rattle.brk_trade_theorems.specs.OrderPlans.{OrderPositionLotsSatisfy, EstimateFactsMatchTables, PlanOrderPrecondition};
 ghost use Rattle.brk_trade_theorems.specs.Plans.{PlanImplementsCommand};
 
 /// Proves that the terms of an order that are computed from facts that are true of the tables of a
@@ -50,7 +50,7 @@ pub fn order_plans_implement_commands()
         → step base now (PlaceOrder (abstract_order order)) ≡ Err refusal }
     ensures done { (base : Base) (order : Order) (found : OrderPlanFacts) (lots : List Lot) (last : Option ℕ) (now : ℕ) (plan : Plan)
         → PlanOrderPrecondition base order found last now
-        → OrderLotsSatisfy (sheets base) order (EqualsLots lots) → IsOrderPlan order found (EqualsLots lots) last now plan
+        → OrderPositionLotsSatisfy (sheets base) order (EqualsLots lots) → IsOrderPlan order found (EqualsLots lots) last now plan
         → PlanImplementsCommand base now (PlaceOrder (abstract_order order)) plan }
 {}
 
@@ -64,10 +64,10 @@ pub fn estimates_equal_model_estimates()
         → first_refusal (order_checks found) ≡ Some refusal → ask base (EstimateOf (abstract_order order)) ≡ Err refusal }
     ensures estimate { (base : Base) (order : Order) (found : OrderPlanFacts) (lots : List Lot) (e : Estimate) → BooksInvariant base
         → EstimateFactsMatchTables (sheets base) order found
-        → OrderLotsSatisfy (sheets base) order (EqualsLots lots) → EstimatesCheckedOrder order found (EqualsLots lots) e
+        → OrderPositionLotsSatisfy (sheets base) order (EqualsLots lots) → EstimatesCheckedOrder order found (EqualsLots lots) e
         → e ≡ estimate_from_model (estimate base (abstract_order order)) }
     ensures answered { (base : Base) (order : Order) (found : OrderPlanFacts) (lots : List Lot) (e : Estimate) → BooksInvariant base
         → EstimateFactsMatchTables (sheets base) order found
-        → OrderLotsSatisfy (sheets base) order (EqualsLots lots) → EstimatesCheckedOrder order found (EqualsLots lots) e
+        → OrderPositionLotsSatisfy (sheets base) order (EqualsLots lots) → EstimatesCheckedOrder order found (EqualsLots lots) e
         → ask base (EstimateOf (abstract_order order)) ≡ Ok (estimate_fields (abstract_estimate e) ∷ []) }
 {}

@@ -36,7 +36,8 @@ use Rattle.brk_changes.specs.declared.trade_row.TradeRow as row
 use Rattle.brk_plans.specs.Reference.{later_stamp_check}
 use Rattle.brk_plans.specs.Replies.{abstract_reply}
 use Rattle.brk_plans.specs.Update as planner
-use Rattle.brk_plans.specs.Update.{IsUpdatePlan, cash_text_update, cash_type_update, count_of_updated_trades, executor_name_update, missing_target_refusal, update_checks, table_updates_of_text_update}
+use Rattle.brk_plans.specs.Update.{IsUpdatePlan, tables_with_toggled_cash_text, tables_with_toggled_cash_type, count_of_updated_trades}
+use Rattle.brk_plans.specs.Update.{tables_with_updated_executor_name, missing_target_refusal, update_checks, table_updates_of_text_update}
 use Rattle.brk_plans.specs.declared.corrected.TextUpdate.{TextUpdate}
 use Rattle.brk_plans.specs.declared.corrected.TextUpdate.TheVariants as corrected
 use Rattle.brk_plans.specs.declared.corrected.CashText.{CashText}
@@ -91,10 +92,10 @@ executors_rows base ids =
     ap (λ ts. sheets (record base { trades = ts })) (map-same _ (reworded (name_then p) (λ t. t.cash_type) (λ t. t.cash_name)) base.trades (All-of base.trades (renamed p)))
     ∙ tables_reworded (name_then p) (λ t. t.cash_type) (λ t. t.cash_name) base
 
-executors_along : (t : Tables) (cs : List row.TradeRow) → fold (λ t c. executor_name_update c t) t cs
+executors_along : (t : Tables) (cs : List row.TradeRow) → fold (λ t c. tables_with_updated_executor_name c t) t cs
     ≡ record t { trades = fold (λ rows c. update_where (λ r. r.id == c.id) (λ r. record r { executor = updated_executor_name (string_bytes c.executor) }) rows) t.trades cs }
 executors_along t [] = refl
-executors_along t (c ∷ cs) = executors_along (executor_name_update c t) cs
+executors_along t (c ∷ cs) = executors_along (tables_with_updated_executor_name c t) cs
 
 -- the rows that were found, one for each id
 found_each : (t : Tables) (rows : List row.TradeRow) (ids : List ℕ) → AreTradesWithIds t ids rows
@@ -118,7 +119,7 @@ found_each t (c ∷ rows) (id ∷ ids) e =
         by_test more false i = more (rw i at e)
 
 pub executors_set : (base : Base) (ids : List ℕ) (rows : List row.TradeRow) → BooksInvariant base → AreTradesWithIds (sheets base) ids rows
-    → sheets (base_with_updated_executors ids base) ≡ fold (λ t c. executor_name_update c t) (sheets base) rows
+    → sheets (base_with_updated_executors ids base) ≡ fold (λ t c. tables_with_updated_executor_name c t) (sheets base) rows
 unfolding tables_of_base_in_schema tables_sorted_by_key
 executors_set base ids rows books read =
     let found = found_each (sheets base) rows ids read in
@@ -165,14 +166,14 @@ cash_types_rows base ids =
     ap (λ ts. sheets (record base { trades = ts })) (map-same _ (reworded (λ t. t.executor) (word_then p) (λ t. t.cash_name)) base.trades (All-of base.trades (resettled p)))
     ∙ tables_reworded (λ t. t.executor) (word_then p) (λ t. t.cash_name) base
 
-cash_types_along : (t : Tables) (cs : List SettlementText) → fold (λ t c. cash_type_update c t) t cs
+cash_types_along : (t : Tables) (cs : List SettlementText) → fold (λ t c. tables_with_toggled_cash_type c t) t cs
     ≡ record t {
       settlements =
           fold (λ rows c. update_where (λ r. r.trade == c.trade)
           (λ r. record r { cash_type = planner.toggled_cash_type_text c.is_cash (cash_type_text c.cash_type) }) rows) t.settlements cs;
     }
 cash_types_along t [] = refl
-cash_types_along t (c ∷ cs) = cash_types_along (cash_type_update c t) cs
+cash_types_along t (c ∷ cs) = cash_types_along (tables_with_toggled_cash_type c t) cs
 
 -- what was found of each trade that is chosen
 found_of : {C R : Type 0} (view : C → R) (told : TradeRow → R) (id : R → ℕ) (cs : List C) (us : List Trade) (P : Trade → Type 0)
@@ -193,7 +194,7 @@ same_row base t u same own other = some_is _ _ (sym other ∙ ap (trade_row_with
 
 pub cash_types_set : (base : Base) (account first last : ℕ) (cs : List SettlementText) → BooksInvariant base
     → SettlementTextsMatchTables (sheets base) (first_twenty_completed_trade_rows_of_account account first last (sheets base)) cs
-    → sheets (base_with_updated_cash_types (selected_trade_ids_of_account base account first last) base) ≡ fold (λ t c. cash_type_update c t) (sheets base) cs
+    → sheets (base_with_updated_cash_types (selected_trade_ids_of_account base account first last) base) ≡ fold (λ t c. tables_with_toggled_cash_type c t) (sheets base) cs
 unfolding tables_of_base_in_schema tables_sorted_by_key
 cash_types_set base account first last cs books read =
     let us : List Trade = chosen_trades base (λ t. t.account == account) first last in
@@ -255,10 +256,10 @@ cash_names_rows base ids =
     ap (λ ts. sheets (record base { trades = ts })) (map-same _ (reworded (λ t. t.executor) (λ t. t.cash_type) (text_then base p)) base.trades (All-of base.trades (repaid base p)))
     ∙ tables_reworded (λ t. t.executor) (λ t. t.cash_type) (text_then base p) base
 
-cash_names_along : (security : Text) (t : Tables) (cs : List CashText) → fold (λ t c. cash_text_update security c t) t cs
+cash_names_along : (security : Text) (t : Tables) (cs : List CashText) → fold (λ t c. tables_with_toggled_cash_text security c t) t cs
     ≡ record t { moves = fold (λ rows c. update_where (is_cash_row_of_trade c.trade) (λ r. record r { name = planner.toggled_cash_text_of_trade security c }) rows) t.moves cs }
 cash_names_along security t [] = refl
-cash_names_along security t (c ∷ cs) = cash_names_along security (cash_text_update security c t) cs
+cash_names_along security t (c ∷ cs) = cash_names_along security (tables_with_toggled_cash_text security c t) cs
 
 named : (o : Option Security) (name : Text) → option_map (λ s. s.name) (option_map security_row o) ≡ Some name → option_map_or (λ s. s.name) o [] ≡ name
 named None name e = absurd (cc)
@@ -274,7 +275,7 @@ and_last false b c e = absurd (cc)
 
 pub cash_names_set : (base : Base) (symbol : Text) (first last : ℕ) (name : Text) (cs : List CashText) → BooksInvariant base → SecurityHasName (sheets base) symbol name
     → CashTextsMatchTables (sheets base) (first_twenty_completed_cash_trade_rows_of_symbol symbol first last (sheets base)) cs
-    → sheets (base_with_updated_cash_names (selected_trade_ids_of_symbol base symbol first last) base) ≡ fold (λ t c. cash_text_update name c t) (sheets base) cs
+    → sheets (base_with_updated_cash_names (selected_trade_ids_of_symbol base symbol first last) base) ≡ fold (λ t c. tables_with_toggled_cash_text name c t) (sheets base) cs
 unfolding tables_of_base_in_schema tables_sorted_by_key
 cash_names_set base symbol first last name cs books is_named read =
     let test : Trade → Bool = λ t. t.is_cash && bytes_eq t.symbol symbol in
@@ -370,17 +371,17 @@ words_changed : (base : Base) (stamp : ℕ) (u : told.Update) (found : TextUpdat
     → sheets (base_after_command_unstamped base stamp (text_update_command u)) ≡ fold (λ t f. f t) (sheets base) (table_updates_of_text_update found)
 unfolding base_after_command_unstamped
 words_changed base stamp (update.Executors ids) (corrected.Executors trades) books k =
-    executors_set base ids trades.items books k ∙ sym (fold-map executor_name_update trades.items (sheets base))
+    executors_set base ids trades.items books k ∙ sym (fold-map tables_with_updated_executor_name trades.items (sheets base))
 words_changed base stamp (update.Executors ids) (corrected.CashTypes settled) books k = absurd k
 words_changed base stamp (update.Executors ids) (corrected.CashNames name paid) books k = absurd k
 words_changed base stamp (update.CashTypes account span) (corrected.Executors trades) books k = absurd k
 words_changed base stamp (update.CashTypes account span) (corrected.CashTypes settled) books k =
-    cash_types_set base account span.first span.last settled.items books k.1 ∙ sym (fold-map cash_type_update settled.items (sheets base))
+    cash_types_set base account span.first span.last settled.items books k.1 ∙ sym (fold-map tables_with_toggled_cash_type settled.items (sheets base))
 words_changed base stamp (update.CashTypes account span) (corrected.CashNames name paid) books k = absurd k
 words_changed base stamp (update.CashNames symbol span) (corrected.Executors trades) books k = absurd k
 words_changed base stamp (update.CashNames symbol span) (corrected.CashTypes settled) books k = absurd k
 words_changed base stamp (update.CashNames symbol span) (corrected.CashNames name paid) books k =
-    cash_names_set base symbol span.first span.last name paid.items books k.0 k.1 ∙ sym (fold-map (cash_text_update name) paid.items (sheets base))
+    cash_names_set base symbol span.first span.last name paid.items books k.0 k.1 ∙ sym (fold-map (tables_with_toggled_cash_text name) paid.items (sheets base))
 
 counted : {X R : Type 0} (row : X → R) (told : TradeRow → R) (xs : List X) (us : List Trade) → map row xs ≡ map told (map trade_row us) → length xs ≡ length (map (λ t. t.id) us)
 counted row told xs us e =

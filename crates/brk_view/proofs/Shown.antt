@@ -27,7 +27,7 @@ use Rattle.brk_ref.specs.declared.security.Security.{Security}
 use Rattle.std.specs.Global.{Vec}
 use Rattle.brk_view.specs.Lookup.{AreRowsOfTrade, LookedUpRows, records_of_looked_up_trade, rows_of_looked_up_trade, table_rows_of_trade}
 use Rattle.brk_view.specs.Lookup.{stamped_status_of_typed_history_row, history_status_record, is_older_trade, is_older_status, stamped_status_of_history_row}
-use Rattle.brk_view.specs.Lots.{AreTouchedLots, first_trade_since_stamp, is_earlier_lot_change, stamped_lot_change, lot_change_record, touched_lot_records, changes_of_touched_lots}
+use Rattle.brk_view.specs.Lots.{AreTouchedLots, first_trade_since_as_list, is_earlier_lot_change, stamped_lot_change, lot_change_record, touched_lot_records, changes_of_touched_lots}
 use Rattle.brk_view.specs.Recent.{is_newer_status, recent_status_record, recent_trade_record}
 use Rattle.brk_view.specs.Status.{trade_status_record, party_names_record, rows_of_trade_status, trade_row_with_security}
 use Rattle.brk_view.specs.Volume.{volume_of_broker_in_sector, has_name_and_pending_request, is_before_by_broker_volume, broker_volume_record}
@@ -194,7 +194,7 @@ lots_of t (row ∷ []) (Some lots) e h =
 
 pub lots_shown : (t : Tables) (account first : ℕ) (lots : Option TouchedLots) → AreTouchedLots t account first lots → touched_lot_records lots ≡ model.touched_lots_of_oldest_trade t account first
 unfolding Rattle.brk_model.specs.LookupView.touched_lots_of_oldest_trade
-lots_shown t account first lots is = lots_of t (first_trade_since_stamp t account first) lots is.found is.changes
+lots_shown t account first lots is = lots_of t (first_trade_since_as_list t account first) lots is.found is.changes
 
 -- ---- what brokers have to trade
 

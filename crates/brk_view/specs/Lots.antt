@@ -39,13 +39,13 @@ changes_of_touched_lots t trade = map (stamped_lot_change t) (filter (λ row. tr
 
 -- The trade of `account` with the least stamp that is `first` or later, of several such trades the
 -- one with the least id, as a list of one; or an empty list if there is none.
-abbrev pub first_trade_since_stamp : Tables → ℕ → ℕ → List TradeRow
-first_trade_since_stamp t account first = take 1 (trade_rows_oldest_first (filter (λ row. nat_le first row.stamp) (trade_rows_of_account t account)))
+abbrev pub first_trade_since_as_list : Tables → ℕ → ℕ → List TradeRow
+first_trade_since_as_list t account first = take 1 (trade_rows_oldest_first (filter (λ row. nat_le first row.stamp) (trade_rows_of_account t account)))
 
 -- `lots` has the id of the first trade of `account`, by stamp, then by id, whose stamp is `first`
 -- or later, and the first twenty changes, by any trade, of the lots that this trade touched, or all
 -- if there are fewer, sorted by stamp, then by lot, ascending; the sort is stable. `lots` is `None`
 -- if and only if the account has no such trade in the tables `t`.
 pub record AreTouchedLots (t : Tables) (account first : ℕ) (lots : Option TouchedLots) : Type 0 where
-  pub found : map (λ row. row.id) (first_trade_since_stamp t account first) ≡ option_to_list (option_map (λ l. l.trade) lots)
+  pub found : map (λ row. row.id) (first_trade_since_as_list t account first) ≡ option_to_list (option_map (λ l. l.trade) lots)
   pub changes : IfSome lots (λ l. l.changes.items ≡ take 20 (sort_by is_earlier_lot_change (changes_of_touched_lots t l.trade)))

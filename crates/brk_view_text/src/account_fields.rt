@@ -127,7 +127,7 @@ fn party_name_texts(alloc: Global, account: &AccountStatus) -> Result<Vec<String
 // Returns the first five of the ten fields of the record of a trade in the view of an account's
 // status: its id, its stamp, the names of its status and type, and its symbol. Fails only if memory
 // runs out.
-fn first_five_status_texts(alloc: Global, trade: &TradeRow) -> Result<Vec<String>, AllocError>
+fn first_fields_of_trade_status(alloc: Global, trade: &TradeRow) -> Result<Vec<String>, AllocError>
     ensures { IfOk result (λ texts. texts_of_record texts ≡ statuses.first_five_status_fields trade.now) }
 {
     let mut texts = Vec::new(alloc);
@@ -142,7 +142,7 @@ fn first_five_status_texts(alloc: Global, trade: &TradeRow) -> Result<Vec<String
 // Appends to `texts` the last five of the ten fields of the record of a trade in the view of an
 // account's status: its quantity, executor and charge, and the name and the exchange of its
 // security. Fails only if memory runs out. Some of these fields may then be appended.
-fn append_last_five_status_texts(
+fn append_last_trade_status_fields(
     alloc: Global,
     texts: &mut Vec<String>,
     status: &TradeStatus,
@@ -167,8 +167,8 @@ fn append_last_five_status_texts(
 fn trade_status_texts(alloc: Global, status: &TradeStatus) -> Result<Vec<String>, AllocError>
     ensures { IfOk result (λ texts. texts_of_record texts ≡ statuses.trade_status_record status.now) }
 {
-    let mut texts = first_five_status_texts(alloc, &status.trade)?;
-    append_last_five_status_texts(alloc, &mut texts, status)?;
+    let mut texts = first_fields_of_trade_status(alloc, &status.trade)?;
+    append_last_trade_status_fields(alloc, &mut texts, status)?;
     Ok(texts)
 }
 

@@ -18,7 +18,7 @@ use std::alloc::{AllocError, Global};
 
 // Returns the first five of the fifteen fields of the record of a looked-up trade: the word
 // `trade`, its id, its stamp, and the codes of its status and type. Fails only if memory runs out.
-fn first_five_trade_texts(alloc: Global, trade: &TradeRow) -> Result<Vec<String>, AllocError>
+fn first_fields_of_trade_record(alloc: Global, trade: &TradeRow) -> Result<Vec<String>, AllocError>
     ensures { IfOk result (λ texts. texts_of_record texts ≡ first_five_trade_fields (abstract_trade_row trade.now)) }
 {
     let mut texts = Vec::new(alloc);
@@ -83,7 +83,7 @@ fn append_cash_and_lifo_texts(
 fn looked_up_trade_texts(alloc: Global, trade: &TradeRow) -> Result<Vec<String>, AllocError>
     ensures { IfOk result (λ texts. texts_of_record texts ≡ model.trade_record (abstract_trade_row trade.now)) }
 {
-    let mut texts = first_five_trade_texts(alloc, trade)?;
+    let mut texts = first_fields_of_trade_record(alloc, trade)?;
     append_order_texts(alloc, &mut texts, trade)?;
     append_price_and_cost_texts(alloc, &mut texts, trade)?;
     append_cash_and_lifo_texts(alloc, &mut texts, trade)?;

@@ -14,7 +14,7 @@ use Rattle.brk_model.specs.Records.{Trade}
 use Rattle.brk_model.specs.Sheets.{sheets, tables_sorted_by_key}
 use Rattle.brk_model.specs.Tables.{HoldingHistoryRow, tables_of_base, trade_row, tables_of_base_in_schema}
 use Rattle.brk_lots.proofs.HistoryRows.{rows_of_lots_are}
-use Rattle.brk_lots.specs.HistoryRows.{changing_rows_of_lot}
+use Rattle.brk_lots.specs.HistoryRows.{lot_rows_with_quantity_change}
 use Rattle.brk_audit_theorems.proofs.Climbs.{Climbs}
 use Rattle.brk_audit_theorems.proofs.Members.{All-flat_map}
 use Rattle.brk_audit_theorems.proofs.Parts.{key_parts}
@@ -121,7 +121,7 @@ each_deal done account symbol =
     (All-sort (λ (t : Trade). IsAmong done t.id) _ (trades_of_position done account symbol)
     (All-filter (λ (t : Trade). IsAmong done t.id) _ (trades_of_account done account) (All-filter (λ (t : Trade). IsAmong done t.id) _ done (each_among done))))
 
-each_history : (done ts : List Trade) → AllByRecursion (λ t. AllByRecursion (λ r. IsAmong done r.trade) (changing_rows_of_lot done t)) ts
+each_history : (done ts : List Trade) → AllByRecursion (λ t. AllByRecursion (λ r. IsAmong done r.trade) (lot_rows_with_quantity_change done t)) ts
 each_history done [] = tt
 each_history done (t ∷ ts) = (All-history (λ lot trade. IsAmong done trade) done t (each_deal done t.account t.symbol), each_history done ts)
 
@@ -130,8 +130,8 @@ unfolding tables_sorted_by_key tables_of_base_in_schema
 each_made base =
     subst (λ (rows : List HoldingHistoryRow). AllByRecursion (λ (r : HoldingHistoryRow). IsAmong (completed_trades base) r.trade)
     (rows_sorted_by_key holding_history_key rows)) (sym (rows_of_lots_are (completed_trades base) (completed_trades base)))
-    (All-sort (λ (r : HoldingHistoryRow). IsAmong (completed_trades base) r.trade) _ (flat_map (changing_rows_of_lot (completed_trades base)) (completed_trades base))
-    (All-flat_map (λ (r : HoldingHistoryRow). IsAmong (completed_trades base) r.trade) (changing_rows_of_lot (completed_trades base)) (completed_trades base)
+    (All-sort (λ (r : HoldingHistoryRow). IsAmong (completed_trades base) r.trade) _ (flat_map (lot_rows_with_quantity_change (completed_trades base)) (completed_trades base))
+    (All-flat_map (λ (r : HoldingHistoryRow). IsAmong (completed_trades base) r.trade) (lot_rows_with_quantity_change (completed_trades base)) (completed_trades base)
     (each_history (completed_trades base) (completed_trades base))))
 
 -- ---- by the stamp of the change, then by lot

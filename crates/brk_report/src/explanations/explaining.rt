@@ -3,7 +3,7 @@ ghost use Rattle.brk_report.specs.Requests.{abstract_explain_request};
 ghost use Rattle.brk_report.specs.ExplanationParts.{all_broker_lines, all_account_lines};
 ghost use Rattle.brk_report.specs.Told.{WriteLinesPost};
 ghost use Rattle.brk_explain_model.specs.Explain.{TradeOf, AccountOf, HoldingOf, BrokerOf, explanation};
-ghost use Rattle.brk_report.specs.Stated.{PreservesDesk, IsMemoryStoreOrWriteFault, HoldsForStoredTables};
+ghost use Rattle.brk_report.specs.Stated.{PreservesDesk, IsLinesFaultOtherThanDamage, HoldsForStoredTables};
 ghost use Rattle.brk_report_lines.specs.Written.{WritesLines};
 
 use crate::explanations::parse::ExplainRequest;
@@ -61,7 +61,7 @@ fn write_account_lines<W: Write, S: Alter>(
     writer: &mut W,
 ) -> Result<(), LinesFault>
     ensures keeps { PreservesDesk S.Store desk.old desk.new }
-    ensures fault { IfErr result IsMemoryStoreOrWriteFault }
+    ensures fault { IfErr result IsLinesFaultOtherThanDamage }
     ensures written { HoldsForStoredTables S.Store desk.old desk.new
         (λ t. WritesLines (all_account_lines t account details.now) (W.contents writer.old) (W.contents writer.new) result) }
 {
@@ -139,7 +139,7 @@ fn write_broker_lines<W: Write, S: Alter>(
     writer: &mut W,
 ) -> Result<(), LinesFault>
     ensures keeps { PreservesDesk S.Store desk.old desk.new }
-    ensures fault { IfErr result IsMemoryStoreOrWriteFault }
+    ensures fault { IfErr result IsLinesFaultOtherThanDamage }
     ensures written { HoldsForStoredTables S.Store desk.old desk.new
         (λ t. WritesLines (all_broker_lines t broker details.now) (W.contents writer.old) (W.contents writer.new) result) }
 {

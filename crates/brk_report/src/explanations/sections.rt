@@ -6,7 +6,7 @@ ghost use Rattle.brk_report.specs.ExplanationParts.{WritesCountedLines, account_
 ghost use Rattle.brk_explain_model.specs.AccountLines.{account_cash_rows_by_stamp};
 ghost use Rattle.brk_explain_model.specs.BrokerLines.{completed_trades_of_broker};
 ghost use Rattle.brk_model.specs.Statement.{holding_rows_of_account};
-ghost use Rattle.brk_report.specs.Stated.{PreservesDesk, IsMemoryStoreOrWriteFault, HoldsForStoredTables};
+ghost use Rattle.brk_report.specs.Stated.{PreservesDesk, IsLinesFaultOtherThanDamage, HoldsForStoredTables};
 
 use crate::explanations::visitors::{CashPostingWriter, OpenLotWriter, TradeCommissionWriter};
 use crate::walk_faults::fault_from_walk_error;
@@ -31,7 +31,7 @@ pub(crate) fn write_cash_posting_lines<W: Write, S: Alter>(
     writer: &mut W,
 ) -> Result<u64, LinesFault>
     ensures keeps { PreservesDesk S.Store desk.old desk.new }
-    ensures fault { IfErr result IsMemoryStoreOrWriteFault }
+    ensures fault { IfErr result IsLinesFaultOtherThanDamage }
     ensures written { HoldsForStoredTables S.Store desk.old desk.new
         (λ t. WritesCountedLines (account_cash_lines t account opening) (length (account_cash_rows_by_stamp t account))
         (W.contents writer.old) (W.contents writer.new) result) }
@@ -61,7 +61,7 @@ pub(crate) fn write_open_lot_lines<W: Write, S: Alter>(
     writer: &mut W,
 ) -> Result<u64, LinesFault>
     ensures keeps { PreservesDesk S.Store desk.old desk.new }
-    ensures fault { IfErr result IsMemoryStoreOrWriteFault }
+    ensures fault { IfErr result IsLinesFaultOtherThanDamage }
     ensures written { HoldsForStoredTables S.Store desk.old desk.new
         (λ t. WritesCountedLines (account_lot_lines t account) (length (holding_rows_of_account t account))
         (W.contents writer.old) (W.contents writer.new) result) }
@@ -90,7 +90,7 @@ pub(crate) fn write_trade_commission_lines<W: Write, S: Alter>(
     writer: &mut W,
 ) -> Result<u64, LinesFault>
     ensures keeps { PreservesDesk S.Store desk.old desk.new }
-    ensures fault { IfErr result IsMemoryStoreOrWriteFault }
+    ensures fault { IfErr result IsLinesFaultOtherThanDamage }
     ensures written { HoldsForStoredTables S.Store desk.old desk.new
         (λ t. WritesCountedLines (broker_trade_lines t broker) (length (completed_trades_of_broker t broker))
         (W.contents writer.old) (W.contents writer.new) result) }

@@ -2,7 +2,7 @@
 //! the lots with the totals.
 
 ghost use Rattle.std.specs.Prelude.{◌≤◌, IfErr};
-ghost use Rattle.brk_report.specs.Stated.{PreservesDesk, IsMemoryStoreOrWriteFault, HoldsForStoredTables};
+ghost use Rattle.brk_report.specs.Stated.{PreservesDesk, IsLinesFaultOtherThanDamage, HoldsForStoredTables};
 ghost use Rattle.brk_report.specs.StatementParts.{WritesCashAndClosingLines, lot_and_total_lines, statement_header_lines};
 ghost use Rattle.brk_report_lines.specs.Written.{WritesLines};
 
@@ -55,7 +55,7 @@ pub(crate) fn write_cash_and_closing_lines<W: Write, S: Alter>(
 ) -> Result<u64, LinesFault>
     requires { from ≤ to }
     ensures keeps { PreservesDesk S.Store desk.old desk.new }
-    ensures fault { IfErr result IsMemoryStoreOrWriteFault }
+    ensures fault { IfErr result IsLinesFaultOtherThanDamage }
     ensures written { HoldsForStoredTables S.Store desk.old desk.new
         (λ t. WritesCashAndClosingLines t account from to opening (W.contents writer.old) (W.contents writer.new) result) }
 {
@@ -79,7 +79,7 @@ pub(crate) fn write_lot_and_total_lines<W: Write, S: Alter>(
     writer: &mut W,
 ) -> Result<(), LinesFault>
     ensures keeps { PreservesDesk S.Store desk.old desk.new }
-    ensures fault { IfErr result IsMemoryStoreOrWriteFault }
+    ensures fault { IfErr result IsLinesFaultOtherThanDamage }
     ensures written { HoldsForStoredTables S.Store desk.old desk.new
         (λ t. WritesLines (lot_and_total_lines t account holdings cash) (W.contents writer.old) (W.contents writer.new) result) }
 {

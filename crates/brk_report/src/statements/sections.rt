@@ -2,7 +2,7 @@
 
 ghost use Rattle.std.specs.Prelude.{◌≤◌, IfErr};
 ghost use Rattle.brk_report.specs.CashWalk.{WritesCashLines, WritesLinesOfCashWalk};
-ghost use Rattle.brk_report.specs.Stated.{PreservesDesk, IsMemoryStoreOrWriteFault, HoldsForStoredTables, WritesLotLines};
+ghost use Rattle.brk_report.specs.Stated.{PreservesDesk, IsLinesFaultOtherThanDamage, HoldsForStoredTables, WritesLotLines};
 ghost use Rattle.brk_store.specs.Walked.{cash_rows_in_span};
 
 use crate::statements::visitors::{
@@ -35,7 +35,7 @@ fn write_cash_walk_lines<W: Write, S: Alter>(
     writer: &mut W,
 ) -> Result<CashProgress, LinesFault>
     ensures keeps { PreservesDesk S.Store desk.old desk.new }
-    ensures fault { IfErr result IsMemoryStoreOrWriteFault }
+    ensures fault { IfErr result IsLinesFaultOtherThanDamage }
     ensures written { HoldsForStoredTables S.Store desk.old desk.new
         (λ t. WritesLinesOfCashWalk (cash_rows_in_span account 0 last t) first opening (W.contents writer.old) (W.contents writer.new) result) }
 {
@@ -74,7 +74,7 @@ pub(crate) fn write_opening_and_cash_lines<W: Write, S: Alter>(
 ) -> Result<CashProgress, LinesFault>
     requires { from ≤ to }
     ensures keeps { PreservesDesk S.Store desk.old desk.new }
-    ensures fault { IfErr result IsMemoryStoreOrWriteFault }
+    ensures fault { IfErr result IsLinesFaultOtherThanDamage }
     ensures written { HoldsForStoredTables S.Store desk.old desk.new
         (λ t. WritesCashLines t account from to opening (W.contents writer.old) (W.contents writer.new) result) }
 {
@@ -103,7 +103,7 @@ pub(crate) fn write_lot_lines<W: Write, S: Alter>(
     writer: &mut W,
 ) -> Result<u64, LinesFault>
     ensures keeps { PreservesDesk S.Store desk.old desk.new }
-    ensures fault { IfErr result IsMemoryStoreOrWriteFault }
+    ensures fault { IfErr result IsLinesFaultOtherThanDamage }
     ensures written { HoldsForStoredTables S.Store desk.old desk.new (λ t. WritesLotLines t account (W.contents writer.old) (W.contents writer.new) result) }
 {
     let mut lines = LineWriter {

@@ -1,6 +1,6 @@
 ghost use Rattle.std.specs.Prelude.{◌≤◌, IfErr};
 ghost use Rattle.brk_report.specs.StatementParts.{all_statement_lines};
-ghost use Rattle.brk_report.specs.Stated.{StatementPost, PreservesDesk, IsMemoryStoreOrWriteFault, HoldsForStoredTables};
+ghost use Rattle.brk_report.specs.Stated.{StatementPost, PreservesDesk, IsLinesFaultOtherThanDamage, HoldsForStoredTables};
 ghost use Rattle.brk_report_lines.specs.Written.{WritesLines};
 
 use crate::statements::parts::{
@@ -33,7 +33,7 @@ fn write_statement_lines<W: Write, S: Alter>(
 ) -> Result<(), LinesFault>
     requires { from ≤ to }
     ensures keeps { PreservesDesk S.Store desk.old desk.new }
-    ensures fault { IfErr result IsMemoryStoreOrWriteFault }
+    ensures fault { IfErr result IsLinesFaultOtherThanDamage }
     ensures written { HoldsForStoredTables S.Store desk.old desk.new
         (λ t. WritesLines (all_statement_lines t account head.now from to) (W.contents writer.old) (W.contents writer.new) result) }
 {

@@ -151,7 +151,7 @@ fn perform_task<S: Alter>(
 // Creates or adopts the desk in the database of a connection, performs the task `task` of this desk
 // with the input `input`, and returns the connection. Records the bytes that the task writes and
 // its end in `seen`. Performs nothing if the desk is neither created nor adopted.
-fn perform_task_of_desk<S: Alter + Drop>(
+fn open_desk_and_perform_task<S: Alter + Drop>(
     alloc: Global,
     conn: Connection<S>,
     task: Task,
@@ -182,7 +182,7 @@ fn perform_task_and_audit<S: Alter>(
 
 // Returns the names and the rows of all tables of a desk, in the database of a connection, as text,
 // empty if they cannot be read or printed, or if memory runs out.
-fn tables_or_empty<S: Alter>(alloc: Global, conn: &mut Connection<S>) -> String {
+fn tables_text_or_empty<S: Alter>(alloc: Global, conn: &mut Connection<S>) -> String {
     match read_all_tables(alloc, conn) {
         Some(tables) => tables,
         None => String::new(alloc),
@@ -200,12 +200,12 @@ pub fn observe_task_of_desk<S: Alter + Drop>(
     input: &[u8],
     seen: &mut Observation,
 ) -> Connection<S> {
-    seen.before = tables_or_empty(alloc, &mut conn);
+    seen.before = tables_text_or_empty(alloc, &mut conn);
     match create_or_adopt_desk(alloc, conn) {
         Ok(mut desk) => {
             perform_task_and_audit(alloc, &mut desk, task, input, seen);
             let mut conn = connection_of_desk(desk);
-            seen.after = tables_or_empty(alloc, &mut conn);
+            seen.after = tables_text_or_empty(alloc, &mut conn);
             conn
         }
         Err(conn) => conn,
@@ -228,7 +228,7 @@ pub fn perform_job<S: Alter + Drop>(
             seen.ended = execute_sql(&mut conn, input);
             conn
         }
-        Job::Desk(task) => perform_task_of_desk(alloc, conn, task, input, seen),
+        Job::Desk(task) => open_desk_and_perform_task(alloc, conn, task, input, seen),
         Job::Observed(task) => observe_task_of_desk(alloc, conn, task, input, seen),
     }
 }

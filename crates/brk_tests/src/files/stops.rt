@@ -112,7 +112,7 @@ fn has_lines_audit_and_tables(seen: &Observation, lines: &str, tables: &str) -> 
 // the batch `SET` on the desk that is opened or created from the files. Returns two flags: true if
 // the batch has the lines `SET_LINES`, the tables after it are `tables` and the audit passes; and
 // true if there was a crash. Fails only if memory runs out.
-fn set_up_desk_after_creation_crash(
+fn interrupt_creation_and_set_up(
     alloc: Global,
     stop: MachineCrash,
     tables: &str,
@@ -133,7 +133,7 @@ fn expect_creation_crash_recovered(
     stop: MachineCrash,
     tables: &str,
 ) -> Result<bool, Fail> {
-    let (is_set, was_stopped) = set_up_desk_after_creation_crash(alloc, stop, tables)?;
+    let (is_set, was_stopped) = interrupt_creation_and_set_up(alloc, stop, tables)?;
     fail_unless(is_set, stop, "it is not set up")?;
     Ok(was_stopped)
 }
@@ -142,7 +142,7 @@ fn expect_creation_crash_recovered(
 // the number of line feeds in `told`, at most six, or one more. `tables` are the tables after each
 // number of rows, from none on. Returns the smaller number if `found` are the tables after both,
 // and `None` if they are the tables after neither.
-fn committed_rows_after_crash(told: &[u8], found: &str, tables: &[String]) -> Option<usize> {
+fn committed_row_count_after_crash(told: &[u8], found: &str, tables: &[String]) -> Option<usize> {
     let mut settled = 0usize;
     for byte in told {
         if *byte == b'\n' {
@@ -236,7 +236,11 @@ fn expect_retry_completes(
         Some(text) => text.as_str(),
         None => "",
     };
-    let rows = committed_rows_after_crash(&twice.first.lines, twice.again.before.as_str(), tables);
+    let rows = committed_row_count_after_crash(
+        &twice.first.lines,
+        twice.again.before.as_str(),
+        tables,
+    );
     fail_unless(rows.is_some(), stop, "tables of no row")?;
     let whole = all_lines_of_retry(alloc, 0)?;
     let rest = all_lines_of_retry(alloc, rows.unwrap_or(0))?;

@@ -89,7 +89,7 @@ pub fn serve_stream_on_new_desk<S: Alter + Drop>(
 /// Serves a stream in pieces of 4,096, of seven and of one byte, each time on a new desk in memory
 /// after the batch `SET`, until the replies differ from the wanted ones. Returns true if the stream
 /// has exactly the wanted replies each time. Fails if a desk cannot be set up or memory runs out.
-pub fn has_wanted_replies_in_all_pieces(
+pub fn has_wanted_replies_when_split(
     alloc: Global,
     bytes: &[u8],
     wanted: &[WantedReply],
@@ -155,7 +155,7 @@ const STREAMS: [(&str, &[WantedReply]); 7] = [
 pub fn streams_in_pieces_get_the_same_replies(alloc: Global) -> Result<(), Fail> {
     for (input, wanted) in STREAMS {
         expect(
-            has_wanted_replies_in_all_pieces(alloc, input.as_bytes(), wanted)?,
+            has_wanted_replies_when_split(alloc, input.as_bytes(), wanted)?,
             format_args!("{input:?}"),
         )?;
     }
@@ -182,7 +182,7 @@ pub fn a_head_has_at_most_16_384_bytes(alloc: Global) -> Result<(), Fail> {
         let input = request_with_head_of_length(alloc, len)?;
         expect(input.len() == len + 2, "the length of the request")?;
         expect(
-            has_wanted_replies_in_all_pieces(alloc, input.as_bytes(), &[wanted])?,
+            has_wanted_replies_when_split(alloc, input.as_bytes(), &[wanted])?,
             format_args!("a head of {len} bytes"),
         )?;
     }

@@ -4,6 +4,6 @@ use Rattle.brk_audit_sums.proofs.balances.balance_equals_opening_plus_moved.Goal
 
 pub returns : goal.returns
 returns c = (
-  (λ t. let e = c.are_numbers_equal.ensures.0 t in let d = c.balance_change-left.ensures in omega (arith, ints, e, d)),
-  (λ e. let d = c.balance_change-left.ensures in c.are_numbers_equal.ensures.1 (omega (arith, ints, e, d))),
+  (λ t. let e = c.are_numbers_equal.ensures.0 t in let d = c.balance_minus_opening-left.ensures in omega (arith, ints, e, d)),
+  (λ e. let d = c.balance_minus_opening-left.ensures in c.are_numbers_equal.ensures.1 (omega (arith, ints, e, d))),
 )

@@ -2,17 +2,17 @@ use Rattle.std.proofs.Common.{sym, ◌∙◌, refl}
 use Rattle.brk_audit_sums.proofs.Passed.{holds_of_item, holds_of_more, holds_of_all}
 use Rattle.brk_audit_sums.proofs.keyed_sum.all_rows_have_sums.Goals as goal
 
-pub returns-then-not-row_has_sum : goal.returns-then-not-row_has_sum
-returns-then-not-row_has_sum g c = (
+pub returns-then-not-total_equals_sum : goal.returns-then-not-total_equals_sum
+returns-then-not-total_equals_sum g c = (
   (λ e. absurd (cc)),
-  (λ all. sym c.if-not-row_has_sum.true
-      ∙ c.row_has_sum.ensures.1 (holds_of_item (g.S.KeyedSum.has_sum c.args.sums.now) c.args.rows.now c.loop-row.row-index c.row-item.result c.loop-row-test.true c.row-item.is all)),
+  (λ all. sym c.if-not-total_equals_sum.true
+      ∙ c.total_equals_sum.ensures.1 (holds_of_item (g.S.KeyedSum.has_sum c.args.sums.now) c.args.rows.now c.loop-row.row-index c.row-item.result c.loop-row-test.true c.row-item.is all)),
 )
 
 pub loop-row-preserved : goal.loop-row-preserved
 loop-row-preserved g c =
     holds_of_more (g.S.KeyedSum.has_sum c.args.sums.now) c.args.rows.now c.loop-row.row-index c.row-item.result c.loop-row-test.true c.row-item.is c.loop-row.invariant
-    (c.row_has_sum.ensures.0 c.if-not-row_has_sum.false)
+    (c.total_equals_sum.ensures.0 c.if-not-total_equals_sum.false)
 
 pub returns : goal.returns
 returns g c = (

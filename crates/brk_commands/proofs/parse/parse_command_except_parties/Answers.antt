@@ -42,4 +42,4 @@ returns-clause-read c =
     (other_text c.args.kind.now c.as_slice-4.result.now (codes "band") c.eq-4.result c.eq-4.ensures c.as_slice-4.ensures c.if-eq-4.false)
     (other_text c.args.kind.now c.as_slice-5.result.now (codes "taxrate") c.eq-5.result c.eq-5.ensures c.as_slice-5.ensures c.if-eq-5.false)
     (other_text c.args.kind.now c.as_slice-6.result.now (codes "custtax") c.eq-6.result c.eq-6.ensures c.as_slice-6.ensures c.if-eq-6.false))
-    c.parse_trade_or_cash_command.ensures.read
+    c.parse_non_reference_command.ensures.read

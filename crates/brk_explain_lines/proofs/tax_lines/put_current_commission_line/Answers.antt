@@ -7,4 +7,4 @@ returns-in-Some-clause-ok c = rw c.in-Some.is (rw c.from.ensures at c.put_labele
 
 pub returns-in-None-clause-ok : goal.returns-in-None-clause-ok
 unfolding current_commission_line
-returns-in-None-clause-ok c = rw c.in-None.is c.put_labeled_value_line.ensures.ok
+returns-in-None-clause-ok c = rw c.in-None.is c.put_labeled_right_aligned_line.ensures.ok

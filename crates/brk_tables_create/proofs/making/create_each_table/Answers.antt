@@ -6,7 +6,7 @@ use Rattle.brk_sql.specs.Desk.{CreatesTableOfShape}
 use Rattle.brk_sql.specs.Model.{IsTransactionStep}
 use Rattle.brk_sql.proofs.Inside.{step_then}
 use Rattle.brk_tables_schema.specs.Desk.{table_definition_at_tree}
-use Rattle.brk_tables_schema.specs.Texts.{specified_table}
+use Rattle.brk_tables_schema.specs.Texts.{abstract_table}
 use Rattle.brk_tables_schema.specs.declared.table.Table.{Table}
 use Rattle.brk_tables_schema.specs.declared.table.Table.TheVariants.{TheDesk}
 use Rattle.brk_tables_schema.proofs.NoStep.{nothing_done}
@@ -26,7 +26,7 @@ loop-table-preserved g c =
     record {
       same = c.create_desk_table.ensures.same_reference ∙ c.loop-table.invariant.same;
       step = step_then a b d tt (Ok tt) (λ _ x y. each (take i tables) x.now y.now)
-          (λ _ x y. CreatesTableOfShape x.now y.now (table_definition_at_tree (specified_table (get_or tables i TheDesk))))
+          (λ _ x y. CreatesTableOfShape x.now y.now (table_definition_at_tree (abstract_table (get_or tables i TheDesk))))
           (λ _ x y. each (take (i + 1) tables) x.now y.now)
           (λ _ p made. made_at TheDesk tables i c.loop-table-test.true a.now b.now d.now p made)
           c.loop-table.invariant.step c.in_ok-create_desk_table.ensures.step;

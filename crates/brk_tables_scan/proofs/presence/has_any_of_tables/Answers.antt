@@ -9,7 +9,7 @@ use Rattle.brk_money.specs.declared.fault.Fault.{Fault}
 use Rattle.brk_sql.specs.Model.{IsTransactionStep}
 use Rattle.brk_sql.proofs.Inside.{step_then, step_read, step_weaker}
 use Rattle.brk_tables_scan.specs.Present.{has_table_named}
-use Rattle.brk_tables_schema.specs.Texts.{specified_table}
+use Rattle.brk_tables_schema.specs.Texts.{abstract_table}
 use Rattle.brk_tables_schema.specs.declared.table.Table.{Table}
 use Rattle.brk_tables_schema.specs.declared.table.Table.TheVariants.{TheDesk}
 use Rattle.brk_tables_scan.proofs.Looking.{found_at, none_at}
@@ -17,7 +17,7 @@ use Rattle.brk_tables_schema.proofs.NoStep.{nothing_done}
 use Rattle.brk_tables_scan.proofs.presence.has_any_of_tables.Goals as goal
 
 abbrev test : Database → Table → Bool
-test db table = has_table_named db.schema (specified_table table)
+test db table = has_table_named db.schema (abstract_table table)
 
 pub loop-table-init : goal.loop-table-init
 loop-table-init g c = record { same = refl; step = nothing_done (state g.S.Store c.args.tx.now.conn.now) (λ a b. (b.now ≡ a.now) × (false ≡ false)) (refl, refl) }

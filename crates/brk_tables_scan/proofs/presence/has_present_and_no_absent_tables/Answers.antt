@@ -5,12 +5,12 @@ use Rattle.sqlite.specs.Held.{state}
 use Rattle.sqlite.specs.State.{State}
 use Rattle.brk_sql.proofs.Inside.{step_then, step_read}
 use Rattle.brk_tables_scan.specs.Present.{has_table_named}
-use Rattle.brk_tables_schema.specs.Texts.{specified_table}
+use Rattle.brk_tables_schema.specs.Texts.{abstract_table}
 use Rattle.brk_tables_schema.specs.declared.table.Table.{Table}
 use Rattle.brk_tables_scan.proofs.presence.has_present_and_no_absent_tables.Goals as goal
 
 abbrev test : Database → Table → Bool
-test db table = has_table_named db.schema (specified_table table)
+test db table = has_table_named db.schema (abstract_table table)
 
 pub returns-then-not-branch-clause-step : goal.returns-then-not-branch-clause-step
 returns-then-not-branch-clause-step g c =

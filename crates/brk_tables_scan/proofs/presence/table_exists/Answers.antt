@@ -2,7 +2,7 @@ use Rattle.std.proofs.Common.{subst}
 use Rattle.sqlite.specs.Held.{state}
 use Rattle.brk_sql.specs.Desk.{IsCompilationOutcome}
 use Rattle.brk_sql.proofs.Inside.{step_weaker}
-use Rattle.brk_tables_schema.specs.Texts.{specified_table}
+use Rattle.brk_tables_schema.specs.Texts.{abstract_table}
 use Rattle.brk_tables_scan.proofs.Probing.{probed_of}
 use Rattle.brk_tables_scan.proofs.presence.table_exists.Goals as goal
 
@@ -14,6 +14,6 @@ returns-clause-step g c =
     (λ has p. (
       p.0,
       p.1,
-      probed_of (specified_table c.args.table) old.now.schema has
+      probed_of (abstract_table c.args.table) old.now.schema has
           (subst (λ text. IsCompilationOutcome text has old.now.schema) c.existence_probe_text.ensures p.2),
     )) c.statement_compiles.ensures.step

@@ -22,7 +22,7 @@ returns-clause-step g c =
     look_all desk_tables holding_cells holding_back holding_is_back abstract_holding_row NewestLots.statement
     (Int (pos c.args.account) ∷ Text c.args.symbol.now ∷ Int (pos c.args.skipped) ∷ []) old new c.in_ok-rows.rows (λ rows. rows.items) _
     c.deref.ensures.value
-    (rw (c.id_as_parameter.ensures, c.text_as_parameter.ensures, c.as_str.ensures, c.skipped_rows_as_parameter.ensures) at c.in_ok-rows.ensures.step)
+    (rw (c.id_as_parameter.ensures, c.text_as_parameter.ensures, c.as_str.ensures, c.skip_count_as_parameter.ensures) at c.in_ok-rows.ensures.step)
     (λ all. all.items) c.decode_rows.result c.decode_rows.ensures.value
     (λ t. page_after_skipped c.args.skipped (reverse (position_lots_by_age c.args.account c.args.symbol.now t)))
     (tells_newest old new c.args.account c.args.skipped c.args.symbol.now _)

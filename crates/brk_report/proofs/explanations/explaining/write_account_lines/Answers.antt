@@ -3,7 +3,7 @@ use Rattle.brk_model.specs.Statement.{holding_rows_of_account}
 use Rattle.brk_ref.specs.Records.{abstract_account_row}
 use Rattle.brk_explain_model.specs.AccountLines.{holding_and_total_lines, account_header_lines, balance_header_lines, account_cash_rows_by_stamp}
 use Rattle.brk_explain_rows.specs.Details.{abstract_priced_holding}
-use Rattle.brk_report.specs.Stated.{IsMemoryStoreOrWriteFault}
+use Rattle.brk_report.specs.Stated.{IsLinesFaultOtherThanDamage}
 use Rattle.brk_report.proofs.Handing.{behind, breaks_as, on_err, wants}
 use Rattle.brk_report.proofs.Keeping.{clean_then}
 use Rattle.brk_report_lines.specs.Written.{WritesLines}
@@ -115,24 +115,24 @@ returns-clause-written g c = λ clean t holds.
 pub returns-in_err-write_lines-clause-fault : goal.returns-in_err-write_lines-clause-fault
 returns-in_err-write_lines-clause-fault g c =
     let a = abstract_account_row c.args.details.now.account in
-    on_err IsMemoryStoreOrWriteFault _ _ c.from_residual.ensures.1
+    on_err IsLinesFaultOtherThanDamage _ _ c.from_residual.ensures.1
     (text_fault {R = Unit {0}} (account_header_lines a) c.account_header_text.result (g.W.Write.contents c.args.writer.now)
     (g.W.Write.contents c.write_lines.new.writer) (Err c.in_err-write_lines.field-0.0) (top_first a) c.in_err-write_lines.ensures.written
     c.account_header_text.ensures.text (wants _ c.account_header_text.ensures.fault))
 
 pub returns-in_err-cash-clause-fault : goal.returns-in_err-cash-clause-fault
-returns-in_err-cash-clause-fault g c = on_err IsMemoryStoreOrWriteFault _ _ c.from_residual-in_err-cash.ensures.1 c.in_err-cash.ensures.fault
+returns-in_err-cash-clause-fault g c = on_err IsLinesFaultOtherThanDamage _ _ c.from_residual-in_err-cash.ensures.1 c.in_err-cash.ensures.fault
 
 pub returns-in_err-write_lines-2-clause-fault : goal.returns-in_err-write_lines-2-clause-fault
 returns-in_err-write_lines-2-clause-fault g c =
     let a = abstract_account_row c.args.details.now.account in
-    on_err IsMemoryStoreOrWriteFault _ _ c.from_residual-in_err-write_lines-2.ensures.1
+    on_err IsLinesFaultOtherThanDamage _ _ c.from_residual-in_err-write_lines-2.ensures.1
     (text_fault {R = Unit {0}} (balance_header_lines a) c.balance_header_text.result (g.W.Write.contents c.write_cash_posting_lines.new.writer)
     (g.W.Write.contents c.write_lines-2.new.writer) (Err c.in_err-write_lines-2.field-0.0) (balance_first a) c.in_err-write_lines-2.ensures.written
     c.balance_header_text.ensures.text (wants _ c.balance_header_text.ensures.fault))
 
 pub returns-in_err-lots-clause-fault : goal.returns-in_err-lots-clause-fault
-returns-in_err-lots-clause-fault g c = on_err IsMemoryStoreOrWriteFault _ _ c.from_residual-in_err-lots.ensures.1 c.in_err-lots.ensures.fault
+returns-in_err-lots-clause-fault g c = on_err IsLinesFaultOtherThanDamage _ _ c.from_residual-in_err-lots.ensures.1 c.in_err-lots.ensures.fault
 
 pub returns-clause-fault : goal.returns-clause-fault
 returns-clause-fault g c =

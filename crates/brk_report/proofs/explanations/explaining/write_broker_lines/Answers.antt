@@ -1,7 +1,7 @@
 use Rattle.std.proofs.Common.{ℕ, ◌++◌, Err, Ok, length, subst}
 use Rattle.brk_ref.specs.Records.{abstract_broker_row}
 use Rattle.brk_explain_model.specs.BrokerLines.{broker_total_lines, broker_header_lines, completed_trades_of_broker}
-use Rattle.brk_report.specs.Stated.{IsMemoryStoreOrWriteFault}
+use Rattle.brk_report.specs.Stated.{IsLinesFaultOtherThanDamage}
 use Rattle.brk_report.proofs.Handing.{behind, breaks_as, on_err, wants}
 use Rattle.brk_report_lines.specs.Written.{WritesLines}
 use Rattle.brk_report_lines.proofs.Composed.{breaks_before, breaks_behind}
@@ -54,13 +54,13 @@ returns-clause-written g c = λ clean t holds.
 pub returns-in_err-write_lines-clause-fault : goal.returns-in_err-write_lines-clause-fault
 returns-in_err-write_lines-clause-fault g c =
     let b = abstract_broker_row c.args.details.now.broker in
-    on_err IsMemoryStoreOrWriteFault _ _ c.from_residual.ensures.1
+    on_err IsLinesFaultOtherThanDamage _ _ c.from_residual.ensures.1
     (text_fault {R = Unit {0}} (broker_header_lines b) c.broker_header_text.result (g.W.Write.contents c.args.writer.now)
     (g.W.Write.contents c.write_lines.new.writer) (Err c.in_err-write_lines.field-0.0) (broker_top_first b) c.in_err-write_lines.ensures.written
     c.broker_header_text.ensures.text (wants _ c.broker_header_text.ensures.fault))
 
 pub returns-in_err-trades-clause-fault : goal.returns-in_err-trades-clause-fault
-returns-in_err-trades-clause-fault g c = on_err IsMemoryStoreOrWriteFault _ _ c.from_residual-in_err-trades.ensures.1 c.in_err-trades.ensures.fault
+returns-in_err-trades-clause-fault g c = on_err IsLinesFaultOtherThanDamage _ _ c.from_residual-in_err-trades.ensures.1 c.in_err-trades.ensures.fault
 
 pub returns-clause-fault : goal.returns-clause-fault
 returns-clause-fault g c =

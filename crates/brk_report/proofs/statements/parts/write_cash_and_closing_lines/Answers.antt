@@ -4,7 +4,7 @@ use Rattle.brk_model.specs.Statement.{amount_line, cash_move_rows_before_day, so
 use Rattle.brk_report_lines.specs.Written.{FailsWithinLines}
 use Rattle.brk_report_lines.proofs.Composed.{breaks_behind, breaks_off, then_all}
 use Rattle.brk_report.specs.CashWalk.{opening_and_cash_lines}
-use Rattle.brk_report.specs.Stated.{IsMemoryStoreOrWriteFault}
+use Rattle.brk_report.specs.Stated.{IsLinesFaultOtherThanDamage}
 use Rattle.brk_report.proofs.Handing.{days_broke, on_err, wants}
 use Rattle.brk_report.proofs.Section.{in_broken}
 use Rattle.brk_report.proofs.statements.parts.write_cash_and_closing_lines.Goals as goal
@@ -40,9 +40,9 @@ returns-clause-written g c = λ clean t holds.
     )
 
 pub returns-in_err-moved-clause-fault : goal.returns-in_err-moved-clause-fault
-returns-in_err-moved-clause-fault g c = on_err IsMemoryStoreOrWriteFault _ _ c.from_residual.ensures.1 c.in_err-moved.ensures.fault
+returns-in_err-moved-clause-fault g c = on_err IsLinesFaultOtherThanDamage _ _ c.from_residual.ensures.1 c.in_err-moved.ensures.fault
 
 pub returns-in_err-write_line-clause-fault : goal.returns-in_err-write_line-clause-fault
 returns-in_err-write_line-clause-fault g c =
-    on_err IsMemoryStoreOrWriteFault _ _ c.from_residual-in_err-write_line.ensures.1
+    on_err IsLinesFaultOtherThanDamage _ _ c.from_residual-in_err-write_line.ensures.1
     (in_broken _ _ _ _ (c.in_err-write_line.ensures.written (amount_line (codes "Closing") c.in_ok-moved.moved.total) c.amount_line.ensures.line (wants _ c.amount_line.ensures.fault)))

@@ -2,7 +2,7 @@ use Rattle.std.proofs.Common.{ℕ, [], ◌∷◌, ◌++◌, codes, decimal, leng
 use Rattle.brk_model.specs.Statement.{amount_line, lot_line, holding_rows_of_account}
 use Rattle.brk_report_lines.specs.Written.{WritesLines}
 use Rattle.brk_report_lines.proofs.Composed.{breaks_behind, breaks_off}
-use Rattle.brk_report.specs.Stated.{IsMemoryStoreOrWriteFault}
+use Rattle.brk_report.specs.Stated.{IsLinesFaultOtherThanDamage}
 use Rattle.brk_report.proofs.Handing.{behind, breaks_as, line_first, on_err, wants}
 use Rattle.brk_report.proofs.Section.{in_broken, in_written}
 use Rattle.brk_report.proofs.statements.parts.write_lot_and_total_lines.Goals as goal
@@ -38,11 +38,11 @@ returns-clause-written g c = λ clean t holds.
     (wants _ c.row_counts_line.ensures.fault))))
 
 pub returns-in_err-lots-clause-fault : goal.returns-in_err-lots-clause-fault
-returns-in_err-lots-clause-fault g c = on_err IsMemoryStoreOrWriteFault _ _ c.from_residual.ensures.1 c.in_err-lots.ensures.fault
+returns-in_err-lots-clause-fault g c = on_err IsLinesFaultOtherThanDamage _ _ c.from_residual.ensures.1 c.in_err-lots.ensures.fault
 
 pub returns-in_err-write_line-clause-fault : goal.returns-in_err-write_line-clause-fault
 returns-in_err-write_line-clause-fault g c =
-    on_err IsMemoryStoreOrWriteFault _ _ c.from_residual-in_err-write_line.ensures.1
+    on_err IsLinesFaultOtherThanDamage _ _ c.from_residual-in_err-write_line.ensures.1
     (in_broken _ _ _ _ (c.in_err-write_line.ensures.written (amount_line (codes "Holdings") c.args.holdings) c.amount_line.ensures.line (wants _ c.amount_line.ensures.fault)))
 
 pub returns-clause-fault : goal.returns-clause-fault

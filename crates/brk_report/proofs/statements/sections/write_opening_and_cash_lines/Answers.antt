@@ -6,7 +6,7 @@ use Rattle.brk_report_lines.specs.Written.{FailsWithinFirstLines, FailsWithinLin
 use Rattle.brk_report_lines.proofs.Composed.{then_all}
 use Rattle.brk_store.specs.Walked.{cash_rows_in_span}
 use Rattle.brk_report.specs.CashWalk.{lines_of_cash_rows, opening_line_unless_written, progress_before_cash_rows}
-use Rattle.brk_report.specs.Stated.{IsMemoryStoreOrWriteFault}
+use Rattle.brk_report.specs.Stated.{IsLinesFaultOtherThanDamage}
 use Rattle.brk_report.specs.declared.statements.visitors.CashProgress.{CashProgress}
 use Rattle.brk_report.proofs.CashWalked.{first_before, first_behind}
 use Rattle.brk_report.proofs.Handing.{on_err, opening_broke}
@@ -62,8 +62,8 @@ returns-clause-written g c = λ clean t holds.
     )
 
 pub returns-in_err-moved-clause-fault : goal.returns-in_err-moved-clause-fault
-returns-in_err-moved-clause-fault g c = on_err IsMemoryStoreOrWriteFault _ _ c.from_residual.ensures.1 c.in_err-moved.ensures.fault
+returns-in_err-moved-clause-fault g c = on_err IsLinesFaultOtherThanDamage _ _ c.from_residual.ensures.1 c.in_err-moved.ensures.fault
 
 pub returns-in_err-write_opening_line_unless_written-clause-fault : goal.returns-in_err-write_opening_line_unless_written-clause-fault
 returns-in_err-write_opening_line_unless_written-clause-fault g c =
-    on_err IsMemoryStoreOrWriteFault _ _ c.from_residual-in_err-write_opening_line_unless_written.ensures.1 (in_broken _ _ _ _ c.in_err-write_opening_line_unless_written.ensures)
+    on_err IsLinesFaultOtherThanDamage _ _ c.from_residual-in_err-write_opening_line_unless_written.ensures.1 (in_broken _ _ _ _ c.in_err-write_opening_line_unless_written.ensures)

@@ -3,7 +3,7 @@ use Rattle.brk_model.specs.Statement.{sorted_cash_rows_of_account, cash_move_row
 use Rattle.brk_report_lines.specs.Written.{WritesLines}
 use Rattle.brk_report_lines.proofs.Composed.{breaks_before, breaks_behind}
 use Rattle.brk_report.specs.StatementParts.{cash_and_closing_lines, lot_and_total_lines, statement_header_lines}
-use Rattle.brk_report.specs.Stated.{IsMemoryStoreOrWriteFault}
+use Rattle.brk_report.specs.Stated.{IsLinesFaultOtherThanDamage}
 use Rattle.brk_report.proofs.Handing.{behind, breaks_as, on_err}
 use Rattle.brk_report.proofs.Section.{in_broken}
 use Rattle.brk_report.proofs.Keeping.{clean_then}
@@ -41,7 +41,7 @@ returns-clause-written g c = λ clean t holds.
     (c.write_lot_and_total_lines.ensures.written clean t second)))
 
 pub returns-in_err-write_header_lines-clause-fault : goal.returns-in_err-write_header_lines-clause-fault
-returns-in_err-write_header_lines-clause-fault g c = on_err IsMemoryStoreOrWriteFault _ _ c.from_residual.ensures.1 (in_broken _ _ _ _ c.in_err-write_header_lines.ensures)
+returns-in_err-write_header_lines-clause-fault g c = on_err IsLinesFaultOtherThanDamage _ _ c.from_residual.ensures.1 (in_broken _ _ _ _ c.in_err-write_header_lines.ensures)
 
 pub returns-in_err-cash-clause-fault : goal.returns-in_err-cash-clause-fault
-returns-in_err-cash-clause-fault g c = on_err IsMemoryStoreOrWriteFault _ _ c.from_residual-in_err-cash.ensures.1 c.in_err-cash.ensures.fault
+returns-in_err-cash-clause-fault g c = on_err IsLinesFaultOtherThanDamage _ _ c.from_residual-in_err-cash.ensures.1 c.in_err-cash.ensures.fault

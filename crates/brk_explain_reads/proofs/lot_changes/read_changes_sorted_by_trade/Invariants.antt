@@ -4,7 +4,7 @@ use Rattle.brk_changes.specs.Rows as rows
 use Rattle.brk_store.specs.Holds.{ReadPost}
 use Rattle.brk_explain_model.specs.Holdings.{recorded_lot_change}
 use Rattle.brk_explain_rows.specs.Details.{abstract_priced_lot_change}
-use Rattle.brk_explain_reads.proofs.lot_changes.read_lot_changes_by_trade_id.Given as goal
+use Rattle.brk_explain_reads.proofs.lot_changes.read_changes_sorted_by_trade.Given as goal
 
 abbrev pub invariant-loop-change : goal.invariant-loop-change
 invariant-loop-change g l = ReadPost {V = Unit {0}} {E = Fault} g.S.Store l.fn.store l.store (Ok tt)

@@ -1,7 +1,7 @@
 use Rattle.std.proofs.Common.{◌≡◌, ◌∙◌, ap, rules}
 use Rattle.brk_model.specs.Lists.{sort_by_key}
 use Rattle.brk_tables_cash.proofs.InOrder.{in_turn}
-use Rattle.brk_tables_cash.proofs.ordering.sort_cash_rows_by_stamp.Goals as goal
+use Rattle.brk_tables_cash.proofs.ordering.sort_cash_transactions_by_stamp.Goals as goal
 
 pub returns-clause-order : goal.returns-clause-order
 returns-clause-order c =

@@ -1,7 +1,7 @@
 use Rattle.std.proofs.Common.{codes}
 use Rattle.brk_ref.specs.Fields.{texts_of_fields}
 use Rattle.brk_commands.proofs.Unknown.{no_update, other_text, same_text}
-use Rattle.brk_commands.proofs.parse_update.parse_update_or_movement_command.Goals as goal
+use Rattle.brk_commands.proofs.parse_update.parse_update_movement_or_day.Goals as goal
 
 pub returns-then-eq-clause-read : goal.returns-then-eq-clause-read
 returns-then-eq-clause-read c =

@@ -2,11 +2,11 @@ use Rattle.brk_explain_model.specs.Texts.{timestamp_text, value_column, shares_c
 use Rattle.brk_explain_columns.proofs.Chains.{more, on_ok}
 use Rattle.std.specs.Int.{w128}
 use Rattle.std.proofs.Common.{◌≡◌, ◌∙◌, ◌++◌, ◌∷◌, [], ap, codes, pos, of_z, to_z, w64, rules}
-use Rattle.brk_explain_model.specs.TradeLines.{closed_lot_line}
-use Rattle.brk_explain_lines.proofs.lots_lines.put_closed_lot_line.Goals as goal
+use Rattle.brk_explain_model.specs.TradeLines.{lot_closing_line}
+use Rattle.brk_explain_lines.proofs.lots_lines.put_closing_line.Goals as goal
 
 pub returns-clause-ok : goal.returns-clause-ok
-unfolding closed_lot_line
+unfolding lot_closing_line
 returns-clause-ok c =
     let closing = c.args.closing.now in
     let given : to_z w128 (of_z w128 c.from-shares.result) ≡ c.from-shares.result = search rules in

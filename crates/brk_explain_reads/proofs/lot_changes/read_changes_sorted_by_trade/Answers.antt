@@ -15,7 +15,7 @@ use Rattle.brk_explain_reads.proofs.Each.{one_more}
 use Rattle.brk_store.proofs.Sequences.{read_with, none_read}
 use Rattle.brk_explain_reads.proofs.Reading.{both_change_nothing}
 use Rattle.std.proofs.lemmas.Result.{err_from_is_err_and}
-use Rattle.brk_explain_reads.proofs.lot_changes.read_lot_changes_by_trade_id.Goals as goal
+use Rattle.brk_explain_reads.proofs.lot_changes.read_changes_sorted_by_trade.Goals as goal
 
 -- the changes of a lot, and the first of the later ones with their prices
 abbrev FirstChanges : ℕ → List LotChange → List LotChange → List PricedLotChange → ℕ → Tables → Type 0
