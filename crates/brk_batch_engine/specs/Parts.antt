@@ -37,9 +37,9 @@ EndRecordFailsWith old new row n counts kinds.Read = ⊥
 EndRecordFailsWith old new row n counts kinds.BadHeader = ⊥
 EndRecordFailsWith old new row n counts kinds.NoEnd = ⊥
 
--- A row without a record after it, which the line `text` refuses, ended the batch with this fault.
--- `NoEnd`: the line was written. `Write`: the writer received a prefix of the line, perhaps all of
--- it. `Desk`: memory ran out, and nothing was written. No other fault is possible.
+-- The last row of a text without an end record ended the batch with this fault; `text` is the line
+-- of its refusal. `NoEnd`: the line was written. `Write`: the writer received a prefix of the line,
+-- perhaps all of it. `Desk`: memory ran out, and nothing was written. No other fault is possible.
 abbrev pub LastRowEndsBatchWith : Option Text → Option Text → Text → FaultKind → Type 0
 LastRowEndsBatchWith old new text kinds.NoEnd = Appends old new text
 LastRowEndsBatchWith old new text kinds.Write = (k : ℕ) × Appends old new (take k text)

@@ -103,9 +103,13 @@ pub fn cash_posting_text(alloc: Global, row: &MoveRow, balance: Wide) -> Result<
 
 // Appends to `out` the line of the balance of an account and the line of the column headings of its
 // lots and holdings. Fails with `Memory` only; a part of the lines may then be appended.
-#[tactic(auto, unfolding(brk_explain_model::specs::AccountLines::balance_header_lines))]
-fn put_balance_header(alloc: Global, out: &mut Vec<u8>, row: &AccountRow) -> Result<(), Fault>
-    ensures ok { OnOk result (out.new.items ≡ out.old.items ++ text_of_lines (lines.balance_header_lines (abstract_account_row row.now))) }
+#[tactic(auto, unfolding(brk_explain_model::specs::AccountLines::balance_and_lot_header_lines))]
+fn put_balance_and_lot_header(
+    alloc: Global,
+    out: &mut Vec<u8>,
+    row: &AccountRow,
+) -> Result<(), Fault>
+    ensures ok { OnOk result (out.new.items ≡ out.old.items ++ text_of_lines (lines.balance_and_lot_header_lines (abstract_account_row row.now))) }
     ensures fault { OnErr result (result ≡ Err Memory) }
 {
     put_labeled_amount_line(alloc, out, "Balance", Wide::from(row.balance))?;
@@ -117,12 +121,12 @@ fn put_balance_header(alloc: Global, out: &mut Vec<u8>, row: &AccountRow) -> Res
 
 /// Returns the line of the balance of an account and the line of the column headings of its lots
 /// and holdings. Fails with `Memory` only.
-pub fn balance_header_text(alloc: Global, row: &AccountRow) -> Result<Vec<u8>, Fault>
-    ensures text { IfOk result (λ text. text.items ≡ text_of_lines (lines.balance_header_lines (abstract_account_row row.now))) }
+pub fn balance_and_lot_header_text(alloc: Global, row: &AccountRow) -> Result<Vec<u8>, Fault>
+    ensures text { IfOk result (λ text. text.items ≡ text_of_lines (lines.balance_and_lot_header_lines (abstract_account_row row.now))) }
     ensures fault { OnErr result (result ≡ Err Memory) }
 {
     let mut text = Vec::new(alloc);
-    put_balance_header(alloc, &mut text, row)?;
+    put_balance_and_lot_header(alloc, &mut text, row)?;
     Ok(text)
 }
 

@@ -12,7 +12,7 @@ pub mod trade;
 mod waiting_lines;
 
 pub use account::{
-    account_header_text, balance_header_text, cash_posting_text, holding_and_total_text,
+    account_header_text, balance_and_lot_header_text, cash_posting_text, holding_and_total_text,
     open_lot_text,
 };
 pub use trade::trade_explanation_text;

@@ -51,8 +51,8 @@ abbrev pub cash_posting_lines : ℤ → List MoveRow → List Text
 cash_posting_lines opening rows = lines_with_running_total (λ row. row.amount) cash_posting_line opening rows
 
 -- The line of the balance of the account `a`, and the column headings of its lots and holdings.
-unfoldable pub balance_header_lines : AccountRow → List Text
-balance_header_lines a =
+unfoldable pub balance_and_lot_header_lines : AccountRow → List Text
+balance_and_lot_header_lines a =
     labeled_amount (codes "Balance") a.balance ∷ codes "#      symbol                    lot      shares      price                  worth" ∷ []
 
 -- The line of the lot `row`: the word `Lot`, and the line of the lot in a statement (`lot_line`).
@@ -127,7 +127,7 @@ unfoldable pub account_explanation_lines : Tables → AccountRow → List Text
 account_explanation_lines tables a =
     account_header_lines a
     ++ cash_posting_lines a.opening (account_cash_rows_by_stamp tables a.id)
-    ++ balance_header_lines a
+    ++ balance_and_lot_header_lines a
     ++ map open_lot_line (holding_rows_of_account tables a.id)
     ++ holding_and_total_lines a (priced_holdings_of_account tables a.id) (length (account_cash_rows_by_stamp tables a.id))
     (length (holding_rows_of_account tables a.id))

@@ -49,13 +49,14 @@ recorded_lot_change tables row = record {
 
 -- True if the HOLDING_HISTORY row `row` records a change, by another trade, of the lot that the
 -- trade with the id `lot` opened.
-abbrev pub is_later_change_of_lot : ℕ → HoldingHistoryRow → Bool
-is_later_change_of_lot lot row = (row.lot == lot) && not (row.trade == lot)
+abbrev pub is_change_of_lot_by_other_trade : ℕ → HoldingHistoryRow → Bool
+is_change_of_lot_by_other_trade lot row = (row.lot == lot) && not (row.trade == lot)
 
 -- The changes, by other trades, of the lot that the trade with the id `lot` opened, sorted by the
 -- stamps of these other trades, ascending.
-abbrev pub later_changes_of_lot : Tables → ℕ → List LotChange
-later_changes_of_lot tables lot = sort_by_key (λ c. c.stamp) (map (recorded_lot_change tables) (filter (is_later_change_of_lot lot) tables.holding_history))
+abbrev pub changes_of_lot_by_other_trades : Tables → ℕ → List LotChange
+changes_of_lot_by_other_trades tables lot =
+    sort_by_key (λ c. c.stamp) (map (recorded_lot_change tables) (filter (is_change_of_lot_by_other_trade lot) tables.holding_history))
 
 -- The realised gain, in cents, of the change `c` of a lot that was opened at `price`, also given in
 -- cents: the product of the quantity before minus the quantity after the change, and of the price
@@ -77,14 +78,14 @@ quantity_opened_by_trade tables trade = option_map_or (λ row. row.after) (opene
 
 -- The lot that the trade `u` opened: the trade, the opened quantity (0 if the trade opened no lot),
 -- and the changes of the lot by other trades, sorted by the stamps of these trades, ascending.
-abbrev pub lot_with_later_changes : Tables → TradeRow → LotDetails
-lot_with_later_changes tables u = record { trade = u; opened = quantity_opened_by_trade tables u.id; changes = later_changes_of_lot tables u.id }
+abbrev pub lot_with_changes_by_others : Tables → TradeRow → LotDetails
+lot_with_changes_by_others tables u = record { trade = u; opened = quantity_opened_by_trade tables u.id; changes = changes_of_lot_by_other_trades tables u.id }
 
 -- The lots that the completed trades of `account` in `symbol` opened, sorted by the stamp of
 -- completion, ascending.
 abbrev pub lots_opened_in_symbol : Tables → ℕ → Text → List LotDetails
 lots_opened_in_symbol tables account symbol =
-    map (lot_with_later_changes tables) (filter (λ u. is_some (opened_lot_row tables u.id)) (completed_trades_in_symbol tables account symbol))
+    map (lot_with_changes_by_others tables) (filter (λ u. is_some (opened_lot_row tables u.id)) (completed_trades_in_symbol tables account symbol))
 
 -- The remaining quantity of `lot`, below 0 if it was sold short: its quantity after the last of
 -- `lot.changes`, or the opened quantity if there is no change.

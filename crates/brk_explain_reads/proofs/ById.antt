@@ -14,7 +14,7 @@ use Rattle.brk_model.specs.Joins.{trade_rows_oldest_first, trade_row_with_id}
 use Rattle.brk_model.specs.Lists.{sort_by_key}
 use Rattle.brk_model.specs.Tables.{HoldingHistoryRow, Tables, TradeRow}
 use Rattle.brk_tables_schema.specs.Made.{HasDeskTables}
-use Rattle.brk_explain_model.specs.Holdings.{LotDetails, completed_trades_in_symbol, lot_with_later_changes, lots_opened_in_symbol}
+use Rattle.brk_explain_model.specs.Holdings.{LotDetails, completed_trades_in_symbol, lot_with_changes_by_others, lots_opened_in_symbol}
 use Rattle.brk_explain_model.specs.Trades.{has_completed_status, opened_lot_row}
 use Rattle.brk_store.proofs.WalkedLists.{IsStrictlyAscendingBy, oldest_same, trades_climb}
 use Rattle.brk_explain_reads.specs.HoldingParts.{lot_if_opened, lot_opened_by_trade}
@@ -87,13 +87,14 @@ lot_kept f u rows None = refl
 lot_kept f u rows (Some row) = refl
 
 lots_back : (t : Tables) (rows : List TradeRow) → AreFound t rows
-    → flat_map (λ id. option_to_list (lot_opened_by_trade t id)) (map (λ (r : TradeRow). r.id) rows) ≡ map (lot_with_later_changes t) (filter (λ (u : TradeRow). is_some (opened_lot_row t u.id)) rows)
+    → flat_map (λ id. option_to_list (lot_opened_by_trade t id)) (map (λ (r : TradeRow). r.id) rows)
+    ≡ map (lot_with_changes_by_others t) (filter (λ (u : TradeRow). is_some (opened_lot_row t u.id)) rows)
 lots_back t [] h = refl
 lots_back t (u ∷ rows) h =
     let rest = flat_map (λ id. option_to_list (lot_opened_by_trade t id)) (map (λ (r : TradeRow). r.id) rows) in
-    ap (λ o. option_to_list (lot_if_opened (opened_lot_row t u.id) (option_map (lot_with_later_changes t) o)) ++ rest) h.0
-    ∙ ap (λ ls. option_to_list (lot_if_opened (opened_lot_row t u.id) (Some (lot_with_later_changes t u))) ++ ls) (lots_back t rows h.1)
-    ∙ lot_kept (lot_with_later_changes t) u (filter (λ (r : TradeRow). is_some (opened_lot_row t r.id)) rows) (opened_lot_row t u.id)
+    ap (λ o. option_to_list (lot_if_opened (opened_lot_row t u.id) (option_map (lot_with_changes_by_others t) o)) ++ rest) h.0
+    ∙ ap (λ ls. option_to_list (lot_if_opened (opened_lot_row t u.id) (Some (lot_with_changes_by_others t u))) ++ ls) (lots_back t rows h.1)
+    ∙ lot_kept (lot_with_changes_by_others t) u (filter (λ (r : TradeRow). is_some (opened_lot_row t r.id)) rows) (opened_lot_row t u.id)
 
 module _ (t : Tables) (db : Database) (has : HasDeskTables t db) (account : ℕ) (symbol : Text) where
   pub done_known : flat_map (λ id. option_to_list (trade_row_with_id t id)) (held_ids t account symbol) ≡ completed_trades_in_symbol t account symbol

@@ -11,7 +11,7 @@ use Rattle.brk_model.specs.Joins.{trade_row_with_id}
 use Rattle.brk_model.specs.Lists.{sort_by_key}
 use Rattle.brk_model.specs.Tables.{HoldingHistoryRow, Tables, TradeRow}
 use Rattle.brk_explain_model.specs.Holdings as model
-use Rattle.brk_explain_model.specs.Holdings.{recorded_lot_change, later_changes_of_lot, lot_with_later_changes, quantity_opened_by_trade}
+use Rattle.brk_explain_model.specs.Holdings.{recorded_lot_change, changes_of_lot_by_other_trades, lot_with_changes_by_others, quantity_opened_by_trade}
 use Rattle.brk_explain_model.specs.Trades.{opened_lot_row, completion_price_or_zero}
 use Rattle.brk_explain_rows.specs.Details.{abstract_priced_lot_change, abstract_lot_details}
 use Rattle.brk_explain_rows.specs.declared.holding_details.LotDetails.{LotDetails}
@@ -40,7 +40,7 @@ and_turn false false = refl
 pub steps_known : (t : Tables) (lot : ℕ) (changes later : List LotChange) (all : OpeningAndLaterChanges) → map rows.abstract_lot_change_row changes ≡ filter (λ r. r.lot == lot) t.holding_history
     → map rows.abstract_lot_change_row later ≡ filter (λ r. not (r.trade == lot)) (map rows.abstract_lot_change_row changes)
     → option_map rows.abstract_lot_change_row all.opening ≡ find (λ r. r.trade == lot) (map rows.abstract_lot_change_row changes)
-    → map abstract_priced_lot_change all.later_changes.items ≡ map (λ c. recorded_lot_change t (rows.abstract_lot_change_row c)) later → AreLotChangesByTradeId t lot all
+    → map abstract_priced_lot_change all.changes_by_others.items ≡ map (λ c. recorded_lot_change t (rows.abstract_lot_change_row c)) later → AreLotChangesByTradeId t lot all
 steps_known t lot changes later all whole apart own made = (
   own ∙ ap (find (λ (r : HoldingHistoryRow). r.trade == lot)) whole
       ∙ sym (find_both (λ (r : HoldingHistoryRow). r.lot == lot) (λ (r : HoldingHistoryRow). r.trade == lot) t.holding_history)
@@ -52,7 +52,7 @@ steps_known t lot changes later all whole apart own made = (
 
 -- those of the lot that are not by its own trade
 pub turn_known : (t : Tables) (lot : ℕ)
-    → sort_by_key (λ c. c.stamp) (map (recorded_lot_change t) (filter (λ h. not (h.trade == lot)) (filter (λ h. h.lot == lot) t.holding_history))) ≡ later_changes_of_lot t lot
+    → sort_by_key (λ c. c.stamp) (map (recorded_lot_change t) (filter (λ h. not (h.trade == lot)) (filter (λ h. h.lot == lot) t.holding_history))) ≡ changes_of_lot_by_other_trades t lot
 turn_known t lot =
     ap (λ hs. sort_by_key (λ (c : model.LotChange). c.stamp) (map (recorded_lot_change t) hs))
     (sym (filter_both (λ (h : HoldingHistoryRow). h.lot == lot) (λ (h : HoldingHistoryRow). not (h.trade == lot)) t.holding_history))
@@ -62,17 +62,18 @@ number_is m n e = grind (arith, nat_tests)
 
 -- the lot of a trade that was found
 pub lot_known : (t : Tables) (trade : ℕ) (opening : LotChange) (row : code.TradeRow) (lot : LotDetails) → Some (rows.abstract_lot_change_row opening) ≡ opened_lot_row t trade
-    → trade_row_with_id t trade ≡ Some (abstract_trade_row row) → lot.trade ≡ row → lot.opened ≡ opening.after → map abstract_priced_lot_change lot.changes.items ≡ later_changes_of_lot t trade
+    → trade_row_with_id t trade ≡ Some (abstract_trade_row row) → lot.trade ≡ row → lot.opened ≡ opening.after
+    → map abstract_priced_lot_change lot.changes.items ≡ changes_of_lot_by_other_trades t trade
     → Some (abstract_lot_details lot) ≡ lot_opened_by_trade t trade
 lot_known t trade opening row lot own found same opened changes =
     let u = abstract_trade_row row in
     let is : u.id ≡ trade = number_is u.id trade (found_passes (λ (r : TradeRow). r.id == trade) t.trades u found) in
     let amount : opening.after ≡ quantity_opened_by_trade t u.id = ap (λ o. option_map_or (λ (r : HoldingHistoryRow). r.after) o (pos 0)) own ∙ ap (quantity_opened_by_trade t) (sym is) in
-    let later_changes : map abstract_priced_lot_change lot.changes.items ≡ later_changes_of_lot t u.id = changes ∙ ap (later_changes_of_lot t) (sym is) in
-    let details : abstract_lot_details lot ≡ lot_with_later_changes t u = λ i. record { trade = abstract_trade_row (same i); opened = (opened ∙ amount) i; changes = later_changes i } in
+    let changes_by_others : map abstract_priced_lot_change lot.changes.items ≡ changes_of_lot_by_other_trades t u.id = changes ∙ ap (changes_of_lot_by_other_trades t) (sym is) in
+    let details : abstract_lot_details lot ≡ lot_with_changes_by_others t u = λ i. record { trade = abstract_trade_row (same i); opened = (opened ∙ amount) i; changes = changes_by_others i } in
     ap Some details
-    ∙ (λ i. lot_if_opened (own i) (option_map (lot_with_later_changes t) (sym found i)))
+    ∙ (λ i. lot_if_opened (own i) (option_map (lot_with_changes_by_others t) (sym found i)))
 
 -- a trade that opened none
 pub no_lot_known : (t : Tables) (trade : ℕ) → None ≡ opened_lot_row t trade → None ≡ lot_opened_by_trade t trade
-no_lot_known t trade none = ap (λ o. lot_if_opened o (option_map (lot_with_later_changes t) (trade_row_with_id t trade))) none
+no_lot_known t trade none = ap (λ o. lot_if_opened o (option_map (lot_with_changes_by_others t) (trade_row_with_id t trade))) none

@@ -5,8 +5,8 @@ use Rattle.brk_changes.specs.Rows.{abstract_trade_row}
 use Rattle.brk_changes.specs.Rows as rows
 use Rattle.brk_model.specs.Joins.{last_price_in_tables, trade_row_with_id}
 use Rattle.brk_model.specs.Tables.{HoldingHistoryRow, Tables}
-use Rattle.brk_explain_model.specs.Holdings.{LotDetails, completed_trades_in_symbol, recorded_lot_change, later_changes_of_lot}
-use Rattle.brk_explain_model.specs.Holdings.{lot_with_later_changes, lots_opened_in_symbol, summary_quantity_in_symbol}
+use Rattle.brk_explain_model.specs.Holdings.{LotDetails, completed_trades_in_symbol, recorded_lot_change, changes_of_lot_by_other_trades}
+use Rattle.brk_explain_model.specs.Holdings.{lot_with_changes_by_others, lots_opened_in_symbol, summary_quantity_in_symbol}
 use Rattle.brk_explain_model.specs.Trades.{opened_lot_row}
 use Rattle.brk_explain_rows.specs.Details.{abstract_priced_lot_change, abstract_lot_details}
 use Rattle.brk_explain_reads.specs.declared.holding_trades.TradesAndLots.{TradesAndLots}
@@ -20,7 +20,7 @@ use Rattle.brk_explain_reads.specs.declared.lot_changes.OpeningAndLaterChanges.{
 abbrev pub AreLotChangesByTradeId : Tables → ℕ → OpeningAndLaterChanges → Type 0
 AreLotChangesByTradeId t lot all =
     (option_map rows.abstract_lot_change_row all.opening ≡ opened_lot_row t lot)
-    × (map abstract_priced_lot_change all.later_changes.items
+    × (map abstract_priced_lot_change all.changes_by_others.items
     ≡ map (recorded_lot_change t) (filter (λ h. not (h.trade == lot)) (filter (λ h. h.lot == lot) t.holding_history)))
 
 -- `all` has the change with which the lot with the id `lot` was opened, or `None` if there is none,
@@ -29,7 +29,7 @@ AreLotChangesByTradeId t lot all =
 abbrev pub AreLotChangesByCompletion : Tables → ℕ → OpeningAndLaterChanges → Type 0
 AreLotChangesByCompletion t lot all =
     (option_map rows.abstract_lot_change_row all.opening ≡ opened_lot_row t lot)
-    × (map abstract_priced_lot_change all.later_changes.items ≡ later_changes_of_lot t lot)
+    × (map abstract_priced_lot_change all.changes_by_others.items ≡ changes_of_lot_by_other_trades t lot)
 
 -- `lot` if the first argument is a row, which is the row of HOLDING_HISTORY that records the
 -- opening of a lot; `None` if the first argument is `None`.
@@ -41,7 +41,7 @@ lot_if_opened (Some row) lot = lot
 -- by the stamps of these other trades, ascending, as the tables `t` record them, or `None` if the
 -- trade opened no lot or does not exist.
 abbrev pub lot_opened_by_trade : Tables → ℕ → Option LotDetails
-lot_opened_by_trade t trade = lot_if_opened (opened_lot_row t trade) (option_map (lot_with_later_changes t) (trade_row_with_id t trade))
+lot_opened_by_trade t trade = lot_if_opened (opened_lot_row t trade) (option_map (lot_with_changes_by_others t) (trade_row_with_id t trade))
 
 -- `one` has the row of the trade with the id `trade`, which exists in the tables `t`, and the lot
 -- that this trade opened, with the lot's changes by other trades (`lot_opened_by_trade`), or `None`

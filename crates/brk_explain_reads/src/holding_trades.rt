@@ -65,13 +65,13 @@ fn read_lot_of_trade<S: Alter>(
     let all = read_changes_sorted_by_completion(alloc, store, trade)?;
     let OpeningAndLaterChanges {
         opening,
-        later_changes,
+        changes_by_others,
     } = all;
     let Some(first) = opening else {
         return Ok(None);
     };
     let row = read_existing_trade(store, trade)?;
-    Ok(Some(lot_details_of_opening(row, &first, later_changes)))
+    Ok(Some(lot_details_of_opening(row, &first, changes_by_others)))
 }
 
 // Returns the trade with the id `trade` and the lot that it opened, if any. If the database is

@@ -26,7 +26,7 @@ pub struct OpeningAndLaterChanges {
     /// The change with which the lot was opened, or `None` if there is none.
     pub opening: Option<LotChange>,
     /// The changes by other trades.
-    pub later_changes: Vec<PricedLotChange>,
+    pub changes_by_others: Vec<PricedLotChange>,
 }
 
 // Returns true if `change` is by the trade that opened `lot`. The lot has the id of this trade.
@@ -69,7 +69,7 @@ fn push_unless_by_opening_trade(
 
 // Returns those of `changes` that are not by the trade that opened `lot`, in the order of
 // `changes`. Fails with `Memory` only.
-fn changes_by_later_trades(
+fn changes_by_other_trades(
     alloc: Global,
     changes: &[LotChange],
     lot: Id,
@@ -130,29 +130,29 @@ fn read_changes_sorted_by_trade<S: Alter>(
 {
     let changes = store.lot_changes_of_lot(alloc, lot)?;
     let opening = opening_change_of_lot(&changes, lot);
-    let later = changes_by_later_trades(alloc, &changes, lot)?;
-    let mut later_changes = Vec::new(alloc);
+    let later = changes_by_other_trades(alloc, &changes, lot)?;
+    let mut changes_by_others = Vec::new(alloc);
     for change in &later {
         let priced_change = read_priced_lot_change(store, change)?;
-        later_changes.push(priced_change)?;
+        changes_by_others.push(priced_change)?;
     }
     Ok(OpeningAndLaterChanges {
         opening,
-        later_changes,
+        changes_by_others,
     })
 }
 
-// Returns `later_changes`, sorted by the stamps of the trades that made them, ascending; the sort
-// is stable. Fails with `Memory` only.
+// Returns `changes_by_others`, sorted by the stamps of the trades that made them, ascending; the
+// sort is stable. Fails with `Memory` only.
 fn sort_changes_by_stamp(
     alloc: Global,
-    later_changes: Vec<PricedLotChange>,
+    changes_by_others: Vec<PricedLotChange>,
 ) -> Result<Vec<PricedLotChange>, Fault>
     ensures order { IfOk result (λ all. map abstract_priced_lot_change all.items
-        ≡ sort_by_key (λ c. c.stamp) (map abstract_priced_lot_change later_changes.items)) }
+        ≡ sort_by_key (λ c. c.stamp) (map abstract_priced_lot_change changes_by_others.items)) }
     ensures fault { OnErr result (result ≡ Err Memory) }
 {
-    let sorted = sort_by_age(alloc, later_changes)?;
+    let sorted = sort_by_age(alloc, changes_by_others)?;
     Ok(sorted)
 }
 
@@ -169,9 +169,9 @@ pub(crate) fn read_changes_sorted_by_completion<S: Alter>(
     ensures fault { IfErr result IsCallFault }
 {
     let all = read_changes_sorted_by_trade(alloc, store, lot)?;
-    let later_changes = sort_changes_by_stamp(alloc, all.later_changes)?;
+    let changes_by_others = sort_changes_by_stamp(alloc, all.changes_by_others)?;
     Ok(OpeningAndLaterChanges {
         opening: all.opening,
-        later_changes,
+        changes_by_others,
     })
 }

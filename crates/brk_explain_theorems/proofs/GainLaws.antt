@@ -22,7 +22,7 @@ use Rattle.brk_lots.specs.Chains.{ShrinksTowardZero, IsLotHistory}
 use Rattle.brk_lots.specs.declared.lot.Lot.{Lot}
 use Rattle.brk_explain_model.specs.Holdings.{LotChange, LotDetails, realised_gain_of_change, remaining_cost_of_lot, remaining_cost_of_lots}
 use Rattle.brk_explain_model.specs.Holdings.{completed_trades_in_symbol, realised_gain_in_symbol, remaining_quantity_of_lot, recorded_lot_change}
-use Rattle.brk_explain_model.specs.Holdings.{realised_gain_of_lot, lot_with_later_changes, lots_opened_in_symbol, total_purchase_value, total_sale_value}
+use Rattle.brk_explain_model.specs.Holdings.{realised_gain_of_lot, lot_with_changes_by_others, lots_opened_in_symbol, total_purchase_value, total_sale_value}
 use Rattle.brk_explain_model.specs.Holdings.{signed_quantity_of_trade, signed_value_of_trade}
 use Rattle.brk_explain_model.specs.Running.{running_totals}
 use Rattle.brk_explain_model.specs.Trades.{has_completed_status, trade_price_or_zero, opened_lot_row}
@@ -133,7 +133,7 @@ first_gains base v (x ∷ xs) e o =
     nothing z = omega (arith, ints)
 
 gain_is : (base : Base) (account : ℕ) (symbol : Text) (v : Trade) → BooksInvariant base → IsOf base account symbol v
-    → realised_gain_of_lot (lot_with_later_changes (sheets base) (trade_row v)) ≡ lot_gains (completion_price v) v.id [] (deals_of_position (completed_trades base) account symbol)
+    → realised_gain_of_lot (lot_with_changes_by_others (sheets base) (trade_row v)) ≡ lot_gains (completion_price v) v.id [] (deals_of_position (completed_trades base) account symbol)
 gain_is base account symbol v books k =
     ap (total_by (realised_gain_of_change (completion_price v))) (changes_are_rest base v books k.among_all)
     ∙ changed_total base v (rest (lot_rows_with_quantity_change (completed_trades base) v))
@@ -158,14 +158,14 @@ some_of_all {X = X} f p (x ∷ xs) h = by_test (p x) refl (some_of_all f p xs h.
 
 -- a sum over the lots that are told, by the trades of the position
 told_sum : (base : Base) (account : ℕ) (symbol : Text) (f : LotDetails → ℤ) → BooksInvariant base
-    → AllByRecursion (λ v. is_some (opened_lot_row (sheets base) v.id) ≡ false → f (lot_with_later_changes (sheets base) (trade_row v)) ≡ pos 0) (trades_held base account symbol)
-    → total_by f (lots_opened_in_symbol (sheets base) account symbol) ≡ total_by (λ v. f (lot_with_later_changes (sheets base) (trade_row v))) (trades_held base account symbol)
+    → AllByRecursion (λ v. is_some (opened_lot_row (sheets base) v.id) ≡ false → f (lot_with_changes_by_others (sheets base) (trade_row v)) ≡ pos 0) (trades_held base account symbol)
+    → total_by f (lots_opened_in_symbol (sheets base) account symbol) ≡ total_by (λ v. f (lot_with_changes_by_others (sheets base) (trade_row v))) (trades_held base account symbol)
 told_sum base account symbol f books h =
-    total-map f (lot_with_later_changes T) (filter has_own (completed_trades_in_symbol T account symbol))
-    ∙ ap (λ us. total_by (λ u. f (lot_with_later_changes T u)) (filter has_own us)) (done_are base account symbol books)
-    ∙ ap (total_by (λ u. f (lot_with_later_changes T u))) (filter-map has_own trade_row (trades_held base account symbol))
-    ∙ total-map (λ u. f (lot_with_later_changes T u)) trade_row (filter (λ v. has_own (trade_row v)) (trades_held base account symbol))
-    ∙ some_of_all (λ v. f (lot_with_later_changes T (trade_row v))) (λ v. has_own (trade_row v)) (trades_held base account symbol) h
+    total-map f (lot_with_changes_by_others T) (filter has_own (completed_trades_in_symbol T account symbol))
+    ∙ ap (λ us. total_by (λ u. f (lot_with_changes_by_others T u)) (filter has_own us)) (done_are base account symbol books)
+    ∙ ap (total_by (λ u. f (lot_with_changes_by_others T u))) (filter-map has_own trade_row (trades_held base account symbol))
+    ∙ total-map (λ u. f (lot_with_changes_by_others T u)) trade_row (filter (λ v. has_own (trade_row v)) (trades_held base account symbol))
+    ∙ some_of_all (λ v. f (lot_with_changes_by_others T (trade_row v))) (λ v. has_own (trade_row v)) (trades_held base account symbol) h
   where
     T : Tables
     T = sheets base
@@ -191,7 +191,7 @@ pub gains_are : (base : Base) (account : ℕ) (symbol : Text) → BooksInvariant
 unfolding total_by
 gains_are base account symbol books =
     told_sum base account symbol realised_gain_of_lot books (All-map W none known)
-    ∙ total_by-same (λ v. realised_gain_of_lot (lot_with_later_changes (sheets base) (trade_row v))) (λ v. lot_gains (completion_price v) v.id [] D) W
+    ∙ total_by-same (λ v. realised_gain_of_lot (lot_with_changes_by_others (sheets base) (trade_row v))) (λ v. lot_gains (completion_price v) v.id [] D) W
     (All-map W (λ v k. gain_is base account symbol v books k) known)
     ∙ all_lots W [] [] D refl apart tt (held_each W apart)
   where
@@ -207,7 +207,7 @@ gains_are base account symbol books =
     apart : IdsApart W
     apart = order_apart W (held_in_order base account symbol books)
 
-    none : (v : Trade) → IsOf base account symbol v → is_some (opened_lot_row (sheets base) v.id) ≡ false → realised_gain_of_lot (lot_with_later_changes (sheets base) (trade_row v)) ≡ pos 0
+    none : (v : Trade) → IsOf base account symbol v → is_some (opened_lot_row (sheets base) v.id) ≡ false → realised_gain_of_lot (lot_with_changes_by_others (sheets base) (trade_row v)) ≡ pos 0
     none v k e = ap (total_by (realised_gain_of_change (completion_price v)))
         (changes_are_rest base v books k.among_all ∙ ap (λ rows. map (recorded_lot_change (sheets base)) (rest rows)) (no_history base v books k.among_all e))
 
@@ -231,19 +231,19 @@ life_ends T [] to h = h
 life_ends T (x ∷ xs) to h = falls_end T x.after xs to h.1
 
 left_rows : (base : Base) (v : Trade) → BooksInvariant base → Among base v
-    → remaining_quantity_of_lot (lot_with_later_changes (sheets base) (trade_row v)) ≡ rows_leave (sheets base) (lot_rows_with_quantity_change (completed_trades base) v)
+    → remaining_quantity_of_lot (lot_with_changes_by_others (sheets base) (trade_row v)) ≡ rows_leave (sheets base) (lot_rows_with_quantity_change (completed_trades base) v)
 left_rows base v books a =
     λ i. unwrap_or (last_or None (map (λ (c : LotChange). c.after) (changes_are_rest base v books a i))) (option_map_or (λ (r : HoldingHistoryRow). r.after) (own_is_first base v books a i) (pos 0))
 
 left_is : (base : Base) (account : ℕ) (symbol : Text) (v : Trade) → BooksInvariant base → IsOf base account symbol v
-    → remaining_quantity_of_lot (lot_with_later_changes (sheets base) (trade_row v)) ≡ lot_quantity (replay (deals_of_position (completed_trades base) account symbol)) v.id
+    → remaining_quantity_of_lot (lot_with_changes_by_others (sheets base) (trade_row v)) ≡ lot_quantity (replay (deals_of_position (completed_trades base) account symbol)) v.id
 left_is base account symbol v books k =
     left_rows base v books k.among_all ∙ ap (rows_leave (sheets base)) k.history
     ∙ life_ends (sheets base) (filter has_quantity_change (lot_history_rows_per_deal v.id [] (deals_of_position (completed_trades base) account symbol)))
     (lot_quantity (replay (deals_of_position (completed_trades base) account symbol)) v.id) (lot_lives base account symbol v.id books)
 
 none_left : (base : Base) (v : Trade) → BooksInvariant base → Among base v → is_some (opened_lot_row (sheets base) v.id) ≡ false
-    → remaining_quantity_of_lot (lot_with_later_changes (sheets base) (trade_row v)) ≡ pos 0
+    → remaining_quantity_of_lot (lot_with_changes_by_others (sheets base) (trade_row v)) ≡ pos 0
 none_left base v books a e = left_rows base v books a ∙ ap (rows_leave (sheets base)) (no_history base v books a e)
 
 -- ---- what the lots cost, and how many shares they have
@@ -272,7 +272,7 @@ pub costs_are : (base : Base) (account : ℕ) (symbol : Text) → BooksInvariant
 costs_are base account symbol books =
     told_sum base account symbol remaining_cost_of_lot books
     (All-map W (λ v k e. ap (λ z. z *ℤ pos (completion_price v)) (none_left base v books k.among_all e) ∙ zero-*ℤ (pos (completion_price v))) known)
-    ∙ total_by-same (λ v. remaining_cost_of_lot (lot_with_later_changes (sheets base) (trade_row v))) (λ v. lot_quantity us v.id *ℤ pos (completion_price v)) W
+    ∙ total_by-same (λ v. remaining_cost_of_lot (lot_with_changes_by_others (sheets base) (trade_row v))) (λ v. lot_quantity us v.id *ℤ pos (completion_price v)) W
     (All-map W (λ v k. ap (λ z. z *ℤ pos (completion_price v)) (left_is base account symbol v books k)) known)
     ∙ sym (lots_sum base account symbol (λ (l : Lot). l.qty *ℤ pos l.price) books (λ l e. ap (λ z. z *ℤ pos l.price) e ∙ zero-*ℤ (pos l.price)))
   where
@@ -296,7 +296,8 @@ left_are : (base : Base) (account : ℕ) (symbol : Text) → BooksInvariant base
     → total_by remaining_quantity_of_lot (lots_opened_in_symbol (sheets base) account symbol) ≡ holding_summary_quantity (completed_trades base) account symbol
 left_are base account symbol books =
     told_sum base account symbol remaining_quantity_of_lot books (All-map W (λ v k e. none_left base v books k.among_all e) known)
-    ∙ total_by-same (λ v. remaining_quantity_of_lot (lot_with_later_changes (sheets base) (trade_row v))) (λ v. lot_quantity us v.id) W (All-map W (λ v k. left_is base account symbol v books k) known)
+    ∙ total_by-same (λ v. remaining_quantity_of_lot (lot_with_changes_by_others (sheets base) (trade_row v))) (λ v. lot_quantity us v.id) W
+    (All-map W (λ v k. left_is base account symbol v books k) known)
     ∙ sym (lots_sum base account symbol (λ (l : Lot). l.qty) books (λ l e. e))
     ∙ quantities_sum base account symbol books ∙ total-map (λ (d : Deal). signed_by_side d.side d.qty) deal_of_trade W ∙ deals_sum base account symbol
   where

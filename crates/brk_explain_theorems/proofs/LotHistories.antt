@@ -13,7 +13,7 @@ use Rattle.brk_model.specs.Shares.{Deal, Share, shares_after_deal}
 use Rattle.brk_model.specs.Sheets.{sheets}
 use Rattle.brk_model.specs.Tables.{HoldingHistoryRow, Tables}
 use Rattle.brk_lots.specs.HistoryRows.{has_quantity_change, lot_rows_with_quantity_change, lot_history_rows_per_deal}
-use Rattle.brk_explain_model.specs.Holdings.{LotChange, is_later_change_of_lot, recorded_lot_change, later_changes_of_lot}
+use Rattle.brk_explain_model.specs.Holdings.{LotChange, is_change_of_lot_by_other_trade, recorded_lot_change, changes_of_lot_by_other_trades}
 use Rattle.brk_explain_model.specs.Trades.{trade_stamp_or_zero, opened_lot_row}
 use Rattle.brk_book_theorems.specs.Books.{BooksInvariant}
 use Rattle.brk_book_theorems.specs.Lives.{BeginsWithTradeOfLot, lot_changes_by_stamp}
@@ -187,9 +187,9 @@ own_is_first base v books a =
 
 -- the changes by later trades are the others
 pub changes_are_rest : (base : Base) (v : Trade) → BooksInvariant base → Among base v
-    → later_changes_of_lot (sheets base) v.id ≡ map (recorded_lot_change (sheets base)) (rest (lot_rows_with_quantity_change (completed_trades base) v))
+    → changes_of_lot_by_other_trades (sheets base) v.id ≡ map (recorded_lot_change (sheets base)) (rest (lot_rows_with_quantity_change (completed_trades base) v))
 changes_are_rest base v books a =
-    sort_map (λ (c : LotChange). c.stamp) (recorded_lot_change T) (filter (is_later_change_of_lot v.id) T.holding_history)
+    sort_map (λ (c : LotChange). c.stamp) (recorded_lot_change T) (filter (is_change_of_lot_by_other_trade v.id) T.holding_history)
     ∙ ap (map (recorded_lot_change T)) (ap (sort_by (by (made_at base))) (filter-both (of_lot v.id) N T.holding_history)
     ∙ sort_filter (by (made_at base)) N (filter (of_lot v.id) T.holding_history) (by_splits (made_at base)) (by_one_way (made_at base))
     ∙ ap (filter N) (in_turn_of base v books a)

@@ -17,15 +17,15 @@ sector_requests_of_broker tables sector broker =
 
 -- The value of the pending requests of the broker `broker` in the sector `sector`, in cents: the
 -- sum of quantity times bid price.
-abbrev pub sector_volume_of_broker : Tables → Text → ℕ → ℕ
-sector_volume_of_broker tables sector broker = sum_by (λ r. r.qty * r.bid) (sector_requests_of_broker tables sector broker)
+abbrev pub value_of_sector_requests_of_broker : Tables → Text → ℕ → ℕ
+value_of_sector_requests_of_broker tables sector broker = sum_by (λ r. r.qty * r.bid) (sector_requests_of_broker tables sector broker)
 
 -- True if broker `a` is before broker `b` in the volume view of the sector `sector`: sorted by
 -- volume, descending, then by name (`is_text_less`) and id, ascending.
 abbrev pub is_before_by_volume : Tables → Text → BrokerRow → BrokerRow → Bool
 is_before_by_volume tables sector a b =
-    nat_lt (sector_volume_of_broker tables sector b.id) (sector_volume_of_broker tables sector a.id)
-    || ((sector_volume_of_broker tables sector b.id == sector_volume_of_broker tables sector a.id)
+    nat_lt (value_of_sector_requests_of_broker tables sector b.id) (value_of_sector_requests_of_broker tables sector a.id)
+    || ((value_of_sector_requests_of_broker tables sector b.id == value_of_sector_requests_of_broker tables sector a.id)
     && (is_text_less a.name b.name || (bytes_eq a.name b.name && nat_lt a.id b.id)))
 
 -- One record (name, id, volume) for each broker that has one of the `names` and a pending request
@@ -33,6 +33,6 @@ is_before_by_volume tables sector a b =
 -- volume is the text of an amount (`nonnegative_cents_text`).
 unfoldable pub broker_volume_view : Tables → Text → List Text → View
 broker_volume_view tables sector names =
-    map (λ b. b.name ∷ decimal b.id ∷ nonnegative_cents_text (sector_volume_of_broker tables sector b.id) ∷ [])
+    map (λ b. b.name ∷ decimal b.id ∷ nonnegative_cents_text (value_of_sector_requests_of_broker tables sector b.id) ∷ [])
     (sort_by (is_before_by_volume tables sector)
     (filter (λ b. list_any (bytes_eq b.name) names && nat_lt 0 (length (sector_requests_of_broker tables sector b.id))) tables.brokers))

@@ -4,7 +4,7 @@ use Rattle.brk_money.specs.declared.tax_status.TaxStatus.{TaxStatus}
 use Rattle.brk_model.specs.Records.{Account, Customer, Executor, Permission, Trade}
 use Rattle.brk_model_examples.specs.Trading.{first_purchase}
 
--- The account of `setting_base` with the tax status `status`.
+-- The account of `setting_base` with its tax status replaced by `status`.
 abbrev pub account_with_tax_status : TaxStatus → Account
 account_with_tax_status status = record { id = 100; customer = 10; broker = 1; name = codes "Main"; tax_status = status; opening = pos 1000000 }
 

@@ -88,7 +88,7 @@ pub fn retried_batch_changes_nothing()
 
 /// Shows that the retried rows `setting_rows` are answered with their stored replies, and that a
 /// changed first row under its recorded key is refused with `KeyReused` (19).
-pub fn retried_setting_is_answered_again()
+pub fn retried_setting_rows_are_answered_again()
     ensures again { BatchOutputsLines (base_after_batch empty_base setting_rows) setting_rows
         (codes "1,again,1709251200000"
         ∷ codes "2,again,1709251200001"

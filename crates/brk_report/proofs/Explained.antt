@@ -13,7 +13,7 @@ use Rattle.brk_model.specs.Statement.{text_of_lines, holding_rows_of_account}
 use Rattle.brk_model.specs.Tables.{AccountRow, BrokerRow, SecurityRow, Tables}
 use Rattle.brk_ref.specs.Records.{abstract_account_row, abstract_broker_row, abstract_security_row}
 use Rattle.brk_explain_model.specs.AccountLines.{PricedHolding, holding_and_total_lines, account_total_lines, account_explanation_lines, account_header_lines}
-use Rattle.brk_explain_model.specs.AccountLines.{balance_header_lines, priced_holdings_of_account, holding_line, open_lot_line, account_cash_rows_by_stamp}
+use Rattle.brk_explain_model.specs.AccountLines.{balance_and_lot_header_lines, priced_holdings_of_account, holding_line, open_lot_line, account_cash_rows_by_stamp}
 use Rattle.brk_explain_model.specs.AccountLines.{cash_posting_lines}
 use Rattle.brk_explain_model.specs.BrokerLines.{accounts_with_broker, broker_total_lines, broker_explanation_lines, broker_row_with_id}
 use Rattle.brk_explain_model.specs.BrokerLines.{broker_lines_from_trades, broker_header_lines, trade_commission_lines, completed_trades_of_broker}
@@ -65,13 +65,13 @@ account_told t account details h =
     let id : a.id ≡ account = eqb-true a.id account (passes_found (λ (r : AccountRow). r.id == account) t.accounts a h.0) in
     let lines : ℕ → List PricedHolding → List Text =
     λ n held.
-    account_header_lines a ++ cash_posting_lines a.opening (account_cash_rows_by_stamp t n) ++ balance_header_lines a
+    account_header_lines a ++ cash_posting_lines a.opening (account_cash_rows_by_stamp t n) ++ balance_and_lot_header_lines a
     ++ map open_lot_line (holding_rows_of_account t n) ++ holding_and_total_lines a held (length (account_cash_rows_by_stamp t n))
     (length (holding_rows_of_account t n)) in
     rw h.0
     (ap (λ (n : ℕ). Ok (lines n (priced_holdings_of_account t n))) id ∙ ap (λ (held : List PricedHolding). Ok (lines account held)) (sym h.1)
     ∙ ap (λ (l : List Text). Ok l)
-    (five_parts (account_header_lines a) (cash_posting_lines a.opening (account_cash_rows_by_stamp t account)) (balance_header_lines a) (map open_lot_line (holding_rows_of_account t account))
+    (five_parts (account_header_lines a) (cash_posting_lines a.opening (account_cash_rows_by_stamp t account)) (balance_and_lot_header_lines a) (map open_lot_line (holding_rows_of_account t account))
     (holding_and_total_lines a (map abstract_priced_holding details.held.items) (length (account_cash_rows_by_stamp t account)) (length (holding_rows_of_account t account)))))
 
 pub no_account : (t : Tables) (account : ℕ) → account_row_with_id t account ≡ None → explanation t (AccountOf account) ≡ Err NoAccount
@@ -82,8 +82,8 @@ pub top_first : (a : AccountRow) → HasFirst (account_header_lines a)
 unfolding account_header_lines
 top_first a = (_, _, refl)
 
-pub balance_first : (a : AccountRow) → HasFirst (balance_header_lines a)
-unfolding balance_header_lines
+pub balance_first : (a : AccountRow) → HasFirst (balance_and_lot_header_lines a)
+unfolding balance_and_lot_header_lines
 balance_first a = (_, _, refl)
 
 pub bottom_first : (a : AccountRow) (held : List PricedHolding) (cash lots : ℕ) → HasFirst (holding_and_total_lines a held cash lots)

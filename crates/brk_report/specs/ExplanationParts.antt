@@ -5,7 +5,7 @@ use Rattle.brk_money.specs.Spelling.{Text}
 use Rattle.brk_model.specs.Statement.{text_of_lines, holding_rows_of_account}
 use Rattle.brk_model.specs.Tables.{Tables}
 use Rattle.brk_ref.specs.Records.{abstract_account_row, abstract_broker_row}
-use Rattle.brk_explain_model.specs.AccountLines.{holding_and_total_lines, account_header_lines, balance_header_lines}
+use Rattle.brk_explain_model.specs.AccountLines.{holding_and_total_lines, account_header_lines, balance_and_lot_header_lines}
 use Rattle.brk_explain_model.specs.AccountLines.{open_lot_line, account_cash_rows_by_stamp, cash_posting_lines}
 use Rattle.brk_explain_model.specs.BrokerLines.{broker_total_lines, broker_header_lines, trade_commission_lines, completed_trades_of_broker}
 use Rattle.brk_explain_rows.specs.Details.{abstract_priced_holding}
@@ -38,7 +38,7 @@ abbrev pub all_account_lines : Tables → ℕ → AccountDetails → List Text
 all_account_lines t account details =
     account_header_lines (abstract_account_row details.account)
     ++ (account_cash_lines t account details.account.account.opening
-    ++ (balance_header_lines (abstract_account_row details.account)
+    ++ (balance_and_lot_header_lines (abstract_account_row details.account)
     ++ (account_lot_lines t account
     ++ holding_and_total_lines (abstract_account_row details.account) (map abstract_priced_holding details.held.items)
     (length (account_cash_rows_by_stamp t account)) (length (holding_rows_of_account t account)))))

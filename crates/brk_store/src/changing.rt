@@ -95,10 +95,10 @@ fn apply_change<S: Alter>(tx: &mut Transaction<'_, S>, change: &Change) -> Resul
     }
 }
 
-// Applies the changes in order within the transaction, up to the first that fails. The rows of
-// other tables are unchanged, unless a foreign key of such a table changes or deletes them. Fails
-// with `Store` only, if `apply_change` does. After a failure the rows within the transaction are
-// not specified.
+// Applies the changes to the tables of the desk, in order, within the transaction, up to the first
+// that fails. The rows of each table that is not the desk's are unchanged, unless a foreign key of
+// that table changes or deletes them. Fails with `Store` only, if `apply_change` does. After a
+// failure the rows within the transaction are not specified.
 fn apply_each_change<S: Alter>(tx: &mut Transaction<'_, S>, changes: &[Change]) -> Result<(), Fault>
     ensures same_reference { tx.new.conn.ghost_name ≡ tx.old.conn.ghost_name }
     ensures step { IsTransactionStep (state S.Store tx.old.conn.now) (state S.Store tx.new.conn.now) result

@@ -328,8 +328,9 @@ fn desk_with_trades<S: Alter + Drop>(
 }
 
 // Walks over the cash rows of an account with a stamp from `from` to `to`, in milliseconds since
-// 1970-01-01 UTC, both included, and records the rows in `seen`. A bound that is out of range is
-// replaced by the nearest stamp. Returns the result of the walk.
+// 1970-01-01 UTC, both included, and records at most `seen.left` of them in `seen`; the next row
+// stops the walk with `Ended::At`. A bound that is out of range is replaced by the nearest stamp.
+// Returns the result of the walk.
 fn record_cash_rows<S: Alter>(
     desk: &mut Desk<S>,
     account: Id,
@@ -395,8 +396,9 @@ const LOTS: [(u64, u64, &str, Result<(), Ended>); 5] = [
     (101, 9, "", Ok(())),
 ];
 
-// Walks over the lots of the account with the id `account`, and records the lots in `seen`. Returns
-// the result of the walk. Fails if `account` is not within the limits of an id.
+// Walks over the lots of the account with the id `account`, and records at most `seen.left` of them
+// in `seen`; the next lot stops the walk with `Ended::At`. Returns the result of the walk. Fails if
+// `account` is not within the limits of an id.
 fn record_lots<S: Alter>(
     desk: &mut Desk<S>,
     account: u64,

@@ -19,7 +19,7 @@ use Rattle.brk_model.specs.Rows.{nonnegative_cents_text}
 use Rattle.brk_model.specs.StatusView.{customer_and_broker_names, record_of_trade_status, trade_status_view}
 use Rattle.brk_model.specs.Tables as tables
 use Rattle.brk_model.specs.Tables.{Tables, AccountRow, SecurityRow}
-use Rattle.brk_model.specs.VolumeView.{is_before_by_volume, sector_volume_of_broker, broker_volume_view}
+use Rattle.brk_model.specs.VolumeView.{is_before_by_volume, value_of_sector_requests_of_broker, broker_volume_view}
 use Rattle.brk_money.specs.Kinds.{trade_status_code, trade_status_name, trade_type_name}
 use Rattle.brk_money.specs.Spelling.{Text}
 use Rattle.brk_ref.specs.Records.{abstract_security_row}
@@ -201,7 +201,8 @@ lots_shown t account first lots is = lots_of t (first_trade_since_as_list t acco
 volume_order : (t : Tables) (sector : Text) (a b : tables.BrokerRow)
     → is_before_by_broker_volume (volume_of_broker_in_sector t sector a) (volume_of_broker_in_sector t sector b) ≡ is_before_by_volume t sector a b
 volume_order t sector a b =
-    sym (volumes_before (sector_volume_of_broker t sector a.id) (sector_volume_of_broker t sector b.id) (is_text_less a.name b.name || (bytes_eq a.name b.name && nat_lt a.id b.id)))
+    sym (volumes_before (value_of_sector_requests_of_broker t sector a.id) (value_of_sector_requests_of_broker t sector b.id)
+    (is_text_less a.name b.name || (bytes_eq a.name b.name && nat_lt a.id b.id)))
 
 pub volumes_shown : (t : Tables) (sector : Text) (names : List Text) (rows : List tables.BrokerRow) (brokers : List BrokerVolume) → brokers ≡ map (volume_of_broker_in_sector t sector) rows
     → sort_by (is_before_by_volume t sector) rows ≡ sort_by (is_before_by_volume t sector) (filter (has_name_and_pending_request t sector names) t.brokers)

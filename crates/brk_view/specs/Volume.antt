@@ -3,7 +3,7 @@ use Rattle.std.specs.Prelude.{ℕ, ◌*◌, Bool, not, ◌&&◌, ◌||◌, nat_l
 use Rattle.std.specs.List.{list_any}
 use Rattle.brk_model.specs.Lists.{is_text_less}
 use Rattle.brk_model.specs.Tables.{Tables, BrokerRow, RequestRow}
-use Rattle.brk_model.specs.VolumeView.{sector_requests_of_broker, sector_volume_of_broker}
+use Rattle.brk_model.specs.VolumeView.{sector_requests_of_broker, value_of_sector_requests_of_broker}
 use Rattle.brk_money.specs.Spelling.{Text, cents_text}
 use Rattle.brk_view.specs.declared.volumes.BrokerVolume.{BrokerVolume}
 
@@ -27,7 +27,7 @@ request_value_at_bid r = r.qty * r.bid
 -- The id and the name of the broker `b` with its volume in `sector`, in cents: the sum of quantity
 -- times bid price over its pending requests for securities of this sector in the tables `t`.
 abbrev pub volume_of_broker_in_sector : Tables → Text → BrokerRow → BrokerVolume
-volume_of_broker_in_sector t sector b = record { broker = b.id; name = b.name; volume = pos (sector_volume_of_broker t sector b.id) }
+volume_of_broker_in_sector t sector b = record { broker = b.id; name = b.name; volume = pos (value_of_sector_requests_of_broker t sector b.id) }
 
 -- True if the name of the broker `b` is one of `names`, and `b` has at least one pending request
 -- for a security of `sector` in the tables `t`.

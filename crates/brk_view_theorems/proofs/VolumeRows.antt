@@ -12,7 +12,7 @@ use Rattle.brk_model.specs.Lists.{distinct_texts, sort_by, is_text_less}
 use Rattle.brk_model.specs.Rows.{nonnegative_cents_text}
 use Rattle.brk_model.specs.Sheets.{sheets, tables_sorted_by_key}
 use Rattle.brk_model.specs.Tables.{BrokerRow, RequestRow, Tables, tables_of_base, tables_of_base_in_schema}
-use Rattle.brk_model.specs.VolumeView.{is_before_by_volume, sector_requests_of_broker, sector_volume_of_broker, broker_volume_view}
+use Rattle.brk_model.specs.VolumeView.{is_before_by_volume, sector_requests_of_broker, value_of_sector_requests_of_broker, broker_volume_view}
 use Rattle.brk_audit_theorems.proofs.Climbs.{Climbs, not_itself}
 use Rattle.brk_audit_theorems.proofs.Parts.{key_parts}
 use Rattle.brk_invariant_theorems.specs.Sound.{AuditInvariant}
@@ -83,10 +83,10 @@ by_name a b = by_tests (is_text_less a.name b.name) (is_text_less b.name a.name)
 abbrev volume_first : (ℕ → ℕ) → BrokerRow → BrokerRow → Bool
 volume_first volume a b = nat_lt (volume b.id) (volume a.id) || ((volume b.id == volume a.id) && is_key_less (name_key a) (name_key b))
 
-keyed_order : (t : Tables) (sector : Text) (a b : BrokerRow) → is_before_by_volume t sector a b ≡ volume_first (sector_volume_of_broker t sector) a b
+keyed_order : (t : Tables) (sector : Text) (a b : BrokerRow) → is_before_by_volume t sector a b ≡ volume_first (value_of_sector_requests_of_broker t sector) a b
 keyed_order t sector a b =
-    ap (λ c. nat_lt (sector_volume_of_broker t sector b.id) (sector_volume_of_broker t sector a.id)
-    || ((sector_volume_of_broker t sector b.id == sector_volume_of_broker t sector a.id) && c)) (by_name a b)
+    ap (λ c. nat_lt (value_of_sector_requests_of_broker t sector b.id) (value_of_sector_requests_of_broker t sector a.id)
+    || ((value_of_sector_requests_of_broker t sector b.id == value_of_sector_requests_of_broker t sector a.id) && c)) (by_name a b)
 
 number_splits : (x y z : ℕ) (p q r : Bool) → (p ≡ true → q ≡ false → r ≡ true) → nat_lt x z || ((x == z) && p) ≡ true → nat_lt y z || ((y == z) && q) ≡ false
     → nat_lt x y || ((x == y) && r) ≡ true
@@ -95,7 +95,7 @@ number_splits x y z p q r f g h = grind (arith, nat_tests)
 splits : (t : Tables) (sector : Text) → Splits (is_before_by_volume t sector)
 splits t sector x y z g h =
     keyed_order t sector y x
-    ∙ number_splits (sector_volume_of_broker t sector x.id) (sector_volume_of_broker t sector y.id) (sector_volume_of_broker t sector z.id)
+    ∙ number_splits (value_of_sector_requests_of_broker t sector x.id) (value_of_sector_requests_of_broker t sector y.id) (value_of_sector_requests_of_broker t sector z.id)
     (is_key_less (name_key z) (name_key x)) (is_key_less (name_key z) (name_key y)) (is_key_less (name_key y) (name_key x))
     (key_splits (name_key x) (name_key y) (name_key z)) (sym (keyed_order t sector z x) ∙ g) (sym (keyed_order t sector z y) ∙ h)
 
@@ -121,7 +121,8 @@ apart t sector (b ∷ rows) c = (others rows c.0, apart t sector rows c.1)
     one : (d : BrokerRow) → is_key_less (broker_key b) (broker_key d) ≡ true → is_before_by_volume t sector b d ≡ not (is_before_by_volume t sector d b)
     one d h =
         keyed_order t sector b d
-        ∙ number_apart (sector_volume_of_broker t sector b.id) (sector_volume_of_broker t sector d.id) (is_key_less (name_key b) (name_key d)) (is_key_less (name_key d) (name_key b))
+        ∙ number_apart (value_of_sector_requests_of_broker t sector b.id) (value_of_sector_requests_of_broker t sector d.id)
+        (is_key_less (name_key b) (name_key d)) (is_key_less (name_key d) (name_key b))
         (keys_part (name_key b) (name_key d) (λ e. not_itself (broker_key b) (broker_key d) (second_number b.name d.name b.id d.id e) h))
         ∙ ap not (sym (keyed_order t sector d b))
 
@@ -161,7 +162,7 @@ unfolding broker_volume_view
 same_volumes base sector names books sound =
     let s : Tables = sheets base in
     let t : Tables = tables_of_base base in
-    let record_in : Tables → BrokerRow → List Text = λ u b. b.name ∷ decimal b.id ∷ nonnegative_cents_text (sector_volume_of_broker u sector b.id) ∷ [] in
+    let record_in : Tables → BrokerRow → List Text = λ u b. b.name ∷ decimal b.id ∷ nonnegative_cents_text (value_of_sector_requests_of_broker u sector b.id) ∷ [] in
     ap (λ rows. map (record_in s) (sort_by (is_before_by_volume s sector) rows)) (same_rows (is_shown s sector names) (is_shown t sector names) s.brokers (λ b. same_shown base sector names b books))
     ∙ ap (map (record_in s)) (same_order (is_before_by_volume s sector) (is_before_by_volume t sector) (filter (is_shown t sector names) s.brokers) (λ a b. same_by base sector a b books))
     ∙ ap (map (record_in s)) (same_brokers base sector names books sound)

@@ -12,7 +12,8 @@ use crate::explanations::sections::{
 };
 use brk_desk::Desk;
 use brk_explain_lines::{
-    account_header_text, balance_header_text, holding_and_total_text, trade_explanation_text,
+    account_header_text, balance_and_lot_header_text, holding_and_total_text,
+    trade_explanation_text,
 };
 use brk_explain_rows::{AccountDetails, BrokerDetails};
 use brk_explain_sums::{broker_header_text, broker_total_text, holding_explanation_text};
@@ -68,7 +69,7 @@ fn write_account_lines<W: Write, S: Alter>(
     let row = &details.account;
     write_lines(writer, account_header_text(alloc, row))?;
     let cash = write_cash_posting_lines(alloc, desk, account, row.account.opening, writer)?;
-    write_lines(writer, balance_header_text(alloc, row))?;
+    write_lines(writer, balance_and_lot_header_text(alloc, row))?;
     let lots = write_open_lot_lines(alloc, desk, account, writer)?;
     write_lines(
         writer,

@@ -19,17 +19,17 @@ use Rattle.brk_explain_reads.proofs.lot_changes.read_changes_sorted_by_trade.Goa
 
 -- the changes of a lot, and the first of the later ones with their prices
 abbrev FirstChanges : ℕ → List LotChange → List LotChange → List PricedLotChange → ℕ → Tables → Type 0
-FirstChanges lot changes later later_changes i t =
+FirstChanges lot changes later changes_by_others i t =
     (map rows.abstract_lot_change_row changes ≡ filter (λ (r : HoldingHistoryRow). r.lot == lot) t.holding_history)
-    × (map abstract_priced_lot_change later_changes ≡ map (λ h. recorded_lot_change t (rows.abstract_lot_change_row h)) (take i later))
+    × (map abstract_priced_lot_change changes_by_others ≡ map (λ h. recorded_lot_change t (rows.abstract_lot_change_row h)) (take i later))
 
 pub loop-change-init : goal.loop-change-init
 loop-change-init g c =
     let changes = c.in_ok-changes.changes in
     retold g.S.Store c.args.store.now c.lot_changes_of_lot.new.self changes tt
     (λ all (t : Tables). map rows.abstract_lot_change_row all.items ≡ filter (λ (r : HoldingHistoryRow). r.lot == c.args.lot) t.holding_history)
-    (λ _. FirstChanges c.args.lot changes.items c.deref-change-items.result.now c.new-later_changes.result.items 0)
-    (λ t e. (e, ap (map abstract_priced_lot_change) c.new-later_changes.ensures.items))
+    (λ _. FirstChanges c.args.lot changes.items c.deref-change-items.result.now c.new-changes_by_others.result.items 0)
+    (λ t e. (e, ap (map abstract_priced_lot_change) c.new-changes_by_others.ensures.items))
     c.in_ok-changes.ensures.read
 
 pub loop-change-preserved : goal.loop-change-preserved
@@ -38,7 +38,7 @@ loop-change-preserved g c =
     let later = c.deref-change-items.result.now in
     let i = c.loop-change.change-index in
     let change = c.change-item.result in
-    let before = c.loop-change.later_changes.items in
+    let before = c.loop-change.changes_by_others.items in
     let priced_change = c.in_ok-priced_change.priced_change in
     rw c.in_ok-push.ensures.items
     (read_with g.S.Store c.args.store.now c.loop-change.store c.read_priced_lot_change.new.store {H = Fault} tt priced_change tt
@@ -56,11 +56,11 @@ pub returns-clause-read : goal.returns-clause-read
 returns-clause-read g c =
     let changes = c.in_ok-changes.changes.items in
     let later = c.deref-change-items.result.now in
-    let later_changes = c.loop-change.later_changes in
+    let changes_by_others = c.loop-change.changes_by_others in
     let i = c.loop-change.change-index in
-    let all : OpeningAndLaterChanges = record { opening = c.opening_change_of_lot-opening.result; later_changes = later_changes } in
+    let all : OpeningAndLaterChanges = record { opening = c.opening_change_of_lot-opening.result; changes_by_others = changes_by_others } in
     retold g.S.Store c.args.store.now c.loop-change.store tt all
-    (λ _. FirstChanges c.args.lot changes later later_changes.items i)
+    (λ _. FirstChanges c.args.lot changes later changes_by_others.items i)
     (λ all (t : Tables). AreLotChangesByTradeId t c.args.lot all)
     (λ t p. steps_known t c.args.lot changes later all p.0
     (ap (map rows.abstract_lot_change_row) c.deref-change-items.ensures.value ∙ c.in_ok-later.ensures.later

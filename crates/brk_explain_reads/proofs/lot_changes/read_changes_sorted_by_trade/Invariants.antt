@@ -9,4 +9,4 @@ use Rattle.brk_explain_reads.proofs.lot_changes.read_changes_sorted_by_trade.Giv
 abbrev pub invariant-loop-change : goal.invariant-loop-change
 invariant-loop-change g l = ReadPost {V = Unit {0}} {E = Fault} g.S.Store l.fn.store l.store (Ok tt)
     (λ _ t. (map rows.abstract_lot_change_row l.changes.items ≡ filter (λ r. r.lot == l.fn.lot) t.holding_history)
-    × (map abstract_priced_lot_change l.later_changes.items ≡ map (λ h. recorded_lot_change t (rows.abstract_lot_change_row h)) (take l.change-index l.change-items)))
+    × (map abstract_priced_lot_change l.changes_by_others.items ≡ map (λ h. recorded_lot_change t (rows.abstract_lot_change_row h)) (take l.change-index l.change-items)))

@@ -9,4 +9,4 @@ use Rattle.brk_explain_reads.proofs.lot_changes.sort_changes_by_stamp.Goals as g
 pub returns-clause-order : goal.returns-clause-order
 returns-clause-order c =
     ap (map abstract_priced_lot_change) c.in_ok-sorted.ensures.order
-    ∙ sym (map_sorted (λ (a b : row.PricedLotChange). nat_lt a.stamp b.stamp) (λ (a b : LotChange). nat_lt a.stamp b.stamp) abstract_priced_lot_change c.args.later_changes.items (λ a b. refl))
+    ∙ sym (map_sorted (λ (a b : row.PricedLotChange). nat_lt a.stamp b.stamp) (λ (a b : LotChange). nat_lt a.stamp b.stamp) abstract_priced_lot_change c.args.changes_by_others.items (λ a b. refl))

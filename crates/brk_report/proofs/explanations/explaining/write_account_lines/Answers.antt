@@ -1,7 +1,7 @@
 use Rattle.std.proofs.Common.{ℕ, ◌++◌, Err, Ok, length, map, subst}
 use Rattle.brk_model.specs.Statement.{holding_rows_of_account}
 use Rattle.brk_ref.specs.Records.{abstract_account_row}
-use Rattle.brk_explain_model.specs.AccountLines.{holding_and_total_lines, account_header_lines, balance_header_lines, account_cash_rows_by_stamp}
+use Rattle.brk_explain_model.specs.AccountLines.{holding_and_total_lines, account_header_lines, balance_and_lot_header_lines, account_cash_rows_by_stamp}
 use Rattle.brk_explain_rows.specs.Details.{abstract_priced_holding}
 use Rattle.brk_report.specs.Stated.{IsLinesFaultOtherThanDamage}
 use Rattle.brk_report.proofs.Handing.{behind, breaks_as, on_err, wants}
@@ -22,7 +22,7 @@ returns-in_err-write_lines-clause-written g c = λ clean t holds.
     (g.W.Write.contents c.write_lines.new.writer) (Err c.in_err-write_lines.field-0.0) (top_first a) c.in_err-write_lines.ensures.written
     c.account_header_text.ensures.text (wants _ c.account_header_text.ensures.fault) in
     breaks_as _ _ _ _ _ c.from_residual.ensures.1
-    (breaks_before (account_header_lines a) (account_cash_lines t c.args.account a.opening ++ (balance_header_lines a ++ (account_lot_lines t c.args.account ++ bottom))) _ _ _ wrote)
+    (breaks_before (account_header_lines a) (account_cash_lines t c.args.account a.opening ++ (balance_and_lot_header_lines a ++ (account_lot_lines t c.args.account ++ bottom))) _ _ _ wrote)
 
 pub returns-in_err-cash-clause-written : goal.returns-in_err-cash-clause-written
 returns-in_err-cash-clause-written g c = λ clean t holds.
@@ -33,10 +33,10 @@ returns-in_err-cash-clause-written g c = λ clean t holds.
     (g.W.Write.contents c.write_lines.new.writer) (Ok c.in_ok-write_lines.field-0) (top_first a) c.in_ok-write_lines.ensures.written
     c.account_header_text.ensures.text (wants _ c.account_header_text.ensures.fault) in
     let cash = account_cash_lines t c.args.account a.opening in
-    let rest = balance_header_lines a ++ (account_lot_lines t c.args.account ++ bottom) in
+    let rest = balance_and_lot_header_lines a ++ (account_lot_lines t c.args.account ++ bottom) in
     breaks_as _ _ _ _ _ c.from_residual-in_err-cash.ensures.1
     (breaks_behind (account_header_lines a) (cash ++ rest) _ _ _ _ top
-    (breaks_off_before cash rest _ _ _ (first_before (balance_header_lines a) (account_lot_lines t c.args.account ++ bottom) (balance_first a)) (c.in_err-cash.ensures.written clean t holds)))
+    (breaks_off_before cash rest _ _ _ (first_before (balance_and_lot_header_lines a) (account_lot_lines t c.args.account ++ bottom) (balance_first a)) (c.in_err-cash.ensures.written clean t holds)))
 
 pub returns-in_err-write_lines-2-clause-written : goal.returns-in_err-write_lines-2-clause-written
 returns-in_err-write_lines-2-clause-written g c = λ clean t holds.
@@ -46,14 +46,14 @@ returns-in_err-write_lines-2-clause-written g c = λ clean t holds.
     let top = text_written {R = Unit {0}} (account_header_lines a) c.account_header_text.result (g.W.Write.contents c.args.writer.now)
     (g.W.Write.contents c.write_lines.new.writer) (Ok c.in_ok-write_lines.field-0) (top_first a) c.in_ok-write_lines.ensures.written
     c.account_header_text.ensures.text (wants _ c.account_header_text.ensures.fault) in
-    let balance = text_written {R = Unit {0}} (balance_header_lines a) c.balance_header_text.result (g.W.Write.contents c.write_cash_posting_lines.new.writer)
+    let balance = text_written {R = Unit {0}} (balance_and_lot_header_lines a) c.balance_and_lot_header_text.result (g.W.Write.contents c.write_cash_posting_lines.new.writer)
     (g.W.Write.contents c.write_lines-2.new.writer) (Err c.in_err-write_lines-2.field-0.0) (balance_first a) c.in_err-write_lines-2.ensures.written
-    c.balance_header_text.ensures.text (wants _ c.balance_header_text.ensures.fault) in
+    c.balance_and_lot_header_text.ensures.text (wants _ c.balance_and_lot_header_text.ensures.fault) in
     let cash = account_cash_lines t c.args.account a.opening in
     let rest = account_lot_lines t c.args.account ++ bottom in
     breaks_as _ _ _ _ _ c.from_residual-in_err-write_lines-2.ensures.1
-    (breaks_behind (account_header_lines a) (cash ++ (balance_header_lines a ++ rest)) _ _ _ _ top
-    (breaks_behind cash (balance_header_lines a ++ rest) _ _ _ _ (c.in_ok-cash.ensures.written clean t holds).0 (breaks_before (balance_header_lines a) rest _ _ _ balance)))
+    (breaks_behind (account_header_lines a) (cash ++ (balance_and_lot_header_lines a ++ rest)) _ _ _ _ top
+    (breaks_behind cash (balance_and_lot_header_lines a ++ rest) _ _ _ _ (c.in_ok-cash.ensures.written clean t holds).0 (breaks_before (balance_and_lot_header_lines a) rest _ _ _ balance)))
 
 pub returns-in_err-lots-clause-written : goal.returns-in_err-lots-clause-written
 returns-in_err-lots-clause-written g c = λ clean t holds.
@@ -65,15 +65,15 @@ returns-in_err-lots-clause-written g c = λ clean t holds.
     let top = text_written {R = Unit {0}} (account_header_lines a) c.account_header_text.result (g.W.Write.contents c.args.writer.now)
     (g.W.Write.contents c.write_lines.new.writer) (Ok c.in_ok-write_lines.field-0) (top_first a) c.in_ok-write_lines.ensures.written
     c.account_header_text.ensures.text (wants _ c.account_header_text.ensures.fault) in
-    let balance = text_written {R = Unit {0}} (balance_header_lines a) c.balance_header_text.result (g.W.Write.contents c.write_cash_posting_lines.new.writer)
+    let balance = text_written {R = Unit {0}} (balance_and_lot_header_lines a) c.balance_and_lot_header_text.result (g.W.Write.contents c.write_cash_posting_lines.new.writer)
     (g.W.Write.contents c.write_lines-2.new.writer) (Ok c.in_ok-write_lines-2.field-0) (balance_first a) c.in_ok-write_lines-2.ensures.written
-    c.balance_header_text.ensures.text (wants _ c.balance_header_text.ensures.fault) in
+    c.balance_and_lot_header_text.ensures.text (wants _ c.balance_and_lot_header_text.ensures.fault) in
     let cash = account_cash_lines t c.args.account a.opening in
     let lots = account_lot_lines t c.args.account in
     breaks_as _ _ _ _ _ c.from_residual-in_err-lots.ensures.1
-    (breaks_behind (account_header_lines a) (cash ++ (balance_header_lines a ++ (lots ++ bottom))) _ _ _ _ top
-    (breaks_behind cash (balance_header_lines a ++ (lots ++ bottom)) _ _ _ _ (c.in_ok-cash.ensures.written mid t holds).0
-    (breaks_behind (balance_header_lines a) (lots ++ bottom) _ _ _ _ balance
+    (breaks_behind (account_header_lines a) (cash ++ (balance_and_lot_header_lines a ++ (lots ++ bottom))) _ _ _ _ top
+    (breaks_behind cash (balance_and_lot_header_lines a ++ (lots ++ bottom)) _ _ _ _ (c.in_ok-cash.ensures.written mid t holds).0
+    (breaks_behind (balance_and_lot_header_lines a) (lots ++ bottom) _ _ _ _ balance
     (breaks_off_before lots bottom _ _ _
     (bottom_first a held (length (account_cash_rows_by_stamp t c.args.account)) (length (holding_rows_of_account t c.args.account)))
     (c.in_err-lots.ensures.written clean t still)))))
@@ -88,9 +88,9 @@ returns-clause-written g c = λ clean t holds.
     let top = text_written {R = Unit {0}} (account_header_lines a) c.account_header_text.result (g.W.Write.contents c.args.writer.now)
     (g.W.Write.contents c.write_lines.new.writer) (Ok c.in_ok-write_lines.field-0) (top_first a) c.in_ok-write_lines.ensures.written
     c.account_header_text.ensures.text (wants _ c.account_header_text.ensures.fault) in
-    let balance = text_written {R = Unit {0}} (balance_header_lines a) c.balance_header_text.result (g.W.Write.contents c.write_cash_posting_lines.new.writer)
+    let balance = text_written {R = Unit {0}} (balance_and_lot_header_lines a) c.balance_and_lot_header_text.result (g.W.Write.contents c.write_cash_posting_lines.new.writer)
     (g.W.Write.contents c.write_lines-2.new.writer) (Ok c.in_ok-write_lines-2.field-0) (balance_first a) c.in_ok-write_lines-2.ensures.written
-    c.balance_header_text.ensures.text (wants _ c.balance_header_text.ensures.fault) in
+    c.balance_and_lot_header_text.ensures.text (wants _ c.balance_and_lot_header_text.ensures.fault) in
     let posted = c.in_ok-cash.ensures.written mid t holds in
     let kept = c.in_ok-lots.ensures.written clean t still in
     let shown = map abstract_priced_holding c.deref.result.now in
@@ -103,9 +103,9 @@ returns-clause-written g c = λ clean t holds.
     written in
     let cash = account_cash_lines t c.args.account a.opening in
     let lots = account_lot_lines t c.args.account in
-    behind (account_header_lines a) (cash ++ (balance_header_lines a ++ (lots ++ bottom))) _ _ _ _ top
-    (behind cash (balance_header_lines a ++ (lots ++ bottom)) _ _ _ _ posted.0
-    (behind (balance_header_lines a) (lots ++ bottom) _ _ _ _ balance
+    behind (account_header_lines a) (cash ++ (balance_and_lot_header_lines a ++ (lots ++ bottom))) _ _ _ _ top
+    (behind cash (balance_and_lot_header_lines a ++ (lots ++ bottom)) _ _ _ _ posted.0
+    (behind (balance_and_lot_header_lines a) (lots ++ bottom) _ _ _ _ balance
     (behind lots bottom _ _ _ _ kept.0
     (subst (λ (n : ℕ). WritesLines (holding_and_total_lines a held n (length (holding_rows_of_account t c.args.account)))
     (g.W.Write.contents c.write_open_lot_lines.new.writer) (g.W.Write.contents c.write_lines-3.new.writer) c.write_lines-3.result) posted.1
@@ -127,9 +127,9 @@ pub returns-in_err-write_lines-2-clause-fault : goal.returns-in_err-write_lines-
 returns-in_err-write_lines-2-clause-fault g c =
     let a = abstract_account_row c.args.details.now.account in
     on_err IsLinesFaultOtherThanDamage _ _ c.from_residual-in_err-write_lines-2.ensures.1
-    (text_fault {R = Unit {0}} (balance_header_lines a) c.balance_header_text.result (g.W.Write.contents c.write_cash_posting_lines.new.writer)
+    (text_fault {R = Unit {0}} (balance_and_lot_header_lines a) c.balance_and_lot_header_text.result (g.W.Write.contents c.write_cash_posting_lines.new.writer)
     (g.W.Write.contents c.write_lines-2.new.writer) (Err c.in_err-write_lines-2.field-0.0) (balance_first a) c.in_err-write_lines-2.ensures.written
-    c.balance_header_text.ensures.text (wants _ c.balance_header_text.ensures.fault))
+    c.balance_and_lot_header_text.ensures.text (wants _ c.balance_and_lot_header_text.ensures.fault))
 
 pub returns-in_err-lots-clause-fault : goal.returns-in_err-lots-clause-fault
 returns-in_err-lots-clause-fault g c = on_err IsLinesFaultOtherThanDamage _ _ c.from_residual-in_err-lots.ensures.1 c.in_err-lots.ensures.fault

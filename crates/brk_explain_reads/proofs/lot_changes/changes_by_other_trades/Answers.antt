@@ -3,7 +3,7 @@ use Rattle.std.proofs.lemmas.List.{take_all}
 use Rattle.brk_changes.specs.Rows.{abstract_lot_change_row}
 use Rattle.brk_model.specs.Tables.{HoldingHistoryRow}
 use Rattle.brk_explain_reads.proofs.Each.{last_more}
-use Rattle.brk_explain_reads.proofs.lot_changes.changes_by_later_trades.Goals as goal
+use Rattle.brk_explain_reads.proofs.lot_changes.changes_by_other_trades.Goals as goal
 
 pub loop-change-init : goal.loop-change-init
 loop-change-init c = ap (map abstract_lot_change_row) c.new-later.ensures.items

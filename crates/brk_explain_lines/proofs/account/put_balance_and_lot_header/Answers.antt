@@ -3,11 +3,11 @@ use Rattle.brk_model.specs.Statement.{text_of_lines}
 use Rattle.brk_report_lines.specs.Written.{line_with_line_feed}
 use Rattle.brk_explain_columns.proofs.Chains.{more, last, on_ok}
 use Rattle.std.proofs.Common.{◌≡◌, ◌∙◌, ◌++◌, ◌∷◌, [], codes}
-use Rattle.brk_explain_model.specs.AccountLines.{balance_header_lines}
-use Rattle.brk_explain_lines.proofs.account.put_balance_header.Goals as goal
+use Rattle.brk_explain_model.specs.AccountLines.{balance_and_lot_header_lines}
+use Rattle.brk_explain_lines.proofs.account.put_balance_and_lot_header.Goals as goal
 
 pub returns-clause-ok : goal.returns-clause-ok
-unfolding balance_header_lines
+unfolding balance_and_lot_header_lines
 returns-clause-ok c =
     let o = c.args.out.now.items in
     let x1 = c.put_labeled_amount_line.new.out.items in
