@@ -152,17 +152,23 @@ fn expect_batch_read_fault<S: Alter + Drop>(
     expect_batch_fault(name.as_str(), ended, wanted, &told, lines.as_str())
 }
 
+// Checks `expect_batch_read_fault` for each byte of a batch, and for a reader that fails and one
+// that is interrupted, each time on a new desk in memory.
+fn expect_batch_read_faults(alloc: Global, batch: &str) -> Result<(), Fail> {
+    for len in 0..batch.len() {
+        for kind in [ErrorKind::Other, ErrorKind::Interrupted] {
+            expect_batch_read_fault(alloc, open_in_memory(alloc), batch, len, kind)?;
+        }
+    }
+    Ok(())
+}
+
 /// Checks, for each byte of a batch before which the reader fails or is interrupted, that the batch
 /// fails with `Read` after exactly the lines of the decided rows, and that its retry completes.
 /// Fails if not, and if memory runs out.
 pub fn batch_readers_failing_at_each_byte(alloc: Global) -> Result<(), Fail> {
     let batch = format_batch(alloc, &ROWS)?;
-    for len in 0..batch.len() {
-        for kind in [ErrorKind::Other, ErrorKind::Interrupted] {
-            expect_batch_read_fault(alloc, open_in_memory(alloc), batch.as_str(), len, kind)?;
-        }
-    }
-    Ok(())
+    expect_batch_read_faults(alloc, batch.as_str())
 }
 
 // Executes `batch`, the batch of `ROWS`, on a new desk in the database of a connection, after the
@@ -195,23 +201,22 @@ fn expect_batch_write_fault<S: Alter + Drop>(
     expect_batch_fault(name.as_str(), ended, fault, &writer.taken, wanted)
 }
 
+// Checks `expect_batch_write_fault` for each byte of the lines of a batch, and for a writer that
+// accepts no byte, one that fails and one that is interrupted, each time on a new desk in memory.
+fn expect_batch_write_faults(alloc: Global, batch: &str, lines: &str) -> Result<(), Fail> {
+    for room in 0..lines.len() {
+        for fault in [None, Some(ErrorKind::Other), Some(ErrorKind::Interrupted)] {
+            expect_batch_write_fault(alloc, open_in_memory(alloc), batch, lines, room, fault)?;
+        }
+    }
+    Ok(())
+}
+
 /// Checks, for each byte of the lines of a batch at which the writer fails, is interrupted or
 /// accepts no byte, that the batch fails with `Write`, that exactly the bytes before are written,
 /// and that its retry completes. Fails if not, and if memory runs out.
 pub fn batch_writers_failing_at_each_byte(alloc: Global) -> Result<(), Fail> {
     let batch = format_batch(alloc, &ROWS)?;
     let lines = all_lines_of_retry(alloc, 0)?;
-    for room in 0..lines.len() {
-        for fault in [None, Some(ErrorKind::Other), Some(ErrorKind::Interrupted)] {
-            expect_batch_write_fault(
-                alloc,
-                open_in_memory(alloc),
-                batch.as_str(),
-                lines.as_str(),
-                room,
-                fault,
-            )?;
-        }
-    }
-    Ok(())
+    expect_batch_write_faults(alloc, batch.as_str(), lines.as_str())
 }

@@ -10,7 +10,7 @@ use crate::files::machine::{
 };
 use crate::worked::{FIRST_MOMENT, append_end, append_purchase};
 use brk_import::brk_desk::brk_store::Store;
-use brk_lots::close;
+use brk_lots::{LotSource, close};
 use brk_money::{Id, Price, Qty, Side, Stamp};
 use brk_ref::Symbol;
 use sqlite::{Alter, Connection};
@@ -48,7 +48,19 @@ fn store_with_forty_lots<S: Alter + Drop>(
     }
 }
 
-// Computes the closing of lots of ABC of account 100, in order of their opening stamps, the last
+// Computes the closing of the lots of a source by a sale of `count` shares at 10.00. Returns the
+// number of lots that the sale closes or reduces, without a lot that it opens. Fails if `count` is
+// not within the limits of a quantity, if the closing fails, or if memory runs out.
+fn touched_lot_count<L: LotSource>(alloc: Global, lots: &mut L, count: u32) -> Result<usize, Fail> {
+    let trade = Id::new(41).ok_or("trade")?;
+    let qty = Qty::new(count).ok_or("quantity")?;
+    let price = Price::new(1_000).ok_or("price")?;
+    let stamp = Stamp::nearest(FIRST_MOMENT);
+    let closing = close(alloc, lots, Side::Sell, qty, trade, price, stamp)?;
+    Ok(closing.touched.len())
+}
+
+// Computes the closing of lots of ABC of account 100, in order of their opening stamps, the newest
 // lots first if `lifo` is true, by a sale of `count` shares at 10.00. Returns the number of lots
 // that the sale closes or reduces, without a lot that it opens, and the number of rows that were
 // read. Changes no lot. Fails if `count` is not within the limits of a quantity, if the closing
@@ -60,21 +72,10 @@ fn touched_lot_and_row_counts<S: Alter>(
     lifo: bool,
 ) -> Result<(usize, u64), Fail> {
     let account = Id::new(100).ok_or("account")?;
-    let trade = Id::new(41).ok_or("trade")?;
-    let qty = Qty::new(count).ok_or("quantity")?;
-    let price = Price::new(1_000).ok_or("price")?;
     let symbol = Symbol::parse(alloc, b"ABC")?.ok_or("symbol")?;
     let mut lots = store.lot_pages(alloc, account, &symbol, lifo);
-    let closing = close(
-        alloc,
-        &mut lots,
-        Side::Sell,
-        qty,
-        trade,
-        price,
-        Stamp::nearest(FIRST_MOMENT),
-    )?;
-    Ok((closing.touched.len(), lots.rows_read()))
+    let touched = touched_lot_count(alloc, &mut lots, count)?;
+    Ok((touched, lots.rows_read()))
 }
 
 // Sales: the number of shares, the number of lots that the sale closes or reduces, and the number

@@ -3,9 +3,9 @@
 use crate::desks::{desk_with_reference_data, expect, new_desk, open_in_memory, run_batch_at_desk};
 use crate::row_calls::{parse_keyed_row_call, parse_query_call, parse_row_call, split_fields};
 use crate::worked::append_end;
-use brk_import::Counts;
 use brk_import::brk_desk::brk_store::Store;
 use brk_import::brk_desk::{Answer, Call, Desk, Outcome, line_text};
+use brk_import::{BatchFault, Counts};
 use brk_money::{Id, Stamp};
 use brk_trade::Reply;
 use brk_view::View;
@@ -30,9 +30,26 @@ fn format_outcome(alloc: Global, outcome: &Outcome) -> Result<String, AllocError
     }
 }
 
-// Executes calls on a desk as one run, and checks that the texts of their outcomes, in the form of
-// `format_outcome`, are exactly `wanted`, in order. Fails if the run fails, if there are more or
-// fewer outcomes, if an outcome differs, or if memory runs out.
+// Checks that the text of an outcome, in the form of `format_outcome`, is exactly `wanted`. Fails
+// with the text if not. Fails also if memory runs out.
+fn expect_outcome(alloc: Global, outcome: &Outcome, wanted: &str) -> Result<(), Fail> {
+    let text = format_outcome(alloc, outcome)?;
+    expect(text.as_str() == wanted, text)
+}
+
+// Checks that the texts of outcomes, in the form of `format_outcome`, are exactly `wanted`, in
+// order. Fails if there are more or fewer outcomes, if an outcome differs, or if memory runs out.
+fn expect_outcomes(alloc: Global, outcomes: &[Outcome], wanted: &[&str]) -> Result<(), Fail> {
+    expect(outcomes.len() == wanted.len(), "the number of outcomes")?;
+    for (outcome, wanted) in outcomes.iter().zip(wanted) {
+        expect_outcome(alloc, outcome, wanted)?;
+    }
+    Ok(())
+}
+
+// Executes calls on a desk as one run, and checks that the texts of their outcomes are exactly
+// `wanted` (`expect_outcomes`). Fails if the run fails, if an outcome differs, or if memory runs
+// out.
 fn expect_run_outcomes<S: Alter>(
     alloc: Global,
     desk: &mut Desk<S>,
@@ -41,12 +58,7 @@ fn expect_run_outcomes<S: Alter>(
 ) -> Result<(), Fail> {
     let mut out = Vec::new(alloc);
     desk.run(alloc, calls, &mut out)?;
-    expect(out.len() == wanted.len(), "the number of outcomes")?;
-    for (outcome, wanted) in out.iter().zip(wanted) {
-        let told = format_outcome(alloc, outcome)?;
-        expect(told.as_str() == *wanted, told)?;
-    }
-    Ok(())
+    expect_outcomes(alloc, &out, wanted)
 }
 
 // Executes calls as one run on a new desk in the database of a connection, and checks that the
@@ -175,19 +187,9 @@ fn expect_totals_after_trades<S: Alter>(alloc: Global, store: &mut Store<S>) -> 
     Ok(())
 }
 
-// Executes the rows as one batch on a new desk in the database of a connection, after the batch
-// `SET`. Checks that all 1,000 rows are accepted, that the line of the last row and the end line
-// are the wanted ones, and that the totals after the trades are right
-// (`expect_totals_after_trades`). Returns the lines. Fails if not, without a connection, if the
-// desk cannot be set up (`desk_with_reference_data`), if a read fails, or if memory runs out.
-fn run_and_check_batch<S: Alter + Drop>(
-    alloc: Global,
-    conn: Option<Connection<S>>,
-    rows: &[String],
-) -> Result<Vec<u8>, Fail> {
-    let batch = format_batch_of_rows(alloc, rows)?;
-    let mut desk = desk_with_reference_data(alloc, conn)?;
-    let (lines, ended) = run_batch_at_desk(alloc, &mut desk, batch.as_bytes());
+// Checks that a batch ended with 1,000 accepted rows, and that the line of the last row and the end
+// line, at the end of its lines, are the wanted ones. Fails if not.
+fn expect_last_lines(lines: &[u8], ended: Result<Counts, BatchFault>) -> Result<(), Fail> {
     let all = Counts {
         ok: 1_000,
         again: 0,
@@ -199,8 +201,25 @@ fn run_and_check_batch<S: Alter + Drop>(
             b"\n1000,ok,1709251201015,50.00,0.00,-5055.00,2024-03-03,0.00,0.00,-425865.00\nend,1000,0,0\n",
         ),
         "the last lines",
-    )?;
-    expect_totals_after_trades(alloc, &mut desk.into_store())?;
+    )
+}
+
+// Executes the rows as one batch on a new desk in the database of a connection, after the batch
+// `SET`. Checks that all 1,000 rows are accepted with the wanted last lines (`expect_last_lines`),
+// and that the totals after the trades are right (`expect_totals_after_trades`). Returns the lines.
+// Fails if not, without a connection, if the desk cannot be set up (`desk_with_reference_data`), if
+// a read fails, or if memory runs out.
+fn run_and_check_batch<S: Alter + Drop>(
+    alloc: Global,
+    conn: Option<Connection<S>>,
+    rows: &[String],
+) -> Result<Vec<u8>, Fail> {
+    let batch = format_batch_of_rows(alloc, rows)?;
+    let mut desk = desk_with_reference_data(alloc, conn)?;
+    let (lines, ended) = run_batch_at_desk(alloc, &mut desk, batch.as_bytes());
+    let totals = expect_totals_after_trades(alloc, &mut desk.into_store());
+    totals?;
+    expect_last_lines(&lines, ended)?;
     Ok(lines)
 }
 

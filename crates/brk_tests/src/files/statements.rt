@@ -70,20 +70,12 @@ fn is_proper_prefix_of_statement(text: &[u8]) -> bool {
     is_whole && text.len() < WANTED.len() && WANTED.starts_with(text)
 }
 
-/// Checks, for a database file that fails after 0, 1, 2 and more calls, that the desk cannot be
-/// opened or the statement fails with `Store` after whole first lines, perhaps none but never all,
-/// until the statement is complete and equals `WANTED`, which must be with fewer than 10,000 calls.
-/// Checks also that some failed statements have lines and some have none.
-pub fn statements_over_a_failing_disk(alloc: Global) -> Result<(), Fail> {
-    let Sent { held, .. } = run_batch_until_crash(
-        alloc,
-        &Held::empty_files(alloc),
-        MachineCrash::NEVER,
-        BATCH,
-    )?;
+// Checks the statement of a desk in the files `held` as `statements_over_a_failing_disk` states.
+// Fails if not, and if memory runs out.
+fn expect_statements_over_failing_disk(alloc: Global, held: &Held) -> Result<(), Fail> {
     let (mut faults, mut parts) = (0u64, 0u64);
     for calls in 0..10_000 {
-        let seen = write_statement_over_failing_disk(alloc, &held, calls)?;
+        let seen = write_statement_over_failing_disk(alloc, held, calls)?;
         let text = seen.lines.as_slice();
         match seen.ended {
             Ended::NotBegun => (),
@@ -106,4 +98,18 @@ pub fn statements_over_a_failing_disk(alloc: Global) -> Result<(), Fail> {
         }
     }
     Err("no statement was whole")?
+}
+
+/// Checks, for a database file that fails after 0, 1, 2 and more calls, that the desk cannot be
+/// opened or the statement fails with `Store` after whole first lines, perhaps none but never all,
+/// until the statement is complete and equals `WANTED`, which must be with fewer than 10,000 calls.
+/// Checks also that some failed statements have lines and some have none.
+pub fn statements_over_a_failing_disk(alloc: Global) -> Result<(), Fail> {
+    let Sent { held, .. } = run_batch_until_crash(
+        alloc,
+        &Held::empty_files(alloc),
+        MachineCrash::NEVER,
+        BATCH,
+    )?;
+    expect_statements_over_failing_disk(alloc, &held)
 }

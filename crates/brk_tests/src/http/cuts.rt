@@ -37,12 +37,10 @@ struct Three {
 // the submitted trades, and for each the number of bytes from the start of the text to its end.
 // Fails only if memory runs out.
 fn three_requests_with_ends(alloc: Global) -> Result<(String, [usize; 3]), AllocError> {
-    let mut input = format_post_request(alloc, "/rows/C/1", "[\"broker\",\"2\",\"Cy\"]")?;
-    let one = input.len();
-    input.push_str(format_post_request(alloc, "/rows/C/1", "[\"broker\",\"2\",\"Cy\"]")?.as_str())?;
-    let two = input.len();
-    input.push_str(format_post_request(alloc, "/ask/submitted", "[]")?.as_str())?;
-    let ends = [one, two, input.len()];
+    let row = format_post_request(alloc, "/rows/C/1", "[\"broker\",\"2\",\"Cy\"]")?;
+    let query = format_post_request(alloc, "/ask/submitted", "[]")?;
+    let input = format!(in alloc; "{row}{row}{query}")?;
+    let ends = [row.len(), row.len().saturating_mul(2), input.len()];
     Ok((input, ends))
 }
 

@@ -212,8 +212,8 @@ fn two_requests(alloc: Global) -> Result<String, AllocError> {
     Ok(input)
 }
 
-// Returns the replies to the two requests on a new desk whose disk does not fail: the row is
-// accepted, and the view has no trades. Fails only if memory runs out.
+// Returns the text of the wanted replies to the requests of `two_requests` on a new desk whose disk
+// does not fail: the row is accepted, and the view has no trades. Fails only if memory runs out.
 fn replies_to_two_requests(alloc: Global) -> Result<String, AllocError> {
     let mut replies = format_wanted_reply(
         alloc,
