@@ -31,7 +31,7 @@ fn add_to_customer_sum(sums: &mut BTreeMap<u64, u128>, customer: Id, more: u32) 
     Ok(())
 }
 
-// Returns a map from customer ids to numbers of accounts: each customer's number is that of the
+// Returns a map from customer ids to numbers of accounts: each customer's number counts the
 // rows of `accounts` with this customer, and an id that the map does not contain has 0. Fails with
 // `Memory` only.
 fn count_accounts_by_customer(

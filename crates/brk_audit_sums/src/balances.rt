@@ -86,7 +86,7 @@ impl KeyedSum for Balances {
     ghost has_sum = { λ sums row. row.balance ≡ row.account.opening +ℤ sum_at_key nat_cmp sums row.account.id };
 
     // Returns the settlement amount, in cents, as a posting at the account of the trade, or `None`
-    // if the trade is not a completed cash trade. The tax status is that of the account in the map
+    // if the trade is not a completed cash trade. The tax status is read of the account in the map
     // `terms`, or `Untaxed` if the map does not contain the account.
     fn posting_of_trade(
         terms: &BTreeMap<u64, AccountTerms>,

@@ -32,7 +32,7 @@ impl KeyedSum for Commissions {
     ghost has_sum = { λ sums row. pos row.commissions ≡ sum_at_key nat_cmp sums row.broker.id };
 
     // Returns the commission, in cents, as a posting at the broker of the trade's account, or
-    // `None` if the trade is not completed. The broker is that of the account in the map `terms`,
+    // `None` if the trade is not completed. The broker belongs to the account in the map `terms`,
     // or 0 if the map does not contain the account.
     fn posting_of_trade(
         terms: &BTreeMap<u64, AccountTerms>,

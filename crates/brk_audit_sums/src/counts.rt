@@ -31,7 +31,7 @@ impl KeyedSum for TradeCounts {
     ghost has_sum = { λ sums row. row.trades ≡ sum_at_key nat_cmp sums row.broker.id };
 
     // Returns 1 as a posting at the broker of the trade's account, or `None` if the trade is not
-    // completed. The broker is that of the account in the map `terms`, or 0 if the map does not
+    // completed. The broker is the one in the map `terms` for the account, or 0 if the map does not
     // contain the account.
     fn posting_of_trade(
         terms: &BTreeMap<u64, AccountTerms>,

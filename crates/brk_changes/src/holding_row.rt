@@ -3,8 +3,8 @@ use brk_ref::Symbol;
 
 /// A lot: the remaining shares that a trade opened (a row of HOLDING).
 ///
-/// The quantity is below 0 if the shares were sold short. The price, in cents, is that at which the
-/// trade was completed, and the stamp is that of its completion.
+/// The quantity is below 0 if the shares were sold short. The price, in cents, and the stamp
+/// come from the completion of the trade.
 #[derive(Drop)]
 pub struct HoldingRow {
     pub trade: Id,

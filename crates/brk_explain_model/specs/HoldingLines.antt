@@ -126,7 +126,7 @@ holding_lines_from_trades_and_lots a s done lots shares price =
 -- All lines of the explanation of the holding of the account `a` in the security `s`: the first
 -- lines, its completed trades, the column headings of the lots, its lots with their changes, and
 -- the last lines. Trades, lots and changes are each sorted by stamp, ascending. The quantity is
--- that of HOLDING_SUMMARY, and it and the last price are 0 if they have no row.
+-- read from HOLDING_SUMMARY, and it and the last price are 0 if they have no row.
 unfoldable pub holding_explanation_lines : Tables → AccountRow → SecurityRow → List Text
 holding_explanation_lines tables a s =
     holding_lines_from_trades_and_lots a s (completed_trades_in_symbol tables a.id s.symbol) (lots_opened_in_symbol tables a.id s.symbol)

@@ -45,7 +45,7 @@ abbrev pub is_well_formed_security : Security → Bool
 is_well_formed_security s = are_well_formed_listing_texts s.symbol s.name s.exchange s.sector && is_price s.last_price
 
 -- True if the trade's id, quantity, bid, charge, commission and tax are within their limits
--- (`are_trade_numbers_in_range`); the limit of the quantity is that of the third schema.
+-- (`are_trade_numbers_in_range`); the third schema sets the limit of the quantity.
 abbrev pub has_trade_numbers_in_range : Trade → Bool
 has_trade_numbers_in_range t = are_trade_numbers_in_range third_schema t.id t.qty t.bid t.charge t.commission t.tax
 

@@ -21,8 +21,8 @@ base_with_stored_reply (Some key) command reply base =
     record base { kept = base.kept ++ record { key = key; row_text = row_text command; line = line_text reply } ∷ [] }
 
 -- The answer to a command, and the base after it, by the result of its step on `base`. If the step
--- accepts the command, the answer is `Done` with its reply, and the base is that of the step with
--- the row and the reply also stored under the key if there is one; otherwise the answer is
+-- accepts the command, the answer is `Done` with its reply, and the base is the base of the step
+-- with the row and the reply also stored under the key if there is one; otherwise the answer is
 -- `Refused` with the refusal, and the base is unchanged.
 abbrev pub answer_and_base_of_step : Base → Option Key → Command → Result (Reply × Base) Refusal → Answer × Base
 answer_and_base_of_step base key command (Ok booked) = (Done booked.0, base_with_stored_reply key command booked.0 booked.1)

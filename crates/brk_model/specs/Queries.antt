@@ -7,7 +7,7 @@ use Rattle.brk_model.specs.Commands.{Order}
 abbrev pub View : Type 0
 View = List (List Text)
 
--- A query, of one of eleven kinds. The stamp of a trade is that of its last status change, in
+-- A query, of one of eleven kinds. The stamp of a trade is the one of its last status change, in
 -- milliseconds since 1970-01-01 UTC. The first and the last trades are those with the least and the
 -- greatest stamps and, at equal stamps, ids.
 pub data Query : Type 0 where

@@ -41,7 +41,7 @@ pub record Permission : Type 0 where
 
 -- A security: its symbol, name, exchange and sector, the price of its last tick, in cents, the sum
 -- of the quantities of its ticks (`volume`), in shares, and the stamp of its last tick (`moment`).
--- Before the first tick, the price and the stamp are those of its listing, and the volume is 0.
+-- Before the first tick, the price and the stamp come from its listing, and the volume is 0.
 pub record Security : Type 0 where
   pub symbol : Text
   pub name : Text

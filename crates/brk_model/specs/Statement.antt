@@ -68,8 +68,8 @@ lot_line row =
 -- name, period, balance before the period, cash rows of the period, balance after the period, lots,
 -- market value, and the counts of the cash rows of the period and of the lots. `rows` are all cash
 -- rows of the account; both balances are its opening balance plus the amounts of the `rows` before
--- the period, the second one also plus those of the period. The lots and the market value are those
--- of `tables`, whatever the period. Days are counted from 1970-01-01.
+-- the period, the second one also plus those of the period. The lots and the market value are read
+-- from `tables`, whatever the period. Days are counted from 1970-01-01.
 abbrev pub statement_lines : Tables → AccountRow → ℕ → ℕ → List MoveRow → List Text
 statement_lines tables a from to rows =
     (codes "Statement of account " ++ decimal a.id)

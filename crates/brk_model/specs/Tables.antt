@@ -180,7 +180,7 @@ broker_row accounts done b =
 
 -- The CUSTOMER_ACCOUNT row of the account `a`. Its balance is the opening balance of the account
 -- with this id in `accounts`, 0 if this list has none, plus the amounts of the postings to this id
--- in `posted`; the other fields are those of `a`.
+-- in `posted`; the other fields equal those in `a`.
 abbrev pub account_row : List Account → List Posting → Account → AccountRow
 account_row accounts posted a = record {
   id = a.id;

@@ -1,7 +1,7 @@
 -- The lines that a walk over the cash rows of an account writes, and the progress of this walk. The
--- days `from` and `to` are UTC days, counted from 1970-01-01. The first stamp of a walk is that of
--- the day `from`, in milliseconds: rows before it only add to the opening amount. A condition that
--- lines were written (`Appends`) is vacuous if the writer's content before is unknown.
+-- days `from` and `to` are UTC days, counted from 1970-01-01. The first stamp of a walk is the
+-- first millisecond of the day `from`: rows before it only add to the opening amount. A condition
+-- that lines were written (`Appends`) is vacuous if the writer's content before is unknown.
 use Rattle.std.specs.Prelude.{◌≡◌, ℕ, ◌+◌, ℤ, ◌+ℤ◌, Bool, true, false, List, [], ◌∷◌, ◌++◌, Option, Result, Ok, Err, codes, length, map, nat_lt}
 use Rattle.std.specs.Io.KnownBytes.{Appends}
 use Rattle.brk_money.specs.Spelling.{Text}

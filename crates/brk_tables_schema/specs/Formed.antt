@@ -175,7 +175,7 @@ passes_all_cell_checks (has_form ∷ forms) (v ∷ row) = has_form v && passes_a
 passes_all_cell_checks _ _ = false
 
 -- The checks of the columns of DESK in the schema `schema`, in the order of the columns: the id is
--- 1, the number is that of the schema, and the last stamp is NULL or within the limits of a stamp.
+-- 1, the number is the schema's, and the last stamp is NULL or within the limits of a stamp.
 abbrev pub desk_column_cell_checks : Schema → List (Value → Bool)
 desk_column_cell_checks schema = is_natural_cell (λ n. n == 1) ∷ is_natural_cell (λ n. n == schema.number) ∷ is_null_or_stamp_cell ∷ []
 

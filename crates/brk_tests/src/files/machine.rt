@@ -192,7 +192,7 @@ pub struct Sent {
 const CACHED_PAGES: usize = 200;
 
 /// Returns the options of a database that caches at most `pages` of the pages that it reads, or one
-/// if `pages` is 0. The other options are those of `Options::new` with the seed 1.
+/// if `pages` is 0. The other options equal `Options::new` with the seed 1.
 pub fn options_with_cached_pages(pages: usize) -> Options {
     let mut options = Options::new(1);
     options.cache_pages = pages;

@@ -247,7 +247,7 @@ fn expect_retry_completes(
     expect_lines_and_tables(stop, twice, whole.as_str(), rest.as_str(), last)
 }
 
-// Executes the batch, which is that of all `ROWS`, on the desk in the files `start` until the crash
+// Executes the batch with all rows of `ROWS` on the desk in the files `start` until the crash
 // `stop`, retries it, and checks that the tables after the crash are those after the rows with a
 // written line, or after one row more, and that the retry completes the batch
 // (`expect_retry_completes`). `tables` are the tables after each number of rows, from none on.
