@@ -549,8 +549,8 @@ pub record DeskRow : Type 0 where
   pub schema : ℕ
   pub last : Option ℕ
 
--- A row of SETTLE_RULE: its id (SR_ID), and the settlement day, the first day whose completions
--- settle after one day, in days since 1970-01-01 (SR_DAY).
+-- A row of SETTLE_RULE: its id (SR_ID), and the first day of one-day settlement, in days since
+-- 1970-01-01 (SR_DAY).
 pub record RuleRow : Type 0 where
   pub id : ℕ
   pub day : ℕ
@@ -606,9 +606,8 @@ desk_rows schema last = record {{ id = 1; schema = schema.number; last = last }}
 abbrev pub desk_key : DeskRow → List KeyPart
 desk_key r = number r.id ∷ []
 
--- The rows of SETTLE_RULE: one row with the id 1 and the settlement day (the first day whose
--- completions settle after one day, in days since 1970-01-01), or no row if the parameter is
--- `None`, since this day is not set.
+-- The rows of SETTLE_RULE: one row with the id 1 and the first day of one-day settlement, in days
+-- since 1970-01-01, or no row if the parameter is `None`, since this day is not set.
 abbrev pub rule_rows : Option ℕ → List RuleRow
 rule_rows None = []
 rule_rows (Some day) = record {{ id = 1; day = day }} ∷ []
@@ -1082,8 +1081,8 @@ pub {d[0]}_shown : (old new : State) (rows : List Row) → Shown {n}.statement [
 
 # The tables in groups of four, as they are read and decoded; the last group is of the tables that later schemas add. Of each the
 # word its types begin with, its field, and its variable in proofs.
-GROUPS = [('DeskAndCustomer', 'first', 'f'), ('AccountAndSecurity', 'accounts', 'a'), ('ChargeAndRate', 'rates', 'r'), ('TradeAndHolding', 'trades', 't'),
-          ('SummaryAndSettlement', 'last', 'l'), ('LaterSchema', 'later', 'n')]
+GROUPS = [('DeskBrokerAndCustomer', 'first', 'f'), ('AccountAndSecurity', 'accounts', 'a'), ('ChargeAndRate', 'rates', 'r'), ('TradeAndHolding', 'trades', 't'),
+          ('SummaryHistoryAndCash', 'last', 'l'), ('LaterSchema', 'later', 'n')]
 
 # the types of rows whose name in code is another
 RUST = {'SecurityRow': 'Security', 'LastTradeRow': 'LastTrade', 'TaxRate': 'Tax', 'HoldingHistoryRow': 'LotChange'}
@@ -1094,11 +1093,12 @@ MEANINGS = {'kept': 'kept_row', 'holding_history': 'lot_change_row'}
 # the tables of at most one row, which the sheets hold as a value: its type, how code decodes it, its rows, and whether they have their form
 VALUES = {
     'desk_row': ('Option<Stamp>', 'decode_last_stamp(schema, ', 'desk_rows schema sheets.last', 'has_one_valid_desk_row desk raw.desk'),
-    'rule': ('Option<Day>', 'decode_settlement_day(', 'rule_rows sheets.rule', 'has_at_most_one_valid_rule_row raw.rule'),
+    'rule': ('Option<Day>', 'decode_one_day_settlement_start(', 'rule_rows sheets.rule', 'has_at_most_one_valid_rule_row raw.rule'),
 }
 
 # the functions that read whole tables, where their names do not follow from the table's
-ROW_READS = {'desk_row': 'desk_rows', 'cash': 'cash_transaction_rows', 'move': 'cash_move_rows', 'rule': 'settle_rule_rows'}
+ROW_READS = {'desk_row': 'desk_rows', 'band': 'commission_rate_rows', 'history': 'trade_history_rows', 'request': 'trade_request_rows', 'summary': 'holding_summary_rows',
+             'cash': 'cash_transaction_rows', 'move': 'cash_move_rows', 'rule': 'settle_rule_rows'}
 
 WHICHES = ', '.join(d[2] for d in DATA)
 CELLS = ', '.join(d[0] + '_cells' for d in DATA)
@@ -1228,19 +1228,19 @@ def reading(d):
     rows = f'{rows_name(d)}_in_schema(tx, alloc, schema)' if d[0] in LATER else f'{rows_name(d)}(tx)'
     if d[0] in VALUES:
         return f'decoder.{VALUES[d[0]][1]}{rows}?)?'
-    return f'decoder.decode_kept_keys(alloc, {rows}?)?' if d[0] == 'kept' else f'decoder.decode_read(alloc, {rows})?'
+    return f'decoder.decode_kept_keys(alloc, {rows}?)?' if d[0] == 'kept' else f'decoder.decode_read_result(alloc, {rows})?'
 
 def read_group(word, field, tables):
     """The typed rows of a group, and the function that reads and decodes them"""
-    by_schema = word in ('DeskAndCustomer', 'LaterSchema')
+    by_schema = word in ('DeskBrokerAndCustomer', 'LaterSchema')
     schema, of_schema = ('    schema: Schema,\n', '(abstract_schema schema) ') if by_schema else ('', '')
     types = ''.join(f'    {sheet_field(d)}: {VALUES[d[0]][0] if d[0] in VALUES else f"Vec<{sheet_type(d)}>"},\n' for d in tables)
     reads = ''.join(f'    let {sheet_field(d)} = {reading(d)};\n' for d in tables)
     fields = ''.join(f'        {sheet_field(d)},\n' for d in tables)
-    returned = {'DeskAndCustomer': 'Returns the last stamp in DESK, or `None` if none is stored, the keys of the rows of KEPT, and the decoded rows of BROKER and CUSTOMER, each list sorted by key, ascending.',
+    returned = {'DeskBrokerAndCustomer': 'Returns the last stamp in DESK, or `None` if none is stored, the keys of the rows of KEPT, and the decoded rows of BROKER and CUSTOMER, each list sorted by key, ascending.',
                 'LaterSchema': 'Returns the decoded rows of CASH_MOVE, sorted by key, ascending, and the first day of one-day settlement in SETTLE_RULE, or `None` if it has no row. Returns no rows and no day of a table that `schema` lacks.'}
     shown = returned.get(word, f'Returns the decoded rows of {named(tables)}, each list sorted by key, ascending.')
-    counted = {'DeskAndCustomer': ', or DESK not exactly one row with the number of `schema`,', 'LaterSchema': ', or SETTLE_RULE two rows or more,'}.get(word, ',')
+    counted = {'DeskBrokerAndCustomer': ', or DESK not exactly one row with the number of `schema`,', 'LaterSchema': ', or SETTLE_RULE two rows or more,'}.get(word, ',')
     what = 'value' if by_schema else 'rows'
     malformed = f'If a table has a malformed row{counted} sets `are_well_formed` of the decoder to false and returns no {what} of this table.'
     unchanged = 'If the function returns a value, the database is unchanged.' if word == 'LaterSchema' else 'If the function returns a value, the database was open and is unchanged.'
@@ -1288,7 +1288,7 @@ use sqlite::{{Alter, Transaction}};
 use std::alloc::Global;
 """
     out += ''.join(read_group(word, field, tables) for word, field, _, tables in groups())
-    schema = lambda word: 'schema, ' if word in ('DeskAndCustomer', 'LaterSchema') else ''
+    schema = lambda word: 'schema, ' if word in ('DeskBrokerAndCustomer', 'LaterSchema') else ''
     out += f"""
 {remark('Returns the decoded rows of the tables of `schema`, each list sorted by key, ascending: of KEPT the keys alone, of DESK the last stamp, and of SETTLE_RULE the first day of one-day settlement, or `None` for a stamp or a day that is not stored. Returns no rows and no day of a table that `schema` lacks. If a table has a malformed row, DESK not exactly one row with the number of `schema`, or SETTLE_RULE two rows or more, sets `are_well_formed` of the decoder to false and returns no value of this table. If the function returns a value, the database was open and is unchanged. Fails with `Memory` or `Store` only.', '///')}
 pub(crate) fn read_all_tables<S: Alter>(
@@ -1379,8 +1379,8 @@ abbrev pub raw_rows_of_table : RawSheets → DeskTable → List Row
 
 def decoded_group(word, field, tables):
     """That the sheets of a group are its rows in types, and whether these have their forms"""
-    first = word == 'DeskAndCustomer'
-    counted = {'DeskAndCustomer': ', and there is exactly one row of DESK, with the number of the schema `desk`.', 'LaterSchema': ', and there is at most one row of SETTLE_RULE.'}.get(word, '.')
+    first = word == 'DeskBrokerAndCustomer'
+    counted = {'DeskBrokerAndCustomer': ', and there is exactly one row of DESK, with the number of the schema `desk`.', 'LaterSchema': ', and there is at most one row of SETTLE_RULE.'}.get(word, '.')
     rows = lambda d: VALUES[d[0]][2] if d[0] in VALUES else f'sheets.{sheet_field(d)}.items'
     shown = lambda d: f'{d[0]}_cells' if d[0] in VALUES else f'(λ r. {d[0]}_cells ({record_meaning(d)} r))'
     of = lambda d: f'({rows(d)})' if d[0] in VALUES else rows(d)
@@ -1389,7 +1389,7 @@ def decoded_group(word, field, tables):
     decodes = lambda d: f'AreKeysOfRawRows {of(d)} raw.{raw_field(d)}' if is_kept(d) else f'map {shown(d)} {of(d)} ≡ raw.{raw_field(d)}'
     fields = '\n'.join(f'  pub {raw_field(d)} : {decodes(d)}' for d in tables)
     but_texts = ', but for the texts of KEPT' if any(map(is_kept, tables)) else ''
-    number = {'DeskAndCustomer': ' DESK has exactly one row, with the id 1 and the number of `schema`.', 'LaterSchema': ' SETTLE_RULE has one row if `sheets` has a settlement day, otherwise none.'}.get(word, '')
+    number = {'DeskBrokerAndCustomer': ' DESK has exactly one row, with the id 1 and the number of `schema`.', 'LaterSchema': ' SETTLE_RULE has one row if `sheets` has a first day of one-day settlement, otherwise none.'}.get(word, '')
     return f"""
 {remark(f'The raw rows of {named(tables)} are, in order, the encodings of the typed rows `sheets`{but_texts}.{number}')}
 pub record Decodes{word}Tables {'(schema : Schema) ' if first else ''}(sheets : {word}Sheets) (raw : {word}Rows) : Type 0 where
@@ -1402,11 +1402,11 @@ abbrev pub are_{words_of(word)}_rows_well_formed : {'Schema → ' if first else 
 
 def reads_group(word, field, tables):
     """What the reads of a group show and decode"""
-    desk = '(desk : Schema) ' if word in ('DeskAndCustomer', 'LaterSchema') else ''
-    first, later = 'desk ' if word == 'DeskAndCustomer' else '', 'desk ' if word == 'LaterSchema' else ''
-    but_texts = ', but for the texts of KEPT' if word == 'DeskAndCustomer' else ''
+    desk = '(desk : Schema) ' if word in ('DeskBrokerAndCustomer', 'LaterSchema') else ''
+    first, later = 'desk ' if word == 'DeskBrokerAndCustomer' else '', 'desk ' if word == 'LaterSchema' else ''
+    but_texts = ', but for the texts of KEPT' if word == 'DeskBrokerAndCustomer' else ''
     none = ', or none of a table that the schema `desk` does not have' if word == 'LaterSchema' else ''
-    counted = {'DeskAndCustomer': ', a row is malformed, or DESK does not have exactly one row, with the number of the schema `desk`', 'LaterSchema': ', a row is malformed, or SETTLE_RULE has two rows or more'}
+    counted = {'DeskBrokerAndCustomer': ', a row is malformed, or DESK does not have exactly one row, with the number of the schema `desk`', 'LaterSchema': ', a row is malformed, or SETTLE_RULE has two rows or more'}
     false = f'If `new` is false, `old` was false{counted.get(word, " or a row is malformed")}.'
     true = f'If the flag `new` after the decoding is true, the flag `old` before it was true, and the typed rows `sheets` are the decoded rows{but_texts}.'
     opened = '' if word == 'LaterSchema' else ' from an open database'
@@ -1442,7 +1442,7 @@ use Rattle.brk_tables_scan.specs.Raw.{{{', '.join(f'{word}Rows' for word, _, _ i
 {declared('Sheets')}
 """
     out += ''.join(decoded_group(word, field, tables) for word, field, _, tables in groups())
-    desk = lambda word: 'desk ' if word == 'DeskAndCustomer' else ''
+    desk = lambda word: 'desk ' if word == 'DeskBrokerAndCustomer' else ''
     out += f"""
 -- True if each raw row of each table has exactly the columns of its table, each well-formed
 -- (`passes_all_cell_checks`), there is exactly one row of DESK, with the number of the schema
@@ -1453,7 +1453,8 @@ abbrev pub are_raw_sheets_well_formed : Schema → RawSheets → Bool
 -- The raw rows of each table are, in order, the encodings of the typed rows `sheets`. Of KEPT,
 -- `sheets` has the keys alone: the raw rows of KEPT are, in order, the encodings of `whole`, typed
 -- rows with these keys and any texts. DESK has exactly one row, with the id 1 and the number of the
--- schema `desk`. SETTLE_RULE has one row if `sheets` has a settlement day, otherwise none.
+-- schema `desk`. SETTLE_RULE has one row if `sheets` has a first day of one-day settlement,
+-- otherwise none.
 pub record DecodesSheets (desk : Schema) (sheets : Sheets) (raw : RawSheets) : Type 0 where
   pub whole : List typed.Kept
   pub keys : keys_of_kept_rows whole ≡ map abstract_key sheets.kept.items
@@ -1489,7 +1490,7 @@ pub record ReadsAndDecodesDeskTables (desk : Schema) (old new : Bool) (sheets : 
 def sheeted():
     """That the rows in types are the sheets"""
     cells = ', '.join(f'{d[0]}_cells' for d in DATA if d[0] not in VALUES)
-    desk = lambda word: 'desk ' if word == 'DeskAndCustomer' else ''
+    desk = lambda word: 'desk ' if word == 'DeskBrokerAndCustomer' else ''
     sheets = ' '.join(f'({v} : {word}Sheets)' for word, _, v in GROUPS)
     are = ' '.join(f'(is_{v} : Decodes{word}Tables {desk(word)}{v} raw.{field})' for word, field, v in GROUPS)
     twice = lambda d, v: '' if d[0] in VALUES else f'map_twice {d[0]}_cells {record_meaning(d)} {v}.{sheet_field(d)}.items ∙ '
@@ -1543,7 +1544,7 @@ def sheets_code():
     """The sheets in code"""
     module = lambda d: words_of(record_type(d))
     uses = sorted(f'use crate::{module(d)}::{record_type(d)};' for d in records_of('brk_changes'))
-    told = {'desk_row': 'The stamp of the last accepted command.', 'kept': 'The keys of the rows of KEPT. The texts of these rows are no part of the sheets.', 'rule': 'The settlement day, if one is set: the first day whose completions settle after one day (SR_DAY).'}
+    told = {'desk_row': 'The stamp of the last accepted command.', 'kept': 'The keys of the rows of KEPT. The texts of these rows are no part of the sheets.', 'rule': 'The first day of one-day settlement, if one is set (SR_DAY).'}
     kind = lambda d: VALUES[d[0]][0] if d[0] in VALUES else f'Vec<{sheet_type(d)}>'
     fields = ''.join((remark(told[d[0]], '    ///') + '\n' if d[0] in told else '') + f'    pub {sheet_field(d)}: {kind(d)},\n' for d in DATA)
     text = f"""{chr(10).join(uses)}

@@ -108,7 +108,7 @@ fn view_name_argument<'a>(alloc: Global) -> Arg<'a> {
 
 // Returns the command-line argument for the arguments of a view, which are any number of texts,
 // perhaps none.
-fn repeated_view_argument<'a>(alloc: Global) -> Arg<'a> {
+fn view_argument_list<'a>(alloc: Global) -> Arg<'a> {
     Arg::new(alloc, "arguments")
         .value_name("ARGUMENT")
         .num_args(0..)
@@ -129,7 +129,7 @@ fn ask_command<'a>(alloc: Global) -> Result<Command<'a>, AllocError> {
             "Prints the names of the fields first, where all records have the same",
         ))?
         .arg(view_name_argument(alloc))?
-        .arg(repeated_view_argument(alloc))
+        .arg(view_argument_list(alloc))
 }
 
 // Returns the subcommand `explain`, which prints an explanation, with its arguments. Fails only if

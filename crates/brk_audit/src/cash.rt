@@ -47,7 +47,7 @@ fn is_completed_cash_trade_row(trade: &TradeRow) -> bool
 // completed cash trade. Returns `None` if `trade` is a completed cash trade and `cash` does not
 // begin with its row. Names of rows are not compared. An account that `terms` does not contain
 // counts as `Untaxed`, and a missing price as 0.
-fn cash_transactions_after_trade<'a>(
+fn strip_cash_transaction_of_trade<'a>(
     cash: &'a [CashRow],
     trade: &TradeRow,
     terms: &BTreeMap<u64, AccountTerms>,
@@ -88,7 +88,7 @@ fn are_cash_transactions_of_trades(
 {
     let mut rest = cash;
     for trade in trades {
-        let Some(others) = cash_transactions_after_trade(rest, trade, terms) else {
+        let Some(others) = strip_cash_transaction_of_trade(rest, trade, terms) else {
             return false;
         };
         rest = others;
@@ -107,7 +107,7 @@ struct CashMoveFigures {
 
 // Returns the account, the trade, the stamp and the amount of the row of CASH_MOVE, or `None` if it
 // belongs to no trade.
-fn posted_figures_of_move_row(row: &MoveRow) -> Option<CashMoveFigures>
+fn figures_of_move_row_with_trade(row: &MoveRow) -> Option<CashMoveFigures>
     ensures { option_map abstract_posted_figures result ≡ posted_figures_of_row (abstract_move_row row.now) }
 {
     let trade = row.trade?;
@@ -121,7 +121,7 @@ fn posted_figures_of_move_row(row: &MoveRow) -> Option<CashMoveFigures>
 
 // Returns the account, the trade, the stamp and the amount of each row of CASH_MOVE that belongs to
 // a trade, in the order of the rows. Fails with `Memory` only.
-fn posted_figures_of_move_rows(
+fn figures_of_move_rows_with_trade(
     alloc: Global,
     moves: &[MoveRow],
 ) -> Result<Vec<CashMoveFigures>, Fault>
@@ -130,7 +130,7 @@ fn posted_figures_of_move_rows(
 {
     let mut all = Vec::new(alloc);
     for row in moves {
-        if let Some(posted) = posted_figures_of_move_row(row) {
+        if let Some(posted) = figures_of_move_row_with_trade(row) {
             all.push(posted)?;
         }
     }
@@ -155,7 +155,7 @@ fn has_figures_of_trade(row: CashMoveFigures, trade: &TradeRow, tax_status: TaxS
 // completed cash trade. Returns `None` if `trade` is a completed cash trade and `rows` does not
 // begin with its figures. An account that `terms` does not contain counts as `Untaxed`, and a
 // missing price as 0.
-fn posted_figures_after_trade<'a>(
+fn strip_move_figures_of_trade<'a>(
     rows: &'a [CashMoveFigures],
     trade: &TradeRow,
     terms: &BTreeMap<u64, AccountTerms>,
@@ -193,7 +193,7 @@ fn cash_move_figures_match_trades(
 {
     let mut rest = rows;
     for trade in trades {
-        let Some(others) = posted_figures_after_trade(rest, trade, terms) else {
+        let Some(others) = strip_move_figures_of_trade(rest, trade, terms) else {
             return false;
         };
         rest = others;
@@ -244,7 +244,7 @@ pub(crate) fn cash_condition_holds(
     if !schema.has_cash_move_table() {
         return Ok(are_cash_transactions_of_trades(&sheets.cash, &sheets.trades, &terms));
     }
-    let mut rows = posted_figures_of_move_rows(alloc, &sheets.moves)?;
+    let mut rows = figures_of_move_rows_with_trade(alloc, &sheets.moves)?;
     rows.sort_unstable_by_key(|row| row.trade.get());
     let no_others = sheets.cash.is_empty();
     let in_turn = move_rows_are_numbered_by_stamp(&sheets.moves);

@@ -39,7 +39,7 @@ fn append_lot_changes_of_trades(
     ensures fault { IfErr result (λ fault. fault ≡ Memory) }
 {
     let deals = deals_of_completed_trades(alloc, run)?;
-    let _ = Position::replay_with_lot_changes(alloc, &deals, rows)?;
+    let _ = Position::replay_and_append_lot_changes(alloc, &deals, rows)?;
     Ok(())
 }
 

@@ -55,7 +55,7 @@ fn is_pending(status: Status) -> bool
 // Returns the requests after the request of `trade`, or all requests if `trade` is not pending.
 // Returns `None` if `trade` is pending and `requests` does not begin with its request. The broker
 // id of an account that `terms` does not contain is 0.
-fn requests_after_trade<'a>(
+fn strip_request_of_trade<'a>(
     requests: &'a [RequestRow],
     trade: &TradeRow,
     terms: &BTreeMap<u64, AccountTerms>,
@@ -92,7 +92,7 @@ fn requests_match_trades(
 {
     let mut rest = requests;
     for trade in trades {
-        let Some(others) = requests_after_trade(rest, trade, terms) else {
+        let Some(others) = strip_request_of_trade(rest, trade, terms) else {
             return false;
         };
         rest = others;

@@ -50,7 +50,7 @@ fn settlement_matches_trade(
 // completed. Returns `None` if `trade` is completed and `settlements` does not begin with its
 // settlement. `rule` is the first day of one-day settlement, if it is set. Settlement texts are not
 // compared. An account that `terms` does not contain counts as `Untaxed`, and a missing price as 0.
-fn settlements_after_trade<'a>(
+fn strip_settlement_of_trade<'a>(
     settlements: &'a [SettlementRow],
     trade: &TradeRow,
     rule: &Option<Day>,
@@ -98,7 +98,7 @@ fn settlements_match_trades(
 {
     let mut rest = settlements;
     for trade in trades {
-        let Some(others) = settlements_after_trade(rest, trade, rule, terms) else {
+        let Some(others) = strip_settlement_of_trade(rest, trade, rule, terms) else {
             return false;
         };
         rest = others;

@@ -158,7 +158,7 @@ fn insert_movement_stamp(seen: &mut BTreeSet<u64>, row: &MoveRow) -> Result<bool
 
 // Returns true if no two of the completions in `history` and the deposits and withdrawals in
 // `moves` have the same stamp. Fails with `Memory` only.
-fn has_distinct_stamps(
+fn completion_and_movement_stamps_are_distinct(
     alloc: Global,
     history: &[HistoryRow],
     moves: &[MoveRow],
@@ -194,6 +194,6 @@ pub(crate) fn status_condition_holds(alloc: Global, sheets: &Sheets) -> Result<b
     if !all_histories_are_valid(&sheets.trades, &sheets.history) {
         return Ok(false);
     }
-    let apart = has_distinct_stamps(alloc, &sheets.history, &sheets.moves)?;
+    let apart = completion_and_movement_stamps_are_distinct(alloc, &sheets.history, &sheets.moves)?;
     Ok(apart)
 }

@@ -12,7 +12,7 @@ use Rattle.brk_model.specs.Form.{is_well_formed_permission_row, is_well_formed_s
 use Rattle.brk_model.specs.Form.{is_well_formed_band_row, is_well_formed_tax_rate_row, is_well_formed_customer_tax_row, is_well_formed_trade_row}
 use Rattle.brk_model.specs.Form.{is_well_formed_history_row, is_well_formed_request_row, is_well_formed_holding_row, is_well_formed_summary_row}
 use Rattle.brk_model.specs.Form.{is_well_formed_holding_history_row, is_well_formed_settlement_row, has_rows_only_in_tables_of_schema}
-use Rattle.brk_model.specs.Form.{is_last_stamp_in_calendar, is_settlement_day_in_calendar}
+use Rattle.brk_model.specs.Form.{is_last_stamp_in_calendar, is_one_day_settlement_start_in_calendar}
 use Rattle.brk_ref.specs.Records.{abstract_account_row, abstract_broker_row, abstract_customer}
 use Rattle.brk_ref.specs.Records.{abstract_permission, abstract_security_row, kept_row_with_empty_texts}
 use Rattle.brk_ref.specs.Records.{abstract_last_trade_row, abstract_charge, abstract_band, abstract_tax_rate, abstract_customer_tax}
@@ -97,5 +97,5 @@ passes_nonallocating_form_checks schema s =
     && trading_rows_are_well_formed schema s
     && has_disjoint_bands (map abstract_band s.bands.items)
     && are_equal_number_lists (map (λ row. row.id) s.trades.items) (range_with_len 1 (length s.trades.items))
-    && nat_le (length (filter (λ r. is_none r.trade) s.moves.items)) greatest_id && is_settlement_day_in_calendar s.rule
+    && nat_le (length (filter (λ r. is_none r.trade) s.moves.items)) greatest_id && is_one_day_settlement_start_in_calendar s.rule
     && has_rows_only_in_tables_of_schema schema (abstract_sheets s)

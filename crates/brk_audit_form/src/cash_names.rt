@@ -11,7 +11,7 @@ ghost use Rattle.brk_audit_form.specs.Conditions.{HasSortedKeys};
 ghost use Rattle.brk_audit_form.specs.Names.{security_name_or_empty};
 
 use crate::limits::{
-    is_balance_within_limit, is_move_id_within_limits, stamp_is_at_most_last_stamp,
+    is_move_id_within_limits, is_signed_amount_within_limit, stamp_is_at_most_last_stamp,
 };
 use crate::references::{find_security, find_trade, has_account};
 use brk_changes::{CashRow, MoveRow, Sheets, TradeRow};
@@ -116,13 +116,13 @@ fn is_cash_transaction_well_formed(
     Ok(
         is_named
             && stamp_is_at_most_last_stamp(sheets, row.stamp)
-            && is_balance_within_limit(row.amount),
+            && is_signed_amount_within_limit(row.amount),
     )
 }
 
 // Returns true if the text is `Deposit` and the amount is above 0, or the text is `Withdrawal` and
 // the amount is below 0.
-fn is_movement_name_of_sign(name: &str, amount: Cents) -> bool
+fn movement_name_matches_amount_sign(name: &str, amount: Cents) -> bool
     ensures { result ≡ form.is_movement_name_and_amount name.now amount }
 {
     (name == "Deposit" && 0 < amount.get()) || (name == "Withdrawal" && amount.get() < 0)
@@ -142,7 +142,7 @@ fn has_valid_cash_text(alloc: Global, sheets: &Sheets, row: &MoveRow) -> Result<
 {
     match row.trade {
         Some(trade) => is_cash_text_of_trade_id(alloc, sheets, trade, row.name.as_str()),
-        None => Ok(is_movement_name_of_sign(row.name.as_str(), row.amount)),
+        None => Ok(movement_name_matches_amount_sign(row.name.as_str(), row.amount)),
     }
 }
 
@@ -162,7 +162,7 @@ fn is_move_row_well_formed(alloc: Global, sheets: &Sheets, row: &MoveRow) -> Res
             && has_account(sheets, row.account)
             && is_called
             && stamp_is_at_most_last_stamp(sheets, row.stamp)
-            && is_balance_within_limit(row.amount),
+            && is_signed_amount_within_limit(row.amount),
     )
 }
 

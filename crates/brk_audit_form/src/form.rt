@@ -2,7 +2,7 @@ ghost use Rattle.std.specs.Prelude.{◌≡◌, ◌↔◌, true, IfErr, IfOk, IsT
 ghost use Rattle.brk_money.specs.declared.fault.Condition.TheVariants.{Form};
 ghost use Rattle.brk_money.specs.declared.fault.Fault.TheVariants.{Memory};
 ghost use Rattle.brk_model.specs.Audit.{ConditionHolds};
-ghost use Rattle.brk_model.specs.Form.{is_last_stamp_in_calendar, is_settlement_day_in_calendar, has_rows_only_in_tables_of_schema};
+ghost use Rattle.brk_model.specs.Form.{is_last_stamp_in_calendar, is_one_day_settlement_start_in_calendar, has_rows_only_in_tables_of_schema};
 ghost use Rattle.brk_changes.specs.Schemas.{abstract_schema};
 ghost use Rattle.brk_changes.specs.Sheets.{abstract_sheets};
 ghost use Rattle.brk_audit_form.specs.Groups.{passes_nonallocating_form_checks};
@@ -33,8 +33,8 @@ fn is_valid_last_stamp(last: Option<Stamp>) -> bool
 
 // Returns true if no first day of one-day settlement is set, or if it is at most the greatest day,
 // 9999-12-31.
-fn is_valid_settlement_day(rule: Option<Day>) -> bool
-    ensures { result ≡ is_settlement_day_in_calendar rule }
+fn is_valid_one_day_settlement_start(rule: Option<Day>) -> bool
+    ensures { result ≡ is_one_day_settlement_start_in_calendar rule }
 {
     match rule {
         Some(day) => day.get() <= Day::GREATEST,
@@ -71,7 +71,7 @@ fn passes_checks_without_allocation(schema: Schema, sheets: &Sheets) -> bool
         && are_bands_disjoint(schema, &sheets.bands)
         && are_trades_numbered_from_one(&sheets.trades)
         && is_movement_count_within_limit(&sheets.moves)
-        && is_valid_settlement_day(sheets.rule)
+        && is_valid_one_day_settlement_start(sheets.rule)
         && has_no_rows_of_later_schemas(schema, sheets)
 }
 

@@ -48,7 +48,7 @@ pub(crate) fn is_tier_within_limits(tier: Tier) -> bool
 
 /// Returns true if the absolute value of the signed amount, in cents, is at most the greatest
 /// amount.
-pub(crate) fn is_balance_within_limit(cents: Cents) -> bool
+pub(crate) fn is_signed_amount_within_limit(cents: Cents) -> bool
     ensures { result ≡ is_within_amount_limit cents }
 {
     cents.get().unsigned_abs() <= Cents::GREATEST

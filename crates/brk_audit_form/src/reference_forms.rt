@@ -2,8 +2,8 @@ ghost use Rattle.brk_model.specs.Form as form;
 ghost use Rattle.brk_ref.specs.Records as of;
 
 use crate::limits::{
-    is_balance_within_limit, is_charge_within_limit, is_id_within_limits, is_price_within_limits,
-    is_quantity_within_limits, is_tier_within_limits, is_well_formed_text,
+    is_charge_within_limit, is_id_within_limits, is_price_within_limits, is_quantity_within_limits,
+    is_signed_amount_within_limit, is_tier_within_limits, is_well_formed_text,
     stamp_is_at_most_last_stamp,
 };
 use crate::references::{
@@ -63,8 +63,8 @@ impl Formed for AccountRow {
     fn is_row_well_formed(&self, _schema: Schema, sheets: &Sheets) -> bool {
         is_id_within_limits(self.account.id)
             && is_well_formed_text(&self.account.name)
-            && is_balance_within_limit(self.account.opening)
-            && is_balance_within_limit(self.balance)
+            && is_signed_amount_within_limit(self.account.opening)
+            && is_signed_amount_within_limit(self.balance)
             && has_customer(sheets, self.account.customer)
             && has_broker(sheets, self.account.broker)
     }

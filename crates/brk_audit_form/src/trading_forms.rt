@@ -5,8 +5,8 @@ ghost use Rattle.brk_changes.specs.Sheets.{abstract_sheets};
 ghost use Rattle.brk_audit_form.specs.Conditions.{HasSortedKeys};
 
 use crate::limits::{
-    is_amount_within_limit, is_balance_within_limit, is_charge_within_limit, is_id_within_limits,
-    is_price_within_limits, is_quantity_within_limits, stamp_is_at_most_last_stamp,
+    is_amount_within_limit, is_charge_within_limit, is_id_within_limits, is_price_within_limits,
+    is_quantity_within_limits, is_signed_amount_within_limit, stamp_is_at_most_last_stamp,
 };
 use crate::references::{
     find_trade, has_account, has_broker, has_completion, has_security, has_trade,
@@ -42,7 +42,7 @@ fn is_due_day_within_calendar(rule: Option<Day>, status: Status, stamp: Stamp) -
 
 // Returns true if the settlement text is `Cash Account` or `Cash`, for a cash trade (`is_cash` is
 // true), or `Margin` or `Margin Account`, for a margin trade (`is_cash` is false).
-fn is_cash_type_for_trade(is_cash: bool, word: CashType) -> bool
+fn cash_type_matches_trade(is_cash: bool, word: CashType) -> bool
     ensures { result ≡ form.is_cash_type_of_trade is_cash (of.cash_type_text word) }
 {
     match word {
@@ -139,15 +139,15 @@ impl Formed for SettlementRow {
     ghost form = { λ schema tables row. form.is_well_formed_settlement_row tables (of.abstract_settlement_row row) };
 
     // Returns true if the trade exists, the settlement text is one of the two texts for the kind of
-    // the trade, cash or margin (`is_cash_type_for_trade`), the due day is at most the greatest
+    // the trade, cash or margin (`cash_type_matches_trade`), the due day is at most the greatest
     // day, 9999-12-31, and the absolute value of the amount, in cents, is at most the greatest
     // amount.
     fn is_row_well_formed(&self, _schema: Schema, sheets: &Sheets) -> bool {
         let Some(trade) = find_trade(sheets, self.trade) else {
             return false;
         };
-        is_cash_type_for_trade(trade.is_cash, self.cash_type)
+        cash_type_matches_trade(trade.is_cash, self.cash_type)
             && self.due_day.get() <= Day::GREATEST
-            && is_balance_within_limit(self.amount)
+            && is_signed_amount_within_limit(self.amount)
     }
 }

@@ -15,7 +15,7 @@ ghost use Rattle.brk_audit_sums.specs.Tally.{sum_at_key};
 use crate::account_terms::{AccountTerms, account_tax_status, account_terms_by_id};
 use crate::amounts::settlement_amount_of_row;
 use crate::completion::is_completed;
-use crate::keyed_sum::{KeyedSum, all_rows_have_sums, postings_of_trades};
+use crate::keyed_sum::{KeyedSum, all_totals_match_sums, postings_of_trades};
 use crate::tally::{KeyedAmount, sum_amounts_by_key, sum_or_zero_at_key};
 use brk_changes::{MoveRow, Sheets, TradeRow};
 use brk_money::Fault;
@@ -86,7 +86,7 @@ impl KeyedSum for Balances {
     ghost has_sum = { λ sums row. row.balance ≡ row.account.opening +ℤ sum_at_key nat_cmp sums row.account.id };
 
     // Returns the settlement amount, in cents, as a posting at the account of the trade, or `None`
-    // if the trade is not a completed cash trade. The tax status is read of the account in the map
+    // if the trade is not a completed cash trade. The tax status is the account's status in the map
     // `terms`, or `Untaxed` if the map does not contain the account.
     fn posting_of_trade(
         terms: &BTreeMap<u64, AccountTerms>,
@@ -102,7 +102,7 @@ impl KeyedSum for Balances {
 
     // Returns true if the balance of the account is its opening balance plus the sum at the
     // account's id, or plus 0 if the map `sums` does not contain the id.
-    fn total_equals_sum(sums: &BTreeMap<u64, i128>, row: &AccountRow) -> bool {
+    fn total_matches_sum(sums: &BTreeMap<u64, i128>, row: &AccountRow) -> bool {
         let moved = sum_or_zero_at_key(sums, row.account.id.get());
         balance_equals_opening_plus_moved(row.balance.get(), row.account.opening.get(), moved)
     }
@@ -122,5 +122,5 @@ pub fn balance_condition_holds(alloc: Global, sheets: &Sheets) -> Result<bool, F
     let mut postings = postings_of_trades::<Balances>(alloc, &terms, &sheets.trades)?;
     append_movement_postings(&mut postings, &sheets.moves)?;
     let sums = sum_amounts_by_key(alloc, &postings)?;
-    Ok(all_rows_have_sums::<Balances>(&sums, &sheets.accounts))
+    Ok(all_totals_match_sums::<Balances>(&sums, &sheets.accounts))
 }

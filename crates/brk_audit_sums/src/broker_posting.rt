@@ -10,7 +10,7 @@ use brk_changes::TradeRow;
 use std::collections::BTreeMap;
 
 /// Returns the amount as a posting at the broker of the trade's account, or `None` if the trade is
-/// not completed. The broker equals that of the account in the map `terms`, or 0 if the map does
+/// not completed. The broker is the account's in the map `terms`, or 0 if the map does
 /// not contain the account.
 pub(crate) fn posting_at_broker(
     terms: &BTreeMap<u64, AccountTerms>,

@@ -12,7 +12,7 @@ ghost use Rattle.brk_audit_sums.specs.Tally.{sum_at_key};
 
 use crate::account_terms::{AccountTerms, account_terms_by_id};
 use crate::broker_posting::posting_at_broker;
-use crate::keyed_sum::{KeyedSum, all_rows_have_sums, postings_of_trades};
+use crate::keyed_sum::{KeyedSum, all_totals_match_sums, postings_of_trades};
 use crate::tally::{KeyedAmount, sum_amounts_by_key, sum_or_zero_at_key};
 use brk_changes::{Sheets, TradeRow};
 use brk_money::Fault;
@@ -32,7 +32,7 @@ impl KeyedSum for Commissions {
     ghost has_sum = { λ sums row. pos row.commissions ≡ sum_at_key nat_cmp sums row.broker.id };
 
     // Returns the commission, in cents, as a posting at the broker of the trade's account, or
-    // `None` if the trade is not completed. The broker belongs to the account in the map `terms`,
+    // `None` if the trade is not completed. The broker is the account's in the map `terms`,
     // or 0 if the map does not contain the account.
     fn posting_of_trade(
         terms: &BTreeMap<u64, AccountTerms>,
@@ -43,7 +43,7 @@ impl KeyedSum for Commissions {
 
     // Returns true if the commission total of the broker is the sum at the broker's id, or 0 if the
     // map `sums` does not contain the id.
-    fn total_equals_sum(sums: &BTreeMap<u64, i128>, row: &BrokerRow) -> bool {
+    fn total_matches_sum(sums: &BTreeMap<u64, i128>, row: &BrokerRow) -> bool {
         i128::from(row.commissions) == sum_or_zero_at_key(sums, row.broker.id.get())
     }
 }
@@ -60,5 +60,5 @@ pub fn commission_condition_holds(alloc: Global, sheets: &Sheets) -> Result<bool
     let terms = account_terms_by_id(alloc, &sheets.accounts)?;
     let postings = postings_of_trades::<Commissions>(alloc, &terms, &sheets.trades)?;
     let sums = sum_amounts_by_key(alloc, &postings)?;
-    Ok(all_rows_have_sums::<Commissions>(&sums, &sheets.brokers))
+    Ok(all_totals_match_sums::<Commissions>(&sums, &sheets.brokers))
 }

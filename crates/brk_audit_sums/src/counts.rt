@@ -12,7 +12,7 @@ ghost use Rattle.brk_audit_sums.specs.Tally.{sum_at_key};
 
 use crate::account_terms::{AccountTerms, account_terms_by_id};
 use crate::broker_posting::posting_at_broker;
-use crate::keyed_sum::{KeyedSum, all_rows_have_sums, postings_of_trades};
+use crate::keyed_sum::{KeyedSum, all_totals_match_sums, postings_of_trades};
 use crate::tally::{KeyedAmount, sum_amounts_by_key, sum_or_zero_at_key};
 use brk_changes::{Sheets, TradeRow};
 use brk_money::Fault;
@@ -42,7 +42,7 @@ impl KeyedSum for TradeCounts {
 
     // Returns true if the trade count of the broker is the sum at the broker's id, or 0 if the map
     // `sums` does not contain the id.
-    fn total_equals_sum(sums: &BTreeMap<u64, i128>, row: &BrokerRow) -> bool {
+    fn total_matches_sum(sums: &BTreeMap<u64, i128>, row: &BrokerRow) -> bool {
         i128::from(row.trades) == sum_or_zero_at_key(sums, row.broker.id.get())
     }
 }
@@ -59,5 +59,5 @@ pub fn count_condition_holds(alloc: Global, sheets: &Sheets) -> Result<bool, Fau
     let terms = account_terms_by_id(alloc, &sheets.accounts)?;
     let postings = postings_of_trades::<TradeCounts>(alloc, &terms, &sheets.trades)?;
     let sums = sum_amounts_by_key(alloc, &postings)?;
-    Ok(all_rows_have_sums::<TradeCounts>(&sums, &sheets.brokers))
+    Ok(all_totals_match_sums::<TradeCounts>(&sums, &sheets.brokers))
 }

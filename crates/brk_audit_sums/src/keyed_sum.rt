@@ -39,7 +39,7 @@ pub(crate) trait KeyedSum {
         ensures { result ≡ posting_of terms.now (abstract_trade_row trade.now) };
 
     /// Returns true if the total of the row follows from the sum at its key in `sums` (`has_sum`).
-    fn total_equals_sum(sums: &BTreeMap<u64, i128>, row: &Self::Total) -> bool
+    fn total_matches_sum(sums: &BTreeMap<u64, i128>, row: &Self::Total) -> bool
         ensures { IsTrue result ↔ has_sum sums.now row.now };
 }
 
@@ -62,11 +62,14 @@ pub(crate) fn postings_of_trades<S: KeyedSum>(
 }
 
 /// Returns true if the total of each row follows from the sum at its key in `sums` (`has_sum`).
-pub(crate) fn all_rows_have_sums<S: KeyedSum>(sums: &BTreeMap<u64, i128>, rows: &[S::Total]) -> bool
+pub(crate) fn all_totals_match_sums<S: KeyedSum>(
+    sums: &BTreeMap<u64, i128>,
+    rows: &[S::Total],
+) -> bool
     ensures { IsTrue result ↔ AllByRecursion (S.has_sum sums.now) rows.now }
 {
     for row in rows {
-        if !S::total_equals_sum(sums, row) {
+        if !S::total_matches_sum(sums, row) {
             return false;
         }
     }

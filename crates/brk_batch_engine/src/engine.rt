@@ -168,7 +168,7 @@ fn read_record_after_header<R: Read>(
 // row is then not decided. If no record is left, fails with `NoEnd` after the line, with `Write`
 // after a prefix of the line, perhaps all of it, or with `Desk(Memory)` and nothing written; the
 // row is then decided.
-fn read_record_after_row<R: Read, W: Write, D: Rows>(
+fn read_record_or_refuse_last_row<R: Read, W: Write, D: Rows>(
     alloc: Global,
     records: &mut Reader<R>,
     writer: &mut W,
@@ -279,7 +279,7 @@ fn execute_rows_and_write_lines<R: Read, W: Write, C: Clock, D: Rows>(
             check_end_record_and_write_end_line(alloc, writer, &row, settled, counts)?;
             return Ok(counts);
         }
-        read_record_after_row::<R, W, D>(alloc, records, writer, settled, &mut after)?;
+        read_record_or_refuse_last_row::<R, W, D>(alloc, records, writer, settled, &mut after)?;
         counts = execute_row_and_write_line::<W, C, D>(
             alloc, name, writer, clock, desk, settled, counts, &row,
         )?;

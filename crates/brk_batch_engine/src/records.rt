@@ -89,7 +89,7 @@ fn field_equals(row: &ByteRecord, i: usize, text: &[u8]) -> bool
 
 // Returns true if a record has exactly two fields, `first` and then `second`.
 #[tactic(auto, using(crate::proofs::Reading::pair_found, crate::proofs::Reading::pair_fields))]
-fn has_exactly_two_fields(row: &ByteRecord, first: &[u8], second: &[u8]) -> bool
+fn has_exactly_these_two_fields(row: &ByteRecord, first: &[u8], second: &[u8]) -> bool
     ensures { IsTrue result ↔ (fields_of row.now ≡ first.now ∷ second.now ∷ []) }
 {
     if row.len() != 2 {
@@ -114,7 +114,7 @@ pub fn is_correct_end_record(row: &ByteRecord, n: u64) -> bool
     ensures { IsTrue result ↔ (fields_of row.now ≡ correct_end_record n) }
 {
     let mut buffer = Buffer::new();
-    has_exactly_two_fields(row, b"end", buffer.format(n).as_bytes())
+    has_exactly_these_two_fields(row, b"end", buffer.format(n).as_bytes())
 }
 
 /// Returns the name of the batch if the record is a header, which is exactly the two fields `batch`
@@ -129,7 +129,7 @@ pub fn batch_name_in_header(alloc: Global, row: &ByteRecord) -> Result<Option<Ba
     let Some(name) = row.get(1) else {
         return Ok(None);
     };
-    if !has_exactly_two_fields(row, b"batch", name) {
+    if !has_exactly_these_two_fields(row, b"batch", name) {
         return Ok(None);
     }
     BatchName::parse(alloc, name)

@@ -1,4 +1,4 @@
--- The tables and the base after a movement, and after a settlement day is set.
+-- The tables and the base after a movement, and after a first day of one-day settlement is set.
 use Rattle.std.proofs.Common.{◌≡◌, ◌<◌, ◌≤◌, ℕ, ◌+◌, ◌==◌, Bool, true, false, cond, List, [], ◌∷◌, ◌++◌, refl, sym, ◌∙◌, ap, subst, map, filter, length, arith, pos, neg_ℤ, ℤ, ◌+ℤ◌, Option, Some, None}
 use Rattle.std.specs.Prelude.{codes, is_none, is_some, nat_le}
 use Rattle.std.specs.Option.{option_map_or}
@@ -14,12 +14,12 @@ use Rattle.brk_model.specs.Commands.{Command, DepositCash, WithdrawCash, SetOneD
 use Rattle.brk_model.specs.Derived.{balance_of_account, due_day, postings_sorted_by_stamp, postings_to_account, posting_of_movement, postings, postings_of_base}
 use Rattle.brk_model.specs.Derived.{days_to_settlement, shares_of_position, holding_summary_quantity, trade_count_of_broker, commission_total_of_broker}
 use Rattle.brk_model.specs.Keys.{account_key, rows_sorted_by_key, cash_move_key, settlement_key}
-use Rattle.brk_model.specs.Movements.{deposit_movement, withdrawal_movement, base_after_movement, base_with_settlement_day}
+use Rattle.brk_model.specs.Movements.{deposit_movement, withdrawal_movement, base_after_movement, base_with_one_day_settlement_start}
 use Rattle.brk_model.specs.Sheets.{sheets, tables_sorted_by_key}
 use Rattle.brk_model.specs.Step.{base_after_command_unstamped}
 use Rattle.brk_model.specs.Tables.{Tables, account_row, numbered_move_rows, settlement_row, tables_of_base_in_schema}
 use Rattle.brk_model.specs.Tests.{stamp_of_next_command, refusal_of_command, checks_of_command}
-use Rattle.brk_changes.specs.Changes.{tables_with_last_stamp, tables_with_settlement_day}
+use Rattle.brk_changes.specs.Changes.{tables_with_last_stamp, tables_with_one_day_settlement_start}
 use Rattle.brk_book_theorems.specs.Books.{MovementBooksInvariant, BooksInvariant}
 use Rattle.brk_book_theorems.specs.Movements.{account_balance_after_movement, numbered_cash_row_of_movement, tables_after_movement}
 use Rattle.brk_book_theorems.specs.Steps.{HasTableEffect, PreservesBooksInvariant}
@@ -85,7 +85,7 @@ pub step_withdrawal : (base : Base) (now account amount : ℕ)
 unfolding base_after_command_unstamped
 step_withdrawal base now account amount books e = movement_sheets base now (withdrawal_movement (stamp_of_next_command base now) account amount) books refl
 
--- ---- a settlement day
+-- ---- one-day settlement
 
 same_day : (m n : ℕ) → m ≤ n → day_of m ≤ day_of n
 same_day m n h = let k = div-mul-le_self m 86400000 in le-div (day_of m) n 86400000 (omega arith) (omega (arith, h, k))
@@ -114,12 +114,12 @@ due_days_stay base now day books e =
     (λ t h. due_day_stays base now day t h (not_too_early base now (SetOneDay day) e) ∙ ap (λ (rule : SettleRule). due_day rule t) (sym none))
     (all_before base now books)
 
-pub step_one_day : (base : Base) (now day : ℕ) → HasTableEffect base now (SetOneDay day) (tables_with_settlement_day day)
+pub step_one_day : (base : Base) (now day : ℕ) → HasTableEffect base now (SetOneDay day) (tables_with_one_day_settlement_start day)
 unfolding base_after_command_unstamped tables_of_base_in_schema tables_sorted_by_key
 step_one_day base now day books e =
     let same = map-same (settlement_row base.accounts (Some day)) (settlement_row base.accounts base.rule) (completed_trades base) (All-map (completed_trades base)
     (λ t h. λ i. record (settlement_row base.accounts base.rule t) { due_day = h i }) (due_days_stay base now day books e)) in
-    λ i. record (tables_with_last_stamp (stamp_of_next_command base now) (tables_with_settlement_day day (sheets base))) { settlements = rows_sorted_by_key settlement_key (same i) }
+    λ i. record (tables_with_last_stamp (stamp_of_next_command base now) (tables_with_one_day_settlement_start day (sheets base))) { settlements = rows_sorted_by_key settlement_key (same i) }
 
 -- ---- the base after them
 
@@ -150,7 +150,7 @@ books_withdrawal base now account amount k e =
 
 pub books_one_day : (base : Base) (now day : ℕ) → PreservesBooksInvariant base now (SetOneDay day)
 unfolding base_after_command_unstamped
-books_one_day base now day k e = books_last (base_with_settlement_day base day) now (in_time base now (SetOneDay day) e) (record {
+books_one_day base now day k e = books_last (base_with_one_day_settlement_start base day) now (in_time base now (SetOneDay day) e) (record {
   parties = k.parties;
   market = k.market;
   trades = k.trades;

@@ -7,7 +7,7 @@ use Rattle.brk_money.specs.Moments.{greatest_stamp}
 use Rattle.brk_money.specs.declared.refusal.Refusal.TheVariants.{ClockEnd}
 use Rattle.brk_model.specs.Base.{Base}
 use Rattle.brk_model.specs.Commands.{Command}
-use Rattle.brk_model.specs.Tests.{RefusalCheck, checks_of_command, refusal_of_command, first_refusal, stamp_of_next_command, is_settlement_day_too_early, checks_of_stamp}
+use Rattle.brk_model.specs.Tests.{RefusalCheck, checks_of_command, refusal_of_command, first_refusal, stamp_of_next_command, is_one_day_settlement_start_too_early, checks_of_stamp}
 
 pub none_refuse : (ts : List RefusalCheck) → first_refusal ts ≡ None → AllByRecursion (λ t. t.0 ≡ false) ts
 none_refuse [] e = tt
@@ -39,7 +39,7 @@ in_time base now command e =
     (All-back (λ t. t.0 ≡ false) (checks_of_command base (stamp_of_next_command base now) command) (checks_of_stamp (stamp_of_next_command base now) command) (none_refuse _ e)).0
 
 -- nor is it too early for the day that it sets
-pub not_too_early : (base : Base) (now : ℕ) (command : Command) → refusal_of_command base now command ≡ None → is_settlement_day_too_early (stamp_of_next_command base now) command ≡ false
+pub not_too_early : (base : Base) (now : ℕ) (command : Command) → refusal_of_command base now command ≡ None → is_one_day_settlement_start_too_early (stamp_of_next_command base now) command ≡ false
 unfolding refusal_of_command
 not_too_early base now command e =
     (All-back (λ t. t.0 ≡ false) (checks_of_command base (stamp_of_next_command base now) command) (checks_of_stamp (stamp_of_next_command base now) command) (none_refuse _ e)).1.0

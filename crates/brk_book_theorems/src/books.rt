@@ -56,7 +56,7 @@ pub fn results_preserve_books_invariant()
 
 /// Proves that an accepted deposit, an accepted withdrawal and an accepted command that sets the
 /// first day of one-day settlement preserve the books invariant.
-pub fn movements_and_settlement_day_preserve_books_invariant()
+pub fn movements_and_oneday_preserve_books_invariant()
     ensures deposit { (base : Base) (now account amount : ℕ) → PreservesBooksInvariant base now (DepositCash account amount) }
     ensures withdrawal { (base : Base) (now account amount : ℕ) → PreservesBooksInvariant base now (WithdrawCash account amount) }
     ensures one_day { (base : Base) (now day : ℕ) → PreservesBooksInvariant base now (SetOneDay day) }

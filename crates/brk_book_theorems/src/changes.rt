@@ -19,7 +19,7 @@ ghost use Rattle.brk_model.specs.Tables.{tables_without_rows, trade_row};
 ghost use Rattle.brk_model.specs.Tests.{stamp_of_next_command, refusal_of_command};
 ghost use Rattle.brk_changes.specs.Changes.{tables_with_account, tables_with_band, tables_with_broker, tables_with_charge};
 ghost use Rattle.brk_changes.specs.Changes.{tables_with_customer, tables_with_customer_tax, tables_with_stored_reply, tables_with_permission};
-ghost use Rattle.brk_changes.specs.Changes.{tables_with_settlement_day, tables_with_tax_rate};
+ghost use Rattle.brk_changes.specs.Changes.{tables_with_one_day_settlement_start, tables_with_tax_rate};
 ghost use Rattle.brk_book_theorems.specs.Books.{BooksInvariant};
 ghost use Rattle.brk_book_theorems.specs.Steps.{HasTableEffect, stored_reply_row, tables_with_listing};
 ghost use Rattle.brk_book_theorems.specs.Movements.{tables_after_movement};
@@ -110,8 +110,8 @@ pub fn movements_change_only_their_rows()
 /// Proves, if the base satisfies the books invariant, that an accepted command that sets the first
 /// day of one-day settlement changes only that day and the last stamp (`row`), and that the new day
 /// does not change the due day of a trade of the base that is already completed (`due_days`).
-pub fn settlement_day_changes_only_its_row()
-    ensures row { (base : Base) (now day : ℕ) → HasTableEffect base now (SetOneDay day) (tables_with_settlement_day day) }
+pub fn one_day_settlement_start_changes_only_its_row()
+    ensures row { (base : Base) (now day : ℕ) → HasTableEffect base now (SetOneDay day) (tables_with_one_day_settlement_start day) }
     ensures due_days { (base : Base) (now day : ℕ) → BooksInvariant base → refusal_of_command base now (SetOneDay day) ≡ None
         → AllByRecursion (λ t. due_day (Some day) t ≡ due_day base.rule t) (completed_trades base) }
 {}

@@ -91,7 +91,7 @@ pub fn tax_rates_sum_to_customer_rates()
 
 /// Proves that the sum of a customer's tax rates in the tables equals the sum of the customer's tax
 /// rates in the base.
-pub fn customer_tax_rates_match_the_base()
+pub fn customer_tax_rate_sums_match_the_base()
     ensures { (base : Base) (customer : ℕ) → customer_tax_rate_sum (sheets base) customer ≡ base_spec.tax_rate_sum_of_customer base customer }
 {}
 
@@ -159,7 +159,7 @@ pub fn requests_belong_to_distinct_trades()
 /// tax id in the tables if and only if the executor is the customer `c` or has at least one of the
 /// account's permissions in the base, if the base satisfies the books invariant. To have a
 /// permission is to have its first name, last name and tax id.
-pub fn one_permission_decides_on_executor()
+pub fn permission_by_tax_id_matches_the_base()
     ensures { (base : Base) (account : ℕ) (c : Customer) (e : Executor) → BooksInvariant base
         → is_customer_or_has_permission c (permission_list_for_tax_id (sheets base) account e.tax_id) e
         ≡ is_customer_or_has_permission c (filter (λ p. p.account == account) base.permissions) e }
@@ -227,7 +227,7 @@ pub fn summary_rows_match_the_base()
 
 /// Proves that the balance in an account's row equals its opening balance plus the amounts of its
 /// cash rows, if the base satisfies the books invariant.
-pub fn balances_equal_cash_row_sums()
+pub fn balances_equal_opening_plus_cash_rows()
     ensures { (base : Base) (id : ℕ) (r : AccountRow) → BooksInvariant base → account_row_with_id (sheets base) id ≡ Some r
         → r.balance ≡ r.opening +ℤ total_by (λ r. r.amount) (cash_move_rows_of_account (sheets base) id) }
 {}

@@ -23,7 +23,7 @@ use Rattle.brk_changes.specs.declared.change.Change.TheVariants.{AddBroker, AddC
 use Rattle.brk_changes.specs.declared.change.Change.TheVariants.{AddCharge, AddBand, AddTaxRate, AddCustomerTax, AddTrade, SetStatus, AddHistory}
 use Rattle.brk_changes.specs.declared.change.Change.TheVariants.{AddRequest, RemoveRequest, SetLastTrade, CompleteTrade, AddLot, SetLot, RemoveLot}
 use Rattle.brk_changes.specs.declared.change.Change.TheVariants.{AddLotChange, AddSummary, SetSummary, RemoveSummary, AddSettlement, AddMove}
-use Rattle.brk_changes.specs.declared.change.Change.TheVariants.{SetBalance, SetBrokerTotals, SetExecutor, SetCashType, SetCashName, SetSettlementDay}
+use Rattle.brk_changes.specs.declared.change.Change.TheVariants.{SetBalance, SetBrokerTotals, SetExecutor, SetCashType, SetCashName, SetOneDaySettlementStart}
 use Rattle.brk_changes.specs.declared.change.Change.TheVariants.{AddStoredReply, SetLastStamp}
 
 -- The tables `t` with the broker `b` inserted in key order, with 0 completed trades and 0
@@ -176,10 +176,9 @@ tables_with_cash_type trade word t = record t { settlements = update_where (λ r
 abbrev pub tables_with_cash_text : ℕ → Text → Tables → Tables
 tables_with_cash_text trade name t = record t { moves = update_where (is_cash_row_of_trade trade) (λ r. record r { name = name }) t.moves }
 
--- The tables `t` with the settlement day, the first day whose completions settle after one day, set
--- to `day`, in days since 1970-01-01.
-abbrev pub tables_with_settlement_day : ℕ → Tables → Tables
-tables_with_settlement_day day t = record t { rule = Some day }
+-- The tables `t` with the first day of one-day settlement set to `day`, in days since 1970-01-01.
+abbrev pub tables_with_one_day_settlement_start : ℕ → Tables → Tables
+tables_with_one_day_settlement_start day t = record t { rule = Some day }
 
 -- The tables `t` with the KEPT row `k` inserted in key order: a stored request and its stored
 -- reply.
@@ -226,7 +225,7 @@ tables_after_change (SetBrokerTotals broker trades commissions) = tables_with_br
 tables_after_change (SetExecutor trade executor) = tables_with_executor_name trade (string_bytes executor)
 tables_after_change (SetCashType trade cash_type) = tables_with_cash_type trade (cash_type_text cash_type)
 tables_after_change (SetCashName trade name) = tables_with_cash_text trade (string_bytes name)
-tables_after_change (SetSettlementDay day) = tables_with_settlement_day day
+tables_after_change (SetOneDaySettlementStart day) = tables_with_one_day_settlement_start day
 tables_after_change (AddStoredReply kept) = tables_with_stored_reply (abstract_kept_row kept)
 tables_after_change (SetLastStamp stamp) = tables_with_last_stamp stamp
 

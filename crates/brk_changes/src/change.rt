@@ -111,8 +111,8 @@ pub enum Change {
         trade: Id,
         name: String,
     },
-    /// Sets the settlement day, the first day whose completions settle after one day (SR_DAY).
-    SetSettlementDay(Day),
+    /// Sets the first day of one-day settlement (SR_DAY).
+    SetOneDaySettlementStart(Day),
     /// Inserts an accepted row under its key, with the stored reply.
     AddStoredReply(Kept),
     /// Sets the stamp of the last accepted command (D_LAST).

@@ -39,7 +39,6 @@ pub struct Sheets {
     pub settlements: Vec<SettlementRow>,
     pub cash: Vec<CashRow>,
     pub moves: Vec<MoveRow>,
-    /// The settlement day, if one is set: the first day whose completions settle after one day
-    /// (SR_DAY).
+    /// The first day of one-day settlement, if one is set (SR_DAY).
     pub rule: Option<Day>,
 }

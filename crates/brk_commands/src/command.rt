@@ -19,6 +19,6 @@ pub enum Command {
     Update(Update),
     /// Deposits or withdraws cash.
     Move(Movement),
-    /// Sets the settlement day: the first day whose completions settle after one day.
+    /// Sets the first day of one-day settlement.
     OneDay(Day),
 }

@@ -1,5 +1,5 @@
-//! The rows of deposits, withdrawals and the settlement day (the first day whose completions settle
-//! after one day), as they are stored under idempotency keys.
+//! The rows of deposits, withdrawals and the first day of one-day settlement, as they are stored
+//! under idempotency keys.
 #![tactic(auto, unfolding(brk_model::specs::Rows::row_fields))]
 
 ghost use Rattle.std.specs.Prelude.{◌≡◌, ◌∷◌, [], IfOk, OnErr, Err, codes, string_bytes};
@@ -47,23 +47,23 @@ pub fn movement_row_text(alloc: Global, movement: &Movement) -> Result<String, A
     }
 }
 
-// Returns the row that sets the settlement day (the first day whose completions settle after one
-// day), from the text `day` of this day: `oneday` and `day`, joined by byte 31. Fails if memory
-// runs out.
-fn settlement_day_row_from_day_text(alloc: Global, day: &str) -> Result<String, AllocError>
+// Returns the row that sets the start of one-day settlement (the first day whose completions settle
+// after one day), from the text `day` of this day: `oneday` and `day`, joined by byte 31. Fails if
+// memory runs out.
+fn one_day_settlement_row_from_day_text(alloc: Global, day: &str) -> Result<String, AllocError>
     ensures { IfOk result (λ row. string_bytes row ≡ join_with_byte 31 (codes "oneday" ∷ day.now ∷ [])) }
 {
     format!(in alloc; "oneday\x1f{day}")
 }
 
-/// Returns the row that sets the settlement day (the first day whose completions settle after one
-/// day), as it is stored under a key: `oneday` and the day, such as `2024-03-01`, joined by
-/// byte 31. Fails with `Memory` only.
-pub fn settlement_day_row_text(alloc: Global, day: Day) -> Result<String, Fault>
+/// Returns the row that sets the start of one-day settlement (the first day whose completions
+/// settle after one day), as it is stored under a key: `oneday` and the day, such as `2024-03-01`,
+/// joined by byte 31. Fails with `Memory` only.
+pub fn one_day_settlement_row_text(alloc: Global, day: Day) -> Result<String, Fault>
     ensures row { IfOk result (λ row. string_bytes row ≡ model.row_text (SetOneDay day)) }
     ensures fault { OnErr result (result ≡ Err Memory) }
 {
     let text = day_text(alloc, day)?;
-    let row = settlement_day_row_from_day_text(alloc, text.as_str())?;
+    let row = one_day_settlement_row_from_day_text(alloc, text.as_str())?;
     Ok(row)
 }

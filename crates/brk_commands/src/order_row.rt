@@ -123,7 +123,7 @@ pub fn cancel_row_text(alloc: Global, trade: Id) -> Result<String, AllocError>
 
 /// Returns the row that completes a trade, as it is stored under a key: `result`, the id of the
 /// trade and the price, such as `10.00`, joined by byte 31. Fails if memory runs out.
-pub fn result_row_text(alloc: Global, completion: &Completion) -> Result<String, AllocError>
+pub fn completion_row_text(alloc: Global, completion: &Completion) -> Result<String, AllocError>
     ensures { IfOk result (λ row. string_bytes row ≡ model.row_text (completion_command completion.now)) }
 {
     format!(in alloc;

@@ -1,7 +1,7 @@
 ghost use Rattle.std.specs.Prelude.{◌≡◌, ◌∷◌, ◌++◌, IfOk, OnErr, Err};
 ghost use Rattle.brk_model.specs.Parse.{parse_by_first_field, read_account, read_and_wrap, read_commission_band, read_broker, read_charge};
 ghost use Rattle.brk_model.specs.Parse.{read_customer, read_customer_tax, read_permission, read_listing, read_tax_rate, order_feed_and_cancel_parsers};
-ghost use Rattle.brk_model.specs.Parse.{movement_and_settlement_day_row_parsers, other_reference_row_parsers};
+ghost use Rattle.brk_model.specs.Parse.{movement_and_one_day_settlement_row_parsers, other_reference_row_parsers};
 ghost use Rattle.brk_model.specs.Parse.{result_row_parsers, row_parsers, update_row_parsers};
 ghost use Rattle.brk_money.specs.declared.fault.Fault.TheVariants.{Memory};
 ghost use Rattle.brk_model.specs.Commands.{AddAccount, AddBand, AddBroker, AddCharge, AddCustomer, AddCustomerTax, AddPermission, AddSecurity, AddTaxRate};
@@ -133,9 +133,9 @@ fn parse_customer_tax_command(fields: &[&[u8]]) -> Result<Command, Refusal>
 // Parses a command of the kind `kind`, other than `broker`, `customer` and `account`, from the
 // fields after the kind. Refuses an unknown kind, and these three, with `BadText`, and otherwise
 // refuses as `parse_row` does. Fails with `Memory` only.
-fn parse_command_except_parties(alloc: Global, kind: &[u8], fields: &[&[u8]]) -> Planned<Command>
+fn parse_non_party_command(alloc: Global, kind: &[u8], fields: &[&[u8]]) -> Planned<Command>
     ensures read { IfOk result (λ read. ParsesAs abstract_command read (parse_by_first_field (other_reference_row_parsers ++ order_feed_and_cancel_parsers
-        ++ result_row_parsers ++ update_row_parsers ++ movement_and_settlement_day_row_parsers) (kind.now
+        ++ result_row_parsers ++ update_row_parsers ++ movement_and_one_day_settlement_row_parsers) (kind.now
         ∷ texts_of_fields fields.now))) }
     ensures fault { OnErr result (result ≡ Err Memory) }
 {
@@ -175,7 +175,7 @@ fn parse_command_of_kind(alloc: Global, kind: &[u8], fields: &[&[u8]]) -> Planne
     if kind == b"account".as_slice() {
         return parse_account_command(alloc, fields);
     }
-    parse_command_except_parties(alloc, kind, fields)
+    parse_non_party_command(alloc, kind, fields)
 }
 
 /// Parses the command of a row from its fields, the kind first.

@@ -2,13 +2,13 @@ ghost use Rattle.std.specs.Prelude.{◌≡◌, ◌∷◌, ◌++◌, IfOk, OnErr,
 ghost use Rattle.brk_model.specs.Commands.{CancelTrade, FeedTicks, PlaceOrder};
 ghost use Rattle.brk_model.specs.Parse.{order_feed_and_cancel_parsers, parse_by_first_field, read_and_wrap, read_id_of_trade_to_cancel, read_feed};
 ghost use Rattle.brk_model.specs.Parse.{read_order, read_complete_trade_command, result_row_parsers, update_row_parsers};
-ghost use Rattle.brk_model.specs.Parse.{movement_and_settlement_day_row_parsers};
+ghost use Rattle.brk_model.specs.Parse.{movement_and_one_day_settlement_row_parsers};
 ghost use Rattle.brk_money.specs.declared.fault.Fault.TheVariants.{Memory};
 ghost use Rattle.brk_ref.specs.Fields.{ParsesAs, texts_of_fields};
 ghost use Rattle.brk_commands.specs.Commands.{abstract_command};
 
 use crate::command::Command;
-use crate::parse_update::parse_update_movement_or_day;
+use crate::parse_update::parse_update_movement_or_one_day_settlement;
 use brk_money::{Planned, Refusal};
 use brk_orders::{
     parse_completion, parse_id_of_trade_to_cancel, parse_market_feed, parse_trade_order,
@@ -77,7 +77,7 @@ pub(crate) fn parse_non_reference_command(
 ) -> Planned<Command>
     ensures read { IfOk result (λ read. ParsesAs abstract_command read
         (parse_by_first_field (order_feed_and_cancel_parsers ++ result_row_parsers ++ update_row_parsers
-        ++ movement_and_settlement_day_row_parsers) (kind.now
+        ++ movement_and_one_day_settlement_row_parsers) (kind.now
         ∷ texts_of_fields fields.now))) }
     ensures fault { OnErr result (result ≡ Err Memory) }
 {
@@ -93,5 +93,5 @@ pub(crate) fn parse_non_reference_command(
     if kind == b"result".as_slice() {
         return Ok(parse_completion_command(fields));
     }
-    parse_update_movement_or_day(alloc, kind, fields)
+    parse_update_movement_or_one_day_settlement(alloc, kind, fields)
 }

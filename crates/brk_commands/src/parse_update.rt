@@ -1,14 +1,14 @@
 ghost use Rattle.std.specs.Prelude.{◌≡◌, ◌∷◌, ◌++◌, IfOk, OnErr, Err};
 ghost use Rattle.brk_model.specs.Commands.{ChangeExecutors};
 ghost use Rattle.brk_model.specs.Forms.{read_distinct_ids};
-ghost use Rattle.brk_model.specs.Parse.{movement_and_settlement_day_row_parsers, parse_by_first_field, read_and_wrap};
+ghost use Rattle.brk_model.specs.Parse.{movement_and_one_day_settlement_row_parsers, parse_by_first_field, read_and_wrap};
 ghost use Rattle.brk_model.specs.Parse.{read_cash_type_update, read_cash_name_update, update_row_parsers};
 ghost use Rattle.brk_money.specs.declared.fault.Fault.TheVariants.{Memory};
 ghost use Rattle.brk_ref.specs.Fields.{ParsesAs, texts_of_fields};
 ghost use Rattle.brk_commands.specs.Commands.{abstract_command};
 
 use crate::command::Command;
-use crate::parse_movement::parse_movement_or_settlement_day;
+use crate::parse_movement::parse_movement_or_one_day_settlement;
 use brk_money::{Planned, Refusal};
 use brk_orders::{
     parse_update_of_cash_names, parse_update_of_cash_types, parse_update_of_executor_names,
@@ -28,8 +28,9 @@ fn parse_executor_update_command(alloc: Global, fields: &[&[u8]]) -> Planned<Com
     }
 }
 
-// Parses the command that updates settlement texts from the fields ACCOUNT, FROM and TO of a row.
-// Refuses malformed fields, or a wrong number of them, with `BadText`. FROM may be later than TO.
+// Parses the command that updates the settlement texts (SE_CASH_TYPE) of trades from the fields
+// ACCOUNT, FROM and TO of a row. Refuses malformed fields, or a wrong number of them, with
+// `BadText`. FROM may be later than TO.
 fn parse_cash_type_update_command(fields: &[&[u8]]) -> Result<Command, Refusal>
     ensures { ParsesAs abstract_command result (read_cash_type_update (texts_of_fields fields.now)) }
 {
@@ -39,9 +40,9 @@ fn parse_cash_type_update_command(fields: &[&[u8]]) -> Result<Command, Refusal>
     }
 }
 
-// Parses the command that updates cash texts from the fields SYMBOL, FROM and TO of a row. Refuses
-// malformed fields, or a wrong number of them, with `BadText`. FROM may be later than TO. Fails
-// with `Memory` only.
+// Parses the command that updates the cash texts (CM_NAME) of trades from the fields SYMBOL, FROM
+// and TO of a row. Refuses malformed fields, or a wrong number of them, with `BadText`. FROM may be
+// later than TO. Fails with `Memory` only.
 fn parse_cash_name_update_command(alloc: Global, fields: &[&[u8]]) -> Planned<Command>
     ensures read { IfOk result (λ read. ParsesAs abstract_command read (read_cash_name_update (texts_of_fields fields.now))) }
     ensures fault { OnErr result (result ≡ Err Memory) }
@@ -56,13 +57,13 @@ fn parse_cash_name_update_command(alloc: Global, fields: &[&[u8]]) -> Planned<Co
 // the fields after the kind. Refuses any other kind, malformed fields, an id that occurs twice, or
 // a wrong number of fields, with `BadText`, and otherwise more than 20 ids with `TooMany`. Fails
 // with `Memory` only.
-pub(crate) fn parse_update_movement_or_day(
+pub(crate) fn parse_update_movement_or_one_day_settlement(
     alloc: Global,
     kind: &[u8],
     fields: &[&[u8]],
 ) -> Planned<Command>
     ensures read { IfOk result (λ read. ParsesAs abstract_command read
-        (parse_by_first_field (update_row_parsers ++ movement_and_settlement_day_row_parsers) (kind.now ∷ texts_of_fields fields.now))) }
+        (parse_by_first_field (update_row_parsers ++ movement_and_one_day_settlement_row_parsers) (kind.now ∷ texts_of_fields fields.now))) }
     ensures fault { OnErr result (result ≡ Err Memory) }
 {
     if kind == b"upname".as_slice() {
@@ -74,5 +75,5 @@ pub(crate) fn parse_update_movement_or_day(
     if kind == b"uptext".as_slice() {
         return parse_cash_name_update_command(alloc, fields);
     }
-    Ok(parse_movement_or_settlement_day(kind, fields))
+    Ok(parse_movement_or_one_day_settlement(kind, fields))
 }

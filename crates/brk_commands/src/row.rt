@@ -11,8 +11,8 @@ ghost use Rattle.brk_ref.specs.Records.{abstract_account, abstract_band, abstrac
 ghost use Rattle.brk_ref.specs.Records.{abstract_customer_tax, abstract_listing, abstract_permission, abstract_tax_rate};
 
 use crate::command::Command;
-use crate::movement_row::{movement_row_text, settlement_day_row_text};
-use crate::order_row::{cancel_row_text, feed_row_text, order_row_text, result_row_text};
+use crate::movement_row::{movement_row_text, one_day_settlement_row_text};
+use crate::order_row::{cancel_row_text, completion_row_text, feed_row_text, order_row_text};
 use crate::update_row::update_row_text;
 use brk_money::Fault;
 use brk_plans::Reference;
@@ -172,10 +172,10 @@ pub fn row_text(alloc: Global, command: &Command) -> Result<String, Fault>
         Command::Order(order) => order_row_text(alloc, order),
         Command::Feed(feed) => feed_row_text(alloc, feed.ticks()),
         Command::Cancel(trade) => cancel_row_text(alloc, *trade),
-        Command::Complete(completion) => result_row_text(alloc, completion),
+        Command::Complete(completion) => completion_row_text(alloc, completion),
         Command::Update(update) => update_row_text(alloc, update),
         Command::Move(movement) => movement_row_text(alloc, movement),
-        Command::OneDay(day) => return settlement_day_row_text(alloc, *day),
+        Command::OneDay(day) => return one_day_settlement_row_text(alloc, *day),
     };
     Ok(row?)
 }

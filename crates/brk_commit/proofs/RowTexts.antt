@@ -16,7 +16,7 @@ use Rattle.brk_changes.specs.declared.change.Change.TheVariants.{AddBroker, AddC
 use Rattle.brk_changes.specs.declared.change.Change.TheVariants.{AddBand, AddTaxRate, AddCustomerTax, AddTrade, SetStatus, AddHistory, AddRequest}
 use Rattle.brk_changes.specs.declared.change.Change.TheVariants.{RemoveRequest, SetLastTrade, CompleteTrade, AddLot, SetLot, RemoveLot, AddLotChange}
 use Rattle.brk_changes.specs.declared.change.Change.TheVariants.{AddSummary, SetSummary, RemoveSummary, AddSettlement, AddMove, SetBalance, SetBrokerTotals}
-use Rattle.brk_changes.specs.declared.change.Change.TheVariants.{SetExecutor, SetCashType, SetCashName, SetSettlementDay, AddStoredReply, SetLastStamp}
+use Rattle.brk_changes.specs.declared.change.Change.TheVariants.{SetExecutor, SetCashType, SetCashName, SetOneDaySettlementStart, AddStoredReply, SetLastStamp}
 use Rattle.brk_money.specs.declared.status.Status.TheVariants.{Completed}
 use Rattle.brk_ref.specs.Records.{abstract_kept_row}
 use Rattle.brk_book_theorems.proofs.Order.{All-insert}
@@ -116,7 +116,7 @@ changed t (SetCashName trade name) h = record {
   cash = h.cash;
   moves = All-updated HasUtf8MoveName (is_cash_row_of_trade trade) (λ r. record r { name = string_bytes name }) t.moves (λ r e. text_is_utf8 name) h.moves;
 }
-changed t (SetSettlementDay day) h = record { kept = h.kept; names = h.names; cash = h.cash; moves = h.moves }
+changed t (SetOneDaySettlementStart day) h = record { kept = h.kept; names = h.names; cash = h.cash; moves = h.moves }
 changed t (AddStoredReply kept) h = record {
   kept = All-insert HasUtf8RequestAndReply (is_row_key_less kept_key) (abstract_kept_row kept) t.kept
       (and_from (is_utf8 (string_bytes kept.row_text)) (is_utf8 (string_bytes kept.line)) (text_is_utf8 kept.row_text) (text_is_utf8 kept.line)) h.kept;

@@ -8,8 +8,8 @@ ghost use Rattle.brk_store.specs.Holds.{ReadPost};
 
 use brk_commands::Command;
 use brk_decisions::{
-    decide_cancel, decide_feed, decide_movement, decide_order, decide_reference_record,
-    decide_result, decide_settlement_day,
+    decide_cancel, decide_feed, decide_movement, decide_one_day_settlement, decide_order,
+    decide_reference_record, decide_result,
 };
 use brk_money::{Planned, Stamp};
 use brk_store::Store;
@@ -41,6 +41,6 @@ pub(crate) fn decide_command<S: Alter>(
         Command::Complete(completion) => decide_result(alloc, store, now, completion),
         Command::Update(update) => decide_update(alloc, store, now, update),
         Command::Move(movement) => decide_movement(alloc, store, now, movement),
-        Command::OneDay(day) => decide_settlement_day(alloc, store, now, *day),
+        Command::OneDay(day) => decide_one_day_settlement(alloc, store, now, *day),
     }
 }

@@ -11,7 +11,7 @@ use crate::terms::read_tax_rate_sum_within_limit;
 use brk_money::{Cents, Fault, Id, TaxRate, Wide};
 use brk_orders::Order;
 use brk_ref::{AccountRow, Symbol};
-use brk_store::{Store, read_valued_summaries};
+use brk_store::{Store, read_holding_summaries_and_value};
 use sqlite::Alter;
 use std::alloc::Global;
 
@@ -68,7 +68,7 @@ fn read_assets_and_shares<S: Alter>(
     ensures read { ReadPost S.Store store.old store.new result (λ amounts t. AreAssetsAndSharesOfAccount t account.now symbol.now amounts.0 amounts.1) }
     ensures fault { IfErr result IsCallFault }
 {
-    let held = read_valued_summaries(alloc, store, account.account.id)?;
+    let held = read_holding_summaries_and_value(alloc, store, account.account.id)?;
     let shares = shares_of_symbol(&held.rows, symbol);
     let worth = held.value;
     match add_balance_to_value(account.balance, worth) {

@@ -67,7 +67,7 @@ fn plan_estimate_over_lots<S: Alter>(
 /// customer's taxes does not exist, the tax rates total more than the greatest rate, a held symbol
 /// has no last price, a sum overflows, one of the lots that it reads has no shares, or the number
 /// of lots read exceeds 32 bits.
-pub fn decide_estimate<S: Alter>(
+pub fn compute_order_estimate<S: Alter>(
     alloc: Global,
     store: &mut Store<S>,
     order: &Order,

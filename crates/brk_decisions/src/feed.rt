@@ -24,7 +24,7 @@ use std::alloc::Global;
 // the lowest to the highest price of `tick` and of its symbol's ticks in `ticks` can trigger,
 // sorted by trade, ascending. Returns `None` if the symbol has no last trade. If the database is
 // still open, it is unchanged. Fails with `Memory` or `Store` only.
-fn read_quote_of_tick<S: Alter>(
+fn read_last_trade_and_requests_of_tick<S: Alter>(
     alloc: Global,
     store: &mut Store<S>,
     tick: &Tick,
@@ -55,7 +55,7 @@ fn read_quote_of_tick<S: Alter>(
 // each symbol of `ticks` that has a last trade: this trade, and the pending requests that the ticks
 // of the symbol can trigger. If the database is still open, it is unchanged. Fails with `Memory` or
 // `Store` only.
-fn read_last_stamp_and_quotes<S: Alter>(
+fn read_feed_facts<S: Alter>(
     alloc: Global,
     store: &mut Store<S>,
     ticks: &[Tick],
@@ -68,7 +68,7 @@ fn read_last_stamp_and_quotes<S: Alter>(
     let mut quotes = Vec::new(alloc);
     for tick in ticks {
         if has_no_quote_of_symbol(&quotes, tick) {
-            if let Some(quote) = read_quote_of_tick(alloc, store, tick, ticks)? {
+            if let Some(quote) = read_last_trade_and_requests_of_tick(alloc, store, tick, ticks)? {
                 quotes.push(quote)?;
             }
         }
@@ -93,6 +93,6 @@ pub fn decide_feed<S: Alter>(
 {
     // The value is not needed: the call shows that the stamp is at most the greatest stamp.
     let _moment = now.get();
-    let (last, quotes) = read_last_stamp_and_quotes(alloc, store, feed.ticks())?;
+    let (last, quotes) = read_feed_facts(alloc, store, feed.ticks())?;
     plan_feed(alloc, feed, quotes, last, now)
 }

@@ -8,7 +8,8 @@ ghost use Rattle.brk_book_theorems.specs.Reads.{account_count_of_customer, conta
 ghost use Rattle.brk_store.specs.Holds.{ReadPost};
 
 use crate::terms::{
-    read_band_facts, read_charge_facts, read_customer_tax_facts, read_permission_facts,
+    read_new_band_facts, read_new_charge_facts, read_new_customer_tax_facts,
+    read_new_permission_facts,
 };
 use brk_money::{Fault, Id};
 use brk_ref::{Account, Broker, Customer, Symbol, TaxId};
@@ -68,7 +69,7 @@ pub(crate) fn account_exists<S: Alter>(store: &mut Store<S>, id: Id) -> Result<b
 
 // Returns the number of accounts of a customer. If the database is still open, it is unchanged.
 // Fails with `Memory` or `Store` only.
-fn count_accounts<S: Alter>(
+fn count_accounts_of_customer<S: Alter>(
     alloc: Global,
     store: &mut Store<S>,
     customer: Id,
@@ -81,7 +82,7 @@ fn count_accounts<S: Alter>(
 
 // Returns the fact that decides on a new broker: whether a broker with its id exists. If the
 // database is still open, it is unchanged. Fails with `Memory` or `Store` only.
-fn read_broker_facts<S: Alter>(
+fn read_new_broker_facts<S: Alter>(
     store: &mut Store<S>,
     broker: &Broker,
 ) -> Result<ReferenceFacts, Fault>
@@ -98,7 +99,7 @@ fn read_broker_facts<S: Alter>(
 // Returns the facts that decide on a new customer: whether a customer with its id exists, and
 // whether one with its tax id exists. If the database is still open, it is unchanged. Fails with
 // `Memory` or `Store` only.
-fn read_customer_facts<S: Alter>(
+fn read_new_customer_facts<S: Alter>(
     store: &mut Store<S>,
     customer: &Customer,
 ) -> Result<ReferenceFacts, Fault>
@@ -118,7 +119,7 @@ fn read_customer_facts<S: Alter>(
 // Returns the facts that decide on a new account: whether an account with its id exists, whether
 // its customer and its broker exist, and the number of accounts of its customer. If the database is
 // still open, it is unchanged. Fails with `Memory` or `Store` only.
-fn read_account_facts<S: Alter>(
+fn read_new_account_facts<S: Alter>(
     alloc: Global,
     store: &mut Store<S>,
     account: &Account,
@@ -130,7 +131,7 @@ fn read_account_facts<S: Alter>(
     let same_id = account_exists(store, account.id)?;
     let customer = customer_exists(store, account.customer)?;
     let broker = broker_exists(store, account.broker)?;
-    let accounts = count_accounts(alloc, store, account.customer)?;
+    let accounts = count_accounts_of_customer(alloc, store, account.customer)?;
     Ok(ReferenceFacts {
         same_id,
         customer,
@@ -158,7 +159,7 @@ fn read_new_security_facts<S: Alter>(
 
 // Returns the fact that decides on a new tax: whether a tax with its id exists. If the database is
 // still open, it is unchanged. Fails with `Memory` or `Store` only.
-fn read_tax_facts<S: Alter>(store: &mut Store<S>, id: Id) -> Result<ReferenceFacts, Fault>
+fn read_new_tax_facts<S: Alter>(store: &mut Store<S>, id: Id) -> Result<ReferenceFacts, Fault>
     ensures read { ReadPost S.Store store.old store.new result (λ found t. found.same_id ≡ contains_tax_rate t id) }
     ensures fault { IfErr result IsCallFault }
 {
@@ -173,7 +174,7 @@ fn read_tax_facts<S: Alter>(store: &mut Store<S>, id: Id) -> Result<ReferenceFac
 /// record of this kind does not depend may have any value. If the database is still open, it is
 /// unchanged. Fails with `Memory` or `Store` only; with `Store` also if the record is a tax of a
 /// customer who already pays a tax that does not exist.
-pub(crate) fn read_reference_facts<S: Alter>(
+pub(crate) fn read_new_reference_facts<S: Alter>(
     alloc: Global,
     store: &mut Store<S>,
     reference: &Reference,
@@ -182,14 +183,14 @@ pub(crate) fn read_reference_facts<S: Alter>(
     ensures fault { IfErr result IsCallFault }
 {
     match reference {
-        Reference::Broker(broker) => read_broker_facts(store, broker),
-        Reference::Customer(customer) => read_customer_facts(store, customer),
-        Reference::Account(account) => read_account_facts(alloc, store, account),
-        Reference::Permission(permission) => read_permission_facts(store, permission),
+        Reference::Broker(broker) => read_new_broker_facts(store, broker),
+        Reference::Customer(customer) => read_new_customer_facts(store, customer),
+        Reference::Account(account) => read_new_account_facts(alloc, store, account),
+        Reference::Permission(permission) => read_new_permission_facts(store, permission),
         Reference::Security(listing) => read_new_security_facts(store, &listing.security.symbol),
-        Reference::Charge(charge) => read_charge_facts(store, charge),
-        Reference::Band(band) => read_band_facts(alloc, store, band),
-        Reference::TaxRate(tax) => read_tax_facts(store, tax.id),
-        Reference::CustomerTax(pays) => read_customer_tax_facts(alloc, store, pays),
+        Reference::Charge(charge) => read_new_charge_facts(store, charge),
+        Reference::Band(band) => read_new_band_facts(alloc, store, band),
+        Reference::TaxRate(tax) => read_new_tax_facts(store, tax.id),
+        Reference::CustomerTax(pays) => read_new_customer_tax_facts(alloc, store, pays),
     }
 }

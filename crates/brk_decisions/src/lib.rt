@@ -21,10 +21,10 @@ mod terms;
 mod tested;
 
 pub use cancel::decide_cancel;
-pub use estimate::decide_estimate;
+pub use estimate::compute_order_estimate;
 pub use feed::decide_feed;
 pub use movement::decide_movement;
-pub use one_day::decide_settlement_day;
+pub use one_day::decide_one_day_settlement;
 pub use order::decide_order;
 pub use reference::decide_reference_record;
 pub use result::decide_result;

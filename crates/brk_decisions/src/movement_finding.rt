@@ -23,7 +23,7 @@ pub(crate) fn read_movement_facts<S: Alter>(
     ensures fault { IfErr result IsCallFault }
 {
     let balance = store.account_balance(movement.account)?;
-    let (next, has_all_movements) = store.next_movement_number_and_limit()?;
+    let (next, has_all_movements) = store.next_cash_row_number_and_limit_reached()?;
     Ok(MovementPlanFacts {
         balance,
         has_all_movements,

@@ -6,7 +6,7 @@ ghost use Rattle.brk_trade_theorems.specs.Decisions.{DecidesCommand};
 ghost use Rattle.brk_model.specs.Run.{IsCallFault};
 ghost use Rattle.brk_store.specs.Holds.{ReadPost};
 
-use crate::finding::read_reference_facts;
+use crate::finding::read_new_reference_facts;
 use brk_money::{Planned, Stamp};
 use brk_store::Store;
 use brk_trade::{Plan, Reference, plan_reference};
@@ -32,6 +32,6 @@ pub fn decide_reference_record<S: Alter>(
     // The value is not needed: the call shows that the stamp is at most the greatest stamp.
     let _moment = now.get();
     let last = store.last_stamp()?;
-    let found = read_reference_facts(alloc, store, reference)?;
+    let found = read_new_reference_facts(alloc, store, reference)?;
     plan_reference(alloc, reference, found, last, now)
 }

@@ -9,7 +9,7 @@ ghost use Rattle.brk_store.specs.Holds.{ReadPost};
 use crate::known::require_security;
 use crate::parties::read_party_facts;
 use crate::summary_finding::read_summary_shares;
-use crate::tested::read_commission_rate_of_band;
+use crate::tested::read_commission_rate_for_quantity;
 use brk_money::{Day, Fault, Id, MoveId, Rate};
 use brk_ref::{Name, Tier};
 use brk_store::Store;
@@ -42,7 +42,7 @@ fn read_security_facts<S: Alter>(
     ensures fault { IfErr result IsCallFault }
 {
     let security = require_security(store, &trade.symbol)?;
-    let rate = read_commission_rate_of_band(
+    let rate = read_commission_rate_for_quantity(
         alloc,
         store,
         tier,
@@ -74,19 +74,19 @@ fn read_posting_facts<S: Alter>(store: &mut Store<S>) -> Result<Posting, Fault>
     ensures read { ReadPost S.Store store.old store.new result (λ posting t. PostingFactsMatchTables t posting) }
     ensures fault { IfErr result IsCallFault }
 {
-    let rule = store.settlement_day()?;
+    let rule = store.one_day_settlement_start()?;
     let next = store.next_cash_row_number()?;
     Ok(Posting { rule, next })
 }
 
 // Returns the facts that decide on a result of the trade `trade`: the trade, whose quantity is at
 // least 1 share, and what the tables have on its account, customer, broker, security and position,
-// the settlement day, and the number of the next cash row. If a check of the result fails, the
-// facts that are needed only after it may have any value. If the database is still open, it is
-// unchanged. Fails with `Memory` or `Store` only; with `Store` also if the trade's account,
-// customer, broker or security or one of the customer's taxes does not exist, the tax rates total
-// more than the greatest rate, a total of the broker is out of range, or no number is left for a
-// cash row.
+// the first day of one-day settlement, and the number of the next cash row. If a check of the
+// result fails, the facts that are needed only after it may have any value. If the database is
+// still open, it is unchanged. Fails with `Memory` or `Store` only; with `Store` also if the
+// trade's account, customer, broker or security or one of the customer's taxes does not exist, the
+// tax rates total more than the greatest rate, a total of the broker is out of range, or no number
+// is left for a cash row.
 fn read_result_facts_of_trade<S: Alter>(
     alloc: Global,
     store: &mut Store<S>,

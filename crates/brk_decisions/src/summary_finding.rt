@@ -44,7 +44,7 @@ pub(crate) fn read_summary_shares<S: Alter>(
     ensures read { ReadPost S.Store store.old store.new result (λ qty t. qty ≡ option_map (λ r. r.qty) (summary_row_of_position t account symbol.now)) }
     ensures fault { IfErr result IsCallFault }
 {
-    let summary = store.summary_of_position(account, symbol)?;
+    let summary = store.holding_summary_of_position(account, symbol)?;
     Ok(shares_of_optional_summary(summary))
 }
 

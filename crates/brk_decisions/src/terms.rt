@@ -95,7 +95,7 @@ pub(crate) fn read_tax_rate_sum_within_limit<S: Alter>(
 // Returns the facts that decide on a new permission: whether its account exists, and whether this
 // account already has a permission for the same tax id. If the database is still open, it is
 // unchanged. Fails with `Memory` or `Store` only.
-pub(crate) fn read_permission_facts<S: Alter>(
+pub(crate) fn read_new_permission_facts<S: Alter>(
     store: &mut Store<S>,
     permission: &Permission,
 ) -> Result<ReferenceFacts, Fault>
@@ -114,7 +114,7 @@ pub(crate) fn read_permission_facts<S: Alter>(
 
 // Returns the fact that decides on a new charge: whether a charge of its trade type and customer
 // tier exists. If the database is still open, it is unchanged. Fails with `Memory` or `Store` only.
-pub(crate) fn read_charge_facts<S: Alter>(
+pub(crate) fn read_new_charge_facts<S: Alter>(
     store: &mut Store<S>,
     charge: &Charge,
 ) -> Result<ReferenceFacts, Fault>
@@ -132,7 +132,7 @@ pub(crate) fn read_charge_facts<S: Alter>(
 // and exchange exists such that the lower bound of each of the two bands is at most the upper bound
 // of the other. If the database is still open, it is unchanged. Fails with `Memory` or `Store`
 // only.
-pub(crate) fn read_band_facts<S: Alter>(
+pub(crate) fn read_new_band_facts<S: Alter>(
     alloc: Global,
     store: &mut Store<S>,
     band: &Band,
@@ -153,7 +153,7 @@ pub(crate) fn read_band_facts<S: Alter>(
 // the sum of the rates that the customer pays (`None` if it exceeds the greatest rate). If the
 // database is still open, it is unchanged. Fails with `Memory` or `Store` only; with `Store` also
 // if one of the taxes that the customer pays does not exist.
-pub(crate) fn read_customer_tax_facts<S: Alter>(
+pub(crate) fn read_new_customer_tax_facts<S: Alter>(
     alloc: Global,
     store: &mut Store<S>,
     pays: &CustomerTax,

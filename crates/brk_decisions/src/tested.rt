@@ -87,7 +87,7 @@ fn read_charge_of_type_and_tier<S: Alter>(
 // table, of a customer tier, a trade type and an exchange that contains a quantity, both bounds
 // included, or `None` if there is no such band. If the database is still open, it is unchanged.
 // Fails with `Memory` or `Store` only.
-pub(crate) fn read_commission_rate_of_band<S: Alter>(
+pub(crate) fn read_commission_rate_for_quantity<S: Alter>(
     alloc: Global,
     store: &mut Store<S>,
     tier: Tier,
@@ -120,7 +120,7 @@ fn read_commission_rate_of_order<S: Alter>(
 {
     match store.security(&order.symbol)? {
         Some(security) => {
-            let rate = read_commission_rate_of_band(
+            let rate = read_commission_rate_for_quantity(
                 alloc,
                 store,
                 tier,

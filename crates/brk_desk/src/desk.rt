@@ -5,7 +5,7 @@ use brk_commands::Command;
 use brk_commit::{CommandAnswer, execute_and_commit_command};
 use brk_explain_reads::{
     read_account_details, read_broker_details, read_holding_details, read_trade_details,
-    visit_completed_trades,
+    visit_completed_trades_of_broker,
 };
 use brk_explain_rows::{AccountDetails, BrokerDetails, HoldingDetails, TradeDetails};
 use brk_lots::Lot;
@@ -330,7 +330,7 @@ impl<S: Alter> Desk<S> {
         ensures walked { WalkPost S.Store self.old self.new abstract_trade_row
             (λ t. completed_trades_of_broker t broker) V.takes V.stops visitor.old visitor.new result }
     {
-        visit_completed_trades::<S, E, V>(alloc, &mut self.store, broker, visitor)
+        visit_completed_trades_of_broker::<S, E, V>(alloc, &mut self.store, broker, visitor)
     }
 
     /// Passes the cash rows of an account with stamps from `from` to `to`, both included, to a

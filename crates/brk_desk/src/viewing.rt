@@ -9,11 +9,11 @@ ghost use Rattle.brk_queries.specs.QueryResults.{AnswersQueryAsModel};
 ghost use Rattle.brk_store.specs.Holds.{ReadPost};
 ghost use Rattle.brk_view.specs.Queries.{abstract_query};
 
-use brk_decisions::decide_estimate;
+use brk_decisions::compute_order_estimate;
 use brk_money::Planned;
 use brk_orders::Order;
 use brk_queries::{
-    view_of_account_status, view_of_account_trades, view_of_account_values,
+    view_of_account_trade_statuses, view_of_account_trades, view_of_account_values,
     view_of_account_values_by_tax_id, view_of_broker_volumes, view_of_recent_trades,
     view_of_submitted_trades, view_of_symbol_trades, view_of_touched_lots, view_of_trades_by_ids,
 };
@@ -34,7 +34,7 @@ fn view_of_estimate<S: Alter>(alloc: Global, store: &mut Store<S>, order: &Order
     ensures read { ReadPost S.Store store.old store.new result (AnswersQueryAsModel (EstimateOf (abstract_order order.now))) }
     ensures fault { IfErr result IsCallFault }
 {
-    match decide_estimate(alloc, store, order)? {
+    match compute_order_estimate(alloc, store, order)? {
         Ok(estimate) => Ok(Ok(View::Estimate(estimate))),
         Err(refusal) => Ok(Err(refusal)),
     }
@@ -60,7 +60,7 @@ pub(crate) fn view_of_query<S: Alter>(
         Query::Position(customer) => view_of_account_values(alloc, store, *customer),
         Query::PositionOfTaxId(tax_id) => view_of_account_values_by_tax_id(alloc, store, tax_id),
         Query::Recent(account) => view_of_recent_trades(alloc, store, *account),
-        Query::Status(account) => view_of_account_status(alloc, store, *account),
+        Query::Status(account) => view_of_account_trade_statuses(alloc, store, *account),
         Query::Submitted => view_of_submitted_trades(alloc, store),
         Query::Estimate(order) => view_of_estimate(alloc, store, order),
         Query::Trades(named) => view_of_trades_by_ids(alloc, store, named),

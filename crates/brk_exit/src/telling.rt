@@ -19,7 +19,7 @@ pub fn fault_error_line(fault: Fault) -> ErrorLineParts<'static>
     match fault {
         Fault::Memory => ("brk: fault: ", "memory"),
         Fault::Store => ("brk: fault: ", "store"),
-        Fault::Damaged(condition) => ("brk: damaged: ", condition.word()),
+        Fault::Damaged(condition) => ("brk: damaged: ", condition.output_word()),
     }
 }
 

@@ -17,8 +17,9 @@ pub use facts::{
     put_labeled_right_aligned_line, put_labeled_text, put_labeled_text_line,
 };
 pub use pieces::{
-    end_line, put_cents_column, put_column, put_integer_column, put_number_column, put_spaced_text,
-    put_spaced_text_line, put_text, put_text_and_number, put_text_line, put_title_line,
+    end_line, put_cents_column, put_column, put_integer_column, put_number_column,
+    put_space_and_text, put_space_and_text_line, put_text, put_text_and_number, put_text_line,
+    put_title_line,
 };
 pub use starts::{
     put_amount_column, put_leading_columns_without_stamp, put_leading_row_columns,

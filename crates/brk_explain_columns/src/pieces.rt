@@ -43,7 +43,7 @@ pub fn put_text_line(out: &mut Vec<u8>, text: &[u8]) -> Result<(), Fault>
 
 /// Appends to `out` a space and a text. Fails with `Memory` only; a part of these bytes may then be
 /// appended.
-pub fn put_spaced_text(out: &mut Vec<u8>, text: &[u8]) -> Result<(), Fault>
+pub fn put_space_and_text(out: &mut Vec<u8>, text: &[u8]) -> Result<(), Fault>
     ensures ok { OnOk result (out.new.items ≡ out.old.items ++ 32 ∷ text.now) }
     ensures fault { OnErr result (result ≡ Err Memory) }
 {
@@ -53,7 +53,7 @@ pub fn put_spaced_text(out: &mut Vec<u8>, text: &[u8]) -> Result<(), Fault>
 
 /// Appends to `out` a space, a text and a line feed. Fails with `Memory` only; a part of the line
 /// may then be appended.
-pub fn put_spaced_text_line(out: &mut Vec<u8>, text: &[u8]) -> Result<(), Fault>
+pub fn put_space_and_text_line(out: &mut Vec<u8>, text: &[u8]) -> Result<(), Fault>
     ensures ok { OnOk result (out.new.items ≡ out.old.items ++ 32 ∷ line_with_line_feed text.now) }
     ensures fault { OnErr result (result ≡ Err Memory) }
 {

@@ -7,7 +7,7 @@ ghost use Rattle.brk_model.specs.Rows.{nonnegative_cents_text};
 ghost use Rattle.brk_model.specs.Statement.{left_aligned_text, right_aligned_text};
 ghost use Rattle.brk_money.specs.declared.fault.Fault.TheVariants.{Memory};
 
-use crate::pieces::{put_cents_column, put_integer_column, put_number_column, put_spaced_text};
+use crate::pieces::{put_cents_column, put_integer_column, put_number_column, put_space_and_text};
 use crate::timestamps::put_timestamp;
 use brk_money::{Fault, Id, Price, Stamp, Wide};
 use brk_report_lines::append_left_aligned;
@@ -31,7 +31,7 @@ fn put_blank_timestamp(out: &mut Vec<u8>) -> Result<(), Fault>
     ensures ok { OnOk result (out.new.items ≡ out.old.items ++ 32 ∷ blank_timestamp_text) }
     ensures fault { OnErr result (result ≡ Err Memory) }
 {
-    put_spaced_text(out, b"                       ")
+    put_space_and_text(out, b"                       ")
 }
 
 // Appends to `out`, each after a space and right-aligned, an id in 13 places, a number of shares,

@@ -14,7 +14,7 @@ use brk_changes::{HoldingRow, MoveRow};
 use brk_explain_columns::{
     add_amounts, end_line, put_amount_column, put_cents_column, put_column, put_integer_column,
     put_labeled_amount_line, put_labeled_number_line, put_labeled_text_line, put_number_column,
-    put_spaced_text, put_spaced_text_line, put_text, put_text_and_number, put_text_line,
+    put_space_and_text, put_space_and_text_line, put_text, put_text_and_number, put_text_line,
     put_title_line, put_word_and_timestamp, value_of_shares_at_price,
 };
 use brk_explain_rows::PricedHolding;
@@ -86,7 +86,7 @@ fn put_cash_posting(
     put_trade_id_or_hyphen(out, row.trade)?;
     put_amount_column(alloc, out, Wide::from(row.amount))?;
     put_amount_column(alloc, out, balance)?;
-    put_spaced_text_line(out, row.name.as_bytes())
+    put_space_and_text_line(out, row.name.as_bytes())
 }
 
 /// Returns the line of a cash row, with a line feed: the word `Posted`, its timestamp, its id, the
@@ -137,7 +137,7 @@ fn put_lot_word_and_text(out: &mut Vec<u8>, lot: &[u8]) -> Result<(), Fault>
     ensures fault { OnErr result (result ≡ Err Memory) }
 {
     append_left_aligned(out, 6, b"Lot")?;
-    put_spaced_text(out, lot)
+    put_space_and_text(out, lot)
 }
 
 /// Returns the line of a lot of an account: the word `Lot`, its symbol, the id of the trade that

@@ -13,7 +13,7 @@ use crate::sums::balance_change_of_trade;
 use brk_changes::MoveRow;
 use brk_explain_columns::{
     add_amounts, end_line, put_labeled_amount_line, put_labeled_number,
-    put_labeled_right_aligned_line, put_spaced_text_line, put_text_and_number,
+    put_labeled_right_aligned_line, put_space_and_text_line, put_text_and_number,
 };
 use brk_explain_rows::{OrderDetails, ResultDetails};
 use brk_money::{Fault, Wide};
@@ -30,7 +30,7 @@ fn put_cash_row_line(out: &mut Vec<u8>, row: &Option<MoveRow>) -> Result<(), Fau
         return put_labeled_right_aligned_line(out, "Cash row", b"none");
     };
     put_labeled_number(out, "Cash row", row.id.get())?;
-    put_spaced_text_line(out, row.name.as_bytes())
+    put_space_and_text_line(out, row.name.as_bytes())
 }
 
 /// Appends to `out` the lines of the cash row of a completed trade (`none` without one), of the

@@ -47,7 +47,7 @@ fn put_price_and_lot_header_lines(
 // with `Memory` or `Store`; with `Store` if a value overflows. After an error a part of the line
 // may be appended.
 #[tactic(auto, unfolding(brk_explain_model::specs::TradeLines::lot_closing_line))]
-fn put_closing_line(
+fn put_lot_closing_line(
     alloc: Global,
     out: &mut Vec<u8>,
     side: Side,
@@ -78,7 +78,7 @@ fn put_closing_line(
 // Appends to `out` a line for each closing by a trade on `side` at `price`, in the order of
 // `closings`. Fails with `Memory` or `Store`; with `Store` if a value overflows. After an error a
 // part of the lines may be appended.
-fn put_closing_lines(
+fn put_lot_closing_lines(
     alloc: Global,
     out: &mut Vec<u8>,
     side: Side,
@@ -89,7 +89,7 @@ fn put_closing_lines(
     ensures fault { IfErr result IsCallFault }
 {
     for closing in closings {
-        put_closing_line(alloc, out, side, price, closing)?;
+        put_lot_closing_line(alloc, out, side, price, closing)?;
     }
     Ok(())
 }
@@ -198,7 +198,7 @@ pub(crate) fn put_lot_and_gain_lines(
 {
     let side = order.trade.kind.side();
     put_price_and_lot_header_lines(alloc, out, details)?;
-    put_closing_lines(alloc, out, side, details.price, &details.closings)?;
+    put_lot_closing_lines(alloc, out, side, details.price, &details.closings)?;
     put_opened_lot_line_if_any(alloc, out, &order.trade, details.price, &details.own_lot)?;
     put_share_count_lines(out, details)?;
     put_realised_gain_lines(alloc, out, order, details)

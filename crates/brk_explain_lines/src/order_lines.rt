@@ -12,8 +12,8 @@ ghost use Rattle.brk_report_lines.specs.Written.{line_with_line_feed};
 use brk_changes::HistoryRow;
 use brk_explain_columns::{
     put_label, put_labeled_amount_line, put_labeled_number, put_labeled_number_line,
-    put_labeled_text, put_labeled_text_line, put_spaced_text, put_spaced_text_line, put_title_line,
-    put_word_and_timestamp,
+    put_labeled_text, put_labeled_text_line, put_space_and_text, put_space_and_text_line,
+    put_title_line, put_word_and_timestamp,
 };
 use brk_explain_rows::OrderDetails;
 use brk_money::{Fault, Wide};
@@ -28,8 +28,8 @@ fn put_status_line(out: &mut Vec<u8>, row: &HistoryRow) -> Result<(), Fault>
     ensures fault { OnErr result (result ≡ Err Memory) }
 {
     put_word_and_timestamp(out, "Status", row.stamp)?;
-    put_spaced_text(out, row.status.code().as_bytes())?;
-    put_spaced_text_line(out, row.status.name().as_bytes())
+    put_space_and_text(out, row.status.code().as_bytes())?;
+    put_space_and_text_line(out, row.status.name().as_bytes())
 }
 
 // Appends to `out` the line of each status change, in the order of `rows`. Fails with `Memory`
@@ -51,7 +51,7 @@ fn put_account_line(out: &mut Vec<u8>, order: &OrderDetails) -> Result<(), Fault
     ensures fault { OnErr result (result ≡ Err Memory) }
 {
     put_labeled_number(out, "Account", order.trade.account.get())?;
-    put_spaced_text_line(out, order.account.account.name.as_str().as_bytes())
+    put_space_and_text_line(out, order.account.account.name.as_str().as_bytes())
 }
 
 // Appends to `out` the title of the explanation of a trade, and the lines of its account, customer,
@@ -77,7 +77,7 @@ fn put_trade_type_line(out: &mut Vec<u8>, order: &OrderDetails) -> Result<(), Fa
     ensures fault { OnErr result (result ≡ Err Memory) }
 {
     put_labeled_text(out, "Type", order.trade.kind.code().as_bytes())?;
-    put_spaced_text_line(out, order.trade.kind.name().as_bytes())
+    put_space_and_text_line(out, order.trade.kind.name().as_bytes())
 }
 
 // Appends to `out` the line of the security of a trade: its symbol, left-aligned in 15 places, and
@@ -89,7 +89,7 @@ fn put_security_line(out: &mut Vec<u8>, order: &OrderDetails) -> Result<(), Faul
 {
     put_label(out, "Security")?;
     append_left_aligned(out, 15, order.trade.symbol.as_str().as_bytes())?;
-    put_spaced_text_line(out, order.security.name.as_str().as_bytes())
+    put_space_and_text_line(out, order.security.name.as_str().as_bytes())
 }
 
 // Returns the text `cash` for a cash trade and the text `margin` for a margin trade.

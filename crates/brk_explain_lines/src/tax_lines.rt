@@ -13,7 +13,7 @@ ghost use Rattle.brk_report_lines.specs.Written.{line_with_line_feed};
 use crate::sums::{commission_in_current_band, sum_of_tax_rates, tax_at_current_rates};
 use brk_explain_columns::{
     end_line, put_labeled_amount_line, put_labeled_number, put_labeled_number_line,
-    put_labeled_right_aligned_line, put_number_column, put_spaced_text_line, put_text,
+    put_labeled_right_aligned_line, put_number_column, put_space_and_text_line, put_text,
     put_text_and_number, put_text_line,
 };
 use brk_explain_rows::{OrderDetails, ResultDetails};
@@ -33,7 +33,7 @@ fn put_tax_rate_line(out: &mut Vec<u8>, rate: &Tax) -> Result<(), Fault>
     append_left_aligned(out, 6, b"Rate")?;
     put_number_column(out, 13, rate.id.get())?;
     put_number_column(out, 11, u64::from(rate.rate.get()))?;
-    put_spaced_text_line(out, rate.name.as_str().as_bytes())
+    put_space_and_text_line(out, rate.name.as_str().as_bytes())
 }
 
 // Appends to `out` the line of each tax rate, in the order of `rates`. Fails with `Memory` only; a
@@ -118,7 +118,7 @@ pub(crate) fn put_tax_lines(
 // quantity, ` to ` and its greatest quantity, in shares. Fails with `Memory` only; a part of these
 // bytes may then be appended.
 #[tactic(auto, unfolding(brk_explain_model::specs::TradeLines::band_unit_and_bounds_text))]
-fn put_band_bounds(out: &mut Vec<u8>, band: &Band) -> Result<(), Fault>
+fn put_rate_unit_and_band_bounds(out: &mut Vec<u8>, band: &Band) -> Result<(), Fault>
     ensures ok { OnOk result (out.new.items ≡ out.old.items ++ lines.band_unit_and_bounds_text (abstract_band band.now)) }
     ensures fault { OnErr result (result ≡ Err Memory) }
 {
@@ -150,7 +150,7 @@ fn put_commission_band_line(out: &mut Vec<u8>, band: &Option<Band>) -> Result<()
         return put_labeled_right_aligned_line(out, "Band now", b"none");
     };
     put_labeled_number(out, "Band now", u64::from(band.rate.get()))?;
-    put_band_bounds(out, band)?;
+    put_rate_unit_and_band_bounds(out, band)?;
     put_band_tier_and_exchange(out, band)?;
     end_line(out)
 }

@@ -12,7 +12,7 @@ ghost use Rattle.brk_report_lines.specs.Written.{line_with_line_feed};
 use brk_changes::TradeRow;
 use brk_explain_columns::{
     end_line, put_label, put_labeled_amount, put_labeled_amount_line, put_labeled_number_line,
-    put_spaced_text_line, put_text, put_text_and_number,
+    put_space_and_text_line, put_text, put_text_and_number,
 };
 use brk_explain_rows::OrderDetails;
 use brk_money::{Fault, Price, Status, TradeType, Wide, write_cents};
@@ -114,7 +114,7 @@ fn put_amount_line_with_remark(
     ensures fault { OnErr result (result ≡ Err Memory) }
 {
     put_labeled_amount(alloc, out, label, amount)?;
-    put_spaced_text_line(out, words.as_bytes())
+    put_space_and_text_line(out, words.as_bytes())
 }
 
 // Appends to `out` the line of the word `Statuses` and the number `count` of status changes. Fails

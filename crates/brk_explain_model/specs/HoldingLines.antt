@@ -11,7 +11,7 @@ use Rattle.brk_explain_model.specs.Trades.{completion_price_or_zero}
 use Rattle.brk_explain_model.specs.Holdings.{LotChange, LotDetails, realised_gain_of_change, count_of_lot_changes}
 use Rattle.brk_explain_model.specs.Holdings.{remaining_cost_of_lot, remaining_cost_of_lots}
 use Rattle.brk_explain_model.specs.Holdings.{completed_trades_in_symbol, realised_gain_of_lots, remaining_quantity_of_lot, lots_opened_in_symbol}
-use Rattle.brk_explain_model.specs.Holdings.{lots_not_fully_closed, total_purchase_value, total_sale_value, signed_quantity_of_trade, signed_value_of_trade}
+use Rattle.brk_explain_model.specs.Holdings.{lots_not_fully_closed, total_purchase_value, negated_total_sale_value, signed_quantity_of_trade, signed_value_of_trade}
 use Rattle.brk_explain_model.specs.Holdings.{summary_quantity_in_symbol}
 use Rattle.std.specs.Fmt.{signed_decimal}
 
@@ -106,7 +106,7 @@ holding_counts_line trades lots open_count changes =
 -- value, the unrealised gain, and the counts.
 unfoldable pub holding_total_lines : List TradeRow → List LotDetails → ℤ → ℕ → List Text
 holding_total_lines done lots shares price =
-    purchase_sale_gain_and_cost_lines (total_purchase_value done) (total_sale_value done) (realised_gain_of_lots lots) (remaining_cost_of_lots lots)
+    purchase_sale_gain_and_cost_lines (total_purchase_value done) (negated_total_sale_value done) (realised_gain_of_lots lots) (remaining_cost_of_lots lots)
     ++ holding_value_lines shares price (remaining_cost_of_lots lots)
     ++ holding_counts_line (length done) (length lots) (length (lots_not_fully_closed lots)) (count_of_lot_changes lots)
     ∷ []

@@ -128,8 +128,8 @@ abbrev pub total_purchase_value : List TradeRow → ℤ
 total_purchase_value done = total_by signed_value_of_trade (filter (λ u. int_lt (pos 0) (signed_value_of_trade u)) done)
 
 -- The sum of the values of the sales among the trades `done`, in cents and negated: never above 0.
-abbrev pub total_sale_value : List TradeRow → ℤ
-total_sale_value done = total_by signed_value_of_trade (filter (λ u. int_lt (signed_value_of_trade u) (pos 0)) done)
+abbrev pub negated_total_sale_value : List TradeRow → ℤ
+negated_total_sale_value done = total_by signed_value_of_trade (filter (λ u. int_lt (signed_value_of_trade u) (pos 0)) done)
 
 -- The net quantity of `account` in `symbol`, in shares, that HOLDING_SUMMARY records, below 0 if
 -- they were sold short; 0 if there is no such row.

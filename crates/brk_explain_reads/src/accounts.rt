@@ -39,7 +39,7 @@ fn read_priced_holdings<S: Alter>(
     ensures read { ReadPost S.Store store.old store.new result (λ held t. map abstract_priced_holding held.items ≡ priced_holdings_of_account t account) }
     ensures fault { IfErr result IsCallFault }
 {
-    let mut rest = store.summaries_of_account(alloc, account)?;
+    let mut rest = store.holding_summaries_of_account(alloc, account)?;
     let mut held = Vec::new(alloc);
     while let Some(summary) = rest.pop() {
         let one = read_priced_holding(store, summary)?;

@@ -95,7 +95,7 @@ impl<E, V: Visitor<TradeRow, E>> Visitor<TradeRow, E> for AccountFilter<'_, V> {
 /// visitor's `leads` relates the visitor before the walk to the visitor after it.
 ///
 /// A crash after the call exposes only states that a crash before the call could expose.
-pub fn visit_completed_trades<S: Alter, E, V: Visitor<TradeRow, E>>(
+pub fn visit_completed_trades_of_broker<S: Alter, E, V: Visitor<TradeRow, E>>(
     alloc: Global,
     store: &mut Store<S>,
     broker: Id,

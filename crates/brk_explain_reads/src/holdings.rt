@@ -53,7 +53,7 @@ fn read_quantity_and_price<S: Alter>(
     ensures read { ReadPost S.Store store.old store.new result (λ held t. AreQuantityAndPrice t account symbol.now held) }
     ensures fault { IfErr result IsCallFault }
 {
-    let summary = store.summary_of_position(account, symbol)?;
+    let summary = store.holding_summary_of_position(account, symbol)?;
     let price = require_last_price(store, symbol)?;
     Ok(quantity_and_price(quantity_of_summary_or_zero(summary), price))
 }

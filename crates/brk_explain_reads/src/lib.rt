@@ -17,6 +17,6 @@ mod terms;
 pub mod trades;
 
 pub use accounts::read_account_details;
-pub use brokers::{read_broker_details, visit_completed_trades};
+pub use brokers::{read_broker_details, visit_completed_trades_of_broker};
 pub use holdings::read_holding_details;
 pub use trades::read_trade_details;

@@ -7,7 +7,7 @@ ghost use Rattle.brk_store.specs.Holds.{ReadPost};
 
 use crate::cash::read_cash_sum_before;
 use crate::lots::read_trade_lots;
-use crate::settled::read_settlement_and_cash;
+use crate::settled::read_settlement_cash_and_one_day_start;
 use crate::terms::read_tax_rates_and_band;
 use brk_explain_rows::{OrderDetails, ResultDetails};
 use brk_money::Fault;
@@ -38,7 +38,7 @@ pub(crate) fn read_result_of_trade<S: Alter>(
         return Err(Fault::Store);
     };
     let terms = read_tax_rates_and_band(alloc, store, order)?;
-    let settled = read_settlement_and_cash(store, order.trade.id)?;
+    let settled = read_settlement_cash_and_one_day_start(store, order.trade.id)?;
     let cash = read_cash_sum_before(store, order.trade.account, order.trade.stamp)?;
     Ok(ResultDetails {
         price,

@@ -25,7 +25,7 @@ pub struct SettlementAndCash {
 // one-day settlement; the cash row is `None` if the trade has none, and the day is `None` if none
 // is set. If the database is still open, it is unchanged. Fails with `Memory` or `Store`; with
 // `Store` also if the trade has no settlement.
-pub(crate) fn read_settlement_and_cash<S: Alter>(
+pub(crate) fn read_settlement_cash_and_one_day_start<S: Alter>(
     store: &mut Store<S>,
     trade: Id,
 ) -> Result<SettlementAndCash, Fault>
@@ -34,7 +34,7 @@ pub(crate) fn read_settlement_and_cash<S: Alter>(
 {
     let settlement = read_existing_settlement(store, trade)?;
     let cash = store.cash_row(trade)?;
-    let rule = store.settlement_day()?;
+    let rule = store.one_day_settlement_start()?;
     Ok(SettlementAndCash {
         settlement,
         cash,

@@ -50,7 +50,7 @@ pub fn broker_header_text(alloc: Global, row: &BrokerRow) -> Result<Vec<u8>, Fau
 // sum of the commissions up to and including this trade. Fails with `Memory` only; a part of the
 // line may then be appended.
 #[tactic(auto, unfolding(brk_explain_model::specs::BrokerLines::trade_commission_line))]
-fn put_trade_commission(
+fn put_trade_commission_line(
     alloc: Global,
     out: &mut Vec<u8>,
     row: &TradeRow,
@@ -70,12 +70,16 @@ fn put_trade_commission(
 /// Returns the line of a completed trade in the explanation of a broker, with a line feed: the word
 /// `Trade`, its timestamp, its id, its account, its commission, and `total`, in cents, the sum of
 /// the commissions up to and including this trade. Fails with `Memory` only.
-pub fn trade_commission_text(alloc: Global, row: &TradeRow, total: Wide) -> Result<Vec<u8>, Fault>
+pub fn trade_commission_line_text(
+    alloc: Global,
+    row: &TradeRow,
+    total: Wide,
+) -> Result<Vec<u8>, Fault>
     ensures line { IfOk result (λ line. line.items ≡ line_with_line_feed (lines.trade_commission_line (abstract_trade_row row.now) total)) }
     ensures fault { OnErr result (result ≡ Err Memory) }
 {
     let mut line = Vec::new(alloc);
-    put_trade_commission(alloc, &mut line, row, total)?;
+    put_trade_commission_line(alloc, &mut line, row, total)?;
     Ok(line)
 }
 

@@ -12,7 +12,7 @@ ghost use Rattle.brk_report_lines.specs.Written.{line_with_line_feed};
 use crate::lots::{
     count_of_lot_changes, count_of_open_lots, realised_gain_of_lots, remaining_cost_of_lots,
 };
-use crate::trades::{total_purchase_value, total_sale_value};
+use crate::trades::{negated_total_sale_value, total_purchase_value};
 use brk_changes::TradeRow;
 use brk_explain_columns::{
     end_line, put_labeled_amount_line, put_labeled_integer_line, put_text_and_number,
@@ -26,7 +26,7 @@ use std::alloc::Global;
 // gain `gain` and the cost basis `cost` of a holding, in cents. Fails with `Memory` only; a part of
 // the lines may then be appended.
 #[tactic(auto, unfolding(brk_explain_model::specs::HoldingLines::purchase_sale_gain_and_cost_lines))]
-fn put_purchase_sale_and_cost_lines(
+fn put_purchase_sale_gain_and_cost_lines(
     alloc: Global,
     out: &mut Vec<u8>,
     bought: Wide,
@@ -106,12 +106,12 @@ pub(crate) fn put_holding_total_lines(
     ensures fault { IfErr result IsCallFault }
 {
     let bought = total_purchase_value(done)?;
-    let sold = total_sale_value(done)?;
+    let sold = negated_total_sale_value(done)?;
     let gain = realised_gain_of_lots(lots)?;
     let cost = remaining_cost_of_lots(lots)?;
     let open_lots = count_of_open_lots(lots)?;
     let changes = count_of_lot_changes(lots)?;
-    put_purchase_sale_and_cost_lines(alloc, out, bought, sold, gain, cost)?;
+    put_purchase_sale_gain_and_cost_lines(alloc, out, bought, sold, gain, cost)?;
     put_holding_value_lines(alloc, out, shares, price, cost)?;
     put_holding_counts_line(out, done.len(), lots.len(), open_lots, changes)?;
     Ok(())

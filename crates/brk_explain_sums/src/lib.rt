@@ -9,5 +9,5 @@ mod lots;
 mod trade_rows;
 mod trades;
 
-pub use broker::{broker_header_text, broker_total_text, trade_commission_text};
+pub use broker::{broker_header_text, broker_total_text, trade_commission_line_text};
 pub use holding::holding_explanation_text;

@@ -13,7 +13,7 @@ use crate::trades::{
 };
 use brk_changes::TradeRow;
 use brk_explain_columns::{
-    put_leading_row_columns, put_shares_column, put_spaced_text_line, put_value_column,
+    put_leading_row_columns, put_shares_column, put_space_and_text_line, put_value_column,
 };
 use brk_money::Fault;
 use std::alloc::Global;
@@ -38,7 +38,7 @@ fn put_holding_trade_line(
     put_leading_row_columns(alloc, out, "Trade", row.stamp, row.id, shares, price)?;
     put_value_column(alloc, out, value)?;
     put_shares_column(out, held)?;
-    put_spaced_text_line(out, row.kind.code().as_bytes())
+    put_space_and_text_line(out, row.kind.code().as_bytes())
 }
 
 /// Appends to `out` a line for each completed trade of a holding, in the order of `done`, with the

@@ -95,8 +95,8 @@ pub(crate) fn total_purchase_value(done: &[TradeRow]) -> Result<Wide, Fault>
 /// Returns the sum of the values of the sales among the completed trades, in cents and negated:
 /// below 0, or 0 if there is none. Fails with `Store` if a value or the sum overflows, or if a
 /// trade has no price.
-pub(crate) fn total_sale_value(done: &[TradeRow]) -> Result<Wide, Fault>
-    ensures total { IfOk result (λ total. total ≡ holdings.total_sale_value (map abstract_trade_row done.now)) }
+pub(crate) fn negated_total_sale_value(done: &[TradeRow]) -> Result<Wide, Fault>
+    ensures total { IfOk result (λ total. total ≡ holdings.negated_total_sale_value (map abstract_trade_row done.now)) }
     ensures fault { IfErr result IsCallFault }
 {
     let mut total = Wide::new(0);

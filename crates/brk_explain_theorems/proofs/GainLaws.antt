@@ -22,7 +22,7 @@ use Rattle.brk_lots.specs.Chains.{ShrinksTowardZero, IsLotHistory}
 use Rattle.brk_lots.specs.declared.lot.Lot.{Lot}
 use Rattle.brk_explain_model.specs.Holdings.{LotChange, LotDetails, realised_gain_of_change, remaining_cost_of_lot, remaining_cost_of_lots}
 use Rattle.brk_explain_model.specs.Holdings.{completed_trades_in_symbol, realised_gain_in_symbol, remaining_quantity_of_lot, recorded_lot_change}
-use Rattle.brk_explain_model.specs.Holdings.{realised_gain_of_lot, lot_with_changes_by_others, lots_opened_in_symbol, total_purchase_value, total_sale_value}
+use Rattle.brk_explain_model.specs.Holdings.{realised_gain_of_lot, lot_with_changes_by_others, lots_opened_in_symbol, total_purchase_value, negated_total_sale_value}
 use Rattle.brk_explain_model.specs.Holdings.{signed_quantity_of_trade, signed_value_of_trade}
 use Rattle.brk_explain_model.specs.Running.{running_totals}
 use Rattle.brk_explain_model.specs.Trades.{has_completed_status, trade_price_or_zero, opened_lot_row}
@@ -351,7 +351,7 @@ both_signs {X = X} f (x ∷ xs) = by_test (int_lt (pos 0) (f x)) (int_lt (f x) (
     by_test false false e g ih = ih ∙ sym (no_more (total_by f xs)) ∙ ap (λ z. z +ℤ total_by f xs) (zero (f x) e g)
 
 traded_are : (base : Base) (account : ℕ) (symbol : Text) → BooksInvariant base
-    → total_purchase_value (completed_trades_in_symbol (sheets base) account symbol) +ℤ total_sale_value
+    → total_purchase_value (completed_trades_in_symbol (sheets base) account symbol) +ℤ negated_total_sale_value
     (completed_trades_in_symbol (sheets base) account symbol) ≡ purchase_value_minus_sale_value (deals_of_position (completed_trades base) account symbol)
 traded_are base account symbol books =
     both_signs signed_value_of_trade (completed_trades_in_symbol (sheets base) account symbol) ∙ ap (total_by signed_value_of_trade) (done_are base account symbol books)
@@ -375,7 +375,7 @@ holding_as_told base account symbol books = record {
   balance = costs_are base account symbol books ∙ costs_sum base account symbol books
       ∙ (λ i. sym (gains_are base account symbol books) i +ℤ sym (traded_are base account symbol books) i)
       ∙ sym (+ℤ_assoc (realised_gain_in_symbol (sheets base) account symbol) (total_purchase_value (completed_trades_in_symbol (sheets base) account symbol))
-      (total_sale_value (completed_trades_in_symbol (sheets base) account symbol)));
+      (negated_total_sale_value (completed_trades_in_symbol (sheets base) account symbol)));
   shares = shares_are base account symbol books;
   left = left_are base account symbol books;
 }

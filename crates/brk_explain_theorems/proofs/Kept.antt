@@ -222,7 +222,7 @@ keeps_words s base p f later h a e m r = record {
 same_base : (s : ℕ) (base later : Base) → later.accounts ≡ base.accounts → later.trades ≡ base.trades → later.movements ≡ base.movements → later.rule ≡ base.rule → Keeps s base later
 same_base s base later a t m r = same_done s base later a (ap (filter is_completed) t) m r
 
--- a settlement day changes none that was due
+-- a first day of one-day settlement changes none that was due
 keeps_one_day : (s : ℕ) (base : Base) (now day : ℕ) → BooksInvariant base → refusal_of_command base now (SetOneDay day) ≡ None → Keeps s base (base_after_command base now (SetOneDay day))
 unfolding base_after_command_unstamped
 keeps_one_day s base now day books e = record {

@@ -11,7 +11,7 @@ use Rattle.brk_model.specs.Sheets.{sheets}
 use Rattle.brk_model.specs.Tables.{Tables}
 use Rattle.brk_lots.specs.Books.{realised_gain_sum, cost_basis_of_lots}
 use Rattle.brk_explain_model.specs.Holdings.{remaining_cost_of_lots, completed_trades_in_symbol, realised_gain_in_symbol, remaining_quantity_of_lot}
-use Rattle.brk_explain_model.specs.Holdings.{lots_opened_in_symbol, total_purchase_value, total_sale_value, signed_quantity_of_trade}
+use Rattle.brk_explain_model.specs.Holdings.{lots_opened_in_symbol, total_purchase_value, negated_total_sale_value, signed_quantity_of_trade}
 use Rattle.brk_explain_model.specs.Running.{running_totals}
 use Rattle.brk_book_theorems.specs.TradeReads.{lots_of_position}
 use Rattle.brk_explain_theorems.specs.Balances.{last_number_or_default}
@@ -33,7 +33,7 @@ pub record PrintedHoldingMatchesDeals (base : Base) (account : ℕ) (symbol : Te
   -- Cost basis is Realised gain plus Purchases plus Sales.
   pub balance : remaining_cost_of_lots (lots_opened_in_symbol (sheets base) account symbol)
       ≡ (realised_gain_in_symbol (sheets base) account symbol +ℤ total_purchase_value (completed_trades_in_symbol (sheets base) account symbol))
-      +ℤ total_sale_value (completed_trades_in_symbol (sheets base) account symbol)
+      +ℤ negated_total_sale_value (completed_trades_in_symbol (sheets base) account symbol)
   -- The last running sum of the trades, and the sum of the remaining shares of the lots, are the
   -- quantity of the holding.
   pub shares : last_number_or_default (pos 0) (running_totals signed_quantity_of_trade (pos 0) (completed_trades_in_symbol (sheets base) account symbol))

@@ -95,7 +95,7 @@ impl<S: Alter> Service for DeskService<S> {
 
     /// Returns the records of a view, in order, each a list of texts. Fails only if memory runs
     /// out.
-    fn records(alloc: Global, view: &View) -> Result<Vec<Vec<String>>, AllocError> {
+    fn view_records(alloc: Global, view: &View) -> Result<Vec<Vec<String>>, AllocError> {
         match view_fields(alloc, view) {
             Ok(records) => Ok(records),
             Err(_) => Err(AllocError),

@@ -102,7 +102,7 @@ fn json_object_of_member(alloc: Global, word: MemberName, value: Value) -> Resul
 
 /// Returns the JSON text `{"NAME":["TEXT",..]}` of the object whose one member has the name `word`
 /// and the list of `texts`. Fails only if memory runs out.
-pub fn json_text_of_texts(
+pub fn json_object_with_texts(
     alloc: Global,
     word: MemberName,
     texts: &[String],

@@ -10,7 +10,7 @@ ghost use Rattle.brk_http_engine.specs.Lines.{first_head_lines, status_text};
 ghost use Rattle.brk_http_engine.specs.Codes.{bytes_of_texts, response_in_model};
 
 use crate::acting::ServiceResponse;
-use crate::bodies::{MemberName, json_text_of_error, json_text_of_texts, json_text_of_view};
+use crate::bodies::{MemberName, json_object_with_texts, json_text_of_error, json_text_of_view};
 use crate::pieces::{copy_texts, split_at_byte};
 use crate::service::Service;
 use brk_http_model::RequestProblem;
@@ -58,7 +58,7 @@ fn fault_word(fault: Fault) -> &'static str
 }
 
 // Returns the HTTP status of a response: 200 for a reply, a stored reply or a view, 409 for a
-// refusal, 503 for a fault of the desk, otherwise that of the problem (`status_of_problem`).
+// refusal, 503 for a fault of the desk, otherwise the status of its problem (`status_of_problem`).
 fn status_of_response<R, V>(response: &ServiceResponse<R, V>) -> StatusCode
     ensures { (reply : R → model.Reply) (shown : V → queries.View) → status_text result ≡ http_status_of_response (response_in_model reply shown response.now) }
 {
@@ -104,15 +104,15 @@ pub fn fields_between_commas(alloc: Global, line: &str) -> Result<Vec<String>, A
 }
 
 // Returns the body of the reply to a refused row or query, `{"no":["NUMBER",..]}`: the number of
-// the refusal and, for `WrongStatus` the status code, for `Range` the word of the limit. Fails only
-// if memory runs out.
+// the refusal and, for `WrongStatus` the code of the trade's status, for `Range` the word of the
+// limit. Fails only if memory runs out.
 #[tactic(auto, using(crate::proofs::PieceLemmas::refusal_parts))]
 fn refusal_body(alloc: Global, refusal: Refusal) -> Result<String, AllocError>
     ensures { IfOk result (λ s. string_bytes s ≡ response_body (FromOutcome (run.NoView refusal))) }
 {
     let line = format!(in alloc; "{refusal}")?;
     let fields = fields_between_commas(alloc, line.as_str())?;
-    json_text_of_texts(alloc, MemberName::No, &fields)
+    json_object_with_texts(alloc, MemberName::No, &fields)
 }
 
 // Returns the JSON body of the reply with this response. Fails only if memory runs out.
@@ -129,14 +129,14 @@ fn response_body<D: Service>(
         ),
         ServiceResponse::Done(reply) => {
             let fields = D::reply_fields(alloc, reply)?;
-            json_text_of_texts(alloc, MemberName::Ok, &fields)
+            json_object_with_texts(alloc, MemberName::Ok, &fields)
         }
         ServiceResponse::Again(line) => {
             let fields = fields_between_commas(alloc, line.as_str())?;
-            json_text_of_texts(alloc, MemberName::Again, &fields)
+            json_object_with_texts(alloc, MemberName::Again, &fields)
         }
         ServiceResponse::Saw(view) => {
-            let records = D::records(alloc, view)?;
+            let records = D::view_records(alloc, view)?;
             json_text_of_view(alloc, &records)
         }
         ServiceResponse::Failed(fault) => json_text_of_error(alloc, fault_word(*fault)),

@@ -97,6 +97,6 @@ pub trait Service {
 
     /// Returns the records of a view, in order, each a list of texts. Fails only if memory runs
     /// out.
-    fn records(alloc: Global, view: &Self::View) -> Result<Vec<Vec<String>>, AllocError>
+    fn view_records(alloc: Global, view: &Self::View) -> Result<Vec<Vec<String>>, AllocError>
         ensures { IfOk result (λ records. bytes_of_records records ≡ shown view.now) };
 }

@@ -50,7 +50,7 @@ pub fn content_length_states_body_length()
 /// number that is malformed or out of range, and one each with an encoded byte, with an empty batch
 /// name, with nothing after `/rows/`, with a query string and with a host. Shows also the parts of
 /// the text `1,SBMT,,`, split at its commas.
-pub fn routes_of_request_targets()
+pub fn only_known_targets_have_routes()
     ensures row_without_key { route_of_target model_parsers.views (codes "/rows") ≡ Some (ToRow None) }
     ensures row_with_key { route_of_target model_parsers.views (codes "/rows/A.b-c_1/1000000000000")
         ≡ Some (ToRow (Some (record { batch = codes "A.b-c_1"; row = 1000000000000 }))) }

@@ -45,7 +45,7 @@ pub fn stream_ends_after_close_request()
 
 /// Shows the replies to an order, to its retry under its key, to a query of the view `submitted`,
 /// and to a cancel of the submitted trade, which is refused with `WrongStatus` (13).
-pub fn replies_to_order_over_http()
+pub fn order_is_submitted_once_over_http()
     ensures { HasRepliesInSetting
         (post_request (codes "/rows/H/1") (codes "[\"order\",\"100\",\"TMB\",\"ABC\",\"100\",\"\",\"cash\",\"fifo\",\"Ann\",\"Lee\",\"T10\"]")
         ∷ post_request (codes "/rows/H/1") (codes "[\"order\",\"100\",\"TMB\",\"ABC\",\"100\",\"\",\"cash\",\"fifo\",\"Ann\",\"Lee\",\"T10\"]")

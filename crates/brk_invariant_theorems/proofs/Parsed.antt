@@ -28,7 +28,7 @@ use Rattle.brk_model.specs.Forms.{check_read_value, trade_type_with_code, nonneg
 use Rattle.brk_model.specs.Parse.{NamedParser, bounds_if_ascending, parse_row, read_account, read_commission_band, read_quantity_bounds, read_broker}
 use Rattle.brk_model.specs.Parse.{read_with_parser, read_id_of_trade_to_cancel, read_charge, read_customer, read_customer_tax, read_executor, read_feed}
 use Rattle.brk_model.specs.Parse.{read_order, read_permission, read_complete_trade_command, read_listing, read_tax_rate, read_ticks, read_cash_type_update}
-use Rattle.brk_model.specs.Parse.{read_cash_name_update, row_parsers, read_movement_command, read_settlement_day}
+use Rattle.brk_model.specs.Parse.{read_cash_name_update, row_parsers, read_movement_command, read_one_day_settlement_start}
 use Rattle.brk_book_theorems.proofs.Same.{find-All}
 use Rattle.brk_invariant_theorems.specs.Sound.{is_well_formed_account, is_well_formed_broker}
 use Rattle.brk_invariant_theorems.specs.InForm.{MeetsAuditFormats, OrderMeetsAuditFormats, TickMeetsAuditFormats, is_well_formed_band, is_well_formed_listing, is_movement_amount_within_limits}
@@ -377,7 +377,7 @@ movement_on moved form (account ∷ amount ∷ []) =
     (λ a a' n n'. form a n n') (on_any (read_id account))) (on_amount amount)
 movement_on moved form (account ∷ amount ∷ more ∷ fields) = tt
 
-oneday_on : (fields : List Text) → IfOk (read_settlement_day fields) (λ n. nat_le n greatest_day ≡ true)
+oneday_on : (fields : List Text) → IfOk (read_one_day_settlement_start fields) (λ n. nat_le n greatest_day ≡ true)
 oneday_on [] = tt
 oneday_on (day ∷ []) = on_day day
 oneday_on (day ∷ more ∷ fields) = tt
@@ -427,7 +427,7 @@ all_readers = (
                                   movement_on (λ a n. DepositCash a n) (λ a n e. e),
                                   (
                                     movement_on (λ a n. WithdrawCash a n) (λ a n e. e),
-                                    ((λ fs. as_on SetOneDay (λ n. nat_le n greatest_day ≡ true) (read_settlement_day fs) (λ n e. e) (oneday_on fs)), tt),
+                                    ((λ fs. as_on SetOneDay (λ n. nat_le n greatest_day ≡ true) (read_one_day_settlement_start fs) (λ n e. e) (oneday_on fs)), tt),
                                   ),
                                 ),
                               ),

@@ -1,4 +1,4 @@
--- An accepted movement in form, and an accepted settlement day, leave a sound base sound.
+-- An accepted movement in form, and an accepted first day of one-day settlement, leave a sound base sound.
 use Rattle.std.proofs.Common.{◌≡◌, ◌≤◌, ◌<◌, ℕ, zero, suc, ◌+◌, ◌==◌, Bool, true, false, not, cond, List, [], ◌∷◌, ◌++◌, refl, sym, ◌∙◌, ap, subst, map, length, arith, Option, Some, None, pos, neg_ℤ}
 use Rattle.std.specs.Prelude.{◌&&◌, ◌||◌, codes, is_none, nat_abs, nat_le, nat_lt, int_lt}
 use Rattle.std.specs.Option.{option_map_or}
@@ -15,7 +15,7 @@ use Rattle.brk_model.specs.Base.{Base, completed_trades}
 use Rattle.brk_model.specs.Commands.{Command, DepositCash, WithdrawCash, SetOneDay}
 use Rattle.brk_model.specs.Derived.{balance_of_account, due_day_of_completion_stamp, postings_of_base}
 use Rattle.brk_model.specs.Form.{is_movement_name_and_amount}
-use Rattle.brk_model.specs.Movements.{deposit_movement, withdrawal_movement, base_after_movement, base_with_settlement_day}
+use Rattle.brk_model.specs.Movements.{deposit_movement, withdrawal_movement, base_after_movement, base_with_one_day_settlement_start}
 use Rattle.brk_model.specs.Step.{base_after_command_unstamped}
 use Rattle.brk_model.specs.Ways.{is_strictly_ascending}
 use Rattle.brk_model.specs.Tests.{stamp_of_next_command, refusal_of_command, checks_of_command}
@@ -101,7 +101,7 @@ sound_withdrawal base now account amount k books form e =
     let p = passed base now (WithdrawCash account amount) e in
     sound_movement base now (withdrawal_movement (stamp_of_next_command base now) account amount) refl (withdrawn amount form) (p.1.0, p.1.1.0) k books
 
--- ---- a settlement day
+-- ---- one-day settlement
 
 -- one day is no later than two
 earlier : (n : ℕ) (b : Bool) → nat_le (n + 2) greatest_day ≡ true → nat_le (n + cond b 1 2) greatest_day ≡ true

@@ -14,7 +14,7 @@ use Rattle.brk_model.specs.Schemas.{third_schema}
 use Rattle.brk_model.specs.Form.{is_well_formed_band_row, is_well_formed_charge_row, is_well_formed_customer_row, is_cash_type_of_trade}
 use Rattle.brk_model.specs.Form.{settles_in_calendar_if_completed, is_movement_name_and_amount, is_up_to_last_stamp, is_price, has_price_exactly_if}
 use Rattle.brk_model.specs.Form.{is_well_formed_kept_row, are_well_formed_listing_texts, is_well_formed_tax_rate_row, are_well_formed_account_fields}
-use Rattle.brk_model.specs.Form.{are_well_formed_id_and_name, has_well_formed_permission_texts, are_trade_numbers_in_range, is_settlement_day_in_calendar}
+use Rattle.brk_model.specs.Form.{are_well_formed_id_and_name, has_well_formed_permission_texts, are_trade_numbers_in_range, is_one_day_settlement_start_in_calendar}
 use Rattle.brk_model.specs.Ways.{is_strictly_ascending}
 use Rattle.brk_model.specs.Keys.{KeyPart, word, charge_key, customer_key, customer_tax_key, kept_key, tax_rate_key}
 use Rattle.brk_audit_theorems.specs.Told.{HasValidStatusSequence, HasSettlementAndCashTextsOnlyIfCompleted, HasAscendingStatusStamps, broker_id_key}
@@ -119,7 +119,7 @@ pub record TradeAuditInvariant (last : Option ℕ) (rule : SettleRule) (accounts
 abbrev pub BaseTradeAuditInvariant : Base → Trade → Type 0
 BaseTradeAuditInvariant base t = TradeAuditInvariant base.last base.rule base.accounts base.securities t
 
--- ---- movements, and the settlement day
+-- ---- movements, and one-day settlement
 
 -- True if the text of the movement is `Deposit` and its amount is above 0, or the text is
 -- `Withdrawal` and the amount is below 0, and the absolute value of the amount, in cents, is at
@@ -138,7 +138,7 @@ pub record MovementAuditInvariant (movements : List Movement) (rule : SettleRule
   pub risen : is_strictly_ascending (map (λ m. m.stamp) movements) ≡ true
   pub few : length movements ≤ greatest_id
   -- The first day of one-day settlement, if it is set, is at most 9999-12-31.
-  pub day : is_settlement_day_in_calendar rule ≡ true
+  pub day : is_one_day_settlement_start_in_calendar rule ≡ true
 
 -- ---- references
 

@@ -89,7 +89,7 @@ pub fn parsed_rows_meet_audit_formats()
 
 /// Proves that answering the rows of a batch preserves the books invariant together with the audit
 /// invariant, if the batch name is well-formed and the number of rows is at most the greatest id.
-pub fn batches_preserve_both_invariants()
+pub fn batches_preserve_books_and_audit_invariants()
     ensures { (base : Base) (name : Text) (moments : List ℕ) (rows : List Fields) (answers : List Answer) (after : Base)
         → IsTrue (is_batch_name name) → length rows ≤ greatest_id → RowsAreAnswered parse_row step_of_row name base moments rows answers after
         → BooksInvariant base × AuditInvariant base → BooksInvariant after × AuditInvariant after }

@@ -26,5 +26,5 @@ pub(crate) fn execute_ask_job<S: Alter, W: Write>(
     };
     let mut pipe = PipeWriter::new(output);
     let written = parse_query_and_write_view(alloc, desk, view, &arguments, form, &mut pipe);
-    pipe.ending(written)
+    pipe.ending_after_write(written)
 }

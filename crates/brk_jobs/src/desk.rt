@@ -78,7 +78,7 @@ fn execute_job_at_store<R: Read + Drop, W: Write, S: Alter>(
 /// Executes a job on the desk in a file that was opened, closes the file and returns the outcome of
 /// the job; if it is `Done` and the file cannot be closed, `Open` with the fault of the close. If
 /// the file could not be opened, executes nothing and returns `Open` with the fault.
-pub(crate) fn execute_job_in_file<R: Read + Drop, W: Write>(
+pub(crate) fn execute_job_and_close_desk_file<R: Read + Drop, W: Write>(
     rt: &HostRuntime,
     opened: Result<FileDesk, Fault>,
     job: &Job,
@@ -96,7 +96,7 @@ pub(crate) fn execute_job_in_file<R: Read + Drop, W: Write>(
 
 /// Executes a job on a new desk in memory, and returns the outcome of the job, or `Open` with the
 /// fault if the desk cannot be created.
-pub(crate) fn execute_job_in_memory<R: Read + Drop, W: Write>(
+pub(crate) fn execute_job_on_new_desk_in_memory<R: Read + Drop, W: Write>(
     rt: &HostRuntime,
     job: &Job,
     input: R,

@@ -29,5 +29,5 @@ pub(crate) fn execute_explain_job<S: Alter, W: Write>(
     };
     let mut pipe = PipeWriter::new(output);
     let written = write_explanation(alloc, desk, &what, &mut pipe);
-    pipe.ending(written)
+    pipe.ending_after_write(written)
 }

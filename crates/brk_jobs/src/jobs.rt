@@ -1,5 +1,5 @@
 use crate::audit::write_audit_ok;
-use crate::desk::{execute_job_in_file, execute_job_in_memory};
+use crate::desk::{execute_job_and_close_desk_file, execute_job_on_new_desk_in_memory};
 use brk_args::{Job, UsageFault, read_words};
 use brk_exit::Ending;
 use brk_files as file;
@@ -8,7 +8,7 @@ use std::io::{Read, Write};
 
 // Writes a help text or the version text to `output`. Returns `Usage` with the text, or, after a
 // prefix of the text, perhaps all of it, `Output` if the writer fails.
-fn write_help_text<W: Write>(text: String, output: &mut W) -> Ending {
+fn write_help_or_version_text<W: Write>(text: String, output: &mut W) -> Ending {
     match write_all_bytes(output, text.as_bytes()) {
         Ok(()) => Ending::Usage(UsageFault::Help(text)),
         Err(_) => Ending::Output,
@@ -29,7 +29,7 @@ enum Place<'a> {
 
 // Returns the place of a desk for an optional path: the file at the path (`FileOrNewFile`), or
 // memory if there is no path.
-fn place_of_optional_file(db: &Option<String>) -> Place<'_> {
+fn desk_place_of_optional_path(db: &Option<String>) -> Place<'_> {
     match db {
         Some(path) => Place::FileOrNewFile(path.as_str()),
         None => Place::Memory,
@@ -38,10 +38,10 @@ fn place_of_optional_file(db: &Option<String>) -> Place<'_> {
 
 // Returns the place of the desk of a job: for a batch and for serving, the file of the job
 // (`FileOrNewFile`), or memory without a file; for any other job, its file (`ExistingFile`).
-fn place_of_job(job: &Job) -> Place<'_> {
+fn desk_place_of_job(job: &Job) -> Place<'_> {
     match job {
-        Job::Batch { db, .. } => place_of_optional_file(db),
-        Job::Serve { db, .. } => place_of_optional_file(db),
+        Job::Batch { db, .. } => desk_place_of_optional_path(db),
+        Job::Serve { db, .. } => desk_place_of_optional_path(db),
         Job::Statement { db, .. } => Place::ExistingFile(db.as_str()),
         Job::Ask { db, .. } => Place::ExistingFile(db.as_str()),
         Job::Explain { db, .. } => Place::ExistingFile(db.as_str()),
@@ -59,16 +59,16 @@ fn execute_job<R: Read + Drop, W: Write>(
     input: R,
     output: &mut W,
 ) -> Ending {
-    let ending = match place_of_job(job) {
-        Place::Memory => execute_job_in_memory(rt, job, input, output),
-        Place::FileOrNewFile(path) => execute_job_in_file(
+    let ending = match desk_place_of_job(job) {
+        Place::Memory => execute_job_on_new_desk_in_memory(rt, job, input, output),
+        Place::FileOrNewFile(path) => execute_job_and_close_desk_file(
             rt,
             file::open_or_create_desk_file(rt, path),
             job,
             input,
             output,
         ),
-        Place::ExistingFile(path) => execute_job_in_file(
+        Place::ExistingFile(path) => execute_job_and_close_desk_file(
             rt,
             file::open_desk_file(rt, path),
             job,
@@ -97,7 +97,7 @@ pub fn execute_requested_job<R: Read + Drop, W: Write>(
 ) -> Ending {
     match read_words(words) {
         Ok(job) => execute_job(rt, &job, input, output),
-        Err(UsageFault::Help(text)) => write_help_text(text, output),
+        Err(UsageFault::Help(text)) => write_help_or_version_text(text, output),
         Err(fault) => Ending::Usage(fault),
     }
 }

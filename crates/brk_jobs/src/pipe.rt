@@ -22,10 +22,10 @@ impl<'a, W> PipeWriter<'a, W> {
         }
     }
 
-    /// Returns the ending of a job that wrote a text to this writer with the result `written`:
+    /// Returns the outcome of a job that wrote a text to this writer with the result `written`:
     /// `Done`, `ClosedPipe` if the writer failed and its pipe was closed, and otherwise `Report`
     /// with the refusal or the fault.
-    pub(crate) fn ending(&self, written: Result<(), ReportFault>) -> Ending {
+    pub(crate) fn ending_after_write(&self, written: Result<(), ReportFault>) -> Ending {
         match written {
             Ok(()) => Ending::Done,
             Err(ReportFault::Write) if self.is_closed => Ending::ClosedPipe,

@@ -31,7 +31,7 @@ pub fn is_trade_closing_lots(side: Side, held: i64) -> bool
 ///
 /// The effect is specified only over the lots of a position, none of which `trade` opened, and only
 /// if the trade closes none of them (`is_trade_closing_lots`), which the caller checks.
-pub fn open_lot_without_closing(
+pub fn effect_of_trade_closing_no_lot(
     alloc: Global,
     side: Side,
     qty: Qty,

@@ -76,7 +76,7 @@ pub(crate) fn opened_lot(
 /// disk assumption, it requests at most one lot more than the trade closes or reduces, also if it
 /// fails. Fails with a fault of the source or with `Memory`. The lots that it did not take remain
 /// in the source, also if it fails, under the disk assumption.
-pub fn close_with_amounts<L: LotSource>(
+pub fn close_lots_and_open_rest<L: LotSource>(
     alloc: Global,
     source: &mut L,
     side: Side,
@@ -123,9 +123,9 @@ pub fn close_with_amounts<L: LotSource>(
 /// Closes lots of the other side until the quantity is used up, the source has no further lot, or
 /// the next lot has the side of the trade, and opens a lot with the remaining shares, if any
 /// (Trade-Result). Returns the changes of the lots, the opened lot, if any, and the buy value and
-/// the sell value of the closed shares as `Wide` (`close_with_amounts` returns them as `Amount`s).
-/// They are specified as the effect of the trade only over the lots of a position, none of which
-/// `trade` opened, and only under the disk assumption.
+/// the sell value of the closed shares as `Wide` (`close_lots_and_open_rest` returns them as
+/// `Amount`s). They are specified as the effect of the trade only over the lots of a position, none
+/// of which `trade` opened, and only under the disk assumption.
 ///
 /// Requests at most one lot for each share of the trade. At `Ok` it requests at most one lot more
 /// than it closes or reduces. Over the lots of a position, none of which `trade` opened, under the
@@ -167,7 +167,7 @@ pub fn close<L: LotSource>(
     ensures remaining { (ls : List Lot) → AreLotsOfFaithfulSource (L.reads_faithfully source.new) (L.remaining source.old) ls
         → (n : ℕ) × L.remaining source.new (drop n ls) }
 {
-    let closed = close_with_amounts(alloc, source, side, qty, trade, price, stamp)?;
+    let closed = close_lots_and_open_rest(alloc, source, side, qty, trade, price, stamp)?;
     Ok(Closing {
         touched: closed.touched,
         opened: closed.opened,

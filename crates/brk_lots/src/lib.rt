@@ -17,8 +17,8 @@ pub mod source;
 pub mod values;
 mod walk;
 
-pub use against::{is_trade_closing_lots, open_lot_without_closing, zero_closing_values};
-pub use closing::{ClosedLots, Closing, close, close_with_amounts};
+pub use against::{effect_of_trade_closing_no_lot, is_trade_closing_lots, zero_closing_values};
+pub use closing::{ClosedLots, Closing, close, close_lots_and_open_rest};
 pub use deal::Deal;
 pub use end::PositionEnd;
 pub use lot::{Lot, Touch, are_same_side};

@@ -84,7 +84,7 @@ impl Position {
         ensures fault { IfErr result (λ fault. fault ≡ Fault.Memory) }
     {
         let mut rows = Vec::new(alloc);
-        Position::replay_with_lot_changes(alloc, deals, &mut rows)
+        Position::replay_and_append_lot_changes(alloc, deals, &mut rows)
     }
 
     /// Returns the position after `deals`, applied in sequence from the empty position on. They
@@ -93,7 +93,7 @@ impl Position {
     /// Appends to `rows`, for each deal in sequence, the changes of the lots that it closed or
     /// reduced, in the sequence in which it did so, and then the change by which it opened a lot,
     /// if it opened one. Fails with `Memory` only; some of the changes may then be appended.
-    pub fn replay_with_lot_changes(
+    pub fn replay_and_append_lot_changes(
         alloc: Global,
         deals: &[Deal],
         rows: &mut Vec<DealTouch>,

@@ -62,8 +62,8 @@ abbrev pub is_last_stamp_in_calendar : Option ℕ → Bool
 is_last_stamp_in_calendar last = option_map_or (λ l. nat_le l greatest_stamp) last true
 
 -- True if the first day of one-day settlement, `rule`, is at most the greatest day, or is none.
-abbrev pub is_settlement_day_in_calendar : SettleRule → Bool
-is_settlement_day_in_calendar rule = option_map_or (λ day. nat_le day greatest_day) rule true
+abbrev pub is_one_day_settlement_start_in_calendar : SettleRule → Bool
+is_one_day_settlement_start_in_calendar rule = option_map_or (λ day. nat_le day greatest_day) rule true
 
 -- True if the tables have a TRADE row with the id `id`.
 abbrev pub has_trade : Tables → ℕ → Bool
@@ -231,8 +231,8 @@ is_well_formed_trade_row schema t row =
     && has_account t row.account
     && has_price_matching_completion t row
 
--- True if the status is not `Completed`, or a completion at the stamp settles, by the settlement
--- day `rule`, at the latest on the greatest day, 9999-12-31.
+-- True if the status is not `Completed`, or a completion at the stamp settles, by the first day of
+-- one-day settlement `rule`, at the latest on the greatest day, 9999-12-31.
 abbrev pub settles_in_calendar_if_completed : SettleRule → Status → ℕ → Bool
 settles_in_calendar_if_completed rule status stamp = not (is_same_trade_status status Completed) || nat_le (due_day_of_completion_stamp rule stamp) greatest_day
 
@@ -432,7 +432,7 @@ satisfies_form_condition schema t =
     && list_all (is_well_formed_cash_transaction_row t) t.cash
     && list_all (is_well_formed_cash_move_row t) t.moves && all_distinct (trade_ids_of_cash_rows t.moves)
     && nat_le (length (filter (λ r. is_none r.trade) t.moves)) greatest_id
-    && is_settlement_day_in_calendar t.rule
+    && is_one_day_settlement_start_in_calendar t.rule
     && has_rows_only_in_tables_of_schema schema t
 
 -- True if the texts of K_ROW, K_LINE, T_EXEC_NAME, CT_NAME and CM_NAME in the tables `t` are UTF-8.

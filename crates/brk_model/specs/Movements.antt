@@ -21,8 +21,8 @@ base_after_movement base m = record base { movements = base.movements ++ m ∷ [
 
 -- The base `base` with `day`, in days since 1970-01-01, as the first day of one-day settlement, in
 -- place of the one that it had, if any.
-abbrev pub base_with_settlement_day : Base → ℕ → Base
-base_with_settlement_day base day = record base { rule = Some day }
+abbrev pub base_with_one_day_settlement_start : Base → ℕ → Base
+base_with_one_day_settlement_start base day = record base { rule = Some day }
 
 -- The reply to the movement `m`: its stamp, the number of its cash row (one more than `base` has
 -- postings), and the balance of its account after it.

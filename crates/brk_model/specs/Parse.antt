@@ -155,9 +155,9 @@ read_movement_command moved _ = Err BadText
 
 -- The first day of one-day settlement, in days since 1970-01-01, that exactly one field parses as,
 -- otherwise the refusal `BadText`.
-abbrev pub read_settlement_day : List Text → ReadResult ℕ
-read_settlement_day (day ∷ []) = read_day day
-read_settlement_day _ = Err BadText
+abbrev pub read_one_day_settlement_start : List Text → ReadResult ℕ
+read_one_day_settlement_start (day ∷ []) = read_day day
+read_one_day_settlement_start _ = Err BadText
 
 -- ---- the kinds
 
@@ -212,15 +212,15 @@ update_row_parsers =
 
 -- The parsers of the row kinds for deposits, withdrawals and the first day of one-day settlement,
 -- each with the word of its kind.
-abbrev pub movement_and_settlement_day_row_parsers : List (NamedParser Command)
-movement_and_settlement_day_row_parsers =
+abbrev pub movement_and_one_day_settlement_row_parsers : List (NamedParser Command)
+movement_and_one_day_settlement_row_parsers =
     (codes "deposit", read_movement_command (λ a n. DepositCash a n))
     ∷ (codes "withdraw", read_movement_command (λ a n. WithdrawCash a n))
-    ∷ (codes "oneday", read_and_wrap SetOneDay read_settlement_day) ∷ []
+    ∷ (codes "oneday", read_and_wrap SetOneDay read_one_day_settlement_start) ∷ []
 
 -- The parsers of all row kinds, each with the word of its kind.
 abbrev pub row_parsers : List (NamedParser Command)
-row_parsers = reference_row_parsers ++ order_feed_and_cancel_parsers ++ result_row_parsers ++ update_row_parsers ++ movement_and_settlement_day_row_parsers
+row_parsers = reference_row_parsers ++ order_feed_and_cancel_parsers ++ result_row_parsers ++ update_row_parsers ++ movement_and_one_day_settlement_row_parsers
 
 -- The value that the parser reads from the fields, or its refusal; the refusal `BadText` if there
 -- is no parser.

@@ -120,8 +120,8 @@ pub record Movement : Type 0 where
   pub amount : ℤ
   pub name : Text
 
--- The type of the settlement day: the first day, in days since 1970-01-01, whose completions settle
--- after one day, or none if no such day is set.
+-- The type of the first day of one-day settlement, in days since 1970-01-01, or none if no such day
+-- is set.
 abbrev pub SettleRule : Type 0
 SettleRule = Option ℕ
 

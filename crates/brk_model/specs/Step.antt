@@ -10,7 +10,7 @@ use Rattle.brk_model.specs.Feed.{base_after_ticks, triggered_trade_ids}
 use Rattle.brk_model.specs.Results.{base_after_result, completion_of_trade}
 use Rattle.brk_model.specs.Updates.{selected_trade_ids_of_account, selected_trade_ids_of_symbol, base_with_updated_executors, base_with_updated_cash_types}
 use Rattle.brk_model.specs.Updates.{base_with_updated_cash_names}
-use Rattle.brk_model.specs.Movements.{deposit_movement, withdrawal_movement, base_after_movement, base_with_settlement_day, reply_to_movement}
+use Rattle.brk_model.specs.Movements.{deposit_movement, withdrawal_movement, base_after_movement, base_with_one_day_settlement_start, reply_to_movement}
 use Rattle.brk_model.specs.Tests.{stamp_of_next_command, refusal_of_command}
 use Rattle.brk_model.specs.Commands.{Command, Listing, Reply, Booked, Ticked, CanceledTrade, CompletedTrade, Changed, AddBroker, AddCustomer, AddAccount}
 use Rattle.brk_model.specs.Commands.{AddPermission, AddSecurity, AddCharge, AddBand, AddTaxRate, AddCustomerTax, PlaceOrder, FeedTicks, CancelTrade}
@@ -50,7 +50,7 @@ base_after_command_unstamped base stamp (ChangeCashNames symbol first last) =
     base_with_updated_cash_names (selected_trade_ids_of_symbol base symbol first last) base
 base_after_command_unstamped base stamp (DepositCash account amount) = base_after_movement base (deposit_movement stamp account amount)
 base_after_command_unstamped base stamp (WithdrawCash account amount) = base_after_movement base (withdrawal_movement stamp account amount)
-base_after_command_unstamped base stamp (SetOneDay day) = base_with_settlement_day base day
+base_after_command_unstamped base stamp (SetOneDay day) = base_with_one_day_settlement_start base day
 
 -- The reply to a command that is accepted at `stamp` on `base`. A result of a trade that does not
 -- exist is never accepted; its reply here is `Booked`.

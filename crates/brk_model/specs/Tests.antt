@@ -161,15 +161,15 @@ checks_of_command base stamp (SetOneDay day) = duplicate_check (is_some base.rul
 
 -- True if the command sets a first day of one-day settlement that is not after the UTC day of
 -- `stamp`; false for any other command.
-abbrev pub is_settlement_day_too_early : ℕ → Command → Bool
-is_settlement_day_too_early stamp (SetOneDay day) = nat_le day (day_of stamp)
-is_settlement_day_too_early stamp _ = false
+abbrev pub is_one_day_settlement_start_too_early : ℕ → Command → Bool
+is_one_day_settlement_start_too_early stamp (SetOneDay day) = nat_le day (day_of stamp)
+is_one_day_settlement_start_too_early stamp _ = false
 
 -- The checks of the stamp `stamp` of a command, which follow all other checks of the command:
 -- `ClockEnd` if the stamp is past the greatest stamp, and `TooEarly` if the command sets a first
 -- day of one-day settlement that is not after the UTC day of the stamp.
 abbrev pub checks_of_stamp : ℕ → Command → List RefusalCheck
-checks_of_stamp stamp command = (nat_lt greatest_stamp stamp, ClockEnd) ∷ (is_settlement_day_too_early stamp command, TooEarly) ∷ []
+checks_of_stamp stamp command = (nat_lt greatest_stamp stamp, ClockEnd) ∷ (is_one_day_settlement_start_too_early stamp command, TooEarly) ∷ []
 
 -- The refusal of the command at the clock reading `now` on `base`, by the first check that applies;
 -- none if no check applies, and the command is then accepted.

@@ -186,13 +186,13 @@ tables_with_band_above_older_limit =
 
 -- The tables after the first purchase, with 2024-03-02, the day after the completion, as the first
 -- day of one-day settlement.
-unfoldable pub tables_with_settlement_day_after_completion : Tables
-tables_with_settlement_day_after_completion = record tables_after_first_purchase { rule = Some 19784 }
+unfoldable pub tables_with_one_day_settlement_after_completion : Tables
+tables_with_one_day_settlement_after_completion = record tables_after_first_purchase { rule = Some 19784 }
 
 -- The tables after the first purchase, with 2024-03-01, the day of the completion, as the first day
 -- of one-day settlement.
-unfoldable pub tables_with_settlement_day_at_completion : Tables
-tables_with_settlement_day_at_completion = record tables_after_first_purchase { rule = Some 19783 }
+unfoldable pub tables_with_one_day_settlement_at_completion : Tables
+tables_with_one_day_settlement_at_completion = record tables_after_first_purchase { rule = Some 19783 }
 
 -- The tables after the first purchase, with a second cash row that has no trade, at `stamp`, of
 -- `amount` cents, with the name `name`. The balance includes the amount, and the last stamp is one

@@ -23,5 +23,5 @@ purchase_one_millisecond_later =
 
 -- The base `setting_base` with the trade `purchase_one_millisecond_later`, and with 2024-03-02 as
 -- the first day of one-day settlement, which was set before the purchase.
-unfoldable pub base_after_purchase_with_settlement_day : Base
-base_after_purchase_with_settlement_day = record setting_base { trades = purchase_one_millisecond_later ∷ []; rule = Some 19784; last = Some 1709251200018 }
+unfoldable pub base_after_purchase_with_one_day_settlement : Base
+base_after_purchase_with_one_day_settlement = record setting_base { trades = purchase_one_millisecond_later ∷ []; rule = Some 19784; last = Some 1709251200018 }

@@ -15,7 +15,7 @@ ghost use Rattle.brk_model_examples.specs.Bought.{tables_with_changed_cash_amoun
 ghost use Rattle.brk_model_examples.specs.Bought.{first_schema_tables_after_purchase, tables_with_changed_cash_row_number};
 ghost use Rattle.brk_model_examples.specs.Bought.{tables_with_second_cash_row_of_trade, tables_with_cash_row_of_older_schema};
 ghost use Rattle.brk_model_examples.specs.Bought.{tables_with_trade_above_older_limit, tables_with_band_above_older_limit};
-ghost use Rattle.brk_model_examples.specs.Bought.{tables_with_settlement_day_after_completion, tables_with_settlement_day_at_completion, tables_with_movement};
+ghost use Rattle.brk_model_examples.specs.Bought.{tables_with_one_day_settlement_after_completion, tables_with_one_day_settlement_at_completion, tables_with_movement};
 
 /// Shows that the tables after the first purchase pass the audit of the third and of the second
 /// schema, and those with the cash row in CASH_TRANSACTION that of the first. With a first day of
@@ -25,7 +25,7 @@ pub fn tables_after_purchase_pass_audit()
     ensures third { IsAuditResult third_schema tables_after_first_purchase None }
     ensures second { IsAuditResult second_schema tables_after_first_purchase None }
     ensures first { IsAuditResult first_schema first_schema_tables_after_purchase None }
-    ensures day_set { IsAuditResult third_schema tables_with_settlement_day_after_completion None }
+    ensures day_set { IsAuditResult third_schema tables_with_one_day_settlement_after_completion None }
     ensures deposit { IsAuditResult third_schema (tables_with_movement 1709251200018 (pos 10000) (codes "Deposit")) None }
     ensures withdrawal { IsAuditResult second_schema (tables_with_movement 1709251200018 (negsuc 9999) (codes "Withdrawal")) None }
 {}
@@ -52,7 +52,7 @@ pub fn audit_returns_first_failed_condition()
     ensures other_number { IsAuditResult third_schema tables_with_changed_cash_row_number (Some condition.Cash) }
     ensures second_row { IsAuditResult third_schema tables_with_second_cash_row_of_trade (Some condition.Form) }
     ensures left_behind { IsAuditResult third_schema tables_with_cash_row_of_older_schema (Some condition.Cash) }
-    ensures early_day { IsAuditResult third_schema tables_with_settlement_day_at_completion (Some condition.Settlement) }
+    ensures early_day { IsAuditResult third_schema tables_with_one_day_settlement_at_completion (Some condition.Settlement) }
     ensures other_balance { IsAuditResult third_schema tables_with_changed_account_balance (Some condition.Balance) }
     ensures two_changes { IsAuditResult third_schema tables_without_lots_and_summaries (Some condition.Lots) }
 {}
@@ -61,7 +61,7 @@ pub fn audit_returns_first_failed_condition()
 /// purchase with one movement: `Form` if the movement is a deposit of an amount below 0 or of 0,
 /// has the name `deposit`, or has a stamp after the last stamp; `Status` if its stamp equals the
 /// stamp of the completion; and `Cash` if the cash row with the smaller number has a later stamp.
-pub fn audit_checks_movement_rows()
+pub fn audit_fails_for_invalid_movement_rows()
     ensures other_sign { IsAuditResult third_schema (tables_with_movement 1709251200018 (negsuc 9999) (codes "Deposit")) (Some condition.Form) }
     ensures nothing_moved { IsAuditResult third_schema (tables_with_movement 1709251200018 (pos 0) (codes "Deposit")) (Some condition.Form) }
     ensures other_name { IsAuditResult third_schema (tables_with_movement 1709251200018 (pos 10000) (codes "deposit")) (Some condition.Form) }
@@ -79,7 +79,7 @@ pub fn audit_applies_limits_of_schema()
     ensures quantity { IsAuditResult second_schema tables_with_trade_above_older_limit (Some condition.Form) }
     ensures band { IsAuditResult second_schema tables_with_band_above_older_limit (Some condition.Form) }
     ensures larger_limits { IsAuditResult third_schema tables_with_band_above_older_limit None }
-    ensures no_rule_yet { IsAuditResult second_schema tables_with_settlement_day_after_completion (Some condition.Form) }
+    ensures no_rule_yet { IsAuditResult second_schema tables_with_one_day_settlement_after_completion (Some condition.Form) }
     ensures no_moves_yet { IsAuditResult first_schema tables_after_first_purchase (Some condition.Form) }
     ensures no_cash_any_more { IsAuditResult second_schema first_schema_tables_after_purchase (Some condition.Cash) }
 {}

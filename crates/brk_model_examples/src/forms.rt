@@ -36,7 +36,7 @@ pub fn refusals_follow_format_check_order()
 /// Shows four canonical texts that parse as an amount or a number, and six other texts that do not:
 /// minus zero, an amount with a leading zero, one decimal place, two zeros, a plus sign, and no
 /// bytes.
-pub fn values_have_one_canonical_text()
+pub fn only_canonical_texts_are_parsed()
     ensures cents { cents_of_text (codes "10000.00") ≡ Some (pos 1000000) }
     ensures minus { cents_of_text (codes "-0.01") ≡ Some (negsuc 0) }
     ensures minus_zero { cents_of_text (codes "-0.00") ≡ None }

@@ -82,7 +82,7 @@ pub fn cancel_needs_pending_trade()
 
 /// Shows that a feed may raise the volume of a security to its limit, and is refused with `Range`
 /// (14) if one tick, or two ticks together, would raise it above the limit.
-pub fn volume_limit_is_checked()
+pub fn feed_above_volume_limit_is_refused()
     ensures at_limit { BatchOutputsLines setting_with_volume_near_limit
         (codes "feed,ABC,10.00,100" ∷ [])
         (codes "1,ok,1709251200016"

@@ -74,7 +74,7 @@ pub fn cash_rows_of_movements_follow_those_of_trades()
 {}
 
 /// Shows that a movement before the first trade has the first cash row, and the trade the second.
-pub fn first_movement_has_first_cash_row()
+pub fn movement_before_trades_has_first_cash_row()
     ensures { map {B = ℤ} (λ row. row.amount) (tables_of_base (base_after_batch setting_base
         (codes "deposit,100,100.00"
         ∷ codes "order,100,TMB,ABC,100,,cash,fifo,Ann,Lee,T10"

@@ -8,7 +8,7 @@ ghost use Rattle.brk_model_examples.specs.Setting.{setting_base};
 /// Shows that an order whose executor has another tax id than the customer is refused with
 /// `NotPermitted` (6), and is accepted if a permission has the executor's first name, last name and
 /// tax id. The order is also refused with `NotPermitted` if the permission has another first name.
-pub fn order_needs_permission_of_executor()
+pub fn executor_other_than_customer_needs_permission()
     ensures refused { BatchOutputsLines setting_base
         (codes "order,100,TMB,ABC,100,,cash,fifo,Ann,Lee,T11" ∷ [])
         (codes "1,no,6"

@@ -33,7 +33,7 @@ pub fn refused_reference_row_records_no_key()
 
 /// Shows that all sixteen rows `setting_rows` are accepted on the empty base, and that the base
 /// after them, without stored replies, is `setting_base`.
-pub fn setting_rows_result_in_setting()
+pub fn setting_rows_result_in_setting_base()
     ensures lines { BatchOutputsLines empty_base setting_rows
         (codes "1,ok,1709251200000"
         ∷ codes "2,ok,1709251200001"

@@ -88,7 +88,7 @@ pub fn retried_batch_changes_nothing()
 
 /// Shows that the retried rows `setting_rows` are answered with their stored replies, and that a
 /// changed first row under its recorded key is refused with `KeyReused` (19).
-pub fn retried_setting_rows_are_answered_again()
+pub fn retried_setting_rows_return_stored_replies()
     ensures again { BatchOutputsLines (base_after_batch empty_base setting_rows) setting_rows
         (codes "1,again,1709251200000"
         ∷ codes "2,again,1709251200001"
@@ -154,9 +154,9 @@ pub fn refused_row_may_be_retried()
         ∷ codes "end,1,0,0" ∷ []) }
 {}
 
-/// Shows that an input without an end record ends with `NoEnd`, also if it is a header alone, and
-/// that its last row, which may be cut, is refused with `BadText` (18), is not executed, and counts
-/// as a decided row.
+/// Shows that a batch without an end record has the outcome `NoEnd`, also if it is a header alone,
+/// and that its last row, which may be cut, is refused with `BadText` (18), is not executed, and
+/// counts as a decided row.
 pub fn last_row_of_cut_input_is_refused()
     ensures text { (result_of_batch_input setting_base twenty_clock_readings (codes "batch,C\nbroker,2,Cy\nbroker,3\nbroker,4,D")).text
         ≡ text_with_line_ends (codes "1,ok,1709251200016"
@@ -169,11 +169,11 @@ pub fn last_row_of_cut_input_is_refused()
     ensures header_alone { (result_of_batch_input setting_base twenty_clock_readings (codes "batch,C\n")).ending ≡ NoEnd }
 {}
 
-/// Shows that an input without bytes and two batches with a malformed header end with `BadHeader`,
-/// and four batches with a wrong end record with `BadEnd`. The row before a wrong end record is
-/// accepted. A batch with a record after its correct end record ends with `CorrectEnd`, and the
-/// record is not executed.
-pub fn headers_and_end_records_are_checked()
+/// Shows that an input without bytes and two batches with a malformed header have the outcome
+/// `BadHeader`, and four batches with a wrong end record with `BadEnd`. The row before a wrong end
+/// record is accepted. A batch with a record after its correct end record has the outcome
+/// `CorrectEnd`, and the record is not executed.
+pub fn wrong_header_or_end_record_is_a_fault()
     ensures empty_input { (result_of_batch_input setting_base twenty_clock_readings []).ending ≡ BadHeader }
     ensures no_name { (result_of_batch_input setting_base twenty_clock_readings (codes "batch,\nend,0\n")).ending ≡ BadHeader }
     ensures header_with_third_field { (result_of_batch_input setting_base twenty_clock_readings (codes "batch,A,B\nend,0\n")).ending ≡ BadHeader }

@@ -27,7 +27,7 @@ pub fn half_cents_round_up()
 /// Shows, for one bid each and the prices 0.01 below it, at it and 0.01 above it, that a stop-loss
 /// and a limit buy are triggered at the bid and below it, and a limit sell at the bid and above it.
 /// A trade of a market type is not triggered at its bid.
-pub fn bid_price_triggers_trade()
+pub fn trades_are_triggered_at_their_bid_price()
     ensures stop_loss { map (is_triggering_price StopLoss 950) (949 ∷ 950 ∷ 951 ∷ []) ≡ true ∷ true ∷ false ∷ [] }
     ensures limit_sell { map (is_triggering_price LimitSell 1050) (1049 ∷ 1050 ∷ 1051 ∷ []) ≡ false ∷ true ∷ true ∷ [] }
     ensures limit_buy { map (is_triggering_price LimitBuy 1000) (999 ∷ 1000 ∷ 1001 ∷ []) ≡ true ∷ true ∷ false ∷ [] }
@@ -55,10 +55,10 @@ pub fn trade_changes_balance_if_cash()
 /// if the completion is in the last millisecond before that day, and after one day if it is in the
 /// first millisecond of that day or of the day after it.
 pub fn settlement_takes_one_or_two_days()
-    ensures no_settlement_day { due_day_of_completion_stamp None 1709251200000 ≡ 19785 }
-    ensures before_settlement_day { due_day_of_completion_stamp (Some 19784) 1709337599999 ≡ 19785 }
-    ensures on_settlement_day { due_day_of_completion_stamp (Some 19784) 1709337600000 ≡ 19785 }
-    ensures after_settlement_day { due_day_of_completion_stamp (Some 19784) 1709424000000 ≡ 19786 }
+    ensures no_start { due_day_of_completion_stamp None 1709251200000 ≡ 19785 }
+    ensures before_start { due_day_of_completion_stamp (Some 19784) 1709337599999 ≡ 19785 }
+    ensures on_start { due_day_of_completion_stamp (Some 19784) 1709337600000 ≡ 19785 }
+    ensures after_start { due_day_of_completion_stamp (Some 19784) 1709424000000 ≡ 19786 }
 {}
 
 /// Shows that an executor with the names and the tax id of the customer or of a permission passes

@@ -5,7 +5,7 @@ ghost use Rattle.std.specs.Prelude.{◌≡◌, ◌∷◌, [], ℕ, map, Some, re
 ghost use Rattle.brk_model.specs.Tables.{tables_of_base};
 ghost use Rattle.brk_model.specs.Computed.{result_of_batch_input};
 ghost use Rattle.brk_model_examples.specs.Batches.{base_after_batch, bytes_of_batch, BatchOutputsLines, text_with_line_ends, base_without_stored_replies};
-ghost use Rattle.brk_model_examples.specs.Moving.{base_after_purchase_with_settlement_day};
+ghost use Rattle.brk_model_examples.specs.Moving.{base_after_purchase_with_one_day_settlement};
 ghost use Rattle.brk_model_examples.specs.Setting.{setting_base};
 
 /// Shows that the command `oneday`, which sets the first day of one-day settlement, is refused with
@@ -13,7 +13,7 @@ ghost use Rattle.brk_model_examples.specs.Setting.{setting_base};
 /// `Exists` (15) once the first day is set. A purchase that is completed before the first day
 /// settles after two days. Shows also the base after an accepted `oneday` and the completed
 /// purchase, without stored replies, and the first day in the tables of this base.
-pub fn settlement_day_is_set_once()
+pub fn one_day_settlement_start_is_set_once()
     ensures lines { BatchOutputsLines setting_base
         (codes "oneday,2024-03-01"
         ∷ codes "oneday,2024-03-02"
@@ -29,21 +29,21 @@ pub fn settlement_day_is_set_once()
     ensures base { base_without_stored_replies (base_after_batch setting_base
         (codes "oneday,2024-03-02"
         ∷ codes "order,100,TMB,ABC,100,,cash,fifo,Ann,Lee,T10"
-        ∷ codes "result,1,10.10" ∷ [])) ≡ base_after_purchase_with_settlement_day }
-    ensures day { (tables_of_base base_after_purchase_with_settlement_day).rule ≡ Some 19784 }
+        ∷ codes "result,1,10.10" ∷ [])) ≡ base_after_purchase_with_one_day_settlement }
+    ensures day { (tables_of_base base_after_purchase_with_one_day_settlement).rule ≡ Some 19784 }
 {}
 
 /// Shows that a trade that is completed on the first day of one-day settlement, or on the day after
 /// it, settles after one day. The due day of a trade that was completed before the first day does
 /// not change.
-pub fn settlement_after_one_day()
-    ensures lines { (result_of_batch_input base_after_purchase_with_settlement_day (replicate 2 1709337600000) (bytes_of_batch (codes "G")
+pub fn trades_from_first_day_settle_after_one_day()
+    ensures lines { (result_of_batch_input base_after_purchase_with_one_day_settlement (replicate 2 1709337600000) (bytes_of_batch (codes "G")
         (codes "order,100,TMB,ABC,200,,cash,fifo,Ann,Lee,T10"
         ∷ codes "result,2,12.00" ∷ []))).text
         ≡ text_with_line_ends (codes "1,ok,1709337600000,2,SBMT,10.00,0.00,0.00,0.00,20.00,5.00,9974.90"
         ∷ codes "2,ok,1709337600001,24.00,0.00,-2429.00,2024-03-03,0.00,0.00,6545.90"
         ∷ codes "end,2,0,0" ∷ []) }
-    ensures days { map {B = ℕ} (λ row. row.due_day) (tables_of_base (result_of_batch_input base_after_purchase_with_settlement_day
+    ensures days { map {B = ℕ} (λ row. row.due_day) (tables_of_base (result_of_batch_input base_after_purchase_with_one_day_settlement
         (1709337600000 ∷ 1709424000000 ∷ []) (bytes_of_batch (codes "G")
         (codes "order,100,TMB,ABC,200,,cash,fifo,Ann,Lee,T10"
         ∷ codes "result,2,12.00" ∷ []))).base).settlements ≡ 19785 ∷ 19786 ∷ [] }
@@ -52,14 +52,14 @@ pub fn settlement_after_one_day()
 /// Shows that 9999-12-30 is the last day for a completion that settles after one day: a completion
 /// in the last millisecond of this day is accepted, and one a millisecond later is refused with
 /// `ClockEnd` (21).
-pub fn last_day_for_one_day_settlement()
-    ensures accepted { (result_of_batch_input base_after_purchase_with_settlement_day (253402214399998 ∷ 253402214399999 ∷ []) (bytes_of_batch (codes "Y")
+pub fn one_day_settlement_beyond_calendar_is_refused()
+    ensures accepted { (result_of_batch_input base_after_purchase_with_one_day_settlement (253402214399998 ∷ 253402214399999 ∷ []) (bytes_of_batch (codes "Y")
         (codes "order,100,TMB,ABC,100,,cash,fifo,Ann,Lee,T10"
         ∷ codes "result,2,10.00" ∷ []))).text
         ≡ text_with_line_ends (codes "1,ok,253402214399998,2,SBMT,10.00,0.00,0.00,0.00,10.00,5.00,9974.90"
         ∷ codes "2,ok,253402214399999,10.00,0.00,-1015.00,9999-12-31,0.00,0.00,7959.90"
         ∷ codes "end,2,0,0" ∷ []) }
-    ensures refused { (result_of_batch_input base_after_purchase_with_settlement_day (253402214399999 ∷ 253402214400000 ∷ []) (bytes_of_batch (codes "Y")
+    ensures refused { (result_of_batch_input base_after_purchase_with_one_day_settlement (253402214399999 ∷ 253402214400000 ∷ []) (bytes_of_batch (codes "Y")
         (codes "order,100,TMB,ABC,100,,cash,fifo,Ann,Lee,T10"
         ∷ codes "result,2,10.00" ∷ []))).text
         ≡ text_with_line_ends (codes "1,ok,253402214399999,2,SBMT,10.00,0.00,0.00,0.00,10.00,5.00,9974.90"

@@ -13,7 +13,7 @@ ghost use Rattle.brk_model_examples.specs.Trading.{base_after_fifo_sale};
 /// Shows the statement of an account over the month of its trades, and over the days of this month
 /// after the day of the trades. A statement is refused with `BadText` if its last day is before its
 /// first, and otherwise with `NoAccount` if the account does not exist.
-pub fn statement_after_a_sale()
+pub fn statement_returns_cash_rows_and_lots()
     ensures month { statement (tables_of_base base_after_fifo_sale) 100 19783 19813 ≡ Ok (text_with_line_ends (codes "Statement of account 100"
         ∷ codes "Main"
         ∷ codes "From 2024-03-01 to 2024-03-31"

@@ -27,7 +27,7 @@ pub fn result_needs_submitted_trade()
 
 /// Shows that a result is refused with `Range` (14) if it would raise the balance of the account
 /// above its limit: the trade remains submitted, and no lot is opened.
-pub fn balance_limit_is_checked()
+pub fn result_above_balance_limit_is_refused()
     ensures lines { BatchOutputsLines setting_base
         (codes "account,102,10,1,Rich,0,1000000000000000.00"
         ∷ codes "order,102,TMS,ABC,100,,cash,fifo,Ann,Lee,T10"
@@ -50,7 +50,7 @@ pub fn balance_limit_is_checked()
 
 /// Shows that a result may raise the commission total of a broker to its limit, and is refused with
 /// `Range` (14) if it would raise the total above the limit.
-pub fn broker_commission_limit_is_checked()
+pub fn result_above_commission_limit_is_refused()
     ensures at_limit { BatchOutputsLines (setting_with_commission_total 99999999999998990)
         (codes "order,100,TMB,ABC,100,,cash,fifo,Ann,Lee,T10"
         ∷ codes "result,2,10.10" ∷ [])
@@ -99,7 +99,7 @@ pub fn due_day_beyond_calendar_is_refused()
 /// Shows that 9999-12-29 is the last day for a completion that settles after two days: a completion
 /// in the last millisecond of this day is accepted, and one a millisecond later is refused with
 /// `ClockEnd` (21).
-pub fn last_day_for_two_day_settlement()
+pub fn two_day_settlement_beyond_calendar_is_refused()
     ensures accepted { (result_of_batch_input setting_base (253402127999998 ∷ 253402127999999 ∷ []) (bytes_of_batch (codes "Y")
         (codes "order,100,TMB,ABC,100,,cash,fifo,Ann,Lee,T10"
         ∷ codes "result,1,10.00" ∷ []))).text

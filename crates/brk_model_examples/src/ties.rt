@@ -9,7 +9,7 @@ ghost use Rattle.brk_model_examples.specs.Waiting.{base_with_pending_orders};
 /// which have the most recent trade first, and ascending in `accounttrades`, `trades` and
 /// `symboltrades`, which have the oldest trade first. In `recent`, status changes with one stamp
 /// are also sorted by the id of the trade, descending.
-pub fn equal_stamps_are_sorted_by_id()
+pub fn trades_with_equal_stamps_are_sorted_by_id()
     ensures recent { view_by_name_and_arguments (base_after_batch base_with_pending_orders (codes "feed,ABC,10.01,100,ABC,9.50,200" ∷ [])) (codes "recent")
         (codes "100" ∷ [])
         ≡ Ok ((codes "trade" ∷ codes "2" ∷ codes "ABC" ∷ codes "10" ∷ [])
@@ -55,7 +55,7 @@ pub fn equal_stamps_are_sorted_by_id()
 /// Shows that the view `volume` sorts brokers by volume, descending, then by name and then by id,
 /// both ascending. A repeated name counts once, an unknown name adds nothing, and the view of a
 /// sector without pending requests is empty.
-pub fn equal_volumes_are_sorted_by_name()
+pub fn brokers_with_equal_volume_are_sorted_by_name()
     ensures tech { view_by_name_and_arguments (base_after_batch base_with_pending_orders
         (codes "broker,2,Bo"
         ∷ codes "broker,3,Al"

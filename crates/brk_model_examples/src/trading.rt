@@ -13,7 +13,7 @@ ghost use Rattle.brk_model_examples.specs.Standing.{positions_and_totals_of_base
 /// Shows a market purchase and its result, whose commission is computed from the completion price
 /// and not from the estimate, with the base, without stored replies, the lot and the totals after
 /// them.
-pub fn market_purchase_and_result()
+pub fn first_purchase_opens_first_lot()
     ensures lines { BatchOutputsLines setting_base
         (codes "order,100,TMB,ABC,100,,cash,fifo,Ann,Lee,T10"
         ∷ codes "result,1,10.10" ∷ [])

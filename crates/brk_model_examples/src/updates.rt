@@ -13,7 +13,7 @@ ghost use Rattle.brk_model_examples.specs.Trading.{base_after_fifo_sale};
 /// that `upname` is refused with `BadText` (18) for a repeated id and with `NoTrade` (5) for an
 /// unknown id. Shows also the updated texts of the first trade, and the updated cash types of all
 /// three trades.
-pub fn text_updates_after_sale()
+pub fn text_updates_reply_with_trade_count()
     ensures lines { BatchOutputsLines base_after_fifo_sale
         (codes "upname,1"
         ∷ codes "upname,1,1"
@@ -96,7 +96,7 @@ pub fn cash_name_update_searches_whole_text()
 
 /// Shows the text updates of a margin trade: `upcash` changes its cash type, a second `upcash`
 /// changes it back, and `uptext` does not select the trade.
-pub fn text_updates_of_margin_trade()
+pub fn only_cash_type_of_margin_trade_is_updated()
     ensures once { map (λ t. t.cash_type) (base_after_batch setting_base
         (codes "order,100,TMB,ABC,100,,margin,fifo,Ann,Lee,T10"
         ∷ codes "result,1,10.10"

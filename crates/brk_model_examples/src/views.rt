@@ -9,7 +9,7 @@ ghost use Rattle.brk_model_examples.specs.Trading.{base_after_first_purchase, ba
 /// Shows the views `customer` and `taxid` of a customer with one account: the id, the balance and
 /// the market value of the account. The view `customer` of an unknown id is refused with
 /// `NoCustomer`.
-pub fn position_view_of_customer()
+pub fn customer_views_return_account_values()
     ensures by_id { view_by_name_and_arguments base_after_fifo_sale (codes "customer") (codes "10" ∷ [])
         ≡ Ok ((codes "100" ∷ codes "8403.40" ∷ codes "1500.00" ∷ [])
         ∷ []) }
@@ -22,7 +22,7 @@ pub fn position_view_of_customer()
 
 /// Shows the view `recent` of an account with one trade: the trade, and its status changes, the
 /// most recent first.
-pub fn recent_view_of_account()
+pub fn recent_view_returns_trades_and_history()
     ensures { view_by_name_and_arguments base_after_first_purchase (codes "recent") (codes "100" ∷ [])
         ≡ Ok ((codes "trade" ∷ codes "1" ∷ codes "ABC" ∷ codes "100" ∷ [])
         ∷ (codes "history" ∷ codes "1" ∷ codes "Completed" ∷ codes "1709251200017" ∷ [])
@@ -32,7 +32,7 @@ pub fn recent_view_of_account()
 
 /// Shows the view `status` of an account: its customer and broker, and its trades, the most recent
 /// first.
-pub fn status_view_of_account()
+pub fn status_view_returns_trades_of_account()
     ensures { view_by_name_and_arguments base_after_fifo_sale (codes "status") (codes "100" ∷ [])
         ≡ Ok ((codes "Lee" ∷ codes "Ann" ∷ codes "Bo" ∷ [])
         ∷ (codes "3" ∷ codes "1709251200021" ∷ codes "Completed" ∷ codes "Market-Sell" ∷ codes "ABC" ∷ codes "150" ∷ codes "Ann Lee" ∷ codes "5.00"
@@ -47,7 +47,7 @@ pub fn status_view_of_account()
 /// Shows that the views `trades`, `accounttrades` and `symboltrades` return one trade with its
 /// settlement, its cash row and its status changes. The view `trades` is refused with `NoTrade` for
 /// an unknown id, and with `BadText` for a repeated id.
-pub fn lookup_views_of_trade()
+pub fn lookup_views_return_trade_with_details()
     ensures by_id { view_by_name_and_arguments base_after_fifo_sale (codes "trades") (codes "3" ∷ [])
         ≡ Ok ((codes "trade" ∷ codes "3" ∷ codes "1709251200021" ∷ codes "CMPT" ∷ codes "TMS" ∷ codes "ABC" ∷ codes "150" ∷ codes "10.00" ∷ codes "Ann Lee"
         ∷ codes "13.00" ∷ codes "5.00" ∷ codes "19.50" ∷ codes "68.00" ∷ codes "cash" ∷ codes "fifo" ∷ [])
@@ -83,7 +83,7 @@ pub fn lookup_views_of_trade()
 /// Shows the view `lots` of an account: the id of its oldest trade with a stamp of at least the
 /// given one, and the changes, by any trade, of the lots that this trade touched, sorted by stamp,
 /// then by lot, both ascending. The view is empty if there is no such trade.
-pub fn lots_view_of_oldest_trade()
+pub fn lots_view_returns_changes_of_touched_lots()
     ensures last { view_by_name_and_arguments base_after_fifo_sale (codes "lots") (codes "100" ∷ codes "1709251200021" ∷ [])
         ≡ Ok ((codes "3" ∷ [])
         ∷ (codes "1" ∷ codes "1" ∷ codes "0" ∷ codes "100" ∷ [])

@@ -12,7 +12,7 @@ use Rattle.brk_model.specs.Form.{is_well_formed_customer_tax_row, is_well_formed
 use Rattle.brk_model.specs.Form.{is_well_formed_request_row, is_well_formed_holding_row, is_well_formed_summary_row, is_well_formed_holding_history_row}
 use Rattle.brk_model.specs.Form.{is_well_formed_settlement_row, is_well_formed_cash_transaction_row, is_well_formed_cash_move_row, trade_ids_of_cash_rows}
 use Rattle.brk_model.specs.Form.{has_rows_only_in_tables_of_schema, has_tables_sorted_by_unique_key, has_distinct_tax_ids, is_sorted_by_unique_key}
-use Rattle.brk_model.specs.Form.{is_last_stamp_in_calendar, is_settlement_day_in_calendar}
+use Rattle.brk_model.specs.Form.{is_last_stamp_in_calendar, is_one_day_settlement_start_in_calendar}
 use Rattle.brk_model.specs.Keys.{kept_key, broker_key, customer_key, account_key, permission_key, security_key, last_trade_key, charge_key, band_key}
 use Rattle.brk_model.specs.Keys.{tax_rate_key, customer_tax_key, trade_key, history_key, request_key, holding_key, summary_key, holding_history_key}
 use Rattle.brk_model.specs.Keys.{settlement_key, cash_transaction_key, cash_move_key}
@@ -48,7 +48,7 @@ pub record SatisfiesFormParts (schema : Schema) (t : Tables) : Type 0 where
   pub moves : list_all (is_well_formed_cash_move_row t) t.moves ≡ true
   pub own_moves : all_distinct (trade_ids_of_cash_rows t.moves) ≡ true
   pub counted : nat_le (length (filter (λ r. is_none r.trade) t.moves)) greatest_id ≡ true
-  pub rule : is_settlement_day_in_calendar t.rule ≡ true
+  pub rule : is_one_day_settlement_start_in_calendar t.rule ≡ true
   pub fits : has_rows_only_in_tables_of_schema schema t ≡ true
 
 -- Each table of `t` except DESK and SETTLE_RULE, which have at most one row, is sorted by its key,

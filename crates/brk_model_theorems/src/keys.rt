@@ -27,7 +27,7 @@ pub fn other_row_under_same_key_is_refused()
 /// unused key stays unused in any run that accepts no row under it. If `step` accepts the command
 /// of a row under an unused key, the row is accepted with the reply of `step`, and its text and
 /// this reply are stored under the key.
-pub fn unused_keys_accept_rows()
+pub fn unused_keys_stay_unused_until_acceptance()
     ensures stores_nothing { (row : RefusedRow) → IsUnusedKey row.base row.key → (row.after ≡ row.base) × IsUnusedKey row.after row.key }
     ensures key_was_unused { (row : RefusedRow) → row.refusal ≢ KeyReused → IsUnusedKey row.base row.key }
     ensures key_stays_unused { (base later : Base) (key : Key) → IsUnusedKey base key → RunNotAcceptingKeyLeadsTo key base later → IsUnusedKey later key }

@@ -39,7 +39,7 @@ pub enum Condition {
 
 impl Condition {
     /// Returns the lower-case word that represents the condition in output, such as `cash`.
-    pub fn word(self) -> &'static str
+    pub fn output_word(self) -> &'static str
         ensures { result.now ≡ condition_word self }
     {
         match self {

@@ -31,7 +31,7 @@ pub enum Limit {
 
 impl Limit {
     /// Returns the word that a refusal prints for the limit.
-    pub fn word(self) -> &'static str
+    pub fn output_word(self) -> &'static str
         ensures { result.now ≡ limit_word self }
     {
         match self {
@@ -142,7 +142,7 @@ impl fmt::Display for Refusal {
         let number = self.number();
         match self {
             Refusal::WrongStatus(status) => write!(f, "{number},{}", status.code()),
-            Refusal::Range(limit) => write!(f, "{number},{}", limit.word()),
+            Refusal::Range(limit) => write!(f, "{number},{}", limit.output_word()),
             _ => write!(f, "{number}"),
         }
     }

@@ -5,7 +5,7 @@ use Rattle.std.specs.Prelude.{Ok, Err}
 use Rattle.brk_money.specs.declared.refusal.Refusal.TheVariants.{BadText}
 use Rattle.brk_model.specs.Commands.{Command, CompleteTrade}
 use Rattle.brk_model.specs.Forms.{◌⊛◌, read_movement_amount, read_id, read_price}
-use Rattle.brk_model.specs.Parse.{read_id_of_trade_to_cancel, read_movement_command, read_settlement_day, read_order, read_complete_trade_command}
+use Rattle.brk_model.specs.Parse.{read_id_of_trade_to_cancel, read_movement_command, read_one_day_settlement_start, read_order, read_complete_trade_command}
 use Rattle.brk_ref.specs.Fields.{texts_of_fields}
 use Rattle.brk_ref.proofs.Applied.{text_left, text_right}
 
@@ -47,8 +47,8 @@ no_account moved (a ∷ b ∷ []) d h e =
     text_left (Ok (λ a n. moved a n) ⊛ read_id a.now) (read_movement_amount b.now) (text_right (Ok (λ a n. moved a n)) (read_id a.now) e)
 no_account moved (a ∷ b ∷ c ∷ rest) d h e = absurd (omega (arith, h))
 
--- a settlement day has one
-pub not_one_day : (fields : List (Bor (List ℕ))) → (length fields ≡ 1 → ⊥) → read_settlement_day (texts_of_fields fields) ≡ Err BadText
+-- a first day of one-day settlement has one
+pub not_one_day : (fields : List (Bor (List ℕ))) → (length fields ≡ 1 → ⊥) → read_one_day_settlement_start (texts_of_fields fields) ≡ Err BadText
 not_one_day [] h = refl
 not_one_day (a ∷ []) h = absurd (h refl)
 not_one_day (a ∷ b ∷ rest) h = refl

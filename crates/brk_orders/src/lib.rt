@@ -18,7 +18,7 @@ pub use cancel::parse_id_of_trade_to_cancel;
 pub use completion::{Completion, parse_completion};
 pub use feed::{Feed, parse_market_feed};
 pub use movement::{Direction, Movement, parse_cash_movement};
-pub use one_day::parse_requested_settlement_day;
+pub use one_day::parse_one_day_settlement_start;
 pub use order::{Order, parse_trade_order};
 pub use span::{Span, parse_stamp};
 pub use tick::Tick;

@@ -1,7 +1,7 @@
 ghost use Rattle.std.specs.Prelude.{◌≡◌};
 ghost use Rattle.std.specs.Option.{ok_or};
 ghost use Rattle.brk_model.specs.Forms.{read_day};
-ghost use Rattle.brk_model.specs.Parse.{read_settlement_day};
+ghost use Rattle.brk_model.specs.Parse.{read_one_day_settlement_start};
 ghost use Rattle.brk_money.specs.declared.refusal.Refusal.TheVariants.{BadText};
 ghost use Rattle.brk_ref.specs.Fields.{ParsesAs, texts_of_fields};
 
@@ -20,13 +20,12 @@ fn parse_calendar_day(bytes: &[u8]) -> Option<Day>
     Some(day)
 }
 
-/// Parses the settlement day, the first day whose completions settle after one day, from the field
-/// DAY.
+/// Parses the first day of one-day settlement, from the field DAY.
 ///
 /// Refuses with `BadText` (18) if there is not exactly one field, or if the field is not a day
 /// within 1970-01-01 to 9999-12-31. Never allocates.
-pub fn parse_requested_settlement_day(fields: &[&[u8]]) -> Result<Day, Refusal>
-    ensures { ParsesAs (λ day. day) result (read_settlement_day (texts_of_fields fields.now)) }
+pub fn parse_one_day_settlement_start(fields: &[&[u8]]) -> Result<Day, Refusal>
+    ensures { ParsesAs (λ day. day) result (read_one_day_settlement_start (texts_of_fields fields.now)) }
 {
     let [day] = fields else {
         return Err(Refusal::BadText);

@@ -89,7 +89,10 @@ fn parse_executor(
 
 // Returns `order_type`, which is meant to be a market type, if the text of the price is empty.
 // Otherwise refuses with `BadPrice`.
-fn order_type_without_price(order_type: OrderType, price: &[u8]) -> Result<OrderType, Refusal>
+fn market_order_type_if_price_empty(
+    order_type: OrderType,
+    price: &[u8],
+) -> Result<OrderType, Refusal>
     ensures { result ≡ forms.market_type_if_price_is_empty order_type price.now }
 {
     if price.is_empty() {
@@ -129,8 +132,11 @@ fn order_type_with_price(kind: Option<TradeType>, price: &[u8]) -> Result<OrderT
     ensures { result ≡ forms.order_type_with_price kind price.now }
 {
     match kind {
-        Some(TradeType::MarketBuy) => order_type_without_price(OrderType::MarketBuy, price),
-        Some(TradeType::MarketSell) => order_type_without_price(OrderType::MarketSell, price),
+        Some(TradeType::MarketBuy) => market_order_type_if_price_empty(OrderType::MarketBuy, price),
+        Some(TradeType::MarketSell) => market_order_type_if_price_empty(
+            OrderType::MarketSell,
+            price,
+        ),
         Some(TradeType::StopLoss) => Ok(OrderType::StopLoss(parse_order_price(price)?)),
         Some(TradeType::LimitSell) => Ok(OrderType::LimitSell(parse_order_price(price)?)),
         Some(TradeType::LimitBuy) => Ok(OrderType::LimitBuy(parse_order_price(price)?)),

@@ -49,7 +49,7 @@ impl TradeIds {
         Ok(TradeIds { ids })
     }
 
-    /// Returns the ids of the trades, in the sequence in which the row names them.
+    /// Returns the ids of the trades, in the sequence of the list.
     pub fn ids(&self) -> &[Id]
         ensures { result.now ≡ self.now }
     {

@@ -102,7 +102,7 @@ fn create_last_trade_change(last: &LastTrade) -> Result<Change, Fault>
 // Appends to `changes` the row changes that submit, at `stamp`, the trades of those requests that
 // the price triggers, and to `ids` the ids of these trades, both in the sequence of the requests.
 // Fails with `Memory` only; a part of the row changes and of the ids may then be appended.
-fn append_submission_changes(
+fn append_submission_changes_and_ids(
     stamp: Stamp,
     price: Price,
     requests: &[RequestRow],
@@ -178,7 +178,7 @@ fn apply_tick_to_quote(
         Err(refusal) => return Ok(Err(refusal)),
     };
     changes.push(create_last_trade_change(&last)?)?;
-    append_submission_changes(stamp, tick.price, &requests, changes, ids)?;
+    append_submission_changes_and_ids(stamp, tick.price, &requests, changes, ids)?;
     let requests = requests_not_triggered(alloc, tick.price, requests)?;
     Ok(Ok(Quote { last, requests }))
 }
@@ -235,7 +235,7 @@ fn prove_volumes_are_within_limit(quotes: &[Quote])
 // `changes`, and the ids of the trades that they trigger to `ids`, both tick by tick. Refuses with
 // `Range(Volume)` if a volume would exceed its limit, 10^17 shares. Fails with `Memory` only. If it
 // refuses or fails, a part of the row changes and of the ids may be appended.
-fn apply_ticks_to_quotes(
+fn append_tick_changes_and_ids(
     alloc: Global,
     stamp: Stamp,
     ticks: &[Tick],
@@ -305,7 +305,7 @@ pub fn plan_feed(
         Some(stamp) => stamp,
         None => now,
     };
-    let taken = apply_ticks_to_quotes(alloc, at, ticks, quotes, &mut changes, &mut ids)?;
+    let taken = append_tick_changes_and_ids(alloc, at, ticks, quotes, &mut changes, &mut ids)?;
     if let Err(refusal) = taken {
         return Ok(Err(refusal));
     }

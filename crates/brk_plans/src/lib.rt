@@ -1,6 +1,6 @@
 //! Plans, which are row changes and a reply, and the planning of commands that read no lots:
-//! reference rows, market ticks, cancels, text updates, deposits and withdrawals, and the
-//! settlement day (the first day whose completions settle after one day).
+//! reference rows, market ticks, cancels, text updates, deposits and withdrawals, and the first day
+//! of one-day settlement.
 #![tactic(auto)]
 
 pub mod cancel;

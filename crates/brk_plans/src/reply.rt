@@ -35,8 +35,7 @@ pub struct Completed {
 /// The reply to an accepted command, with its stamp.
 #[derive(Drop)]
 pub enum Reply {
-    /// A row of reference data was added, or the settlement day (the first day whose completions
-    /// settle after one day) was set.
+    /// A row of reference data was added, or the first day of one-day settlement was set.
     Booked(Stamp),
     /// An order was placed.
     Ordered(Ordered),

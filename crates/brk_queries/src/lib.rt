@@ -19,5 +19,5 @@ pub use lookups::{view_of_account_trades, view_of_symbol_trades, view_of_trades_
 pub use lots::view_of_touched_lots;
 pub use orders::view_of_submitted_trades;
 pub use recents::view_of_recent_trades;
-pub use statuses::view_of_account_status;
+pub use statuses::view_of_account_trade_statuses;
 pub use volumes::view_of_broker_volumes;

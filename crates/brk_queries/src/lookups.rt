@@ -22,11 +22,11 @@ use brk_view::{
 use sqlite::Alter;
 use std::alloc::Global;
 
-// Returns a trade with the rows that other tables contain for it: its settlement and its cash row,
+// Returns a trade with its settlement and its cash row,
 // each if it exists, and its history. The result is specified only if the tables equal those of a
 // base that satisfies the books invariant and the audit invariant. If the database is still open,
 // it is unchanged. Fails with `Memory` or `Store` only.
-fn read_all_rows_of_trade<S: Alter>(
+fn read_settlement_cash_and_history_of_trade<S: Alter>(
     alloc: Global,
     store: &mut Store<S>,
     trade: TradeRow,
@@ -44,7 +44,7 @@ fn read_all_rows_of_trade<S: Alter>(
 // row, if they exist, and its history. The result is specified only if the tables equal those of a
 // base that satisfies the books invariant and the audit invariant. If the database is still open,
 // it is unchanged. Fails with `Memory` or `Store` only.
-fn read_all_rows_of_trades<S: Alter>(
+fn read_settlement_cash_and_history_of_trades<S: Alter>(
     alloc: Global,
     store: &mut Store<S>,
     trades: Vec<TradeRow>,
@@ -55,7 +55,7 @@ fn read_all_rows_of_trades<S: Alter>(
     let mut rest = trades;
     let mut found = Vec::new(alloc);
     while let Some(trade) = rest.pop() {
-        let one = read_all_rows_of_trade(alloc, store, trade)?;
+        let one = read_settlement_cash_and_history_of_trade(alloc, store, trade)?;
         found.push(one)?;
     }
     found.reverse();
@@ -81,7 +81,7 @@ pub fn view_of_trades_by_ids<S: Alter>(
         return Ok(Err(Refusal::NoTrade));
     };
     let ordered = sort_trades_oldest_first(alloc, named)?;
-    let found = read_all_rows_of_trades(alloc, store, ordered)?;
+    let found = read_settlement_cash_and_history_of_trades(alloc, store, ordered)?;
     Ok(Ok(lookup_ids(found)))
 }
 
@@ -104,7 +104,7 @@ pub fn view_of_account_trades<S: Alter>(
         return Ok(Err(Refusal::NoAccount));
     };
     let trades = store.first_twenty_trades_of_account(alloc, account, span)?;
-    let found = read_all_rows_of_trades(alloc, store, trades)?;
+    let found = read_settlement_cash_and_history_of_trades(alloc, store, trades)?;
     Ok(Ok(lookup_account(found)))
 }
 
@@ -127,6 +127,6 @@ pub fn view_of_symbol_trades<S: Alter>(
         return Ok(Err(Refusal::NoSecurity));
     };
     let trades = store.first_twenty_trades_of_symbol(alloc, symbol, span)?;
-    let found = read_all_rows_of_trades(alloc, store, trades)?;
+    let found = read_settlement_cash_and_history_of_trades(alloc, store, trades)?;
     Ok(Ok(lookup_symbol(found)))
 }

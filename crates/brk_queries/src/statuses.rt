@@ -92,7 +92,7 @@ fn read_recent_trades_with_securities<S: Alter>(
 /// of the model if the tables equal those of a base that satisfies the books invariant and the
 /// audit invariant. If the database is still open, it is unchanged. Fails with `Memory` or `Store`
 /// only; with `Store` also if the customer, the broker or one of the securities does not exist.
-pub fn view_of_account_status<S: Alter>(
+pub fn view_of_account_trade_statuses<S: Alter>(
     alloc: Global,
     store: &mut Store<S>,
     account: Id,

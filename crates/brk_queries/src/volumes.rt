@@ -159,7 +159,7 @@ fn read_volumes_of_brokers_named<S: Alter>(
         ≡ map (volume.volume_of_broker_in_sector t sector.now) (flat_map (brokers_of_name_in_sector t sector.now) names.now)) }
     ensures fault { IfErr result IsCallFault }
 {
-    let requests = store.requests(alloc)?;
+    let requests = store.all_trade_requests(alloc)?;
     let mut found = Vec::new(alloc);
     for name in names {
         append_volumes_of_brokers_named(alloc, store, sector, &requests, name, &mut found)?;

@@ -7,7 +7,7 @@ use crate::files::execute_file_command;
 use crate::records::{
     append_refusal_line, append_rows_of_all_tables, execute_ask_command, execute_print_command,
 };
-use crate::replay::{Piece, append_output_line, append_written_bytes};
+use crate::replay::{Piece, append_escaped_output_lines, append_output_line};
 use crate::tests::execute_test_command;
 use brk_http::serve_stream;
 use brk_import::brk_desk::Desk;
@@ -90,7 +90,7 @@ impl Clock for Still {
 // Returns a clock that always returns the timestamp with the canonical text `moment`, in
 // milliseconds since 1970-01-01 UTC, or 0 if `moment` is no such text or is later than 9999-12-31
 // UTC.
-fn fixed_clock_from_word(moment: &str) -> Still {
+fn fixed_clock_from_text(moment: &str) -> Still {
     Still {
         at: parse_stamp(moment.as_bytes()).unwrap_or(Stamp::nearest(0)),
     }
@@ -109,9 +109,9 @@ fn join_input_lines(alloc: Global, pieces: &[Piece]) -> Result<Vec<u8>, AllocErr
     Ok(bytes)
 }
 
-// Returns the word for a fault of a batch in an output line, such as `bad header`; the word for any
+// Returns the text for a fault of a batch in an output line, such as `bad header`; the text for any
 // fault of the desk is `desk`.
-fn word_of_batch_fault(kind: FaultKind) -> &'static str {
+fn batch_fault_text(kind: FaultKind) -> &'static str {
     match kind {
         FaultKind::BadHeader => "bad header",
         FaultKind::NoEnd => "no end",
@@ -123,8 +123,8 @@ fn word_of_batch_fault(kind: FaultKind) -> &'static str {
 }
 
 // Executes the input as a batch on the desk; the clock always returns the timestamp `moment`
-// (`fixed_clock_from_word`). Appends the lines that the batch wrote and, if it failed, an output
-// line with `!`, the word for its fault, and the number of decided rows. Fails only if memory runs
+// (`fixed_clock_from_text`). Appends the lines that the batch wrote and, if it failed, an output
+// line with `!`, the text for its fault, and the number of decided rows. Fails only if memory runs
 // out.
 fn execute_batch_command(
     alloc: Global,
@@ -138,23 +138,18 @@ fn execute_batch_command(
         alloc,
         input,
         &mut lines,
-        &mut fixed_clock_from_word(moment),
+        &mut fixed_clock_from_text(moment),
         desk,
     );
-    append_written_bytes(out, &lines)?;
+    append_escaped_output_lines(out, &lines)?;
     if let Err(fault) = ended {
-        writeln!(
-            out,
-            "> ! {} {}",
-            word_of_batch_fault(fault.kind),
-            fault.rows
-        )?;
+        writeln!(out, "> ! {} {}", batch_fault_text(fault.kind), fault.rows)?;
     }
     Ok(())
 }
 
 // Serves the input as a stream of HTTP requests on the desk; the clock always returns the timestamp
-// `moment` (`fixed_clock_from_word`). Appends the bytes that were written, and then `! done` and
+// `moment` (`fixed_clock_from_text`). Appends the bytes that were written, and then `! done` and
 // the number of replies or, if the stream failed, `! fault`. Fails only if memory runs out.
 fn execute_http_command(
     alloc: Global,
@@ -168,10 +163,10 @@ fn execute_http_command(
         alloc,
         input,
         &mut replies,
-        &mut fixed_clock_from_word(moment),
+        &mut fixed_clock_from_text(moment),
         desk,
     );
-    append_written_bytes(out, &replies)?;
+    append_escaped_output_lines(out, &replies)?;
     match ended {
         Ok(done) => writeln!(out, "> ! done {done}")?,
         Err(_) => append_output_line(out, "! fault")?,
@@ -200,7 +195,7 @@ fn execute_statement_command(
     };
     let mut lines = Vec::new(alloc);
     let ended = statement(alloc, desk, account, from, to, &mut lines);
-    append_written_bytes(out, &lines)?;
+    append_escaped_output_lines(out, &lines)?;
     match ended {
         Ok(()) => Ok(()),
         Err(ReportFault::Refused(refusal)) => append_refusal_line(out, refusal),
@@ -229,7 +224,7 @@ fn execute_explain_command(
     };
     let mut lines = Vec::new(alloc);
     let ended = write_explanation(alloc, desk, &what, &mut lines);
-    append_written_bytes(out, &lines)?;
+    append_escaped_output_lines(out, &lines)?;
     match ended {
         Ok(()) => Ok(()),
         Err(ReportFault::Refused(refusal)) => append_refusal_line(out, refusal),
@@ -243,7 +238,7 @@ fn append_audit_result(out: &mut String, audited: Result<(), Fault>) -> Result<(
     match audited {
         Ok(()) => append_output_line(out, "ok"),
         Err(Fault::Damaged(condition)) => {
-            writeln!(out, "> damaged {}", condition.word())?;
+            writeln!(out, "> damaged {}", condition.output_word())?;
             Ok(())
         }
         Err(_) => append_output_line(out, "! fault"),
@@ -391,7 +386,7 @@ fn execute_desk_command(
 // output lines, and returns the desk or database that is open after it. If the command needs a desk
 // or is unknown, and no desk is open, appends only `! no desk`; if it is unknown and a desk is
 // open, appends only `! no such command`. Fails only if memory runs out.
-fn execute_memory_command(
+fn execute_desk_or_database_command(
     alloc: Global,
     out: &mut String,
     place: Place,
@@ -456,6 +451,6 @@ pub fn execute_command(
             Ok(()) => Ok(place),
             Err(failed) => Err(failed),
         },
-        _ => execute_memory_command(rt.alloc(), out, place, verb, words, pieces),
+        _ => execute_desk_or_database_command(rt.alloc(), out, place, verb, words, pieces),
     }
 }

@@ -3,7 +3,7 @@
 //! change that fails may have changed a part of its file.
 
 use crate::failed::OutOfMemory;
-use crate::replay::append_lines_after_mark;
+use crate::replay::append_escaped_lines_with_prefix;
 use brk_exit::end_with;
 use brk_jobs::execute_requested_job;
 use sqlite::Connection;
@@ -12,7 +12,7 @@ use std::fs;
 
 // Returns `brk`, the name of the program, followed by the command-line arguments in a text, which
 // is split at each of its spaces. Fails only if memory runs out.
-fn split_command_line(alloc: Global, text: &str) -> Result<Vec<String>, AllocError> {
+fn program_name_and_arguments(alloc: Global, text: &str) -> Result<Vec<String>, AllocError> {
     let mut words = Vec::new(alloc);
     words.push(String::from_str(alloc, "brk")?)?;
     for word in text.split(' ') {
@@ -33,10 +33,15 @@ fn run_program(
     let alloc = rt.alloc();
     let mut printed = Vec::new(alloc);
     let mut errors = Vec::new(alloc);
-    let ending = execute_requested_job(rt, split_command_line(alloc, words)?, input, &mut printed);
+    let ending = execute_requested_job(
+        rt,
+        program_name_and_arguments(alloc, words)?,
+        input,
+        &mut printed,
+    );
     let status = end_with(&ending, &mut errors);
-    append_lines_after_mark(out, "> ", &printed)?;
-    append_lines_after_mark(out, "> ! ", &errors)?;
+    append_escaped_lines_with_prefix(out, "> ", &printed)?;
+    append_escaped_lines_with_prefix(out, "> ! ", &errors)?;
     writeln!(out, "> = {status}")?;
     Ok(())
 }

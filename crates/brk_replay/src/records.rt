@@ -2,7 +2,7 @@
 //! fails may have appended a part of its lines.
 
 use crate::failed::OutOfMemory;
-use crate::replay::{Piece, append_escaped_bytes, append_output_line, append_written_bytes};
+use crate::replay::{Piece, append_escaped_bytes, append_escaped_output_lines, append_output_line};
 use crate::table_list::TABLES;
 use brk_import::brk_desk::{Desk, parse_query};
 use brk_money::{Planned, Refusal};
@@ -92,7 +92,7 @@ pub fn execute_ask_command(
 // Returns the format of a printed view that `word` names: JSON for `json` and `json-heads`, and
 // otherwise CSV; for `csv-heads` and `json-heads` with the names of the fields, if the view has
 // them (`Form`), and otherwise without.
-fn form_of_printed_view(word: &str) -> Form {
+fn format_of_printed_view(word: &str) -> Form {
     Form {
         json: word == "json" || word == "json-heads",
         heads: word == "csv-heads" || word == "json-heads",
@@ -118,10 +118,10 @@ pub fn execute_print_command(
         desk,
         view,
         &arguments,
-        form_of_printed_view(form),
+        format_of_printed_view(form),
         &mut printed,
     );
-    append_written_bytes(out, &printed)?;
+    append_escaped_output_lines(out, &printed)?;
     match ended {
         Ok(()) => Ok(()),
         Err(ReportFault::Refused(refusal)) => append_refusal_line(out, refusal),

@@ -112,7 +112,7 @@ pub fn append_escaped_bytes(
 /// cut after each line feed, and each piece becomes one line; a last piece without a line feed
 /// becomes a line that ends in a single backslash. Without bytes, appends nothing. Fails only if
 /// memory runs out.
-pub fn append_lines_after_mark(
+pub fn append_escaped_lines_with_prefix(
     out: &mut String,
     mark: &str,
     bytes: &[u8],
@@ -131,10 +131,10 @@ pub fn append_lines_after_mark(
     Ok(())
 }
 
-/// Appends written bytes as output lines with escapes, as `append_lines_after_mark` does after `>`
-/// and a space. Fails only if memory runs out.
-pub fn append_written_bytes(out: &mut String, bytes: &[u8]) -> Result<(), OutOfMemory> {
-    append_lines_after_mark(out, "> ", bytes)
+/// Appends written bytes as output lines with escapes, as `append_escaped_lines_with_prefix` does
+/// after `>` and a space. Fails only if memory runs out.
+pub fn append_escaped_output_lines(out: &mut String, bytes: &[u8]) -> Result<(), OutOfMemory> {
+    append_escaped_lines_with_prefix(out, "> ", bytes)
 }
 
 /// Appends the text `line`, without escapes, as an output line: after `>` and a space, and before a

@@ -51,7 +51,7 @@ const PEERS: [(&str, Option<&str>); 6] = [
 // Connects a peer to the listener, sends the bytes `input` and returns the stream of the peer. If
 // `waits` is true, shuts down the writing side of the stream after the bytes. Fails if the address
 // of the listener cannot be read, or if the peer cannot connect, send or shut down.
-fn connect_peer(
+fn connect_peer_and_send(
     rt: &HostRuntime,
     listener: &TcpListener,
     input: &str,
@@ -69,13 +69,13 @@ fn connect_peer(
 // that wait for replies, with the wanted replies, and closes the other streams. Fails if the
 // address of the listener cannot be read, if a peer cannot connect, send or shut down, or if memory
 // runs out.
-fn connect_all_peers(
+fn connect_all_peers_and_send(
     rt: &HostRuntime,
     listener: &TcpListener,
 ) -> Result<Vec<(TcpStream, &'static str)>, Fail> {
     let mut waiting = Vec::new(rt.alloc());
     for (input, replies) in PEERS {
-        let peer = connect_peer(rt, listener, input, replies.is_some())?;
+        let peer = connect_peer_and_send(rt, listener, input, replies.is_some())?;
         if let Some(wanted) = replies {
             waiting.push((peer, wanted))?;
         }
@@ -111,7 +111,7 @@ fn serve_at_first_timestamp<S: Alter>(
 }
 
 // Checks that six streams of the listener are served in sequence on one new desk in the database of
-// a connection, that the peers in `waiting` have their wanted replies, and that the serving ends
+// a connection, that the peers in `waiting` receive their wanted replies, and that serving fails
 // with `Net` if no stream can be accepted. Fails if not, without a connection, if the desk cannot
 // be created, if the stream of a peer cannot be read or is not UTF-8, if the listener cannot be set
 // to return at once, or if memory runs out.
@@ -131,12 +131,12 @@ fn expect_streams_served_on_desk<S: Alter + Drop>(
 }
 
 /// Checks that six streams over sockets are served in sequence on one desk, that the peers that
-/// wait for replies have those of `PEERS`, and that the serving ends with `Net` if no stream can be
-/// accepted. Fails also if a socket of this machine cannot be used, if the desk cannot be created,
-/// or if memory runs out.
+/// wait for replies receive the replies in `PEERS`, and that serving fails with `Net` if no stream
+/// can be accepted. Fails also if a socket of this machine cannot be used, if the desk cannot be
+/// created, or if memory runs out.
 pub fn socket_streams_share_one_desk(rt: &HostRuntime) -> Result<(), Fail> {
     let alloc = rt.alloc();
     let mut listener = TcpListener::bind(rt, ("127.0.0.1", 0))?;
-    let waiting = connect_all_peers(rt, &listener)?;
+    let waiting = connect_all_peers_and_send(rt, &listener)?;
     expect_streams_served_on_desk(alloc, open_in_memory(alloc), &mut listener, waiting)
 }

@@ -6,7 +6,7 @@ use Rattle.brk_money.specs.declared.fault.Condition.{Condition}
 use Rattle.brk_money.specs.declared.fault.Condition.TheVariants as condition
 use Rattle.brk_model.specs.Adopted.{base_of_tables}
 use Rattle.brk_model.specs.Audit.{ConditionHolds, IsFirstFailingCondition}
-use Rattle.brk_model.specs.Form.{are_equal_number_lists, has_disjoint_bands, has_distinct_tax_ids, is_last_stamp_in_calendar, is_settlement_day_in_calendar}
+use Rattle.brk_model.specs.Form.{are_equal_number_lists, has_disjoint_bands, has_distinct_tax_ids, is_last_stamp_in_calendar, is_one_day_settlement_start_in_calendar}
 use Rattle.brk_model.specs.Form.{is_sorted_by_unique_key, is_well_formed_account_row, is_well_formed_band_row, is_well_formed_broker_row}
 use Rattle.brk_model.specs.Form.{is_well_formed_cash_transaction_row, is_well_formed_charge_row, is_well_formed_customer_row, is_well_formed_customer_tax_row}
 use Rattle.brk_model.specs.Form.{is_well_formed_history_row, is_well_formed_holding_history_row, is_well_formed_holding_row, is_well_formed_kept_row}
@@ -89,7 +89,7 @@ formed_with schema t sorted formed =
     && list_all (is_well_formed_cash_transaction_row t) t.cash
     && list_all (is_well_formed_cash_move_row t) t.moves && all_distinct (trade_ids_of_cash_rows t.moves)
     && nat_le (length (filter (λ r. is_none r.trade) t.moves)) greatest_id
-    && is_settlement_day_in_calendar t.rule
+    && is_one_day_settlement_start_in_calendar t.rule
     && has_rows_only_in_tables_of_schema schema t
 
 module _ (schema : Schema) (t : Tables) (ks ls : List Kept) (same : map (λ k. k.key) ks ≡ map (λ k. k.key) ls) where

@@ -82,7 +82,7 @@ two_desks b db defined there other =
     let is_table : IsTableAt db.schema (desk_row_table first.1.tree) first.0 = record { named = first.2.named; found = first.2.found ∙ ap Some shaped } in
     same_schema Third b (said_alike third_schema (abstract_schema b) _ (there.row first.0 first.1.tree is_table) (other.row first.0 first.1.tree is_table))
 
--- only the third has the settlement day
+-- only the third has the first day of one-day settlement
 pub third_has_rule : (schema : known.Schema) → (abstract_schema schema).has_settle_rule_table ≡ true → schema ≡ Third
 third_has_rule First e = absurd (let f : false ≡ true = e in cc)
 third_has_rule Second e = absurd (let f : false ≡ true = e in cc)

@@ -15,7 +15,7 @@ use crate::beginning::begin_transaction;
 use brk_audit::audit_rows;
 use brk_changes::Schema;
 use brk_money::{Condition, Fault};
-use brk_tables_scan::{database_has_schema, read_sheets};
+use brk_tables_scan::{database_has_schema, read_typed_rows_of_schema};
 use sqlite::{Alter, Connection, Transaction};
 use std::alloc::Global;
 
@@ -36,7 +36,7 @@ pub(crate) fn audit_rows_of_schema<S: Alter>(
     ensures condition { IfOk result (λ answer. answer ≢ Some NotEmpty) }
     ensures fault { IfErr result IsCallFault }
 {
-    match read_sheets(tx, alloc, schema)? {
+    match read_typed_rows_of_schema(tx, alloc, schema)? {
         None => Ok(Some(Condition::Form)),
         Some(sheets) => audit_rows(alloc, schema, &sheets),
     }

@@ -32,7 +32,7 @@ impl<S: Alter> Store<S> {
 
     /// Returns all requests (TRADE_REQUEST: pending trades), sorted by trade, ascending. If the
     /// database is still open, it is unchanged. Fails with `Memory` or `Store`.
-    pub fn requests(&mut self, alloc: Global) -> Result<Vec<RequestRow>, Fault>
+    pub fn all_trade_requests(&mut self, alloc: Global) -> Result<Vec<RequestRow>, Fault>
         ensures read { ReadPost S.Store self.old self.new result (λ all t. map abstract_request_row all.items ≡ t.requests) }
         ensures fault { IfErr result IsCallFault }
     {

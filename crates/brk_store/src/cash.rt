@@ -23,16 +23,16 @@ use sqlite::Alter;
 const GREATEST_MOVEMENT_COUNT: u64 = 1_000_000_000_000;
 
 impl<S: Alter> Store<S> {
-    /// Returns the settlement day, the first day whose completions settle after one day, in days
+    /// Returns the first day of one-day settlement, in days
     /// since 1970-01-01, or `None` if none is set. If the database is still open, it is unchanged.
     /// Fails with `Store` only, also if SETTLE_RULE has two rows or more, or a row with another id
     /// than 1.
-    pub fn settlement_day(&mut self) -> Result<Option<Day>, Fault>
+    pub fn one_day_settlement_start(&mut self) -> Result<Option<Day>, Fault>
         ensures read { ReadPost S.Store self.old self.new result (λ day t. day ≡ t.rule) }
         ensures fault { OnErr result (result ≡ Err fault.Store) }
     {
         let mut tx = begin_transaction(&mut self.conn);
-        brk_tables_cash::settlement_day(&mut tx)
+        brk_tables_cash::one_day_settlement_start(&mut tx)
     }
 
     /// Returns the cash row of a trade, or `None` if it has none. If the database is still open, it
@@ -58,12 +58,12 @@ impl<S: Alter> Store<S> {
     // Returns true if there are at least `GREATEST_MOVEMENT_COUNT` deposits and withdrawals, which
     // are the cash rows without a trade. The query steps over these rows, so its time grows with
     // their number. If the database is still open, it is unchanged. Fails with `Store` only.
-    fn has_greatest_movement_count(&mut self) -> Result<bool, Fault>
+    fn has_reached_movement_limit(&mut self) -> Result<bool, Fault>
         ensures read { ReadPost S.Store self.old self.new result (λ all t. all ≡ nat_le greatest_id (length (filter (λ r. is_none r.trade) t.moves))) }
         ensures fault { OnErr result (result ≡ Err fault.Store) }
     {
         let mut tx = begin_transaction(&mut self.conn);
-        brk_tables_cash::has_maximum_movements(&mut tx)
+        brk_tables_cash::has_reached_movement_limit(&mut tx)
     }
 
     /// Returns the number of the next cash row: one more than the greatest number, or 1 if there is
@@ -88,7 +88,7 @@ impl<S: Alter> Store<S> {
     /// (1,000,000,000,000) deposits and withdrawals together, so that no further movement may be
     /// booked. If the database is still open, it is unchanged. Fails with `Store` only, also if the
     /// greatest `MoveId` is in use.
-    pub fn next_movement_number_and_limit(&mut self) -> Result<(MoveId, bool), Fault>
+    pub fn next_cash_row_number_and_limit_reached(&mut self) -> Result<(MoveId, bool), Fault>
         ensures read { ReadPost S.Store self.old self.new result (λ number t. (number.0 ≡ last_cash_row_number_or_zero t + 1)
             × (number.1 ≡ nat_le greatest_id (length (filter (λ r. is_none r.trade) t.moves)))) }
         ensures fault { OnErr result (result ≡ Err fault.Store) }
@@ -99,7 +99,7 @@ impl<S: Alter> Store<S> {
         if next.get() < GREATEST_MOVEMENT_COUNT {
             return Ok((next, false));
         }
-        let has_all_movements = self.has_greatest_movement_count()?;
+        let has_all_movements = self.has_reached_movement_limit()?;
         Ok((next, has_all_movements))
     }
 }

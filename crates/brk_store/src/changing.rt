@@ -89,7 +89,9 @@ fn apply_change<S: Alter>(tx: &mut Transaction<'_, S>, change: &Change) -> Resul
             *trade,
             name.as_str(),
         ),
-        Change::SetSettlementDay(day) => brk_tables_cash::set_settlement_day(tx, *day),
+        Change::SetOneDaySettlementStart(day) => brk_tables_cash::set_one_day_settlement_start(
+            tx, *day,
+        ),
         Change::AddStoredReply(kept) => brk_tables_schema::add_kept_row(tx, kept),
         Change::SetLastStamp(stamp) => brk_tables_schema::set_last_stamp(tx, *stamp),
     }

@@ -30,5 +30,5 @@ pub use brk_tables_views::{Visitor, WalkError};
 pub use pages::{LotPages, Page, Pages};
 pub use store::Store;
 pub use valuation::{
-    ValuedSummaries, read_holdings_value, read_valued_summaries, require_last_price,
+    ValuedSummaries, read_holding_summaries_and_value, read_holdings_value, require_last_price,
 };

@@ -76,7 +76,7 @@ impl<S: Alter, P: Drop> Drop for Pages<'_, S, P> {
 // then by the id of the trade that opened them, both descending if `lifo`, otherwise both
 // ascending: at most 16 after the first `skipped` lots. If the database is still open, it is
 // unchanged. Fails with `Memory` or `Store` only.
-fn read_page<S: Alter>(
+fn read_lot_page<S: Alter>(
     store: &mut Store<S>,
     alloc: Global,
     account: Id,
@@ -96,17 +96,17 @@ fn read_page<S: Alter>(
 }
 
 // Returns true only if there are at most 16 rows and each lot has shares.
-fn is_valid_page(rows: &[HoldingRow]) -> bool
+fn is_valid_lot_page(rows: &[HoldingRow]) -> bool
     ensures { IsTrue result → (length rows.now ≤ page_size) × All (λ r. r.qty ≢ pos 0) rows.now }
 {
     rows.len() <= PAGE_SIZE && rows.iter().all(|row| row.qty != 0)
 }
 
-// Returns a page of the lots of an account in a security, in the order of `read_page`: at most 16
-// after the first `skipped` lots, each with shares. If the database is still open, it is unchanged.
-// Fails with `Memory` or `Store` only; with `Store` also if the page has more than 16 rows, or a
-// lot without shares.
-fn read_valid_page<S: Alter>(
+// Returns a page of the lots of an account in a security, in the order of `read_lot_page`: at most
+// 16 after the first `skipped` lots, each with shares. If the database is still open, it is
+// unchanged. Fails with `Memory` or `Store` only; with `Store` also if the page has more than 16
+// rows, or a lot without shares.
+fn read_valid_lot_page<S: Alter>(
     store: &mut Store<S>,
     alloc: Global,
     account: Id,
@@ -120,8 +120,8 @@ fn read_valid_page<S: Alter>(
     ensures some_shares { IfOk result (λ all. All (λ r. r.qty ≢ pos 0) all.items) }
     ensures fault { IfErr result IsCallFault }
 {
-    let page = read_page(store, alloc, account, symbol, lifo, skipped)?;
-    if is_valid_page(&page) {
+    let page = read_lot_page(store, alloc, account, symbol, lifo, skipped)?;
+    if is_valid_lot_page(&page) {
         Ok(page)
     } else {
         Err(Fault::Store)
@@ -242,7 +242,7 @@ impl<S: Alter> Pages<'_, S, Page> {
         ensures some_shares { IfOk result (λ page. All (λ r. r.qty ≢ pos 0) page.items) }
         ensures fault { IfErr result IsCallFault }
     {
-        let page = read_valid_page(
+        let page = read_valid_lot_page(
             self.store,
             self.alloc,
             self.account,

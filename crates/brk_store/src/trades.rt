@@ -144,7 +144,7 @@ impl<S: Alter> Store<S> {
     /// Returns the rows of HOLDING_SUMMARY of an account (its number of shares in each security),
     /// sorted by symbol, ascending. Shares sold short count below 0. If the database is still open,
     /// it is unchanged. Fails with `Memory` or `Store`.
-    pub fn summaries_of_account(
+    pub fn holding_summaries_of_account(
         &mut self,
         alloc: Global,
         account: Id,
@@ -159,7 +159,7 @@ impl<S: Alter> Store<S> {
     /// Returns the row of HOLDING_SUMMARY of an account and a security, or `None` if there is none.
     /// The row has the number of shares of the position, below 0 if they were sold short. If the
     /// database is still open, it is unchanged. Fails with `Store` only.
-    pub fn summary_of_position(
+    pub fn holding_summary_of_position(
         &mut self,
         account: Id,
         symbol: &Symbol,

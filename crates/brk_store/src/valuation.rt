@@ -73,7 +73,7 @@ fn add_value_at_last_price<S: Alter>(
 /// Returns the holding summaries of an account, sorted by symbol, ascending, and their market value
 /// at last prices, in cents. If the database is still open, it is unchanged. Fails with `Memory` or
 /// `Store` only; with `Store` also if a held symbol has no last price or the sum overflows.
-pub fn read_valued_summaries<S: Alter>(
+pub fn read_holding_summaries_and_value<S: Alter>(
     alloc: Global,
     store: &mut Store<S>,
     account: Id,
@@ -82,7 +82,7 @@ pub fn read_valued_summaries<S: Alter>(
     ensures fault { IfErr result IsCallFault }
 {
     let mut total = Wide::new(0);
-    let rows = store.summaries_of_account(alloc, account)?;
+    let rows = store.holding_summaries_of_account(alloc, account)?;
     for row in &rows {
         let sum = add_value_at_last_price(store, total, row)?;
         total = sum;
@@ -101,6 +101,6 @@ pub fn read_holdings_value<S: Alter>(
     ensures read { ReadPost S.Store store.old store.new result (λ worth t. worth ≡ market_value_of_account t account) }
     ensures fault { IfErr result IsCallFault }
 {
-    let held = read_valued_summaries(alloc, store, account)?;
+    let held = read_holding_summaries_and_value(alloc, store, account)?;
     Ok(held.value)
 }

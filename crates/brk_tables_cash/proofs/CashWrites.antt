@@ -20,7 +20,7 @@ use Rattle.brk_sql.specs.Model.{ExecutesStatement}
 use Rattle.brk_sql.proofs.Texts.{read}
 use Rattle.brk_sql.proofs.Values.{cast_int, cast_null, cast_whole}
 use Rattle.brk_sql.proofs.Writes.{inserts_as, updates_as, deletes_as}
-use Rattle.brk_changes.specs.Changes.{tables_with_cash_text, tables_with_cash_row, tables_with_settlement_day}
+use Rattle.brk_changes.specs.Changes.{tables_with_cash_text, tables_with_cash_row, tables_with_one_day_settlement_start}
 use Rattle.brk_tables_schema.specs.Cells.{DeskRow, RuleRow, natural_as_value, optional_natural_as_value, move_cells}
 use Rattle.brk_tables_schema.specs.Desk.{DeskTable, TheDesk, CashRows, CashMoves, SettleRules, desk_tables, desk_rows, rule_rows, rule_key, rows_of_table, ordering_by_primary_key}
 use Rattle.brk_tables_schema.proofs.Order.{key_total}
@@ -77,13 +77,13 @@ no_second m n up = let both = rw (same_rule m n) at up in let less : ordering_by
     absurd (let f = sym (same_rule m n) ∙ less in cc)
 
 pub adds_rule : (old new : State) (day : ℕ) → ExecutesStatement AddRule.statement (natural_as_value 1 ∷ natural_as_value day ∷ []) old new
-    → ChangesTablesBy desk_tables (tables_with_settlement_day day) old.now new.now
+    → ChangesTablesBy desk_tables (tables_with_one_day_settlement_start day) old.now new.now
 adds_rule old new day ran = λ t tree h.
     let turned = inserts_as wide SettleRules the_rule AddRule.statement (natural_as_value 1 ∷ natural_as_value day ∷ []) (read AddRule.statement) AddRule.terms 3
     (natural_as_value 1 ∷ Null ∷ natural_as_value day ∷ []) (rule_row day) AddRule.understood_as (λ tree. refl) (λ tree rows. rw (cast_int (pos 1), cast_int (pos day)) refl) old new ran.0 ran.1
     (wide_of third_schema t) tree (widened third_schema tree old.now t h) in (
       narrowed third_schema tree new.now (desk_rows third_schema t.last) (insert_sorted (ordering_by_primary_key SettleRules) (rule_row day) (rule_rows t.rule))
-          t (tables_with_settlement_day day t) refl (alone t.rule (turned.0.rows SettleRules).rising) (λ w _ other. others w other t) turned.0,
+          t (tables_with_one_day_settlement_start day t) refl (alone t.rule (turned.0.rows SettleRules).rising) (λ w _ other. others w other t) turned.0,
       turned.1,
     )
   where
@@ -93,7 +93,7 @@ adds_rule old new day ran = λ t tree h.
     alone None up = refl
     alone (Some n) up = absurd (no_second day n up)
 
-    others : (w : DeskTable) → w ≢ SettleRules → (t : Tables) → rows_of_table w (tables_with_settlement_day day t) ≡ rows_of_table w t
+    others : (w : DeskTable) → w ≢ SettleRules → (t : Tables) → rows_of_table w (tables_with_one_day_settlement_start day t) ≡ rows_of_table w t
     others SettleRules other t = absurd (other refl)
     others w other t = refl
 

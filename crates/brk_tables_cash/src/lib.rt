@@ -1,6 +1,5 @@
-//! The SQL statements on cash rows and on the settlement day (the first day whose completions
-//! settle after one day), one function for each, and the upgrade of the tables of an older schema
-//! to schema 3, which numbers the cash rows.
+//! The SQL statements on cash rows and on the first day of one-day settlement, one function for
+//! each, and the upgrade of the tables of an older schema to schema 3, which numbers the cash rows.
 //!
 //! Each function that takes a transaction is called while the transaction is open, and commits
 //! nothing. An error of the `sqlite` crate, also if this crate runs out of memory, and a malformed
@@ -22,8 +21,8 @@ pub mod upgrade;
 pub mod upgrade_statements;
 
 pub use moves::{
-    add_cash_row, cash_row_by_trade, cash_row_with_greatest_number, has_maximum_movements,
+    add_cash_row, cash_row_by_trade, cash_row_with_greatest_number, has_reached_movement_limit,
     set_cash_row_name,
 };
-pub use rule::{set_settlement_day, settlement_day};
+pub use rule::{one_day_settlement_start, set_one_day_settlement_start};
 pub use upgrade::upgrade_tables;

@@ -61,7 +61,7 @@ pub fn cash_row_with_greatest_number<S: Alter>(
 /// Returns true if CASH_MOVE has at least 10^12 rows without a trade, which are the deposits and
 /// withdrawals. The query steps over these rows, so its time grows with their number. Changes
 /// nothing if it succeeds. Fails with `Store` only, also if memory runs out.
-pub fn has_maximum_movements<S: Alter>(tx: &mut Transaction<'_, S>) -> Result<bool, Fault>
+pub fn has_reached_movement_limit<S: Alter>(tx: &mut Transaction<'_, S>) -> Result<bool, Fault>
     ensures same_reference { tx.new.conn.ghost_name ≡ tx.old.conn.ghost_name }
     ensures step { ReadsDeskTables S.Store tx.old tx.new result (λ all t. all ≡ nat_le greatest_id (length (filter (λ r. is_none r.trade) t.moves))) }
     ensures fault { OnErr result (result ≡ Err Store) }

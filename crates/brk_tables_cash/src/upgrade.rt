@@ -21,7 +21,7 @@ use std::alloc::Global;
 // number of the schema in DESK to 3. Fails with `Memory` or `Store` only; with `Store` also if one
 // of these tables exists. After an error, some of these tables may exist in the transaction. The
 // effect is specified only if the tables of `schema` exist, and none that a later schema adds.
-fn add_tables_of_later_schemas<S: Alter>(
+fn add_later_tables_and_set_schema_number<S: Alter>(
     tx: &mut Transaction<'_, S>,
     schema: Schema,
 ) -> Result<(), Fault>
@@ -69,7 +69,7 @@ pub fn upgrade_tables<S: Alter>(
     ensures step { IsConnectionStep S.Store tx.old tx.new result (λ _ a b. UpgradesTables (abstract_schema schema) a.now b.now) }
     ensures fault { IfErr result IsCallFault }
 {
-    add_tables_of_later_schemas(tx, schema)?;
+    add_later_tables_and_set_schema_number(tx, schema)?;
     if schema.has_cash_move_table() {
         return Ok(());
     }

@@ -20,7 +20,7 @@ use sqlite::{Alter, Transaction};
 
 // Creates the table `table` of a desk, without rows, and leaves the rows of existing tables
 // unchanged. Fails with `Store` only, also if a table with its name exists.
-fn create_desk_table<S: Alter>(tx: &mut Transaction<'_, S>, table: Table) -> Result<(), Fault>
+fn create_empty_table<S: Alter>(tx: &mut Transaction<'_, S>, table: Table) -> Result<(), Fault>
     ensures same_reference { tx.new.conn.ghost_name ≡ tx.old.conn.ghost_name }
     ensures step { IsConnectionStep S.Store tx.old tx.new result (λ _ a b. CreatesTableOfShape a.now b.now (table_definition_at_tree (abstract_table table))) }
     ensures fault { OnErr result (result ≡ Err Store) }
@@ -38,7 +38,7 @@ fn create_each_table<S: Alter>(tx: &mut Transaction<'_, S>, tables: &[Table]) ->
     ensures fault { OnErr result (result ≡ Err Store) }
 {
     for table in tables {
-        create_desk_table(tx, *table)?;
+        create_empty_table(tx, *table)?;
     }
     Ok(())
 }

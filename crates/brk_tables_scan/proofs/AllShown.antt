@@ -12,31 +12,31 @@ use Rattle.brk_tables_schema.specs.Desk.{TaxRates, CustomerTaxes, Trades, TradeH
 use Rattle.brk_tables_schema.specs.Desk.{CashMoves, SettleRules, schema_has_table}
 use Rattle.brk_tables_scan.specs.Whole.{ShowsAllRows, ShowsRowsIfInSchema}
 use Rattle.brk_tables_scan.specs.Raw.{RawSheets, IsUnchangedAndOpen, raw_rows_of_table}
-use Rattle.brk_tables_scan.specs.Decoded.{ReadsDeskAndCustomerTables, ReadsAccountAndSecurityTables, ReadsChargeAndRateTables, ReadsTradeAndHoldingTables}
-use Rattle.brk_tables_scan.specs.Decoded.{ReadsSummaryAndSettlementTables, ReadsLaterSchemaTables, ReadsAndDecodesDeskTables, DecodesSheets}
-use Rattle.brk_tables_scan.specs.Decoded.{DecodesDeskAndCustomerTables, DecodesAccountAndSecurityTables, DecodesChargeAndRateTables}
-use Rattle.brk_tables_scan.specs.Decoded.{DecodesTradeAndHoldingTables, DecodesSummaryAndSettlementTables, DecodesLaterSchemaTables}
-use Rattle.brk_tables_scan.specs.Decoded.{are_desk_and_customer_rows_well_formed, are_account_and_security_rows_well_formed}
+use Rattle.brk_tables_scan.specs.Decoded.{ReadsDeskBrokerAndCustomerTables, ReadsAccountAndSecurityTables, ReadsChargeAndRateTables, ReadsTradeAndHoldingTables}
+use Rattle.brk_tables_scan.specs.Decoded.{ReadsSummaryHistoryAndCashTables, ReadsLaterSchemaTables, ReadsAndDecodesDeskTables, DecodesSheets}
+use Rattle.brk_tables_scan.specs.Decoded.{DecodesDeskBrokerAndCustomerTables, DecodesAccountAndSecurityTables, DecodesChargeAndRateTables}
+use Rattle.brk_tables_scan.specs.Decoded.{DecodesTradeAndHoldingTables, DecodesSummaryHistoryAndCashTables, DecodesLaterSchemaTables}
+use Rattle.brk_tables_scan.specs.Decoded.{are_desk_broker_and_customer_rows_well_formed, are_account_and_security_rows_well_formed}
 use Rattle.brk_tables_scan.specs.Decoded.{are_charge_and_rate_rows_well_formed, are_trade_and_holding_rows_well_formed}
-use Rattle.brk_tables_scan.specs.Decoded.{are_summary_and_settlement_rows_well_formed, are_later_schema_rows_well_formed}
-use Rattle.brk_tables_scan.specs.declared.all_tables.DeskAndCustomerSheets.{DeskAndCustomerSheets}
+use Rattle.brk_tables_scan.specs.Decoded.{are_summary_history_and_cash_rows_well_formed, are_later_schema_rows_well_formed}
+use Rattle.brk_tables_scan.specs.declared.all_tables.DeskBrokerAndCustomerSheets.{DeskBrokerAndCustomerSheets}
 use Rattle.brk_tables_scan.specs.declared.all_tables.AccountAndSecuritySheets.{AccountAndSecuritySheets}
 use Rattle.brk_tables_scan.specs.declared.all_tables.ChargeAndRateSheets.{ChargeAndRateSheets}
 use Rattle.brk_tables_scan.specs.declared.all_tables.TradeAndHoldingSheets.{TradeAndHoldingSheets}
-use Rattle.brk_tables_scan.specs.declared.all_tables.SummaryAndSettlementSheets.{SummaryAndSettlementSheets}
+use Rattle.brk_tables_scan.specs.declared.all_tables.SummaryHistoryAndCashSheets.{SummaryHistoryAndCashSheets}
 use Rattle.brk_tables_scan.specs.declared.all_tables.LaterSchemaSheets.{LaterSchemaSheets}
 use Rattle.brk_tables_scan.proofs.Continued.{continues_six}
 use Rattle.brk_tables_scan.proofs.Four.{stays_then, shown_before}
 use Rattle.brk_tables_scan.proofs.Sheeted.{sheets, are_sheets}
 
-module _ (desk : Schema) (a b c d e f g : State) (n0 n1 n2 n3 n4 n5 n6 : Bool) (first : DeskAndCustomerSheets) (accounts : AccountAndSecuritySheets)
-    (rates : ChargeAndRateSheets) (trades : TradeAndHoldingSheets) (last : SummaryAndSettlementSheets) (later : LaterSchemaSheets) where
+module _ (desk : Schema) (a b c d e f g : State) (n0 n1 n2 n3 n4 n5 n6 : Bool) (first : DeskBrokerAndCustomerSheets) (accounts : AccountAndSecuritySheets)
+    (rates : ChargeAndRateSheets) (trades : TradeAndHoldingSheets) (last : SummaryHistoryAndCashSheets) (later : LaterSchemaSheets) where
   abbrev all : Sheets
   all = sheets first accounts rates trades last later
 
-  module _ (in_first : ReadsDeskAndCustomerTables desk n0 n1 first a b) (in_accounts : ReadsAccountAndSecurityTables n1 n2 accounts b c)
+  module _ (in_first : ReadsDeskBrokerAndCustomerTables desk n0 n1 first a b) (in_accounts : ReadsAccountAndSecurityTables n1 n2 accounts b c)
       (in_rates : ReadsChargeAndRateTables n2 n3 rates c d) (in_trades : ReadsTradeAndHoldingTables n3 n4 trades d e)
-      (in_last : ReadsSummaryAndSettlementTables n4 n5 last e f) (in_later : ReadsLaterSchemaTables desk n5 n6 later f g) where
+      (in_last : ReadsSummaryHistoryAndCashTables n4 n5 last e f) (in_later : ReadsLaterSchemaTables desk n5 n6 later f g) where
     abbrev raw : RawSheets
     raw = record { first = in_first.raw; accounts = in_accounts.raw; rates = in_rates.raw; trades = in_trades.raw; last = in_last.raw; later = in_later.raw }
 
@@ -91,25 +91,25 @@ module _ (desk : Schema) (a b c d e f g : State) (n0 n1 n2 n3 n4 n5 n6 : Bool) (
       raw = raw;
       stays = (ab.0, in_later.shown.same ∙ af.1);
       shown = shows;
-      decoded = continues_six n0 n1 n2 n3 n4 n5 n6 (are_desk_and_customer_rows_well_formed desk raw.first)
+      decoded = continues_six n0 n1 n2 n3 n4 n5 n6 (are_desk_broker_and_customer_rows_well_formed desk raw.first)
           (are_account_and_security_rows_well_formed raw.accounts) (are_charge_and_rate_rows_well_formed raw.rates)
-          (are_trade_and_holding_rows_well_formed raw.trades) (are_summary_and_settlement_rows_well_formed raw.last)
+          (are_trade_and_holding_rows_well_formed raw.trades) (are_summary_history_and_cash_rows_well_formed raw.last)
           (are_later_schema_rows_well_formed raw.later)
-          (DecodesDeskAndCustomerTables desk first raw.first) (DecodesAccountAndSecurityTables accounts raw.accounts)
-          (DecodesChargeAndRateTables rates raw.rates) (DecodesTradeAndHoldingTables trades raw.trades) (DecodesSummaryAndSettlementTables last raw.last)
+          (DecodesDeskBrokerAndCustomerTables desk first raw.first) (DecodesAccountAndSecurityTables accounts raw.accounts)
+          (DecodesChargeAndRateTables rates raw.rates) (DecodesTradeAndHoldingTables trades raw.trades) (DecodesSummaryHistoryAndCashTables last raw.last)
           (DecodesLaterSchemaTables later raw.later) (DecodesSheets desk all raw)
           (are_sheets first accounts rates trades last later desk raw)
           in_first.decoded in_accounts.decoded in_rates.decoded in_trades.decoded in_last.decoded in_later.decoded;
     }
 
-  module _ (step_first : IsTransactionStep {V = DeskAndCustomerSheets} {E = Fault} a b (Ok first) (λ read. ReadsDeskAndCustomerTables desk n0 n1 read))
+  module _ (step_first : IsTransactionStep {V = DeskBrokerAndCustomerSheets} {E = Fault} a b (Ok first) (λ read. ReadsDeskBrokerAndCustomerTables desk n0 n1 read))
       (step_accounts : IsTransactionStep {V = AccountAndSecuritySheets} {E = Fault} b c (Ok accounts) (λ read. ReadsAccountAndSecurityTables n1 n2 read))
       (step_rates : IsTransactionStep {V = ChargeAndRateSheets} {E = Fault} c d (Ok rates) (λ read. ReadsChargeAndRateTables n2 n3 read))
       (step_trades : IsTransactionStep {V = TradeAndHoldingSheets} {E = Fault} d e (Ok trades) (λ read. ReadsTradeAndHoldingTables n3 n4 read))
-      (step_last : IsTransactionStep {V = SummaryAndSettlementSheets} {E = Fault} e f (Ok last) (λ read. ReadsSummaryAndSettlementTables n4 n5 read))
+      (step_last : IsTransactionStep {V = SummaryHistoryAndCashSheets} {E = Fault} e f (Ok last) (λ read. ReadsSummaryHistoryAndCashTables n4 n5 read))
       (step_later : IsTransactionStep {V = LaterSchemaSheets} {E = Fault} f g (Ok later) (λ read. ReadsLaterSchemaTables desk n5 n6 read)) where
     abbrev To2 : AccountAndSecuritySheets → State → State → Type 0
-    To2 read x y = ReadsDeskAndCustomerTables desk n0 n1 first x b × ReadsAccountAndSecurityTables n1 n2 read b y
+    To2 read x y = ReadsDeskBrokerAndCustomerTables desk n0 n1 first x b × ReadsAccountAndSecurityTables n1 n2 read b y
 
     abbrev To3 : ChargeAndRateSheets → State → State → Type 0
     To3 read x y = To2 accounts x c × ReadsChargeAndRateTables n2 n3 read c y
@@ -117,18 +117,18 @@ module _ (desk : Schema) (a b c d e f g : State) (n0 n1 n2 n3 n4 n5 n6 : Bool) (
     abbrev To4 : TradeAndHoldingSheets → State → State → Type 0
     To4 read x y = To3 rates x d × ReadsTradeAndHoldingTables n3 n4 read d y
 
-    abbrev To5 : SummaryAndSettlementSheets → State → State → Type 0
-    To5 read x y = To4 trades x e × ReadsSummaryAndSettlementTables n4 n5 read e y
+    abbrev To5 : SummaryHistoryAndCashSheets → State → State → Type 0
+    To5 read x y = To4 trades x e × ReadsSummaryHistoryAndCashTables n4 n5 read e y
 
     abbrev To6 : LaterSchemaSheets → State → State → Type 0
     To6 read x y = To5 last x f × ReadsLaterSchemaTables desk n5 n6 read f y
 
     pub reads_desk : {V F : Type 0} (v : V) (made : V → State → State → Type 0) → (ReadsAndDecodesDeskTables desk n0 n6 all a g → made v a g) → IsTransactionStep {V = V} {E = F} a g (Ok v) made
     reads_desk {V} {F} v made makes =
-        let p2 = step_then a b c first (Ok accounts) (λ read. ReadsDeskAndCustomerTables desk n0 n1 read) (λ read. ReadsAccountAndSecurityTables n1 n2 read) To2
+        let p2 = step_then a b c first (Ok accounts) (λ read. ReadsDeskBrokerAndCustomerTables desk n0 n1 read) (λ read. ReadsAccountAndSecurityTables n1 n2 read) To2
         (λ read p q. (p, q)) step_first step_accounts in
         let p3 = step_then a c d accounts (Ok rates) To2 (λ read. ReadsChargeAndRateTables n2 n3 read) To3 (λ read p q. (p, q)) p2 step_rates in
         let p4 = step_then a d e rates (Ok trades) To3 (λ read. ReadsTradeAndHoldingTables n3 n4 read) To4 (λ read p q. (p, q)) p3 step_trades in
-        let p5 = step_then a e f trades (Ok last) To4 (λ read. ReadsSummaryAndSettlementTables n4 n5 read) To5 (λ read p q. (p, q)) p4 step_last in
+        let p5 = step_then a e f trades (Ok last) To4 (λ read. ReadsSummaryHistoryAndCashTables n4 n5 read) To5 (λ read p q. (p, q)) p4 step_last in
         let p6 = step_then a f g last (Ok later) To5 (λ read. ReadsLaterSchemaTables desk n5 n6 read) To6 (λ read p q. (p, q)) p5 step_later in
         step_read a g later (Ok v) To6 made (λ w is p. let same : v ≡ w = cc in subst (λ w. made w a g) same (makes (reads_all p.0.0.0.0.0 p.0.0.0.0.1 p.0.0.0.1 p.0.0.1 p.0.1 p.1))) p6

@@ -14,17 +14,17 @@ use Rattle.brk_tables_schema.specs.Desk.{DeskTable, encoded_row, rows_of_table_i
 use Rattle.brk_tables_schema.specs.Desk.{Securities, LastTrades, Charges, Bands, TaxRates, CustomerTaxes, Trades, TradeHistory, Requests, Holdings, Summaries}
 use Rattle.brk_tables_schema.specs.Desk.{HoldingHistory, Settlements, CashRows, CashMoves, SettleRules}
 use Rattle.brk_tables_scan.specs.KeptKeys.{tables_with_whole_kept_rows}
-use Rattle.brk_tables_scan.specs.Decoded.{DecodesSheets, DecodesDeskAndCustomerTables, DecodesAccountAndSecurityTables, DecodesChargeAndRateTables}
-use Rattle.brk_tables_scan.specs.Decoded.{DecodesTradeAndHoldingTables, DecodesSummaryAndSettlementTables, DecodesLaterSchemaTables}
+use Rattle.brk_tables_scan.specs.Decoded.{DecodesSheets, DecodesDeskBrokerAndCustomerTables, DecodesAccountAndSecurityTables, DecodesChargeAndRateTables}
+use Rattle.brk_tables_scan.specs.Decoded.{DecodesTradeAndHoldingTables, DecodesSummaryHistoryAndCashTables, DecodesLaterSchemaTables}
 use Rattle.brk_tables_scan.specs.Raw.{RawSheets, raw_rows_of_table}
-use Rattle.brk_tables_scan.specs.declared.all_tables.DeskAndCustomerSheets.{DeskAndCustomerSheets}
+use Rattle.brk_tables_scan.specs.declared.all_tables.DeskBrokerAndCustomerSheets.{DeskBrokerAndCustomerSheets}
 use Rattle.brk_tables_scan.specs.declared.all_tables.AccountAndSecuritySheets.{AccountAndSecuritySheets}
 use Rattle.brk_tables_scan.specs.declared.all_tables.ChargeAndRateSheets.{ChargeAndRateSheets}
 use Rattle.brk_tables_scan.specs.declared.all_tables.TradeAndHoldingSheets.{TradeAndHoldingSheets}
-use Rattle.brk_tables_scan.specs.declared.all_tables.SummaryAndSettlementSheets.{SummaryAndSettlementSheets}
+use Rattle.brk_tables_scan.specs.declared.all_tables.SummaryHistoryAndCashSheets.{SummaryHistoryAndCashSheets}
 use Rattle.brk_tables_scan.specs.declared.all_tables.LaterSchemaSheets.{LaterSchemaSheets}
 
-module _ (f : DeskAndCustomerSheets) (a : AccountAndSecuritySheets) (r : ChargeAndRateSheets) (t : TradeAndHoldingSheets) (l : SummaryAndSettlementSheets) (n : LaterSchemaSheets) where
+module _ (f : DeskBrokerAndCustomerSheets) (a : AccountAndSecuritySheets) (r : ChargeAndRateSheets) (t : TradeAndHoldingSheets) (l : SummaryHistoryAndCashSheets) (n : LaterSchemaSheets) where
   abbrev pub sheets : Sheets
   sheets = record {
     last = f.last;
@@ -54,10 +54,10 @@ module _ (f : DeskAndCustomerSheets) (a : AccountAndSecuritySheets) (r : ChargeA
     rule = n.rule;
   }
 
-module _ (f : DeskAndCustomerSheets) (a : AccountAndSecuritySheets) (r : ChargeAndRateSheets) (t : TradeAndHoldingSheets) (l : SummaryAndSettlementSheets)
-    (n : LaterSchemaSheets) (desk : Schema) (raw : RawSheets) (is_f : DecodesDeskAndCustomerTables desk f raw.first)
+module _ (f : DeskBrokerAndCustomerSheets) (a : AccountAndSecuritySheets) (r : ChargeAndRateSheets) (t : TradeAndHoldingSheets)
+    (l : SummaryHistoryAndCashSheets) (n : LaterSchemaSheets) (desk : Schema) (raw : RawSheets) (is_f : DecodesDeskBrokerAndCustomerTables desk f raw.first)
     (is_a : DecodesAccountAndSecurityTables a raw.accounts) (is_r : DecodesChargeAndRateTables r raw.rates) (is_t : DecodesTradeAndHoldingTables t raw.trades)
-    (is_l : DecodesSummaryAndSettlementTables l raw.last) (is_n : DecodesLaterSchemaTables n raw.later) where
+    (is_l : DecodesSummaryHistoryAndCashTables l raw.last) (is_n : DecodesLaterSchemaTables n raw.later) where
   each : (w : DeskTable) → map (encoded_row w) (rows_of_table_in_schema desk w (tables_with_whole_kept_rows is_f.kept.0 (sheets f a r t l n))) ≡ raw_rows_of_table raw w
   each TheDesk = is_f.desk
   each KeptRows = map_twice kept_cells abstract_kept_row is_f.kept.0 ∙ is_f.kept.1

@@ -26,21 +26,21 @@ use Rattle.brk_tables_schema.specs.Formed.{settlement_column_cell_checks, cash_c
 use Rattle.brk_tables_schema.specs.Formed.{has_at_most_one_valid_rule_row}
 use Rattle.brk_tables_scan.specs.KeptKeys.{AreKeysOfRawRows, keys_of_kept_rows, tables_with_whole_kept_rows}
 use Rattle.brk_tables_scan.specs.Whole.{ShowsRowsIfInSchema}
-use Rattle.brk_tables_scan.specs.Raw.{DeskAndCustomerRows, AccountAndSecurityRows, ChargeAndRateRows, TradeAndHoldingRows, SummaryAndSettlementRows}
-use Rattle.brk_tables_scan.specs.Raw.{LaterSchemaRows, RawSheets, raw_rows_of_table, IsUnchangedAndOpen, ShowsDeskAndCustomerTables}
-use Rattle.brk_tables_scan.specs.Raw.{ShowsAccountAndSecurityTables, ShowsChargeAndRateTables, ShowsTradeAndHoldingTables}
-use Rattle.brk_tables_scan.specs.Raw.{ShowsSummaryAndSettlementTables, ShowsLaterSchemaTables}
-use Rattle.brk_tables_scan.specs.declared.all_tables.DeskAndCustomerSheets.{DeskAndCustomerSheets}
+use Rattle.brk_tables_scan.specs.Raw.{DeskBrokerAndCustomerRows, AccountAndSecurityRows, ChargeAndRateRows, TradeAndHoldingRows}
+use Rattle.brk_tables_scan.specs.Raw.{SummaryHistoryAndCashRows, LaterSchemaRows, RawSheets, raw_rows_of_table, IsUnchangedAndOpen}
+use Rattle.brk_tables_scan.specs.Raw.{ShowsDeskBrokerAndCustomerTables, ShowsAccountAndSecurityTables, ShowsChargeAndRateTables}
+use Rattle.brk_tables_scan.specs.Raw.{ShowsTradeAndHoldingTables, ShowsSummaryHistoryAndCashTables, ShowsLaterSchemaTables}
+use Rattle.brk_tables_scan.specs.declared.all_tables.DeskBrokerAndCustomerSheets.{DeskBrokerAndCustomerSheets}
 use Rattle.brk_tables_scan.specs.declared.all_tables.AccountAndSecuritySheets.{AccountAndSecuritySheets}
 use Rattle.brk_tables_scan.specs.declared.all_tables.ChargeAndRateSheets.{ChargeAndRateSheets}
 use Rattle.brk_tables_scan.specs.declared.all_tables.TradeAndHoldingSheets.{TradeAndHoldingSheets}
-use Rattle.brk_tables_scan.specs.declared.all_tables.SummaryAndSettlementSheets.{SummaryAndSettlementSheets}
+use Rattle.brk_tables_scan.specs.declared.all_tables.SummaryHistoryAndCashSheets.{SummaryHistoryAndCashSheets}
 use Rattle.brk_tables_scan.specs.declared.all_tables.LaterSchemaSheets.{LaterSchemaSheets}
 
 -- The raw rows of DESK, KEPT, BROKER and CUSTOMER are, in order, the encodings of the typed rows
 -- `sheets`, but for the texts of KEPT. DESK has exactly one row, with the id 1 and the number of
 -- `schema`.
-pub record DecodesDeskAndCustomerTables (schema : Schema) (sheets : DeskAndCustomerSheets) (raw : DeskAndCustomerRows) : Type 0 where
+pub record DecodesDeskBrokerAndCustomerTables (schema : Schema) (sheets : DeskBrokerAndCustomerSheets) (raw : DeskBrokerAndCustomerRows) : Type 0 where
   pub desk : map desk_row_cells (desk_rows schema sheets.last) ≡ raw.desk
   pub kept : AreKeysOfRawRows sheets.kept.items raw.kept
   pub brokers : map (λ r. broker_cells (abstract_broker_row r)) sheets.brokers.items ≡ raw.brokers
@@ -49,8 +49,8 @@ pub record DecodesDeskAndCustomerTables (schema : Schema) (sheets : DeskAndCusto
 -- True if each raw row of DESK, KEPT, BROKER and CUSTOMER has exactly the columns of its table,
 -- each well-formed (`passes_all_cell_checks`), and there is exactly one row of DESK, with the
 -- number of the schema `desk`.
-abbrev pub are_desk_and_customer_rows_well_formed : Schema → DeskAndCustomerRows → Bool
-are_desk_and_customer_rows_well_formed desk raw =
+abbrev pub are_desk_broker_and_customer_rows_well_formed : Schema → DeskBrokerAndCustomerRows → Bool
+are_desk_broker_and_customer_rows_well_formed desk raw =
     has_one_valid_desk_row desk raw.desk && list_all (passes_all_cell_checks kept_column_cell_checks) raw.kept
     && list_all (passes_all_cell_checks broker_column_cell_checks) raw.brokers
     && list_all (passes_all_cell_checks customer_column_cell_checks) raw.customers
@@ -106,7 +106,7 @@ are_trade_and_holding_rows_well_formed raw =
 
 -- The raw rows of HOLDING_SUMMARY, HOLDING_HISTORY, SETTLEMENT and CASH_TRANSACTION are, in order,
 -- the encodings of the typed rows `sheets`.
-pub record DecodesSummaryAndSettlementTables (sheets : SummaryAndSettlementSheets) (raw : SummaryAndSettlementRows) : Type 0 where
+pub record DecodesSummaryHistoryAndCashTables (sheets : SummaryHistoryAndCashSheets) (raw : SummaryHistoryAndCashRows) : Type 0 where
   pub summaries : map (λ r. summary_cells (abstract_summary_row r)) sheets.summaries.items ≡ raw.summaries
   pub holding_history : map (λ r. holding_history_cells (abstract_lot_change_row r)) sheets.holding_history.items ≡ raw.holding_history
   pub settlements : map (λ r. settlement_cells (abstract_settlement_row r)) sheets.settlements.items ≡ raw.settlements
@@ -114,15 +114,16 @@ pub record DecodesSummaryAndSettlementTables (sheets : SummaryAndSettlementSheet
 
 -- True if each raw row of HOLDING_SUMMARY, HOLDING_HISTORY, SETTLEMENT and CASH_TRANSACTION has
 -- exactly the columns of its table, each well-formed (`passes_all_cell_checks`).
-abbrev pub are_summary_and_settlement_rows_well_formed : SummaryAndSettlementRows → Bool
-are_summary_and_settlement_rows_well_formed raw =
+abbrev pub are_summary_history_and_cash_rows_well_formed : SummaryHistoryAndCashRows → Bool
+are_summary_history_and_cash_rows_well_formed raw =
     list_all (passes_all_cell_checks summary_column_cell_checks) raw.summaries
     && list_all (passes_all_cell_checks holding_history_column_cell_checks) raw.holding_history
     && list_all (passes_all_cell_checks settlement_column_cell_checks) raw.settlements
     && list_all (passes_all_cell_checks cash_column_cell_checks) raw.cash
 
 -- The raw rows of CASH_MOVE and SETTLE_RULE are, in order, the encodings of the typed rows
--- `sheets`. SETTLE_RULE has one row if `sheets` has a settlement day, otherwise none.
+-- `sheets`. SETTLE_RULE has one row if `sheets` has a first day of one-day settlement, otherwise
+-- none.
 pub record DecodesLaterSchemaTables (sheets : LaterSchemaSheets) (raw : LaterSchemaRows) : Type 0 where
   pub moves : map (λ r. move_cells (abstract_move_row r)) sheets.moves.items ≡ raw.moves
   pub rule : map rule_cells (rule_rows sheets.rule) ≡ raw.rule
@@ -137,14 +138,15 @@ are_later_schema_rows_well_formed raw = list_all (passes_all_cell_checks move_co
 -- `desk`, and there is at most one row of SETTLE_RULE.
 abbrev pub are_raw_sheets_well_formed : Schema → RawSheets → Bool
 are_raw_sheets_well_formed desk raw =
-    are_desk_and_customer_rows_well_formed desk raw.first && are_account_and_security_rows_well_formed raw.accounts
+    are_desk_broker_and_customer_rows_well_formed desk raw.first && are_account_and_security_rows_well_formed raw.accounts
     && are_charge_and_rate_rows_well_formed raw.rates && are_trade_and_holding_rows_well_formed raw.trades
-    && are_summary_and_settlement_rows_well_formed raw.last && are_later_schema_rows_well_formed raw.later
+    && are_summary_history_and_cash_rows_well_formed raw.last && are_later_schema_rows_well_formed raw.later
 
 -- The raw rows of each table are, in order, the encodings of the typed rows `sheets`. Of KEPT,
 -- `sheets` has the keys alone: the raw rows of KEPT are, in order, the encodings of `whole`, typed
 -- rows with these keys and any texts. DESK has exactly one row, with the id 1 and the number of the
--- schema `desk`. SETTLE_RULE has one row if `sheets` has a settlement day, otherwise none.
+-- schema `desk`. SETTLE_RULE has one row if `sheets` has a first day of one-day settlement,
+-- otherwise none.
 pub record DecodesSheets (desk : Schema) (sheets : Sheets) (raw : RawSheets) : Type 0 where
   pub whole : List typed.Kept
   pub keys : keys_of_kept_rows whole ≡ map abstract_key sheets.kept.items
@@ -170,10 +172,10 @@ pub record ContinuesDecoding (old new are_well_formed : Bool) (Decodes : Type 0)
 -- was false, a row is malformed, or DESK does not have exactly one row, with the number of the
 -- schema `desk`. The clause on the rows of a table is vacuous if the database does not define it as
 -- a desk does.
-pub record ReadsDeskAndCustomerTables (desk : Schema) (old new : Bool) (sheets : DeskAndCustomerSheets) (a b : State) : Type 0 where
-  pub raw : DeskAndCustomerRows
-  pub shown : ShowsDeskAndCustomerTables raw a b
-  pub decoded : ContinuesDecoding old new (are_desk_and_customer_rows_well_formed desk raw) (DecodesDeskAndCustomerTables desk sheets raw)
+pub record ReadsDeskBrokerAndCustomerTables (desk : Schema) (old new : Bool) (sheets : DeskBrokerAndCustomerSheets) (a b : State) : Type 0 where
+  pub raw : DeskBrokerAndCustomerRows
+  pub shown : ShowsDeskBrokerAndCustomerTables raw a b
+  pub decoded : ContinuesDecoding old new (are_desk_broker_and_customer_rows_well_formed desk raw) (DecodesDeskBrokerAndCustomerTables desk sheets raw)
 
 -- The reads, from the state `a` to the state `b`, return all rows of CUSTOMER_ACCOUNT,
 -- ACCOUNT_PERMISSION, SECURITY and LAST_TRADE from an open database (`ShowsAllRows`), and leave the
@@ -214,10 +216,10 @@ pub record ReadsTradeAndHoldingTables (old new : Bool) (sheets : TradeAndHolding
 -- flag `old` before it was true, and the typed rows `sheets` are the decoded rows. If `new` is
 -- false, `old` was false or a row is malformed. The clause on the rows of a table is vacuous if the
 -- database does not define it as a desk does.
-pub record ReadsSummaryAndSettlementTables (old new : Bool) (sheets : SummaryAndSettlementSheets) (a b : State) : Type 0 where
-  pub raw : SummaryAndSettlementRows
-  pub shown : ShowsSummaryAndSettlementTables raw a b
-  pub decoded : ContinuesDecoding old new (are_summary_and_settlement_rows_well_formed raw) (DecodesSummaryAndSettlementTables sheets raw)
+pub record ReadsSummaryHistoryAndCashTables (old new : Bool) (sheets : SummaryHistoryAndCashSheets) (a b : State) : Type 0 where
+  pub raw : SummaryHistoryAndCashRows
+  pub shown : ShowsSummaryHistoryAndCashTables raw a b
+  pub decoded : ContinuesDecoding old new (are_summary_history_and_cash_rows_well_formed raw) (DecodesSummaryHistoryAndCashTables sheets raw)
 
 -- The reads, from the state `a` to the state `b`, return all rows of CASH_MOVE and SETTLE_RULE, or
 -- none of a table that the schema `desk` does not have (`ShowsRowsIfInSchema`), and leave the

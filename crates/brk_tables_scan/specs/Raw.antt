@@ -10,7 +10,7 @@ use Rattle.brk_model.specs.Schemas.{Schema}
 use Rattle.brk_tables_scan.specs.Whole.{ShowsAllRows, ShowsRowsIfInSchema}
 
 -- The raw rows of DESK, KEPT, BROKER and CUSTOMER.
-pub record DeskAndCustomerRows : Type 0 where
+pub record DeskBrokerAndCustomerRows : Type 0 where
   pub desk : List Row
   pub kept : List Row
   pub brokers : List Row
@@ -38,7 +38,7 @@ pub record TradeAndHoldingRows : Type 0 where
   pub holdings : List Row
 
 -- The raw rows of HOLDING_SUMMARY, HOLDING_HISTORY, SETTLEMENT and CASH_TRANSACTION.
-pub record SummaryAndSettlementRows : Type 0 where
+pub record SummaryHistoryAndCashRows : Type 0 where
   pub summaries : List Row
   pub holding_history : List Row
   pub settlements : List Row
@@ -51,11 +51,11 @@ pub record LaterSchemaRows : Type 0 where
 
 -- The raw rows of all tables of a desk.
 pub record RawSheets : Type 0 where
-  pub first : DeskAndCustomerRows
+  pub first : DeskBrokerAndCustomerRows
   pub accounts : AccountAndSecurityRows
   pub rates : ChargeAndRateRows
   pub trades : TradeAndHoldingRows
-  pub last : SummaryAndSettlementRows
+  pub last : SummaryHistoryAndCashRows
   pub later : LaterSchemaRows
 
 -- The database was open in the state `old`, and its contents are unchanged in `new`.
@@ -75,8 +75,8 @@ pub record ShowsFourTables (first second third fourth : DeskTable) (a b c d : Li
 -- The database was open, the reads changed nothing, and the raw rows are all rows of DESK, KEPT,
 -- BROKER and CUSTOMER (`ShowsAllRows`). The clause on a table is vacuous if the database does not
 -- define it as a desk does.
-abbrev pub ShowsDeskAndCustomerTables : DeskAndCustomerRows → State → State → Type 0
-ShowsDeskAndCustomerTables raw = ShowsFourTables TheDesk KeptRows Brokers Customers raw.desk raw.kept raw.brokers raw.customers
+abbrev pub ShowsDeskBrokerAndCustomerTables : DeskBrokerAndCustomerRows → State → State → Type 0
+ShowsDeskBrokerAndCustomerTables raw = ShowsFourTables TheDesk KeptRows Brokers Customers raw.desk raw.kept raw.brokers raw.customers
 
 -- The database was open, the reads changed nothing, and the raw rows are all rows of
 -- CUSTOMER_ACCOUNT, ACCOUNT_PERMISSION, SECURITY and LAST_TRADE (`ShowsAllRows`). The clause on a
@@ -99,8 +99,8 @@ ShowsTradeAndHoldingTables raw = ShowsFourTables Trades TradeHistory Requests Ho
 -- The database was open, the reads changed nothing, and the raw rows are all rows of
 -- HOLDING_SUMMARY, HOLDING_HISTORY, SETTLEMENT and CASH_TRANSACTION (`ShowsAllRows`). The clause on
 -- a table is vacuous if the database does not define it as a desk does.
-abbrev pub ShowsSummaryAndSettlementTables : SummaryAndSettlementRows → State → State → Type 0
-ShowsSummaryAndSettlementTables raw = ShowsFourTables Summaries HoldingHistory Settlements CashRows raw.summaries raw.holding_history raw.settlements raw.cash
+abbrev pub ShowsSummaryHistoryAndCashTables : SummaryHistoryAndCashRows → State → State → Type 0
+ShowsSummaryHistoryAndCashTables raw = ShowsFourTables Summaries HoldingHistory Settlements CashRows raw.summaries raw.holding_history raw.settlements raw.cash
 
 -- The reads changed nothing, and the raw rows are all rows of CASH_MOVE and SETTLE_RULE, or none of
 -- a table that the schema `desk` does not have (`ShowsRowsIfInSchema`). The clause on a table is

@@ -5,16 +5,17 @@ ghost use Rattle.std.specs.Prelude.{◌≡◌, IfErr};
 ghost use Rattle.brk_model.specs.Run.{IsCallFault};
 ghost use Rattle.brk_changes.specs.Schemas.{abstract_schema};
 ghost use Rattle.brk_sql.specs.Model.{IsConnectionStep};
-ghost use Rattle.brk_tables_scan.specs.Decoded.{ReadsDeskAndCustomerTables, ReadsAccountAndSecurityTables, ReadsChargeAndRateTables};
-ghost use Rattle.brk_tables_scan.specs.Decoded.{ReadsTradeAndHoldingTables, ReadsSummaryAndSettlementTables, ReadsLaterSchemaTables};
+ghost use Rattle.brk_tables_scan.specs.Decoded.{ReadsDeskBrokerAndCustomerTables, ReadsAccountAndSecurityTables, ReadsChargeAndRateTables};
+ghost use Rattle.brk_tables_scan.specs.Decoded.{ReadsTradeAndHoldingTables, ReadsSummaryHistoryAndCashTables, ReadsLaterSchemaTables};
 ghost use Rattle.brk_tables_scan.specs.Decoded.{ReadsAndDecodesDeskTables};
 
 use crate::decoder::Decoder;
 use crate::rows::{
-    account_rows, band_rows, broker_rows, cash_move_rows_in_schema, cash_transaction_rows,
-    charge_rows, customer_rows, customer_tax_rows, desk_rows, history_rows, holding_history_rows,
-    holding_rows, kept_rows, last_trade_rows, permission_rows, request_rows, security_rows,
-    settle_rule_rows_in_schema, settlement_rows, summary_rows, tax_rate_rows, trade_rows,
+    account_rows, broker_rows, cash_move_rows_in_schema, cash_transaction_rows, charge_rows,
+    commission_rate_rows, customer_rows, customer_tax_rows, desk_rows, holding_history_rows,
+    holding_rows, holding_summary_rows, kept_rows, last_trade_rows, permission_rows, security_rows,
+    settle_rule_rows_in_schema, settlement_rows, tax_rate_rows, trade_history_rows,
+    trade_request_rows, trade_rows,
 };
 use brk_changes::{
     CashRow, HistoryRow, HoldingRow, LotChange, MoveRow, RequestRow, Schema, SettlementRow, Sheets,
@@ -30,7 +31,7 @@ use std::alloc::Global;
 
 /// The typed rows of DESK, KEPT, BROKER and CUSTOMER.
 #[derive(Drop)]
-pub struct DeskAndCustomerSheets {
+pub struct DeskBrokerAndCustomerSheets {
     last: Option<Stamp>,
     kept: Vec<Key>,
     brokers: Vec<BrokerRow>,
@@ -42,22 +43,22 @@ pub struct DeskAndCustomerSheets {
 // malformed row, or DESK not exactly one row with the number of `schema`, sets `are_well_formed` of
 // the decoder to false and returns no value of this table. If the function returns a value, the
 // database was open and is unchanged. Fails with `Memory` or `Store` only.
-fn read_desk_and_customer_tables<S: Alter>(
+fn read_desk_broker_and_customer_tables<S: Alter>(
     tx: &mut Transaction<'_, S>,
     alloc: Global,
     schema: Schema,
     decoder: &mut Decoder,
-) -> Result<DeskAndCustomerSheets, Fault>
+) -> Result<DeskBrokerAndCustomerSheets, Fault>
     ensures same_reference { tx.new.conn.ghost_name ≡ tx.old.conn.ghost_name }
     ensures step { IsConnectionStep S.Store tx.old tx.new result
-        (λ sheets. ReadsDeskAndCustomerTables (abstract_schema schema) decoder.old.are_well_formed decoder.new.are_well_formed sheets) }
+        (λ sheets. ReadsDeskBrokerAndCustomerTables (abstract_schema schema) decoder.old.are_well_formed decoder.new.are_well_formed sheets) }
     ensures fault { IfErr result IsCallFault }
 {
     let last = decoder.decode_last_stamp(schema, desk_rows(tx)?)?;
     let kept = decoder.decode_kept_keys(alloc, kept_rows(tx)?)?;
-    let brokers = decoder.decode_read(alloc, broker_rows(tx))?;
-    let customers = decoder.decode_read(alloc, customer_rows(tx))?;
-    Ok(DeskAndCustomerSheets {
+    let brokers = decoder.decode_read_result(alloc, broker_rows(tx))?;
+    let customers = decoder.decode_read_result(alloc, customer_rows(tx))?;
+    Ok(DeskBrokerAndCustomerSheets {
         last,
         kept,
         brokers,
@@ -88,10 +89,10 @@ fn read_account_and_security_tables<S: Alter>(
         (λ sheets. ReadsAccountAndSecurityTables decoder.old.are_well_formed decoder.new.are_well_formed sheets) }
     ensures fault { IfErr result IsCallFault }
 {
-    let accounts = decoder.decode_read(alloc, account_rows(tx))?;
-    let permissions = decoder.decode_read(alloc, permission_rows(tx))?;
-    let securities = decoder.decode_read(alloc, security_rows(tx))?;
-    let last_trades = decoder.decode_read(alloc, last_trade_rows(tx))?;
+    let accounts = decoder.decode_read_result(alloc, account_rows(tx))?;
+    let permissions = decoder.decode_read_result(alloc, permission_rows(tx))?;
+    let securities = decoder.decode_read_result(alloc, security_rows(tx))?;
+    let last_trades = decoder.decode_read_result(alloc, last_trade_rows(tx))?;
     Ok(AccountAndSecuritySheets {
         accounts,
         permissions,
@@ -123,10 +124,10 @@ fn read_charge_and_rate_tables<S: Alter>(
         (λ sheets. ReadsChargeAndRateTables decoder.old.are_well_formed decoder.new.are_well_formed sheets) }
     ensures fault { IfErr result IsCallFault }
 {
-    let charges = decoder.decode_read(alloc, charge_rows(tx))?;
-    let bands = decoder.decode_read(alloc, band_rows(tx))?;
-    let tax_rates = decoder.decode_read(alloc, tax_rate_rows(tx))?;
-    let customer_taxes = decoder.decode_read(alloc, customer_tax_rows(tx))?;
+    let charges = decoder.decode_read_result(alloc, charge_rows(tx))?;
+    let bands = decoder.decode_read_result(alloc, commission_rate_rows(tx))?;
+    let tax_rates = decoder.decode_read_result(alloc, tax_rate_rows(tx))?;
+    let customer_taxes = decoder.decode_read_result(alloc, customer_tax_rows(tx))?;
     Ok(ChargeAndRateSheets {
         charges,
         bands,
@@ -158,10 +159,10 @@ fn read_trade_and_holding_tables<S: Alter>(
         (λ sheets. ReadsTradeAndHoldingTables decoder.old.are_well_formed decoder.new.are_well_formed sheets) }
     ensures fault { IfErr result IsCallFault }
 {
-    let trades = decoder.decode_read(alloc, trade_rows(tx))?;
-    let history = decoder.decode_read(alloc, history_rows(tx))?;
-    let requests = decoder.decode_read(alloc, request_rows(tx))?;
-    let holdings = decoder.decode_read(alloc, holding_rows(tx))?;
+    let trades = decoder.decode_read_result(alloc, trade_rows(tx))?;
+    let history = decoder.decode_read_result(alloc, trade_history_rows(tx))?;
+    let requests = decoder.decode_read_result(alloc, trade_request_rows(tx))?;
+    let holdings = decoder.decode_read_result(alloc, holding_rows(tx))?;
     Ok(TradeAndHoldingSheets {
         trades,
         history,
@@ -172,7 +173,7 @@ fn read_trade_and_holding_tables<S: Alter>(
 
 /// The typed rows of HOLDING_SUMMARY, HOLDING_HISTORY, SETTLEMENT and CASH_TRANSACTION.
 #[derive(Drop)]
-pub struct SummaryAndSettlementSheets {
+pub struct SummaryHistoryAndCashSheets {
     summaries: Vec<SummaryRow>,
     holding_history: Vec<LotChange>,
     settlements: Vec<SettlementRow>,
@@ -183,21 +184,21 @@ pub struct SummaryAndSettlementSheets {
 // each list sorted by key, ascending. If a table has a malformed row, sets `are_well_formed` of the
 // decoder to false and returns no rows of this table. If the function returns a value, the database
 // was open and is unchanged. Fails with `Memory` or `Store` only.
-fn read_summary_and_settlement_tables<S: Alter>(
+fn read_summary_history_and_cash_tables<S: Alter>(
     tx: &mut Transaction<'_, S>,
     alloc: Global,
     decoder: &mut Decoder,
-) -> Result<SummaryAndSettlementSheets, Fault>
+) -> Result<SummaryHistoryAndCashSheets, Fault>
     ensures same_reference { tx.new.conn.ghost_name ≡ tx.old.conn.ghost_name }
     ensures step { IsConnectionStep S.Store tx.old tx.new result
-        (λ sheets. ReadsSummaryAndSettlementTables decoder.old.are_well_formed decoder.new.are_well_formed sheets) }
+        (λ sheets. ReadsSummaryHistoryAndCashTables decoder.old.are_well_formed decoder.new.are_well_formed sheets) }
     ensures fault { IfErr result IsCallFault }
 {
-    let summaries = decoder.decode_read(alloc, summary_rows(tx))?;
-    let holding_history = decoder.decode_read(alloc, holding_history_rows(tx))?;
-    let settlements = decoder.decode_read(alloc, settlement_rows(tx))?;
-    let cash = decoder.decode_read(alloc, cash_transaction_rows(tx))?;
-    Ok(SummaryAndSettlementSheets {
+    let summaries = decoder.decode_read_result(alloc, holding_summary_rows(tx))?;
+    let holding_history = decoder.decode_read_result(alloc, holding_history_rows(tx))?;
+    let settlements = decoder.decode_read_result(alloc, settlement_rows(tx))?;
+    let cash = decoder.decode_read_result(alloc, cash_transaction_rows(tx))?;
+    Ok(SummaryHistoryAndCashSheets {
         summaries,
         holding_history,
         settlements,
@@ -228,8 +229,10 @@ fn read_later_schema_tables<S: Alter>(
         (λ sheets. ReadsLaterSchemaTables (abstract_schema schema) decoder.old.are_well_formed decoder.new.are_well_formed sheets) }
     ensures fault { IfErr result IsCallFault }
 {
-    let moves = decoder.decode_read(alloc, cash_move_rows_in_schema(tx, alloc, schema))?;
-    let rule = decoder.decode_settlement_day(settle_rule_rows_in_schema(tx, alloc, schema)?)?;
+    let moves = decoder.decode_read_result(alloc, cash_move_rows_in_schema(tx, alloc, schema))?;
+    let rule = decoder.decode_one_day_settlement_start(settle_rule_rows_in_schema(
+        tx, alloc, schema,
+    )?)?;
     Ok(LaterSchemaSheets { moves, rule })
 }
 
@@ -251,11 +254,11 @@ pub(crate) fn read_all_tables<S: Alter>(
         (λ sheets. ReadsAndDecodesDeskTables (abstract_schema schema) decoder.old.are_well_formed decoder.new.are_well_formed sheets) }
     ensures fault { IfErr result IsCallFault }
 {
-    let first = read_desk_and_customer_tables(tx, alloc, schema, decoder)?;
+    let first = read_desk_broker_and_customer_tables(tx, alloc, schema, decoder)?;
     let accounts = read_account_and_security_tables(tx, alloc, decoder)?;
     let rates = read_charge_and_rate_tables(tx, alloc, decoder)?;
     let trades = read_trade_and_holding_tables(tx, alloc, decoder)?;
-    let last = read_summary_and_settlement_tables(tx, alloc, decoder)?;
+    let last = read_summary_history_and_cash_tables(tx, alloc, decoder)?;
     let later = read_later_schema_tables(tx, alloc, schema, decoder)?;
     Ok(Sheets {
         last: first.last,

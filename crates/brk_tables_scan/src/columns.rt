@@ -19,7 +19,7 @@ use sqlite::{Alter, Transaction};
 // heading, in order, or if there are no headings. Checks the headings one after the other until one
 // does not match. If the function returns a value, the database is unchanged. Fails with `Store`
 // only, also if a checked statement does not compile, for example because its table does not exist.
-fn each_heading_matches<S: Alter>(
+fn each_statement_has_columns<S: Alter>(
     tx: &mut Transaction<'_, S>,
     headings: &[(&str, &[&str])],
 ) -> Result<bool, Fault>
@@ -58,7 +58,7 @@ fn tables_have_columns<S: Alter>(tx: &mut Transaction<'_, S>, schema: Schema) ->
         × IsHeadingCheckOutcome (map heading_of_table (tables_in_schema (abstract_schema schema))) has a.now.schema) }
     ensures fault { OnErr result (result ≡ Err Store) }
 {
-    each_heading_matches(tx, &COLUMNS_OF_ALL_TABLES[..table_count(schema)])
+    each_statement_has_columns(tx, &COLUMNS_OF_ALL_TABLES[..table_count(schema)])
 }
 
 /// Returns true if each table of `schema` exists by name, with exactly its column names, in order,

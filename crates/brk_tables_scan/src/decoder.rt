@@ -19,7 +19,7 @@ use brk_ref::{Kept, Key};
 use brk_tables_schema::DecodeError;
 use brk_tables_schema::desk_row::last_stamp_in_desk_rows;
 use brk_tables_schema::record::Record;
-use brk_tables_schema::rule_row::settlement_day_in_rule_rows;
+use brk_tables_schema::rule_row::one_day_settlement_start_in_rule_rows;
 use sqlite::Row;
 use std::alloc::Global;
 
@@ -104,7 +104,7 @@ impl Decoder {
     /// Returns the decoded rows of a table, whose raw rows `read` contains, in order. If a row is
     /// malformed, sets `are_well_formed` to false and returns no records (`decode`). Fails with the
     /// fault in `read`, if `read` is an error, or with `Memory`.
-    pub(crate) fn decode_read<R: Record>(
+    pub(crate) fn decode_read_result<R: Record>(
         &mut self,
         alloc: Global,
         read: Result<Vec<Row>, Fault>,
@@ -168,13 +168,16 @@ impl Decoder {
     /// SETTLE_RULE, or `None` if there is no row. If there are two rows or more, or if the row is
     /// malformed or has another id than 1, sets `are_well_formed` to false and returns `None`.
     /// Fails with `Memory` only.
-    pub(crate) fn decode_settlement_day(&mut self, rows: Vec<Row>) -> Result<Option<Day>, Fault>
+    pub(crate) fn decode_one_day_settlement_start(
+        &mut self,
+        rows: Vec<Row>,
+    ) -> Result<Option<Day>, Fault>
         ensures decoding { IfOk result (λ day. ContinuesDecoding self.old.are_well_formed self.new.are_well_formed
             (has_at_most_one_valid_rule_row rows.items)
             (map rule_cells (rule_rows day) ≡ rows.items)) }
         ensures fault { OnErr result (result ≡ Err Memory) }
     {
-        match settlement_day_in_rule_rows(&rows) {
+        match one_day_settlement_start_in_rule_rows(&rows) {
             Ok(day) => Ok(day),
             Err(DecodeError::Form) => {
                 self.are_well_formed = false;

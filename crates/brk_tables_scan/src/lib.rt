@@ -19,4 +19,4 @@ pub mod sheets;
 
 pub use presence::has_some_desk_table;
 pub use schema::database_has_schema;
-pub use sheets::read_sheets;
+pub use sheets::read_typed_rows_of_schema;

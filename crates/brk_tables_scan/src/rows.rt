@@ -146,7 +146,7 @@ pub fn charge_rows<S: Alter>(tx: &mut Transaction<'_, S>) -> Result<Vec<Row>, Fa
 
 /// Returns all rows of COMMISSION_RATE, sorted by key, ascending. If the function returns a value,
 /// the database was open and is unchanged. Fails with `Store` only.
-pub fn band_rows<S: Alter>(tx: &mut Transaction<'_, S>) -> Result<Vec<Row>, Fault>
+pub fn commission_rate_rows<S: Alter>(tx: &mut Transaction<'_, S>) -> Result<Vec<Row>, Fault>
     ensures same_reference { tx.new.conn.ghost_name ≡ tx.old.conn.ghost_name }
     ensures step { ReadsAllRows S.Store tx.old tx.new result Bands }
     ensures fault { OnErr result (result ≡ Err Store) }
@@ -205,7 +205,7 @@ pub fn trade_rows<S: Alter>(tx: &mut Transaction<'_, S>) -> Result<Vec<Row>, Fau
 
 /// Returns all rows of TRADE_HISTORY, sorted by key, ascending. If the function returns a value,
 /// the database was open and is unchanged. Fails with `Store` only.
-pub fn history_rows<S: Alter>(tx: &mut Transaction<'_, S>) -> Result<Vec<Row>, Fault>
+pub fn trade_history_rows<S: Alter>(tx: &mut Transaction<'_, S>) -> Result<Vec<Row>, Fault>
     ensures same_reference { tx.new.conn.ghost_name ≡ tx.old.conn.ghost_name }
     ensures step { ReadsAllRows S.Store tx.old tx.new result TradeHistory }
     ensures fault { OnErr result (result ≡ Err Store) }
@@ -219,7 +219,7 @@ pub fn history_rows<S: Alter>(tx: &mut Transaction<'_, S>) -> Result<Vec<Row>, F
 
 /// Returns all rows of TRADE_REQUEST, sorted by key, ascending. If the function returns a value,
 /// the database was open and is unchanged. Fails with `Store` only.
-pub fn request_rows<S: Alter>(tx: &mut Transaction<'_, S>) -> Result<Vec<Row>, Fault>
+pub fn trade_request_rows<S: Alter>(tx: &mut Transaction<'_, S>) -> Result<Vec<Row>, Fault>
     ensures same_reference { tx.new.conn.ghost_name ≡ tx.old.conn.ghost_name }
     ensures step { ReadsAllRows S.Store tx.old tx.new result Requests }
     ensures fault { OnErr result (result ≡ Err Store) }
@@ -248,7 +248,7 @@ pub fn holding_rows<S: Alter>(tx: &mut Transaction<'_, S>) -> Result<Vec<Row>, F
 
 /// Returns all rows of HOLDING_SUMMARY, sorted by key, ascending. If the function returns a value,
 /// the database was open and is unchanged. Fails with `Store` only.
-pub fn summary_rows<S: Alter>(tx: &mut Transaction<'_, S>) -> Result<Vec<Row>, Fault>
+pub fn holding_summary_rows<S: Alter>(tx: &mut Transaction<'_, S>) -> Result<Vec<Row>, Fault>
     ensures same_reference { tx.new.conn.ghost_name ≡ tx.old.conn.ghost_name }
     ensures step { ReadsAllRows S.Store tx.old tx.new result Summaries }
     ensures fault { OnErr result (result ≡ Err Store) }

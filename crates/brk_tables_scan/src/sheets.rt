@@ -20,7 +20,7 @@ use std::alloc::Global;
 ///
 /// Fails with `Memory` or `Store` only. The result is specified only if the database has the schema
 /// `schema` (`database_has_schema`) and its tables are defined as a desk defines them.
-pub fn read_sheets<S: Alter>(
+pub fn read_typed_rows_of_schema<S: Alter>(
     tx: &mut Transaction<'_, S>,
     alloc: Global,
     schema: Schema,

@@ -16,8 +16,8 @@ pub record DeskRow : Type 0 where
   pub schema : ℕ
   pub last : Option ℕ
 
--- A row of SETTLE_RULE: its id (SR_ID), and the settlement day, the first day whose completions
--- settle after one day, in days since 1970-01-01 (SR_DAY).
+-- A row of SETTLE_RULE: its id (SR_ID), and the first day of one-day settlement, in days since
+-- 1970-01-01 (SR_DAY).
 pub record RuleRow : Type 0 where
   pub id : ℕ
   pub day : ℕ

@@ -57,9 +57,8 @@ desk_rows schema last = record { id = 1; schema = schema.number; last = last } �
 abbrev pub desk_key : DeskRow → List KeyPart
 desk_key r = number r.id ∷ []
 
--- The rows of SETTLE_RULE: one row with the id 1 and the settlement day (the first day whose
--- completions settle after one day, in days since 1970-01-01), or no row if the parameter is
--- `None`, since this day is not set.
+-- The rows of SETTLE_RULE: one row with the id 1 and the first day of one-day settlement, in days
+-- since 1970-01-01, or no row if the parameter is `None`, since this day is not set.
 abbrev pub rule_rows : Option ℕ → List RuleRow
 rule_rows None = []
 rule_rows (Some day) = record { id = 1; day = day } ∷ []

@@ -62,7 +62,7 @@ pub fn last_stamp_in_desk_rows(schema: Schema, rows: &[Row]) -> Result<Option<St
 // Decodes the stamp of the last accepted command from all rows of DESK, or returns `None` if the
 // row has no stamp. Fails with `Store` only, if there is not exactly one row, well-formed, with the
 // id 1 and the number of schema 3, or if memory runs out.
-fn last_stamp_in_third_schema_rows(rows: &[Row]) -> Result<Option<Stamp>, Fault>
+fn last_stamp_in_third_schema_desk_rows(rows: &[Row]) -> Result<Option<Stamp>, Fault>
     ensures value { IfOk result (λ last. map desk_row_cells (desk_rows third_schema last) ≡ rows.now) }
     ensures fault { OnErr result (result ≡ Err Store) }
 {
@@ -83,5 +83,5 @@ pub fn last_stamp<S: Alter>(tx: &mut Transaction<'_, S>) -> Result<Option<Stamp>
         "SELECT D_ID, D_SCHEMA, D_LAST FROM DESK ORDER BY D_ID",
         &[],
     )?;
-    last_stamp_in_third_schema_rows(&rows)
+    last_stamp_in_third_schema_desk_rows(&rows)
 }

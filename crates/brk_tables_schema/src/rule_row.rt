@@ -11,10 +11,10 @@ use crate::decode_error::DecodeError;
 use brk_money::Day;
 use sqlite::Row;
 
-// Decodes the settlement day, the first day whose completed trades settle after one day, in days
+// Decodes the first day of one-day settlement, in days
 // since 1970-01-01, from a row of SETTLE_RULE. Fails with `Form`, only if the row is malformed or
 // has another id than 1, or with `Memory`.
-fn settlement_day_in_rule_row(row: &Row) -> Result<Day, DecodeError>
+fn one_day_settlement_start_in_rule_row(row: &Row) -> Result<Day, DecodeError>
     ensures value { IfOk result (λ day. map rule_cells (rule_rows (Some day)) ≡ row.now ∷ []) }
     ensures form { result ≡ Err Formless → passes_all_cell_checks rule_column_cell_checks row.now ≡ false }
 {
@@ -25,17 +25,17 @@ fn settlement_day_in_rule_row(row: &Row) -> Result<Day, DecodeError>
     day_in_column(row, 1)
 }
 
-/// Decodes the settlement day, the first day whose completed trades settle after one day, in days
+/// Decodes the first day of one-day settlement, in days
 /// since 1970-01-01, from all rows of SETTLE_RULE, or returns `None` if there is no row. Fails with
 /// `Form`, only if there are two rows or more, or if the row is malformed or has another id than 1,
 /// or with `Memory`.
-pub fn settlement_day_in_rule_rows(rows: &[Row]) -> Result<Option<Day>, DecodeError>
+pub fn one_day_settlement_start_in_rule_rows(rows: &[Row]) -> Result<Option<Day>, DecodeError>
     ensures value { IfOk result (λ day. map rule_cells (rule_rows day) ≡ rows.now) }
     ensures form { result ≡ Err Formless → has_at_most_one_valid_rule_row rows.now ≡ false }
 {
     match rows {
         [] => Ok(None),
-        [row] => Ok(Some(settlement_day_in_rule_row(row)?)),
+        [row] => Ok(Some(one_day_settlement_start_in_rule_row(row)?)),
         _ => Err(DecodeError::Form),
     }
 }

@@ -99,9 +99,9 @@ pub fn expect_batch_fault(
 /// Executes `batch`, the whole batch of `ROWS`, on a desk that has accepted its first `booked` rows
 /// before. Checks that the batch completes, that these rows have their stored replies and the
 /// others are accepted with the replies `LINES`, and that the tables after the batch are `TABLES`,
-/// those after one execution, and the reference tables those of `SET`. Fails with `name` if not,
-/// and without it if the batch writes bytes that are not UTF-8 or if the tables cannot be read.
-/// Fails also if memory runs out, with or without `name`.
+/// as after one execution, and the reference tables as after the batch `SET`. Fails with `name` if
+/// not, and without it if the batch writes bytes that are not UTF-8 or if the tables cannot be
+/// read. Fails also if memory runs out, with or without `name`.
 pub fn expect_completed_batch<S: Alter + Drop>(
     alloc: Global,
     mut desk: Desk<S>,
@@ -166,7 +166,7 @@ fn expect_batch_read_faults(alloc: Global, batch: &str) -> Result<(), Fail> {
 /// Checks, for each byte of a batch before which the reader fails or is interrupted, that the batch
 /// fails with `Read` after exactly the lines of the decided rows, and that its retry completes.
 /// Fails if not, and if memory runs out.
-pub fn batch_readers_failing_at_each_byte(alloc: Global) -> Result<(), Fail> {
+pub fn a_batch_can_be_retried_after_a_read_fault(alloc: Global) -> Result<(), Fail> {
     let batch = format_batch(alloc, &ROWS)?;
     expect_batch_read_faults(alloc, batch.as_str())
 }
@@ -215,7 +215,7 @@ fn expect_batch_write_faults(alloc: Global, batch: &str, lines: &str) -> Result<
 /// Checks, for each byte of the lines of a batch at which the writer fails, is interrupted or
 /// accepts no byte, that the batch fails with `Write`, that exactly the bytes before are written,
 /// and that its retry completes. Fails if not, and if memory runs out.
-pub fn batch_writers_failing_at_each_byte(alloc: Global) -> Result<(), Fail> {
+pub fn a_batch_can_be_retried_after_a_write_fault(alloc: Global) -> Result<(), Fail> {
     let batch = format_batch(alloc, &ROWS)?;
     let lines = all_lines_of_retry(alloc, 0)?;
     expect_batch_write_faults(alloc, batch.as_str(), lines.as_str())

@@ -25,29 +25,27 @@ use std::test::Fail;
 /// name, and otherwise the result of the test.
 pub fn run_test(alloc: Global, name: &str) -> Option<Result<(), Fail>> {
     let tested = match name {
-        "batch_readers_failing_at_each_byte" => cuts::batch_readers_failing_at_each_byte(alloc),
-        "batch_writers_failing_at_each_byte" => cuts::batch_writers_failing_at_each_byte(alloc),
-        "statements_over_a_failing_disk" => files::statements::statements_over_a_failing_disk(
+        "a_batch_can_be_retried_after_a_read_fault" =>
+            cuts::a_batch_can_be_retried_after_a_read_fault(alloc),
+        "a_batch_can_be_retried_after_a_write_fault" =>
+            cuts::a_batch_can_be_retried_after_a_write_fault(alloc),
+        "a_failing_disk_leaves_whole_statement_lines" =>
+            files::statements::a_failing_disk_leaves_whole_statement_lines(alloc),
+        "desk_creation_recovers_from_crashes" => files::stops::desk_creation_recovers_from_crashes(
             alloc,
         ),
-        "crashes_while_a_store_is_created" => files::stops::crashes_while_a_store_is_created(alloc),
-        "crashes_while_a_batch_is_executed" => files::stops::crashes_while_a_batch_is_executed(
-            alloc,
-        ),
-        "crashes_while_schema_1_is_upgraded" => files::stops::crashes_while_schema_1_is_upgraded(
-            alloc,
-        ),
-        "crashes_while_schema_2_is_upgraded" => files::stops::crashes_while_schema_2_is_upgraded(
-            alloc,
-        ),
+        "batch_execution_recovers_from_crashes" =>
+            files::stops::batch_execution_recovers_from_crashes(alloc),
+        "upgrade_from_schema_1_recovers_from_crashes" =>
+            files::stops::upgrade_from_schema_1_recovers_from_crashes(alloc),
+        "upgrade_from_schema_2_recovers_from_crashes" =>
+            files::stops::upgrade_from_schema_2_recovers_from_crashes(alloc),
         "desks_in_files_can_be_reopened" => files::stops::desks_in_files_can_be_reopened(alloc),
-        "streams_cut_at_each_byte" => http::cuts::streams_cut_at_each_byte(alloc),
-        "stream_readers_failing_at_each_byte" => http::cuts::stream_readers_failing_at_each_byte(
-            alloc,
-        ),
-        "stream_writers_failing_at_each_byte" => http::cuts::stream_writers_failing_at_each_byte(
-            alloc,
-        ),
+        "a_cut_request_gets_the_reply_400" => http::cuts::a_cut_request_gets_the_reply_400(alloc),
+        "a_stream_can_be_retried_after_a_read_fault" =>
+            http::cuts::a_stream_can_be_retried_after_a_read_fault(alloc),
+        "a_stream_can_be_retried_after_a_write_fault" =>
+            http::cuts::a_stream_can_be_retried_after_a_write_fault(alloc),
         "streams_in_pieces_get_the_same_replies" =>
             http::streams::streams_in_pieces_get_the_same_replies(alloc),
         "a_head_has_at_most_16_384_bytes" => http::streams::a_head_has_at_most_16_384_bytes(alloc),
@@ -67,8 +65,7 @@ pub fn run_test(alloc: Global, name: &str) -> Option<Result<(), Fail>> {
         "a_run_answers_queries" => runs::a_run_answers_queries(alloc),
         "a_batch_equals_one_run_of_its_calls" => runs::a_batch_equals_one_run_of_its_calls(alloc),
         "wide_amounts_are_printed_whole" => statements::wide_amounts_are_printed_whole(alloc),
-        "statement_writers_failing_at_each_byte" =>
-            statements::statement_writers_failing_at_each_byte(alloc),
+        "a_failed_write_ends_the_statement" => statements::a_failed_write_ends_the_statement(alloc),
         "walks_cash_rows_in_order_of_stamps" => statements::walks_cash_rows_in_order_of_stamps(
             alloc,
         ),

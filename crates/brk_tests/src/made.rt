@@ -46,7 +46,7 @@ pub fn a_second_creation_fails(alloc: Global) -> Result<(), Fail> {
 
 // Returns the number of rows of the table FIRST whose column B is 1. Fails if they cannot be
 // counted.
-fn count_rows_of_first<S: Alter>(conn: &mut Connection<S>) -> Result<i64, Fail> {
+fn count_rows_of_other_table<S: Alter>(conn: &mut Connection<S>) -> Result<i64, Fail> {
     Ok(
         conn.query_row("SELECT count(*) FROM FIRST WHERE B = 1", &[])?
             .get(0)?,
@@ -57,7 +57,7 @@ fn count_rows_of_first<S: Alter>(conn: &mut Connection<S>) -> Result<i64, Fail> 
 // then the tables of a store in the database of a connection. Returns the number of rows of FIRST
 // whose column B is 1 after the creation. Fails without a connection, if the table, the view or the
 // store cannot be created, and if the rows cannot be counted.
-fn row_count_of_first_after_creation<S: Alter + Drop>(
+fn row_count_of_other_table_after_creation<S: Alter + Drop>(
     conn: Option<Connection<S>>,
 ) -> Result<i64, Fail> {
     let mut conn = expect_connection(conn)?;
@@ -65,13 +65,13 @@ fn row_count_of_first_after_creation<S: Alter + Drop>(
         "CREATE TABLE FIRST (A TEXT UNIQUE, B INTEGER); INSERT INTO FIRST VALUES ('x', 1); CREATE VIEW SEEN AS SELECT A FROM FIRST",
     )?;
     let mut conn = connection_after_creation(conn)?;
-    count_rows_of_first(&mut conn)
+    count_rows_of_other_table(&mut conn)
 }
 
 /// Checks that, after the creation of a store, another table of the database still has exactly one
 /// row whose column B is 1, as before.
 pub fn creation_preserves_other_tables(alloc: Global) -> Result<(), Fail> {
-    let count = row_count_of_first_after_creation(open_in_memory(alloc))?;
+    let count = row_count_of_other_table_after_creation(open_in_memory(alloc))?;
     expect(count == 1, "other rows")
 }
 

@@ -8,7 +8,7 @@ use crate::files::machine::{
     Held, MachineCrash, Sent, files_with_reference_data, options_with_cached_pages,
     perform_job_until_crash, run_batch_until_crash,
 };
-use crate::worked::{FIRST_MOMENT, append_end, append_purchase};
+use crate::worked::{FIRST_MOMENT, append_end_record, append_purchase};
 use brk_import::brk_desk::brk_store::Store;
 use brk_lots::{LotSource, close};
 use brk_money::{Id, Price, Qty, Side, Stamp};
@@ -27,7 +27,7 @@ fn batch_of_purchases_of_one_share(alloc: Global) -> Result<String, Fail> {
     for n in 1..=LOTS {
         append_purchase(&mut batch, 100, 1, n)?;
     }
-    append_end(&mut batch, 2 * LOTS)?;
+    append_end_record(&mut batch, 2 * LOTS)?;
     Ok(batch)
 }
 
@@ -137,7 +137,7 @@ fn batch_of_purchases_of_two_shares(alloc: Global) -> Result<String, Fail> {
         append_purchase(&mut batch, 100, 2, n)?;
     }
     append_purchase(&mut batch, 101, 2, LOTS_AT_DESK + 1)?;
-    append_end(&mut batch, 2 * LOTS_AT_DESK + 3)?;
+    append_end_record(&mut batch, 2 * LOTS_AT_DESK + 3)?;
     Ok(batch)
 }
 
@@ -183,7 +183,7 @@ fn is_sale_complete_within_calls(
     let Sent { seen, .. } = perform_job_until_crash(
         alloc,
         held,
-        MachineCrash::of_database_after(calls),
+        MachineCrash::after_database_calls(calls),
         options_with_cached_pages(1),
         Job::Desk(Task::Batch),
         batch.as_bytes(),

@@ -2,7 +2,7 @@
 
 use crate::desks::{desk_with_reference_data, expect, new_desk, open_in_memory, run_batch_at_desk};
 use crate::row_calls::{parse_keyed_row_call, parse_query_call, parse_row_call, split_fields};
-use crate::worked::append_end;
+use crate::worked::append_end_record;
 use brk_import::brk_desk::brk_store::Store;
 use brk_import::brk_desk::{Answer, Call, Desk, Outcome, line_text};
 use brk_import::{BatchFault, Counts};
@@ -163,7 +163,7 @@ fn format_batch_of_rows(alloc: Global, rows: &[String]) -> Result<String, Fail> 
         batch.push_str(row.as_str())?;
         batch.push_str("\n")?;
     }
-    append_end(&mut batch, rows.len() as u64)?;
+    append_end_record(&mut batch, rows.len() as u64)?;
     Ok(batch)
 }
 
@@ -173,7 +173,7 @@ fn format_batch_of_rows(alloc: Global, rows: &[String]) -> Result<String, Fail> 
 fn expect_totals_after_trades<S: Alter>(alloc: Global, store: &mut Store<S>) -> Result<(), Fail> {
     let account = Id::new(100).ok_or("account")?;
     let broker = Id::new(1).ok_or("broker")?;
-    let summaries = store.summaries_of_account(alloc, account)?;
+    let summaries = store.holding_summaries_of_account(alloc, account)?;
     let summary = summaries.first().ok_or("no summary")?;
     expect(summaries.len() == 1 && summary.qty == 42_084, "the summary")?;
     match store.broker_totals(broker)? {

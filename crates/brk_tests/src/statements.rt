@@ -164,7 +164,7 @@ fn expect_each_statement_write_fault<S: Alter + Drop>(
 /// Checks, for each byte of a statement, at which the writer by turns accepts no byte, fails or is
 /// interrupted, that the statement fails with `Write` and that exactly the bytes before are
 /// written, and that the statement completes with room for all bytes.
-pub fn statement_writers_failing_at_each_byte(alloc: Global) -> Result<(), Fail> {
+pub fn a_failed_write_ends_the_statement(alloc: Global) -> Result<(), Fail> {
     expect_each_statement_write_fault(alloc, open_in_memory(alloc))
 }
 

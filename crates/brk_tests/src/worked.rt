@@ -107,7 +107,7 @@ pub fn append_purchase(
 
 /// Appends the end record of a batch of `rows` rows, with a line feed. Fails only if memory runs
 /// out.
-pub fn append_end(batch: &mut String, rows: u64) -> Result<(), Fail> {
+pub fn append_end_record(batch: &mut String, rows: u64) -> Result<(), Fail> {
     writeln!(batch, "end,{rows}")?;
     Ok(())
 }
@@ -119,7 +119,7 @@ pub fn format_batch(alloc: Global, rows: &[&str]) -> Result<String, Fail> {
         batch.push_str(row)?;
         batch.push_str("\n")?;
     }
-    append_end(&mut batch, rows.len() as u64)?;
+    append_end_record(&mut batch, rows.len() as u64)?;
     Ok(batch)
 }
 

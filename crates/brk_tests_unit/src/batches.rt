@@ -264,7 +264,7 @@ fn run_batch_on_new_desk<R: Read + Drop, W: Write>(
 // Checks that the batch that `reader` returns has the result `wanted` on a new test desk, at the
 // timestamp 7, and that it writes exactly the bytes `lines`. Fails with both results or with both
 // texts if not.
-fn expect_batch<R: Read + Drop>(
+fn expect_batch_result<R: Read + Drop>(
     alloc: Global,
     reader: R,
     wanted: Result<Counts, BatchFault>,
@@ -299,19 +299,19 @@ const LINES: &[u8] = b"1,ok,7\n2,again,5,CNCL\n3,no,14,accounts\n4,no,18\n5,no,8
 /// rows, has its line, followed by the end line of the counts, both if the batch is read whole and
 /// if it is read byte by byte. Fails if not, and if memory runs out.
 pub fn each_row_of_a_batch_gets_a_line(alloc: Global) -> Result<(), Fail> {
-    expect_batch(alloc, WHOLE, batch_counts(1, 1, 3), LINES)?;
+    expect_batch_result(alloc, WHOLE, batch_counts(1, 1, 3), LINES)?;
     let slow = Flaky {
         text: WHOLE,
         at: 0,
         cut: usize::MAX,
         kind: io::ErrorKind::Other,
     };
-    expect_batch(alloc, slow, batch_counts(1, 1, 3), LINES)
+    expect_batch_result(alloc, slow, batch_counts(1, 1, 3), LINES)
 }
 
 /// Checks that a batch without rows writes only its end line. Fails if not, and if memory runs out.
 pub fn an_empty_batch_gets_an_end_line(alloc: Global) -> Result<(), Fail> {
-    expect_batch(
+    expect_batch_result(
         alloc,
         b"batch,Z\nend,0".as_slice(),
         batch_counts(0, 0, 0),
@@ -335,7 +335,7 @@ const CUT_INPUTS: [(&[u8], u64, &[u8]); 2] = [
 pub fn the_last_row_of_a_cut_input_is_refused(alloc: Global) -> Result<(), Fail> {
     for (text, rows, lines) in &CUT_INPUTS {
         let wanted = batch_fault_result(*rows, FaultKind::NoEnd);
-        expect_batch(alloc, *text, wanted, lines)?;
+        expect_batch_result(alloc, *text, wanted, lines)?;
     }
     Ok(())
 }
@@ -369,10 +369,10 @@ const HEADERS: [&[u8]; 2] = [
 pub fn a_wrong_header_is_a_fault(alloc: Global) -> Result<(), Fail> {
     for text in &WRONG_HEADERS {
         let wanted = batch_fault_result(0, FaultKind::BadHeader);
-        expect_batch(alloc, *text, wanted, b"")?;
+        expect_batch_result(alloc, *text, wanted, b"")?;
     }
     for text in &HEADERS {
-        expect_batch(alloc, *text, batch_counts(0, 0, 0), b"end,0,0,0\n")?;
+        expect_batch_result(alloc, *text, batch_counts(0, 0, 0), b"end,0,0,0\n")?;
     }
     Ok(())
 }
@@ -391,7 +391,7 @@ const WRONG_ENDS: [&[u8]; 5] = [
 pub fn a_wrong_end_record_is_a_fault(alloc: Global) -> Result<(), Fail> {
     for text in &WRONG_ENDS {
         let wanted = batch_fault_result(1, FaultKind::BadEnd);
-        expect_batch(alloc, *text, wanted, b"1,ok,7\n")?;
+        expect_batch_result(alloc, *text, wanted, b"1,ok,7\n")?;
     }
     Ok(())
 }
@@ -421,7 +421,7 @@ pub fn a_failed_read_ends_the_batch(alloc: Global) -> Result<(), Fail> {
             kind: *kind,
         };
         let wanted = batch_fault_result(*rows, FaultKind::Read);
-        expect_batch(alloc, reader, wanted, lines)?;
+        expect_batch_result(alloc, reader, wanted, lines)?;
     }
     Ok(())
 }
@@ -484,7 +484,7 @@ const DESK_FAULTS: [(&[u8], Fault); 2] = [
 pub fn a_fault_of_the_desk_ends_the_batch(alloc: Global) -> Result<(), Fail> {
     for (text, fault) in &DESK_FAULTS {
         let wanted = batch_fault_result(1, FaultKind::Desk(*fault));
-        expect_batch(alloc, *text, wanted, b"1,ok,7\n")?;
+        expect_batch_result(alloc, *text, wanted, b"1,ok,7\n")?;
     }
     Ok(())
 }
@@ -496,5 +496,5 @@ pub fn input_beyond_the_limit_is_not_read(alloc: Global) -> Result<(), Fail> {
         at: 0,
         tail: b"put,1,2\nend,1",
     };
-    expect_batch(alloc, whole, batch_counts(1, 0, 0), b"1,ok,7\nend,1,0,0\n")
+    expect_batch_result(alloc, whole, batch_counts(1, 0, 0), b"1,ok,7\nend,1,0,0\n")
 }

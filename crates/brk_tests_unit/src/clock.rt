@@ -48,7 +48,7 @@ pub fn clock_readings_are_whole_milliseconds() -> Result<(), Fail> {
 
 /// Checks that the reading is the greatest stamp if the machine's time is this stamp, and if it is
 /// 1 ms later: 10000-01-01 00:00 UTC, which is second 253,402,300,800. Fails if not.
-pub fn clock_readings_end_at_the_greatest_stamp() -> Result<(), Fail> {
+pub fn late_clock_readings_are_the_greatest_stamp() -> Result<(), Fail> {
     let last = Stopped(Some(Duration::new(253_402_300_799, 999_000_000)));
     expect_equal(ProgramClock::new(&last, None).now().get(), Stamp::GREATEST)?;
     let late = Stopped(Some(Duration::from_secs(253_402_300_800)));

@@ -42,7 +42,7 @@ const BATCHES: [(FaultKind, u8, &str); 7] = [
 /// Checks that a failed batch has the exit status 1 for a missing or wrong header or end record, 3
 /// for a failed read or write and for the faults `Store` and `Memory` of the desk, and the error
 /// line of the fault. Fails if not, and if memory runs out.
-pub fn exit_status_and_line_of_batch_faults(alloc: Global) -> Result<(), Fail> {
+pub fn batch_faults_have_their_exit_status_and_line(alloc: Global) -> Result<(), Fail> {
     for (kind, status, text) in &BATCHES {
         expect_status_and_line(alloc, ending_of_batch_fault(*kind), *status, text)?;
     }
@@ -53,7 +53,7 @@ pub fn exit_status_and_line_of_batch_faults(alloc: Global) -> Result<(), Fail> {
 /// 1 and an error line with the number of the refusal, and that a report that ended with the desk's
 /// fault `Store`, or because writing failed, has the exit status 3 and the error line of its fault.
 /// Fails if not, and if memory runs out.
-pub fn exit_status_and_line_of_report_faults(alloc: Global) -> Result<(), Fail> {
+pub fn report_faults_have_their_exit_status_and_line(alloc: Global) -> Result<(), Fail> {
     let stranger = Ending::Report(ReportFault::Refused(Refusal::NoAccount));
     expect_status_and_line(alloc, stranger, 1, "brk: refused: 1\n")?;
     let days = Ending::Report(ReportFault::Refused(Refusal::BadText));
@@ -78,7 +78,7 @@ const OPENS: [(Fault, u8, &str); 3] = [
 /// Checks that the exit status is 1 for a database that fails the condition `Summary`, and 3 for
 /// the faults `Memory` and `Store` of opening a desk, each with the error line of the fault. Fails
 /// if not, and if memory runs out.
-pub fn exit_status_and_line_of_open_faults(alloc: Global) -> Result<(), Fail> {
+pub fn open_faults_have_their_exit_status_and_line(alloc: Global) -> Result<(), Fail> {
     for (fault, status, text) in &OPENS {
         expect_status_and_line(alloc, Ending::Open(*fault), *status, text)?;
     }
@@ -87,7 +87,7 @@ pub fn exit_status_and_line_of_open_faults(alloc: Global) -> Result<(), Fail> {
 
 // Checks that `end_with` returns the exit status `status` for a fault of the arguments, and that it
 // writes exactly the text `text` to its error stream. Fails with both statuses and texts if not.
-fn expect_usage_fault(
+fn expect_usage_fault_status_and_line(
     alloc: Global,
     fault: UsageFault,
     status: u8,
@@ -99,19 +99,19 @@ fn expect_usage_fault(
 /// Checks that the exit status is 2 for wrong arguments and for a malformed day, 3 if memory ran
 /// out, each with its error text, and 0 without a text for help. Fails if not, and if memory runs
 /// out.
-pub fn exit_status_and_line_of_usage_faults(alloc: Global) -> Result<(), Fail> {
+pub fn usage_faults_have_their_exit_status_and_line(alloc: Global) -> Result<(), Fail> {
     let words = String::from_str(alloc, "error: no\n")?;
-    expect_usage_fault(alloc, UsageFault::Words(words), 2, "error: no\n")?;
+    expect_usage_fault_status_and_line(alloc, UsageFault::Words(words), 2, "error: no\n")?;
     let help = String::from_str(alloc, "help\n")?;
-    expect_usage_fault(alloc, UsageFault::Help(help), 0, "")?;
-    expect_usage_fault(alloc, UsageFault::Day, 2, "brk: usage: day\n")?;
-    expect_usage_fault(alloc, UsageFault::Memory, 3, "brk: fault: memory\n")
+    expect_usage_fault_status_and_line(alloc, UsageFault::Help(help), 0, "")?;
+    expect_usage_fault_status_and_line(alloc, UsageFault::Day, 2, "brk: usage: day\n")?;
+    expect_usage_fault_status_and_line(alloc, UsageFault::Memory, 3, "brk: fault: memory\n")
 }
 
 /// Checks that the exit status is 0 without a line for a job that is done, and 3 with an error line
 /// if output cannot be written, no stream can be accepted, or memory runs out in a stream. Fails if
 /// not, and if memory runs out.
-pub fn exit_status_and_line_of_other_endings(alloc: Global) -> Result<(), Fail> {
+pub fn other_endings_have_their_exit_status_and_line(alloc: Global) -> Result<(), Fail> {
     expect_status_and_line(alloc, Ending::Done, 0, "")?;
     expect_status_and_line(alloc, Ending::Output, 3, "brk: fault: write\n")?;
     expect_status_and_line(alloc, Ending::Net, 3, "brk: fault: net\n")?;
@@ -140,7 +140,7 @@ impl Write for Closed {
 
 /// Checks, for an error stream that accepts no byte, that the exit status is 1 for a batch without
 /// an end record, and 0 for a job that is done. Fails if not.
-pub fn exit_status_with_a_closed_error_stream() -> Result<(), Fail> {
+pub fn a_closed_error_stream_changes_no_exit_status() -> Result<(), Fail> {
     let status = end_with(&ending_of_batch_fault(FaultKind::NoEnd), &mut Closed);
     expect_equal(status, 1)?;
     let status = end_with(&Ending::Done, &mut Closed);

@@ -36,30 +36,27 @@ pub fn run_test(rt: &HostRuntime, name: &str) -> Option<Result<(), Fail>> {
         "input_beyond_the_limit_is_not_read" => batches::input_beyond_the_limit_is_not_read(alloc),
         "a_fixed_clock_returns_its_timestamp" => clock::a_fixed_clock_returns_its_timestamp(rt),
         "clock_readings_are_whole_milliseconds" => clock::clock_readings_are_whole_milliseconds(),
-        "clock_readings_end_at_the_greatest_stamp" =>
-            clock::clock_readings_end_at_the_greatest_stamp(),
+        "late_clock_readings_are_the_greatest_stamp" =>
+            clock::late_clock_readings_are_the_greatest_stamp(),
         "an_unreadable_clock_reads_as_zero" => clock::an_unreadable_clock_reads_as_zero(),
-        "exit_status_and_line_of_batch_faults" => endings::exit_status_and_line_of_batch_faults(
-            alloc,
-        ),
-        "exit_status_and_line_of_report_faults" => endings::exit_status_and_line_of_report_faults(
-            alloc,
-        ),
-        "exit_status_and_line_of_open_faults" => endings::exit_status_and_line_of_open_faults(
-            alloc,
-        ),
-        "exit_status_and_line_of_usage_faults" => endings::exit_status_and_line_of_usage_faults(
-            alloc,
-        ),
-        "exit_status_and_line_of_other_endings" => endings::exit_status_and_line_of_other_endings(
-            alloc,
-        ),
-        "exit_status_with_a_closed_error_stream" =>
-            endings::exit_status_with_a_closed_error_stream(),
+        "batch_faults_have_their_exit_status_and_line" =>
+            endings::batch_faults_have_their_exit_status_and_line(alloc),
+        "report_faults_have_their_exit_status_and_line" =>
+            endings::report_faults_have_their_exit_status_and_line(alloc),
+        "open_faults_have_their_exit_status_and_line" =>
+            endings::open_faults_have_their_exit_status_and_line(alloc),
+        "usage_faults_have_their_exit_status_and_line" =>
+            endings::usage_faults_have_their_exit_status_and_line(alloc),
+        "other_endings_have_their_exit_status_and_line" =>
+            endings::other_endings_have_their_exit_status_and_line(alloc),
+        "a_closed_error_stream_changes_no_exit_status" =>
+            endings::a_closed_error_stream_changes_no_exit_status(),
         "closes_first_or_last_lots_first" => lots::closes_first_or_last_lots_first(alloc),
         "closes_a_lot_of_the_largest_value" => lots::closes_a_lot_of_the_largest_value(alloc),
         "refuses_lots_that_form_no_position" => lots::refuses_lots_that_form_no_position(alloc),
-        "replays_deals_that_change_the_sign" => lots::replays_deals_that_change_the_sign(alloc),
+        "replays_deals_that_reverse_the_position" => lots::replays_deals_that_reverse_the_position(
+            alloc,
+        ),
         "returns_the_fault_of_each_source_call" => lots::returns_the_fault_of_each_source_call(
             alloc,
         ),
@@ -75,10 +72,12 @@ pub fn run_test(rt: &HostRuntime, name: &str) -> Option<Result<(), Fail>> {
         "taxes_gains_but_not_losses" => money::taxes_gains_but_not_losses(),
         "writes_and_parses_calendar_days" => money::writes_and_parses_calendar_days(alloc),
         "refuses_malformed_days" => money::refuses_malformed_days(),
-        "computes_days_up_to_the_last" => money::computes_days_up_to_the_last(),
-        "movement_replies_and_refusals" => move_plans::movement_replies_and_refusals(alloc),
-        "a_settlement_day_must_be_in_the_future" =>
-            move_plans::a_settlement_day_must_be_in_the_future(alloc),
+        "computes_days_of_stamps_and_later_days" => money::computes_days_of_stamps_and_later_days(),
+        "movements_return_replies_or_refusals" => move_plans::movements_return_replies_or_refusals(
+            alloc,
+        ),
+        "one_day_settlement_must_start_in_the_future" =>
+            move_plans::one_day_settlement_must_start_in_the_future(alloc),
         "a_feed_beyond_volume_limit_is_refused" => plans::a_feed_beyond_volume_limit_is_refused(
             alloc,
         ),
@@ -90,9 +89,10 @@ pub fn run_test(rt: &HostRuntime, name: &str) -> Option<Result<(), Fail>> {
         ),
         "results_are_refused_by_the_first_cause" =>
             result_plans::results_are_refused_by_the_first_cause(alloc),
-        "broker_and_balance_limits_of_results" =>
-            result_plans::broker_and_balance_limits_of_results(alloc),
-        "summary_limits_of_results" => result_plans::summary_limits_of_results(alloc),
+        "results_respect_broker_and_balance_limits" =>
+            result_plans::results_respect_broker_and_balance_limits(alloc),
+        "results_respect_holding_summary_limits" =>
+            result_plans::results_respect_holding_summary_limits(alloc),
         "closings_equal_those_of_single_shares" => slow_lots::closings_equal_those_of_single_shares(
             alloc,
         ),

@@ -95,7 +95,7 @@ const MOVEMENTS: [(Case, &str); 5] = [
 /// with `Range` (14), `balance`, a deposit to an account that does not exist with `NoAccount` (1),
 /// also beyond the limit of movements, and another deposit beyond this limit with `Range` (14),
 /// `moves`. Fails if not, and if memory runs out.
-pub fn movement_replies_and_refusals(alloc: Global) -> Result<(), Fail> {
+pub fn movements_return_replies_or_refusals(alloc: Global) -> Result<(), Fail> {
     for (case, wanted) in &MOVEMENTS {
         expect_movement_reply(alloc, case, wanted)?;
     }
@@ -107,7 +107,7 @@ pub fn movement_replies_and_refusals(alloc: Global) -> Result<(), Fail> {
 // has none set if `rule` is `None`; both days are in days since 1970-01-01. Its last stamp is
 // 1709251200015, on 2024-03-01 UTC, and the clock reading is earlier. Fails with both texts if not.
 // Fails also if a day is not within its limits, and if memory runs out.
-fn expect_settlement_day_reply(
+fn expect_one_day_settlement_reply(
     alloc: Global,
     days: i32,
     rule: Option<i32>,
@@ -128,8 +128,8 @@ fn expect_settlement_day_reply(
 /// of the command's stamp, and accepted if it is the next day, and that the day of the stamp is
 /// refused with `Exists` (15) if the desk has a first day already. Fails if not, and if memory runs
 /// out.
-pub fn a_settlement_day_must_be_in_the_future(alloc: Global) -> Result<(), Fail> {
-    expect_settlement_day_reply(alloc, 19_783, None, "no,22")?;
-    expect_settlement_day_reply(alloc, 19_784, None, "1709251200016")?;
-    expect_settlement_day_reply(alloc, 19_783, Some(19_784), "no,15")
+pub fn one_day_settlement_must_start_in_the_future(alloc: Global) -> Result<(), Fail> {
+    expect_one_day_settlement_reply(alloc, 19_783, None, "no,22")?;
+    expect_one_day_settlement_reply(alloc, 19_784, None, "1709251200016")?;
+    expect_one_day_settlement_reply(alloc, 19_783, Some(19_784), "no,15")
 }

@@ -15,7 +15,7 @@ use std::test::Fail;
 
 // Returns a list with one quote, of ABC at 10.00, without pending orders, of which 100 more shares
 // may be traded up to the limit of the volume. Fails only if memory runs out.
-fn quotes_100_shares_below_volume_limit(alloc: Global) -> Result<Vec<Quote>, Fail> {
+fn one_quote_100_shares_below_volume_limit(alloc: Global) -> Result<Vec<Quote>, Fail> {
     let price = Price::new(1_000).ok_or("price")?;
     let volume = Volume::new(99_999_999_999_999_900).ok_or("volume")?;
     let last = LastTrade {
@@ -29,13 +29,13 @@ fn quotes_100_shares_below_volume_limit(alloc: Global) -> Result<Vec<Quote>, Fai
 }
 
 // Checks that the reply to a feed with the fields `ticks`, the symbol, price and quantity of each
-// tick, on the quote of `quotes_100_shares_below_volume_limit`, or `no,` and the refusal of the
+// tick, on the quote of `one_quote_100_shares_below_volume_limit`, or `no,` and the refusal of the
 // feed, is the text `wanted`. There is no last stamp, and the clock reading is 1709251200019. Fails
 // with both texts if not. Fails also if the ticks are malformed, and if memory runs out.
 fn expect_feed_reply(alloc: Global, ticks: &[&[u8]], wanted: &str) -> Result<(), Fail> {
     let now = Stamp::nearest(1_709_251_200_019);
     let feed = parse_market_feed(alloc, ticks)??;
-    let quotes = quotes_100_shares_below_volume_limit(alloc)?;
+    let quotes = one_quote_100_shares_below_volume_limit(alloc)?;
     let planned = plan_feed(alloc, &feed, quotes, None, now);
     expect_planned_reply(alloc, planned, wanted)
 }

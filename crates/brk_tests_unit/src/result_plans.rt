@@ -93,9 +93,9 @@ fn broker_totals_of_case(case: &Case) -> Result<BrokerTotals, Fail> {
 }
 
 // Returns the facts of the tables on which the plan for the result of a case depends, with tax
-// rates of 20 percent in all, no settlement day, and 1 as the number of the next cash row. Fails if
-// the quantity, the rate, the balance or the commissions of the case are not within their limits,
-// and if memory runs out; the shares held are not checked.
+// rates of 20 percent in all, no first day of one-day settlement, and 1 as the number of the next
+// cash row. Fails if the quantity, the rate, the balance or the commissions of the case are not
+// within their limits, and if memory runs out; the shares held are not checked.
 fn result_facts(alloc: Global, case: &Case) -> Result<ResultPlanFacts, Fail> {
     let rate = match case.rate {
         Some(rate) => Some(Rate::new(rate).ok_or("rate")?),
@@ -277,7 +277,7 @@ const LIMITS: [(Case, &str); 3] = [
 /// that exceeds it by one cent is refused with `Range` (14), `broker`, and that the result of a
 /// margin trade, which does not change the balance, is accepted at the lower limit of the balance.
 /// Fails if not, and if memory runs out.
-pub fn broker_and_balance_limits_of_results(alloc: Global) -> Result<(), Fail> {
+pub fn results_respect_broker_and_balance_limits(alloc: Global) -> Result<(), Fail> {
     for (case, wanted) in &LIMITS {
         expect_case_reply(alloc, case, wanted)?;
     }
@@ -306,7 +306,7 @@ const SUMMARIES: [(TradeType, i64, u32, &str); 4] = [
 /// Checks that a result that reaches the limit of the shares held, bought or sold short, is
 /// accepted, and that one that exceeds it by one share is refused with `Range` (14), `summary`.
 /// Fails if not, and if memory runs out.
-pub fn summary_limits_of_results(alloc: Global) -> Result<(), Fail> {
+pub fn results_respect_holding_summary_limits(alloc: Global) -> Result<(), Fail> {
     for (kind, held, qty, wanted) in &SUMMARIES {
         let case = Case {
             kind: *kind,

@@ -99,7 +99,7 @@ fn format_parsed_job(alloc: Global, read: &Result<Job, UsageFault>) -> Result<St
 
 // Parses the words of a command line, and returns the text of the job or of the fault
 // (`format_parsed_job`). Fails only if memory runs out.
-fn format_parsed_words(alloc: Global, words: Vec<String>) -> Result<String, AllocError> {
+fn parse_words_and_format_job(alloc: Global, words: Vec<String>) -> Result<String, AllocError> {
     format_parsed_job(alloc, &read_words(words))
 }
 
@@ -124,7 +124,7 @@ fn expect_parts(told: &str, parts: &[&str]) -> Result<(), Fail> {
 // if not. Fails also if memory runs out.
 fn expect_parsed_command_line(alloc: Global, line: &str, wanted: &[&str]) -> Result<(), Fail> {
     let words = words_of_command_line(alloc, line)?;
-    let told = format_parsed_words(alloc, words)?;
+    let told = parse_words_and_format_job(alloc, words)?;
     expect_parts(told.as_str(), wanted)
 }
 

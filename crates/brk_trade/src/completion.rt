@@ -163,9 +163,9 @@ fn create_summary_change(found: &ResultPlanFacts, outcome: &ResultFigures) -> Re
     }))
 }
 
-// Returns the settlement text that a completion records: `CashAccount` for a cash trade
+// Returns the cash type of the settlement that a completion adds: `CashAccount` for a cash trade
 // (`is_cash`), `Margin` for a margin trade.
-fn first_cash_type(is_cash: bool) -> CashType
+fn initial_cash_type_of_settlement(is_cash: bool) -> CashType
     ensures { result ≡ spec.first_cash_type_of_trade is_cash }
 {
     if is_cash {
@@ -187,14 +187,14 @@ fn create_broker_totals_change(found: &ResultPlanFacts, commissions: Amount) -> 
     }
 }
 
-// Returns the row change that adds the SETTLEMENT row of the trade: its settlement text, its due
+// Returns the row change that adds the SETTLEMENT row of the trade: its cash type, its due
 // day and its settlement amount.
 fn create_settlement_change(trade: &TradeRow, completed: &Completed) -> Change
     ensures { result ≡ spec.row_change_adding_settlement trade.now completed.now }
 {
     Change::AddSettlement(SettlementRow {
         trade: trade.id,
-        cash_type: first_cash_type(trade.is_cash),
+        cash_type: initial_cash_type_of_settlement(trade.is_cash),
         due_day: completed.due_day,
         amount: completed.amount,
     })

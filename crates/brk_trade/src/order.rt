@@ -200,7 +200,7 @@ fn executor_name(alloc: Global, executor: &Executor) -> Result<String, AllocErro
 // the symbol and the executor's name that are passed: in its first status, with the price of the
 // terms as its bid price, without a completion price, with tax 0. `commission` must be the
 // commission of the terms.
-fn create_trade_row_with_texts(
+fn create_trade_row_with_symbol_and_executor(
     order: &Order,
     terms: &Terms,
     commission: Amount,
@@ -248,7 +248,9 @@ fn create_order_trade_row(
 {
     let symbol = order.symbol.clone()?;
     let executor = executor_name(alloc, &order.executor)?;
-    Ok(create_trade_row_with_texts(order, terms, commission, trade, stamp, symbol, executor))
+    Ok(create_trade_row_with_symbol_and_executor(
+        order, terms, commission, trade, stamp, symbol, executor,
+    ))
 }
 
 // Returns the TRADE_REQUEST row of the new trade `trade` of an order, or `None` for a market order.

@@ -9,8 +9,9 @@ ghost use Rattle.brk_trade.specs.Outcomes.{checks_before_reading_lots, checks_af
 
 use crate::result_found::ResultPlanFacts;
 use crate::settling::{
-    balance_if_within_limit, commission_at_price_and_rate, commissions_if_within_limit,
-    due_day_if_in_calendar, settlement_amount_of_trade, tax_on_closed_shares,
+    balance_after_trade_if_within_limit, commission_at_price_and_rate,
+    commissions_after_trade_if_within_limit, due_day_if_in_calendar, settlement_amount_of_trade,
+    tax_on_closed_shares,
 };
 use brk_changes::{Amount, Schema, is_submitted};
 use brk_lots::ClosedLots;
@@ -49,7 +50,7 @@ fn signed_quantity_of_side(side: Side, qty: u32) -> i128
 
 // Returns the number of shares of the trade's security that its account holds after the trade,
 // below 0 if sold short, or `None` if the absolute value of this number exceeds 9,999,999,999.
-fn shares_held_if_within_limit(found: &ResultPlanFacts) -> Option<i64>
+fn shares_held_after_trade_if_within_limit(found: &ResultPlanFacts) -> Option<i64>
     ensures { MatchOption result
         (nat_lt greatest_summary_quantity (nat_abs (spec.shares_held_after_trade found.now)) ≡ true)
         (λ summary. (summary ≡ spec.shares_held_after_trade found.now)
@@ -79,7 +80,7 @@ pub(crate) fn checked_rate_and_summary(found: &ResultPlanFacts) -> Result<RateAn
     let Some(rate) = found.rate else {
         return Err(Refusal::NoRate);
     };
-    let Some(summary) = shares_held_if_within_limit(found) else {
+    let Some(summary) = shares_held_after_trade_if_within_limit(found) else {
         return Err(Refusal::Range(Limit::Summary));
     };
     Ok(RateAndSummary { rate, summary })
@@ -112,10 +113,10 @@ pub(crate) fn checked_result_figures(
     let commission = commission_at_price_and_rate(&found.trade, price, known.rate);
     let tax = tax_on_closed_shares(found, values);
     let amount = settlement_amount_of_trade(found, price, commission, tax);
-    let Some(balance) = balance_if_within_limit(found, amount) else {
+    let Some(balance) = balance_after_trade_if_within_limit(found, amount) else {
         return Err(Refusal::Range(Limit::Balance));
     };
-    let Some(commissions) = commissions_if_within_limit(found.broker, commission) else {
+    let Some(commissions) = commissions_after_trade_if_within_limit(found.broker, commission) else {
         return Err(Refusal::Range(Limit::Broker));
     };
     let Some(stamp) = stamp else {

@@ -15,7 +15,8 @@ use crate::completion::create_completion_changes;
 use crate::outcome::{checked_rate_and_summary, checked_result_figures};
 use crate::result_found::ResultPlanFacts;
 use brk_lots::{
-    ClosedLots, LotSource, close_with_amounts, is_trade_closing_lots, open_lot_without_closing,
+    ClosedLots, LotSource, close_lots_and_open_rest, effect_of_trade_closing_no_lot,
+    is_trade_closing_lots,
 };
 use brk_money::{Fault, Planned, Price, Refusal, Stamp, stamp_after};
 use brk_plans::{Plan, Reply};
@@ -61,9 +62,9 @@ fn effect_of_trade_on_lots<L: LotSource>(
     let trade = &found.trade;
     let side = trade.kind.side();
     if is_trade_closing_lots(side, found.summary.unwrap_or(0)) {
-        close_with_amounts(alloc, source, side, trade.qty, trade.id, price, stamp)
+        close_lots_and_open_rest(alloc, source, side, trade.qty, trade.id, price, stamp)
     } else {
-        Ok(open_lot_without_closing(alloc, side, trade.qty, trade.id, price, stamp))
+        Ok(effect_of_trade_closing_no_lot(alloc, side, trade.qty, trade.id, price, stamp))
     }
 }
 

@@ -95,7 +95,10 @@ pub(crate) fn settlement_amount_of_trade(
 // Returns the balance of the account, in cents, after a settlement of `amount`: for a cash trade
 // the sum of both, or `None` if its absolute value exceeds 10^17 cents; for a margin trade the
 // balance before it.
-pub(crate) fn balance_if_within_limit(found: &ResultPlanFacts, amount: Cents) -> Option<Cents>
+pub(crate) fn balance_after_trade_if_within_limit(
+    found: &ResultPlanFacts,
+    amount: Cents,
+) -> Option<Cents>
     ensures { MatchOption result
         (found.now.trade.is_cash && nat_lt greatest_amount (nat_abs (spec.balance_after_settlement_amount found.now amount)) ≡ true)
         (λ after. (after ≡ spec.balance_after_settlement_amount found.now amount)
@@ -109,7 +112,7 @@ pub(crate) fn balance_if_within_limit(found: &ResultPlanFacts, amount: Cents) ->
 
 // Returns the commissions of the broker plus `commission`, in cents, or `None` if the sum exceeds
 // 10^17 cents.
-pub(crate) fn commissions_if_within_limit(
+pub(crate) fn commissions_after_trade_if_within_limit(
     broker: BrokerTotals,
     commission: Amount,
 ) -> Option<Amount>

@@ -21,7 +21,7 @@ use Rattle.brk_model.specs.Sheets.{sheets, tables_sorted_by_key}
 use Rattle.brk_model.specs.Step.{reply_to_command, step}
 use Rattle.brk_model.specs.Tables.{AccountRow, MoveRow, Tables, account_row, tables_of_base_in_schema}
 use Rattle.brk_model.specs.Tests.{RefusalCheck, duplicate_check, first_refusal, checks_of_movement, stamp_of_next_command, refusal_of_command, checks_of_command}
-use Rattle.brk_changes.specs.Changes.{tables_after_changes, tables_with_balance, tables_with_last_stamp, tables_with_cash_row, tables_with_settlement_day}
+use Rattle.brk_changes.specs.Changes.{tables_after_changes, tables_with_balance, tables_with_last_stamp, tables_with_cash_row, tables_with_one_day_settlement_start}
 use Rattle.brk_changes.specs.Rows.{abstract_move_row}
 use Rattle.brk_changes.specs.declared.change.Change.TheVariants as change
 use Rattle.brk_orders.specs.Records.{cash_movement_command, movement_command}
@@ -30,7 +30,7 @@ use Rattle.brk_orders.specs.declared.movement.Direction.TheVariants.{Deposit, Wi
 use Rattle.brk_orders.specs.declared.movement.Movement.{Movement}
 use Rattle.brk_plans.specs.Movement as planner
 use Rattle.brk_plans.specs.Movement.{IsMovementPlan, row_changes_of_movement, movement_checks, cash_text_of_direction, signed_cash_amount}
-use Rattle.brk_plans.specs.OneDay.{IsSettlementDayPlan, later_settlement_day_check, settlement_day_checks}
+use Rattle.brk_plans.specs.OneDay.{IsOneDaySettlementPlan, later_one_day_settlement_start_check, one_day_settlement_checks}
 use Rattle.brk_plans.specs.Reference.{later_stamp_check}
 use Rattle.brk_plans.specs.Replies.{abstract_reply}
 use Rattle.brk_plans.specs.declared.movement.MovementPlanFacts.{MovementPlanFacts}
@@ -44,7 +44,7 @@ use Rattle.brk_book_theorems.proofs.Order.{append_nil}
 use Rattle.brk_book_theorems.proofs.Places.{FoundAt, filter-one, find-at}
 use Rattle.brk_book_theorems.proofs.Postings.{postings_moved, total_one}
 use Rattle.brk_book_theorems.proofs.Reading.{is_none-map, reads_account}
-use Rattle.brk_trade_theorems.specs.MovePlans.{MovementFactsMatchTables, PlanMovementPrecondition, PlanSettlementDayPrecondition}
+use Rattle.brk_trade_theorems.specs.MovePlans.{MovementFactsMatchTables, PlanMovementPrecondition, PlanOneDaySettlementPrecondition}
 use Rattle.brk_trade_theorems.specs.Plans.{PlanImplementsCommand}
 use Rattle.brk_trade_theorems.proofs.OrderFinding.{Alike, same_first}
 use Rattle.brk_trade_theorems.proofs.Planning.{clock_read}
@@ -172,7 +172,7 @@ move_plan_does base m found last now plan k p =
       books_after = done.books_after;
     }
 
--- ---- a settlement day
+-- ---- one-day settlement
 
 rule_is : (base : Base) → (sheets base).rule ≡ base.rule
 unfolding tables_of_base_in_schema tables_sorted_by_key
@@ -189,27 +189,27 @@ early_read base day last now (Some stamp) books l h e =
     let in_time : false ≡ nat_lt greatest_stamp (stamp_of_next_command base now) = sym (ap is_none e) ∙ clock_read base last now books l h in
     λ i. first_refusal ((in_time i, ClockEnd) ∷ (nat_le day (day_of (stamp_read base last now stamp l e i)), TooEarly) ∷ [])
 
-pub one_day_read : (base : Base) (day : ℕ) (rule last : Option ℕ) (now : ℕ) → PlanSettlementDayPrecondition base rule last now
-    → first_refusal (settlement_day_checks day rule last now) ≡ refusal_of_command base now (SetOneDay day)
+pub one_day_read : (base : Base) (day : ℕ) (rule last : Option ℕ) (now : ℕ) → PlanOneDaySettlementPrecondition base rule last now
+    → first_refusal (one_day_settlement_checks day rule last now) ≡ refusal_of_command base now (SetOneDay day)
 unfolding refusal_of_command checks_of_command
 one_day_read base day rule last now k =
     let later = early_read base day last now (stamp_after last now) k.books k.last_read k.moment refl in
-    (same_first (is_some rule) (is_some base.rule) Exists (later_stamp_check last now ∷ later_settlement_day_check day last now ∷ [])
+    (same_first (is_some rule) (is_some base.rule) Exists (later_stamp_check last now ∷ later_one_day_settlement_start_check day last now ∷ [])
     ((nat_lt greatest_stamp (stamp_of_next_command base now), ClockEnd) ∷ (nat_le day (day_of (stamp_of_next_command base now)), TooEarly) ∷ [])
     (ap is_some (k.rule_read ∙ rule_is base)) (λ _. record { first = later })).first
 
-pub one_day_refused : (base : Base) (day : ℕ) (rule last : Option ℕ) (now : ℕ) (refusal : Refusal) → PlanSettlementDayPrecondition base rule last now
-    → first_refusal (settlement_day_checks day rule last now) ≡ Some refusal → step base now (SetOneDay day) ≡ Err refusal
+pub one_day_refused : (base : Base) (day : ℕ) (rule last : Option ℕ) (now : ℕ) (refusal : Refusal) → PlanOneDaySettlementPrecondition base rule last now
+    → first_refusal (one_day_settlement_checks day rule last now) ≡ Some refusal → step base now (SetOneDay day) ≡ Err refusal
 one_day_refused base day rule last now refusal k e = refused_step base now (SetOneDay day) refusal (sym (one_day_read base day rule last now k) ∙ e)
 
-pub one_day_plan_does : (base : Base) (day : ℕ) (rule last : Option ℕ) (now : ℕ) (plan : Plan) → PlanSettlementDayPrecondition base rule last now
-    → IsSettlementDayPlan day rule last now plan → PlanImplementsCommand base now (SetOneDay day) plan
+pub one_day_plan_does : (base : Base) (day : ℕ) (rule last : Option ℕ) (now : ℕ) (plan : Plan) → PlanOneDaySettlementPrecondition base rule last now
+    → IsOneDaySettlementPlan day rule last now plan → PlanImplementsCommand base now (SetOneDay day) plan
 unfolding reply_to_command
 one_day_plan_does base day rule last now plan k p =
     let next : p.stamp ≡ stamp_of_next_command base now = stamp_read base last now p.stamp k.last_read p.stamped in
     let accepted : refusal_of_command base now (SetOneDay day) ≡ None = sym (one_day_read base day rule last now k) ∙ p.accepted in
-    let done : IsAcceptedWithEffect base now (SetOneDay day) p.stamp (Booked p.stamp) (tables_with_settlement_day day) =
-    is_done base now (SetOneDay day) p.stamp (Booked p.stamp) (λ stamp. tables_with_settlement_day day) k.books accepted next (ap Booked (sym next))
+    let done : IsAcceptedWithEffect base now (SetOneDay day) p.stamp (Booked p.stamp) (tables_with_one_day_settlement_start day) =
+    is_done base now (SetOneDay day) p.stamp (Booked p.stamp) (λ stamp. tables_with_one_day_settlement_start day) k.books accepted next (ap Booked (sym next))
     (step_one_day base now day) (books_one_day base now day) in
     record {
       steps = done.steps ∙ ap (λ reply. Ok (reply, base_after_command base now (SetOneDay day))) (sym (ap abstract_reply p.replied));

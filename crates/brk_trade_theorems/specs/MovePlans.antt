@@ -1,5 +1,5 @@
--- The preconditions of planning a movement or a settlement day, the first day of one-day
--- settlement: the facts that are read from the tables of a base.
+-- The preconditions of planning a movement or the first day of one-day settlement: the facts that
+-- are read from the tables of a base.
 use Rattle.std.specs.Prelude.{◌≡◌, ◌≤◌, ◌+◌, ℕ, is_none, nat_le, length, filter, Option, option_map}
 use Rattle.brk_money.specs.Moments.{greatest_stamp}
 use Rattle.brk_model.specs.Base.{Base}
@@ -34,13 +34,13 @@ pub record PlanMovementPrecondition (base : Base) (m : Movement) (found : Moveme
   pub last_read : last ≡ (sheets base).last
   pub moment : now ≤ greatest_stamp
 
--- ---- a settlement day
+-- ---- one-day settlement
 
 -- The precondition of planning a command that sets the first day of one-day settlement: the base
 -- satisfies the books invariant, the current first day `rule`, in days since 1970-01-01 (`None` if
 -- it is not set), and the last stamp are read from its tables, and the clock reading `now` is
 -- within the range of stamps.
-pub record PlanSettlementDayPrecondition (base : Base) (rule : Option ℕ) (last : Option ℕ) (now : ℕ) : Type 0 where
+pub record PlanOneDaySettlementPrecondition (base : Base) (rule : Option ℕ) (last : Option ℕ) (now : ℕ) : Type 0 where
   pub books : BooksInvariant base
   pub rule_read : rule ≡ (sheets base).rule
   pub last_read : last ≡ (sheets base).last

@@ -1,5 +1,5 @@
-//! Theorems: the plans of movements and of the settlement day, the first day of one-day settlement,
-//! implement their commands.
+//! Theorems: the plans of movements and of the first day of one-day settlement implement their
+//! commands.
 
 ghost use Rattle.std.specs.Prelude.{◌≡◌, ◌∷◌, ◌++◌, [], ℕ, Err, Option, Some};
 ghost use Rattle.brk_money.specs.declared.refusal.Refusal.{Refusal};
@@ -10,11 +10,11 @@ ghost use Rattle.brk_model.specs.Tests.{first_refusal, refusal_of_command};
 ghost use Rattle.brk_orders.specs.Records.{movement_command};
 ghost use Rattle.brk_orders.specs.declared.movement.Movement.{Movement};
 ghost use Rattle.brk_plans.specs.Movement.{IsMovementPlan, movement_checks};
-ghost use Rattle.brk_plans.specs.OneDay.{IsSettlementDayPlan, settlement_day_checks};
+ghost use Rattle.brk_plans.specs.OneDay.{IsOneDaySettlementPlan, one_day_settlement_checks};
 ghost use Rattle.brk_plans.specs.Reference.{later_stamp_check};
 ghost use Rattle.brk_plans.specs.declared.movement.MovementPlanFacts.{MovementPlanFacts};
 ghost use Rattle.brk_plans.specs.declared.plan.Plan.{Plan};
-ghost use Rattle.brk_trade_theorems.specs.MovePlans.{PlanMovementPrecondition, PlanSettlementDayPrecondition};
+ghost use Rattle.brk_trade_theorems.specs.MovePlans.{PlanMovementPrecondition, PlanOneDaySettlementPrecondition};
 ghost use Rattle.brk_trade_theorems.specs.Plans.{PlanImplementsCommand};
 
 /// Proves, under `PlanMovementPrecondition`, that the checks of a deposit or a withdrawal against
@@ -32,14 +32,14 @@ pub fn movement_plans_implement_commands()
         → IsMovementPlan m found last now plan → PlanImplementsCommand base now (movement_command m) plan }
 {}
 
-/// Proves, under `PlanSettlementDayPrecondition`, that the checks of a command that sets the first
-/// day of one-day settlement refuse it exactly as the model does, and that the plan of setting this
-/// day implements the command.
-pub fn settlement_day_plans_implement_commands()
-    ensures first { (base : Base) (day : ℕ) (rule last : Option ℕ) (now : ℕ) → PlanSettlementDayPrecondition base rule last now
-        → first_refusal (settlement_day_checks day rule last now) ≡ refusal_of_command base now (SetOneDay day) }
-    ensures refused { (base : Base) (day : ℕ) (rule last : Option ℕ) (now : ℕ) (refusal : Refusal) → PlanSettlementDayPrecondition base rule last now
-        → first_refusal (settlement_day_checks day rule last now) ≡ Some refusal → step base now (SetOneDay day) ≡ Err refusal }
-    ensures done { (base : Base) (day : ℕ) (rule last : Option ℕ) (now : ℕ) (plan : Plan) → PlanSettlementDayPrecondition base rule last now
-        → IsSettlementDayPlan day rule last now plan → PlanImplementsCommand base now (SetOneDay day) plan }
+/// Proves, under `PlanOneDaySettlementPrecondition`, that the checks of a command that sets the
+/// first day of one-day settlement refuse it exactly as the model does, and that the plan of
+/// setting this day implements the command.
+pub fn one_day_settlement_plans_implement_commands()
+    ensures first { (base : Base) (day : ℕ) (rule last : Option ℕ) (now : ℕ) → PlanOneDaySettlementPrecondition base rule last now
+        → first_refusal (one_day_settlement_checks day rule last now) ≡ refusal_of_command base now (SetOneDay day) }
+    ensures refused { (base : Base) (day : ℕ) (rule last : Option ℕ) (now : ℕ) (refusal : Refusal) → PlanOneDaySettlementPrecondition base rule last now
+        → first_refusal (one_day_settlement_checks day rule last now) ≡ Some refusal → step base now (SetOneDay day) ≡ Err refusal }
+    ensures done { (base : Base) (day : ℕ) (rule last : Option ℕ) (now : ℕ) (plan : Plan) → PlanOneDaySettlementPrecondition base rule last now
+        → IsOneDaySettlementPlan day rule last now plan → PlanImplementsCommand base now (SetOneDay day) plan }
 {}

@@ -52,7 +52,7 @@ fn read_trades_with_cash_types<S: Alter>(
 // ascending, of those that were completed in the span, both ends included. If the database is still
 // open, it is unchanged. Fails with `Memory` or `Store` only; with `Store` also if one of them has
 // no cash row.
-fn read_cash_trades_with_names<S: Alter>(
+fn read_trades_with_cash_names<S: Alter>(
     alloc: Global,
     store: &mut Store<S>,
     symbol: &Symbol,
@@ -139,7 +139,7 @@ fn read_security_name<S: Alter>(
 }
 
 // Returns the name of the security with the symbol `symbol`, and its cash trades that an update of
-// cash names selects, each with the name of its cash row (`read_cash_trades_with_names`); or `None`
+// cash names selects, each with the name of its cash row (`read_trades_with_cash_names`); or `None`
 // if the security does not exist. If the database is still open, it is unchanged. Fails with
 // `Memory` or `Store` only; with `Store` also if one of the trades has no cash row.
 pub(crate) fn read_facts_of_cash_name_update<S: Alter>(
@@ -154,6 +154,6 @@ pub(crate) fn read_facts_of_cash_name_update<S: Alter>(
     let Some(name) = read_security_name(store, symbol)? else {
         return Ok(None);
     };
-    let paid = read_cash_trades_with_names(alloc, store, symbol, span)?;
+    let paid = read_trades_with_cash_names(alloc, store, symbol, span)?;
     Ok(Some(TextUpdate::CashNames(name, paid)))
 }

@@ -142,7 +142,7 @@ fn first_fields_of_trade_status(alloc: Global, trade: &TradeRow) -> Result<Vec<S
 // Appends to `texts` the last five of the ten fields of the record of a trade in the view of an
 // account's status: its quantity, executor and charge, and the name and the exchange of its
 // security. Fails only if memory runs out. Some of these fields may then be appended.
-fn append_last_trade_status_fields(
+fn append_last_fields_of_trade_status(
     alloc: Global,
     texts: &mut Vec<String>,
     status: &TradeStatus,
@@ -168,7 +168,7 @@ fn trade_status_texts(alloc: Global, status: &TradeStatus) -> Result<Vec<String>
     ensures { IfOk result (λ texts. texts_of_record texts ≡ statuses.trade_status_record status.now) }
 {
     let mut texts = first_fields_of_trade_status(alloc, &status.trade)?;
-    append_last_trade_status_fields(alloc, &mut texts, status)?;
+    append_last_fields_of_trade_status(alloc, &mut texts, status)?;
     Ok(texts)
 }
 

@@ -90,8 +90,8 @@ fn looked_up_trade_texts(alloc: Global, trade: &TradeRow) -> Result<Vec<String>,
     Ok(texts)
 }
 
-// Returns the record of a settlement: the word `settlement`, the settlement text, the due day and
-// the amount. Fails only if memory runs out.
+// Returns the record of a settlement: the word `settlement`, the text of its cash type, the due day
+// and the amount. Fails only if memory runs out.
 fn settlement_texts(alloc: Global, row: SettlementRow) -> Result<Vec<String>, AllocError>
     ensures { IfOk result (λ texts. texts_of_record texts ≡ model.settlement_record (abstract_settlement_row row)) }
 {

@@ -54,7 +54,7 @@ fn write_trade_explanation<W: Write, S: Alter>(
 // lines are written, perhaps none and never the last one; after `Write` whole lines and a prefix of
 // the next one, perhaps all of it. If the database is still open, it is unchanged, whatever the
 // result.
-fn write_account_lines<W: Write, S: Alter>(
+fn write_account_explanation_lines<W: Write, S: Alter>(
     alloc: Global,
     desk: &mut Desk<S>,
     account: Id,
@@ -96,7 +96,7 @@ fn write_account_explanation<W: Write, S: Alter>(
         Ok(None) => return Err(ReportFault::Refused(Refusal::NoAccount)),
         Err(fault) => return Err(ReportFault::Desk(fault)),
     };
-    write_account_lines(alloc, desk, account, &details, writer)?;
+    write_account_explanation_lines(alloc, desk, account, &details, writer)?;
     Ok(())
 }
 
@@ -132,7 +132,7 @@ fn write_holding_explanation<W: Write, S: Alter>(
 // or with `Write`. After `Desk` only whole lines are written, perhaps none and never the last one;
 // after `Write` whole lines and a prefix of the next one, perhaps all of it. If the database is
 // still open, it is unchanged, whatever the result.
-fn write_broker_lines<W: Write, S: Alter>(
+fn write_broker_explanation_lines<W: Write, S: Alter>(
     alloc: Global,
     desk: &mut Desk<S>,
     broker: Id,
@@ -172,7 +172,7 @@ fn write_broker_explanation<W: Write, S: Alter>(
         Ok(None) => return Err(ReportFault::Refused(Refusal::NoBroker)),
         Err(fault) => return Err(ReportFault::Desk(fault)),
     };
-    write_broker_lines(alloc, desk, broker, &details, writer)?;
+    write_broker_explanation_lines(alloc, desk, broker, &details, writer)?;
     Ok(())
 }
 

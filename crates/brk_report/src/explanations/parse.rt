@@ -36,9 +36,9 @@ fn parse_single_id(words: &[&[u8]]) -> Result<Id, Refusal>
     }
 }
 
-// Returns the request for a trade from the words after `trade`: the id of the trade. Refuses any
-// other words with `BadText`.
-fn parse_trade_request(words: &[&[u8]]) -> Result<ExplainRequest, Refusal>
+// Returns the request to explain a trade from the words after `trade`: the id of the trade. Refuses
+// any other words with `BadText`.
+fn parse_trade_explain_request(words: &[&[u8]]) -> Result<ExplainRequest, Refusal>
     ensures { ParsesAs abstract_explain_request result (read_and_wrap model.TradeOf model.read_single_id (texts_of_fields words.now)) }
 {
     match parse_single_id(words) {
@@ -47,9 +47,9 @@ fn parse_trade_request(words: &[&[u8]]) -> Result<ExplainRequest, Refusal>
     }
 }
 
-// Returns the request for an account from the words after `account`: the id of the account. Refuses
-// any other words with `BadText`.
-fn parse_account_request(words: &[&[u8]]) -> Result<ExplainRequest, Refusal>
+// Returns the request to explain an account from the words after `account`: the id of the account.
+// Refuses any other words with `BadText`.
+fn parse_account_explain_request(words: &[&[u8]]) -> Result<ExplainRequest, Refusal>
     ensures { ParsesAs abstract_explain_request result (read_and_wrap model.AccountOf model.read_single_id (texts_of_fields words.now)) }
 {
     match parse_single_id(words) {
@@ -58,9 +58,9 @@ fn parse_account_request(words: &[&[u8]]) -> Result<ExplainRequest, Refusal>
     }
 }
 
-// Returns the request for a broker from the words after `broker`: the id of the broker. Refuses any
-// other words with `BadText`.
-fn parse_broker_request(words: &[&[u8]]) -> Result<ExplainRequest, Refusal>
+// Returns the request to explain a broker from the words after `broker`: the id of the broker.
+// Refuses any other words with `BadText`.
+fn parse_broker_explain_request(words: &[&[u8]]) -> Result<ExplainRequest, Refusal>
     ensures { ParsesAs abstract_explain_request result (read_and_wrap model.BrokerOf model.read_single_id (texts_of_fields words.now)) }
 {
     match parse_single_id(words) {
@@ -69,9 +69,9 @@ fn parse_broker_request(words: &[&[u8]]) -> Result<ExplainRequest, Refusal>
     }
 }
 
-// Returns the request for a holding from the words after `holding`: the id of the account and the
-// symbol. Refuses any other words with `BadText`. Fails with `Memory` only.
-fn parse_holding_request(alloc: Global, words: &[&[u8]]) -> Planned<ExplainRequest>
+// Returns the request to explain a holding from the words after `holding`: the id of the account
+// and the symbol. Refuses any other words with `BadText`. Fails with `Memory` only.
+fn parse_holding_explain_request(alloc: Global, words: &[&[u8]]) -> Planned<ExplainRequest>
     ensures read { IfOk result (λ read. ParsesAs abstract_explain_request read (model.read_holding_request (texts_of_fields words.now))) }
     ensures fault { OnErr result (result ≡ Err Memory) }
 {
@@ -87,25 +87,29 @@ fn parse_holding_request(alloc: Global, words: &[&[u8]]) -> Planned<ExplainReque
     Ok(Ok(ExplainRequest::Holding { account, symbol }))
 }
 
-// Returns the request of the kind `form`, the first word (`trade`, `account`, `holding` or
+// Returns the explain request of the kind `form`, the first word (`trade`, `account`, `holding` or
 // `broker`), with the ids and the symbol in the other words, `words`. Refuses another first word,
 // and malformed, missing or surplus words, with `BadText`. Fails with `Memory` only.
 #[tactic(auto, unfolding(brk_explain_model::specs::Explain::read_explain_request))]
-fn parse_request_of_kind(alloc: Global, form: &[u8], words: &[&[u8]]) -> Planned<ExplainRequest>
+fn parse_explain_request_of_kind(
+    alloc: Global,
+    form: &[u8],
+    words: &[&[u8]],
+) -> Planned<ExplainRequest>
     ensures read { IfOk result (λ read. ParsesAs abstract_explain_request read (model.read_explain_request (form.now ∷ texts_of_fields words.now))) }
     ensures fault { OnErr result (result ≡ Err Memory) }
 {
     if form == b"trade".as_slice() {
-        return Ok(parse_trade_request(words));
+        return Ok(parse_trade_explain_request(words));
     }
     if form == b"account".as_slice() {
-        return Ok(parse_account_request(words));
+        return Ok(parse_account_explain_request(words));
     }
     if form == b"holding".as_slice() {
-        return parse_holding_request(alloc, words);
+        return parse_holding_explain_request(alloc, words);
     }
     if form == b"broker".as_slice() {
-        return Ok(parse_broker_request(words));
+        return Ok(parse_broker_explain_request(words));
     }
     Ok(Err(Refusal::BadText))
 }
@@ -121,5 +125,5 @@ pub fn parse_explain_request(alloc: Global, words: &[&[u8]]) -> Planned<ExplainR
     let [form, rest @ ..] = words else {
         return Ok(Err(Refusal::BadText));
     };
-    parse_request_of_kind(alloc, form, rest)
+    parse_explain_request_of_kind(alloc, form, rest)
 }

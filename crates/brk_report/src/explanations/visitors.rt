@@ -4,7 +4,7 @@ use crate::totals::{total_plus_amount, total_plus_commission};
 use brk_changes::{HoldingRow, MoveRow, TradeRow};
 use brk_desk::Visitor;
 use brk_explain_lines::{cash_posting_text, open_lot_text};
-use brk_explain_sums::trade_commission_text;
+use brk_explain_sums::trade_commission_line_text;
 use brk_money::{Fault, Wide};
 use brk_report_lines::{LinesFault, write_line};
 use std::alloc::Global;
@@ -140,7 +140,10 @@ impl<W: Write> Visitor<TradeRow, LinesFault> for TradeCommissionWriter<'_, W> {
         let Some(count) = self.count.checked_add(1) else {
             return Err(LinesFault::Desk(Fault::Store));
         };
-        write_line(self.writer, trade_commission_text(self.alloc, item, total))?;
+        write_line(
+            self.writer,
+            trade_commission_line_text(self.alloc, item, total),
+        )?;
         self.total = total;
         self.count = count;
         Ok(())

@@ -44,7 +44,7 @@ pub(crate) fn write_header_lines<W: Write>(
 /// Fails with `Desk` if a read fails, memory runs out, or an amount or the number overflows, or
 /// with `Write`. After `Desk` only whole lines are written, perhaps none and never the last one;
 /// after `Write` whole lines and a prefix of the next one, perhaps all of it.
-pub(crate) fn write_cash_and_closing_lines<W: Write, S: Alter>(
+pub(crate) fn write_opening_cash_and_closing_lines<W: Write, S: Alter>(
     alloc: Global,
     desk: &mut Desk<S>,
     account: Id,

@@ -25,7 +25,7 @@ use std::io::Write;
 // fails, memory runs out, or the number or the sum overflows, or with `Write`. After `Desk` only
 // whole lines are written, perhaps none or all; after `Write` whole lines and a prefix of the next
 // one, perhaps all of it.
-fn write_cash_walk_lines<W: Write, S: Alter>(
+fn write_opening_and_cash_lines_if_any<W: Write, S: Alter>(
     alloc: Global,
     desk: &mut Desk<S>,
     account: Id,
@@ -78,7 +78,7 @@ pub(crate) fn write_opening_and_cash_lines<W: Write, S: Alter>(
     ensures written { HoldsForStoredTables S.Store desk.old desk.new
         (λ t. WritesCashLines t account from to opening (W.contents writer.old) (W.contents writer.new) result) }
 {
-    let moved = write_cash_walk_lines(
+    let moved = write_opening_and_cash_lines_if_any(
         alloc,
         desk,
         account,

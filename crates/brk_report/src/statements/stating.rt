@@ -4,7 +4,7 @@ ghost use Rattle.brk_report.specs.Stated.{StatementPost, PreservesDesk, IsLinesF
 ghost use Rattle.brk_report_lines.specs.Written.{WritesLines};
 
 use crate::statements::parts::{
-    write_cash_and_closing_lines, write_header_lines, write_lot_and_total_lines,
+    write_header_lines, write_lot_and_total_lines, write_opening_cash_and_closing_lines,
 };
 use brk_desk::{Desk, StatementHead};
 use brk_money::{Day, Id, Refusal};
@@ -39,7 +39,9 @@ fn write_statement_lines<W: Write, S: Alter>(
 {
     write_header_lines(alloc, account, head, from, to, writer)?;
     let opening = head.opening;
-    let cash = write_cash_and_closing_lines(alloc, desk, account, from, to, opening, writer)?;
+    let cash = write_opening_cash_and_closing_lines(
+        alloc, desk, account, from, to, opening, writer,
+    )?;
     write_lot_and_total_lines(alloc, desk, account, head.holdings, cash, writer)
 }
 

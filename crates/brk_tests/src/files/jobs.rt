@@ -77,17 +77,17 @@ impl Observation {
     }
 }
 
-// Returns the end of a batch: `Done` if it completed, otherwise `OtherFault`.
-fn end_of_batch(ended: Result<Counts, BatchFault>) -> Ended {
+// Returns the outcome of a batch: `Done` if it completed, otherwise `OtherFault`.
+fn outcome_of_batch(ended: Result<Counts, BatchFault>) -> Ended {
     match ended {
         Ok(_) => Ended::Done,
         Err(_) => Ended::OtherFault,
     }
 }
 
-// Returns the end of the statement of an account: `Done` if it completed, `StoreFault` if it failed
-// with `Store`, otherwise `OtherFault`.
-fn end_of_statement(ended: Result<(), ReportFault>) -> Ended {
+// Returns the outcome of the statement of an account: `Done` if it completed, `StoreFault` if it
+// failed with `Store`, otherwise `OtherFault`.
+fn outcome_of_statement(ended: Result<(), ReportFault>) -> Ended {
     match ended {
         Ok(()) => Ended::Done,
         Err(ReportFault::Desk(Fault::Store)) => Ended::StoreFault,
@@ -95,9 +95,9 @@ fn end_of_statement(ended: Result<(), ReportFault>) -> Ended {
     }
 }
 
-// Returns the end of a stream: `Served` with the number of replies if it completed, otherwise
+// Returns the outcome of a stream: `Served` with the number of replies if it completed, otherwise
 // `OtherFault`.
-fn end_of_stream(ended: Result<u64, ServeFault>) -> Ended {
+fn outcome_of_stream(ended: Result<u64, ServeFault>) -> Ended {
     match ended {
         Ok(replies) => Ended::Served(replies),
         Err(_) => Ended::OtherFault,
@@ -133,7 +133,7 @@ fn create_or_adopt_desk<S: Alter + Drop>(
 }
 
 // Performs a task of a desk with the input `input` at 2024-03-01 00:00 UTC, appends the bytes that
-// the task writes to `lines`, and returns the end of the task.
+// the task writes to `lines`, and returns the outcome of the task.
 fn perform_task<S: Alter>(
     alloc: Global,
     desk: &mut Desk<S>,
@@ -142,15 +142,15 @@ fn perform_task<S: Alter>(
     lines: &mut Vec<u8>,
 ) -> Ended {
     match task {
-        Task::Batch => end_of_batch(run_batch_of_reader(alloc, input, lines, desk)),
-        Task::Statement(asked) => end_of_statement(write_statement(alloc, asked, lines, desk)),
-        Task::Stream => end_of_stream(serve_stream_of_reader(alloc, input, lines, desk)),
+        Task::Batch => outcome_of_batch(run_batch_of_reader(alloc, input, lines, desk)),
+        Task::Statement(asked) => outcome_of_statement(write_statement(alloc, asked, lines, desk)),
+        Task::Stream => outcome_of_stream(serve_stream_of_reader(alloc, input, lines, desk)),
     }
 }
 
 // Creates or adopts the desk in the database of a connection, performs the task `task` of this desk
 // with the input `input`, and returns the connection. Records the bytes that the task writes and
-// its end in `seen`. Performs nothing if the desk is neither created nor adopted.
+// its outcome in `seen`. Performs nothing if the desk is neither created nor adopted.
 fn open_desk_and_perform_task<S: Alter + Drop>(
     alloc: Global,
     conn: Connection<S>,
@@ -168,7 +168,7 @@ fn open_desk_and_perform_task<S: Alter + Drop>(
 }
 
 // Performs a task of a desk with the input `input`, and then audits the desk. Records the bytes
-// that the task writes, its end and whether the audit passed in `seen`.
+// that the task writes, its outcome and whether the audit passed in `seen`.
 fn perform_task_and_audit<S: Alter>(
     alloc: Global,
     desk: &mut Desk<S>,
@@ -193,7 +193,7 @@ fn tables_text_or_empty<S: Alter>(alloc: Global, conn: &mut Connection<S>) -> St
 /// the task `task` with the input `input` at 2024-03-01 00:00 UTC, audits the desk, reads the
 /// tables again, and returns the connection. Records what is observed in `seen`. Performs nothing
 /// after the first reading if the desk is neither created nor adopted.
-pub fn observe_task_of_desk<S: Alter + Drop>(
+pub fn perform_observed_task<S: Alter + Drop>(
     alloc: Global,
     mut conn: Connection<S>,
     task: Task,
@@ -229,6 +229,6 @@ pub fn perform_job<S: Alter + Drop>(
             conn
         }
         Job::Desk(task) => open_desk_and_perform_task(alloc, conn, task, input, seen),
-        Job::Observed(task) => observe_task_of_desk(alloc, conn, task, input, seen),
+        Job::Observed(task) => perform_observed_task(alloc, conn, task, input, seen),
     }
 }

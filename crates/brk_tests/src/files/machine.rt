@@ -37,7 +37,7 @@ impl MachineCrash {
     };
     /// Returns a crash at the call of the log after `calls` calls, with the bytes that were not
     /// synced stored.
-    pub fn of_log_after(calls: u64) -> MachineCrash {
+    pub fn after_log_calls(calls: u64) -> MachineCrash {
         MachineCrash {
             name: "the log",
             file: File::Log,
@@ -48,7 +48,7 @@ impl MachineCrash {
 
     /// Returns a crash at the call of the database file after `calls` calls, with the bytes that
     /// were not synced stored.
-    pub fn of_database_after(calls: u64) -> MachineCrash {
+    pub fn after_database_calls(calls: u64) -> MachineCrash {
         MachineCrash {
             name: "the database file",
             file: File::Database,
@@ -131,7 +131,7 @@ fn failing_file_with_bytes(alloc: Global, bytes: &[u8], calls: u64) -> Result<Fu
 // Returns the two files of a desk in memory, with the bytes `held`, all synced. The file
 // `stop.file` accepts `stop.calls` calls and fails at each later call; the other one accepts all
 // calls. Fails only if memory runs out.
-fn files_until_crash(
+fn files_failing_at_crash(
     alloc: Global,
     held: &Held,
     stop: MachineCrash,
@@ -212,7 +212,7 @@ pub fn perform_job_until_crash(
     job: Job,
     input: &[u8],
 ) -> Result<Sent, Fail> {
-    let files = files_until_crash(alloc, held, stop)?;
+    let files = files_failing_at_crash(alloc, held, stop)?;
     let mut seen = Observation::empty(alloc);
     let files = perform_job_in_files(alloc, files, options, job, input, &mut seen);
     let (held, was_stopped) = files_after_crash(alloc, files, stop.loses)?;

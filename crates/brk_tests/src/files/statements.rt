@@ -55,7 +55,7 @@ fn write_statement_over_failing_disk(
     let Sent { seen, .. } = perform_job_until_crash(
         alloc,
         held,
-        MachineCrash::of_database_after(calls),
+        MachineCrash::after_database_calls(calls),
         options_with_cached_pages(1),
         Job::Desk(Task::Statement(asked)),
         b"",
@@ -65,14 +65,14 @@ fn write_statement_over_failing_disk(
 
 // Returns true if a text consists of the first whole lines of the statement `WANTED`, perhaps none,
 // but not all of them.
-fn is_proper_prefix_of_statement(text: &[u8]) -> bool {
+fn is_proper_line_prefix_of_statement(text: &[u8]) -> bool {
     let is_whole = text.is_empty() || text.ends_with(b"\n");
     is_whole && text.len() < WANTED.len() && WANTED.starts_with(text)
 }
 
-// Checks the statement of a desk in the files `held` as `statements_over_a_failing_disk` states.
-// Fails if not, and if memory runs out.
-fn expect_statements_over_failing_disk(alloc: Global, held: &Held) -> Result<(), Fail> {
+// Checks the statement of a desk in the files `held` as
+// `a_failing_disk_leaves_whole_statement_lines` states. Fails if not, and if memory runs out.
+fn expect_whole_lines_over_failing_disk(alloc: Global, held: &Held) -> Result<(), Fail> {
     let (mut faults, mut parts) = (0u64, 0u64);
     for calls in 0..10_000 {
         let seen = write_statement_over_failing_disk(alloc, held, calls)?;
@@ -88,7 +88,7 @@ fn expect_statements_over_failing_disk(alloc: Global, held: &Held) -> Result<(),
             }
             Ended::StoreFault => {
                 expect(
-                    is_proper_prefix_of_statement(text),
+                    is_proper_line_prefix_of_statement(text),
                     format_args!("after {calls} calls"),
                 )?;
                 faults = faults.saturating_add(1);
@@ -104,12 +104,12 @@ fn expect_statements_over_failing_disk(alloc: Global, held: &Held) -> Result<(),
 /// opened or the statement fails with `Store` after whole first lines, perhaps none but never all,
 /// until the statement is complete and equals `WANTED`, which must be with fewer than 10,000 calls.
 /// Checks also that some failed statements have lines and some have none.
-pub fn statements_over_a_failing_disk(alloc: Global) -> Result<(), Fail> {
+pub fn a_failing_disk_leaves_whole_statement_lines(alloc: Global) -> Result<(), Fail> {
     let Sent { held, .. } = run_batch_until_crash(
         alloc,
         &Held::empty_files(alloc),
         MachineCrash::NEVER,
         BATCH,
     )?;
-    expect_statements_over_failing_disk(alloc, &held)
+    expect_whole_lines_over_failing_disk(alloc, &held)
 }

@@ -4,7 +4,7 @@
 
 use crate::cuts::{ROWS, all_lines_of_retry};
 use crate::desks::{connection_of_desk, desk_with_reference_data, open_in_memory};
-use crate::files::jobs::{Observation, Task, observe_task_of_desk};
+use crate::files::jobs::{Observation, Task, perform_observed_task};
 use crate::files::machine::{
     File, Held, MachineCrash, Sent, files_after_sql, files_with_reference_data,
     run_batch_until_crash,
@@ -74,14 +74,14 @@ fn fail_unless(is_so: bool, stop: MachineCrash, what: &str) -> Result<(), Fail> 
 // Executes a batch on a new desk in the database of a connection after the batch `SET`. Returns the
 // observation of the batch. Fails without a connection, and if the desk cannot be set up
 // (`desk_with_reference_data`).
-fn observe_batch_after_set<S: Alter + Drop>(
+fn run_observed_batch_after_set<S: Alter + Drop>(
     alloc: Global,
     conn: Option<Connection<S>>,
     batch: &[u8],
 ) -> Result<Observation, Fail> {
     let conn = connection_of_desk(desk_with_reference_data(alloc, conn)?);
     let mut seen = Observation::empty(alloc);
-    drop(observe_task_of_desk(alloc, conn, Task::Batch, batch, &mut seen));
+    drop(perform_observed_task(alloc, conn, Task::Batch, batch, &mut seen));
     Ok(seen)
 }
 
@@ -91,7 +91,7 @@ fn observe_batch_after_set<S: Alter + Drop>(
 // runs out.
 fn tables_after_rows(alloc: Global, rows: usize) -> Result<String, Fail> {
     let batch = format_batch(alloc, &ROWS[..rows.min(6)])?;
-    let Observation { after, .. } = observe_batch_after_set(
+    let Observation { after, .. } = run_observed_batch_after_set(
         alloc,
         open_in_memory(alloc),
         batch.as_bytes(),
@@ -104,7 +104,7 @@ fn tables_after_rows(alloc: Global, rows: usize) -> Result<String, Fail> {
 
 // Returns true if a batch wrote exactly the lines `lines`, its desk passed the audit, and the
 // tables after it are `tables`.
-fn has_lines_audit_and_tables(seen: &Observation, lines: &str, tables: &str) -> bool {
+fn is_sound_with_lines_and_tables(seen: &Observation, lines: &str, tables: &str) -> bool {
     seen.is_sound && seen.lines.as_slice() == lines.as_bytes() && seen.after.as_str() == tables
 }
 
@@ -120,7 +120,7 @@ fn interrupt_creation_and_set_up(
     let first = run_batch_until_crash(alloc, &Held::empty_files(alloc), stop, NO_ROWS)?;
     let again = run_batch_until_crash(alloc, &first.held, MachineCrash::NEVER, SET)?;
     Ok((
-        has_lines_audit_and_tables(&again.seen, SET_LINES, tables),
+        is_sound_with_lines_and_tables(&again.seen, SET_LINES, tables),
         first.was_stopped,
     ))
 }
@@ -206,14 +206,14 @@ fn expect_lines_and_tables(
 ) -> Result<(), Fail> {
     let is_part = whole.as_bytes().starts_with(&twice.first.lines);
     fail_unless(is_part, stop, "other lines before it")?;
-    let is_whole = has_lines_audit_and_tables(&twice.first, whole, last);
+    let is_whole = is_sound_with_lines_and_tables(&twice.first, whole, last);
     fail_unless(
         twice.was_stopped || is_whole,
         stop,
         "an early end without it",
     )?;
     fail_unless(
-        has_lines_audit_and_tables(&twice.again, rest, last),
+        is_sound_with_lines_and_tables(&twice.again, rest, last),
         stop,
         "it is not completed",
     )
@@ -314,7 +314,7 @@ fn crash_and_retry_upgrade(
     let is_older = again.seen.before.is_empty() && first.seen.lines.is_empty();
     Ok(UpgradeObservation {
         is_whole: is_older || again.seen.before.as_str() == tables,
-        is_done: has_lines_audit_and_tables(&again.seen, "end,0,0,0\n", tables),
+        is_done: is_sound_with_lines_and_tables(&again.seen, "end,0,0,0\n", tables),
         was_stopped: first.was_stopped,
     })
 }
@@ -395,7 +395,7 @@ fn expect_each_crash_recovered(alloc: Global, work: Work<'_>) -> Result<(), Fail
 
 /// Checks that a desk can be opened or created, and set up, after a crash at each call of the log
 /// or the database file during its creation, with the bytes that were not synced lost or stored.
-pub fn crashes_while_a_store_is_created(alloc: Global) -> Result<(), Fail> {
+pub fn desk_creation_recovers_from_crashes(alloc: Global) -> Result<(), Fail> {
     let tables = tables_after_rows(alloc, 0)?;
     expect_each_crash_recovered(alloc, Work::Creation(tables.as_str()))
 }
@@ -413,7 +413,7 @@ fn tables_after_each_row(alloc: Global) -> Result<Vec<String>, Fail> {
 
 /// Checks that a batch can be retried and completed after a crash at each call of the log or the
 /// database file during the batch, with the bytes that were not synced lost or stored.
-pub fn crashes_while_a_batch_is_executed(alloc: Global) -> Result<(), Fail> {
+pub fn batch_execution_recovers_from_crashes(alloc: Global) -> Result<(), Fail> {
     let batch = format_batch(alloc, &ROWS)?;
     let tables = tables_after_each_row(alloc)?;
     let start = files_with_reference_data(alloc)?;
@@ -440,20 +440,20 @@ fn expect_upgrade_recovered_at_each_call(alloc: Global, change: &str) -> Result<
 
 /// Checks that the upgrade from schema 1 is atomic if the machine crashes at any call of the log or
 /// the database file, and that a retry completes it.
-pub fn crashes_while_schema_1_is_upgraded(alloc: Global) -> Result<(), Fail> {
+pub fn upgrade_from_schema_1_recovers_from_crashes(alloc: Global) -> Result<(), Fail> {
     expect_upgrade_recovered_at_each_call(alloc, FIRST)
 }
 
 /// Checks that the upgrade from schema 2 is atomic if the machine crashes at any call of the log or
 /// the database file, and that a retry completes it.
-pub fn crashes_while_schema_2_is_upgraded(alloc: Global) -> Result<(), Fail> {
+pub fn upgrade_from_schema_2_recovers_from_crashes(alloc: Global) -> Result<(), Fail> {
     expect_upgrade_recovered_at_each_call(alloc, SECOND)
 }
 
 // Executes a batch on the desk in the files `held`, and returns the files after it. Fails with
 // `name` if the batch does not write exactly the lines `lines`, or if the audit after it fails, and
 // without it if memory runs out.
-fn expect_batch_in_files(
+fn expect_batch_result_in_files(
     alloc: Global,
     held: &Held,
     name: &str,
@@ -477,7 +477,7 @@ fn expect_batch_in_files(
 // retries the batch. Checks that the first run accepts all rows with the replies `lines`, that the
 // retry returns these replies as stored ones, and that an audit passes after each run. Fails with
 // `name` if not, and without it if memory runs out.
-fn expect_trades_stored_and_repeated(
+fn expect_stored_replies_after_reopening(
     alloc: Global,
     name: &str,
     rows: &[&str],
@@ -487,8 +487,8 @@ fn expect_trades_stored_and_repeated(
     let told = lines_of_retry(alloc, lines, 0)?;
     let again = lines_of_retry(alloc, lines, lines.len())?;
     let set = files_with_reference_data(alloc)?;
-    let held = expect_batch_in_files(alloc, &set, name, batch.as_str(), told.as_str())?;
-    expect_batch_in_files(alloc, &held, name, batch.as_str(), again.as_str())?;
+    let held = expect_batch_result_in_files(alloc, &set, name, batch.as_str(), told.as_str())?;
+    expect_batch_result_in_files(alloc, &held, name, batch.as_str(), again.as_str())?;
     Ok(())
 }
 
@@ -504,14 +504,14 @@ pub fn desks_in_files_can_be_reopened(alloc: Global) -> Result<(), Fail> {
         ("a cover", 10),
         ("all is sold", 12),
     ] {
-        expect_trades_stored_and_repeated(
+        expect_stored_replies_after_reopening(
             alloc,
             name,
             &worked::ROWS[..count],
             &worked::LINES[..count],
         )?;
     }
-    expect_trades_stored_and_repeated(
+    expect_stored_replies_after_reopening(
         alloc,
         "a sale of the last",
         &LAST_FIRST_ROWS,

@@ -36,7 +36,7 @@ struct Three {
 // Returns the text of three requests, a row that adds broker 2, the same row again and a query for
 // the submitted trades, and for each the number of bytes from the start of the text to its end.
 // Fails only if memory runs out.
-fn three_requests_with_ends(alloc: Global) -> Result<(String, [usize; 3]), AllocError> {
+fn three_requests_and_end_positions(alloc: Global) -> Result<(String, [usize; 3]), AllocError> {
     let row = format_post_request(alloc, "/rows/C/1", "[\"broker\",\"2\",\"Cy\"]")?;
     let query = format_post_request(alloc, "/ask/submitted", "[]")?;
     let input = format!(in alloc; "{row}{row}{query}")?;
@@ -63,7 +63,7 @@ fn replies_to_three_requests(alloc: Global) -> Result<[String; 3], AllocError> {
 // Returns the three requests with the positions at which they end and their replies. Fails only if
 // memory runs out.
 fn three_requests_and_replies(alloc: Global) -> Result<Three, AllocError> {
-    let (input, ends) = three_requests_with_ends(alloc)?;
+    let (input, ends) = three_requests_and_end_positions(alloc)?;
     let replies = replies_to_three_requests(alloc)?;
     Ok(Three {
         input,
@@ -75,7 +75,7 @@ fn three_requests_and_replies(alloc: Global) -> Result<Three, AllocError> {
 // Returns the replies to the requests that end within the first `len` bytes, the number of these
 // replies, and true if a part of another request follows them. `len` must be at most the length of
 // the stream. Fails only if memory runs out.
-fn replies_within_length(
+fn replies_to_requests_within_length(
     alloc: Global,
     all: &Three,
     len: usize,
@@ -98,13 +98,13 @@ fn replies_within_length(
 // exactly those to the requests within these bytes, followed by the reply 400 if only a part of a
 // further request is within them. Fails if not, without a connection, if the desk cannot be set up,
 // or if memory runs out.
-fn expect_cut_stream<S: Alter + Drop>(
+fn expect_replies_to_cut_stream<S: Alter + Drop>(
     alloc: Global,
     conn: Option<Connection<S>>,
     all: &Three,
     len: usize,
 ) -> Result<(), Fail> {
-    let (mut wanted, mut done, part) = replies_within_length(alloc, all, len)?;
+    let (mut wanted, mut done, part) = replies_to_requests_within_length(alloc, all, len)?;
     if part {
         let bad = WantedReply::Last("400 Bad Request", "{\"error\":\"bad request\"}");
         wanted.push_str(format_wanted_reply(alloc, bad)?.as_str())?;
@@ -121,10 +121,10 @@ fn expect_cut_stream<S: Alter + Drop>(
 
 /// Checks, for a stream that is cut before each of its bytes and at its end, that each whole
 /// request has its reply, and that a request that is cut has the reply 400.
-pub fn streams_cut_at_each_byte(alloc: Global) -> Result<(), Fail> {
+pub fn a_cut_request_gets_the_reply_400(alloc: Global) -> Result<(), Fail> {
     let all = three_requests_and_replies(alloc)?;
     for len in 0..=all.input.len() {
-        expect_cut_stream(alloc, open_in_memory(alloc), &all, len)?;
+        expect_replies_to_cut_stream(alloc, open_in_memory(alloc), &all, len)?;
     }
     Ok(())
 }
@@ -172,7 +172,7 @@ fn expect_stream_read_fault<S: Alter + Drop>(
     kind: ErrorKind,
 ) -> Result<(), Fail> {
     let name = format!(in alloc; "the reader fails after {len}")?;
-    let (wanted, done, _) = replies_within_length(alloc, all, len)?;
+    let (wanted, done, _) = replies_to_requests_within_length(alloc, all, len)?;
     let mut desk = desk_with_reference_data(alloc, conn)?;
     let mut out = Vec::new(alloc);
     let reader = Failing::reader_failing_once(all.input.as_bytes(), len, kind);
@@ -187,7 +187,7 @@ fn expect_stream_read_fault<S: Alter + Drop>(
 /// Checks, for each position of a stream, its end included, at which the reader fails or is
 /// interrupted, that the stream fails with `Read` after the replies to the requests that were read
 /// whole, and that a retry completes.
-pub fn stream_readers_failing_at_each_byte(alloc: Global) -> Result<(), Fail> {
+pub fn a_stream_can_be_retried_after_a_read_fault(alloc: Global) -> Result<(), Fail> {
     let all = three_requests_and_replies(alloc)?;
     for len in 0..=all.input.len() {
         for kind in [ErrorKind::Interrupted, ErrorKind::ConnectionReset] {
@@ -211,7 +211,7 @@ fn expect_stream_write_fault<S: Alter + Drop>(
     fault: Option<ErrorKind>,
 ) -> Result<(), Fail> {
     let name = format!(in alloc; "the writer fails after {room}")?;
-    let (wanted, _, _) = replies_within_length(alloc, all, all.input.len())?;
+    let (wanted, _, _) = replies_to_requests_within_length(alloc, all, all.input.len())?;
     let one = all.replies[0].len();
     let two = one.saturating_add(all.replies[1].len());
     let done = u64::from(room >= one).saturating_add(u64::from(room >= two));
@@ -229,9 +229,9 @@ fn expect_stream_write_fault<S: Alter + Drop>(
 /// Checks, for each byte of the replies of a stream at which the writer fails, is interrupted or
 /// accepts no byte, that the stream fails with `Write`, that exactly the bytes before are written,
 /// and that a retry completes.
-pub fn stream_writers_failing_at_each_byte(alloc: Global) -> Result<(), Fail> {
+pub fn a_stream_can_be_retried_after_a_write_fault(alloc: Global) -> Result<(), Fail> {
     let all = three_requests_and_replies(alloc)?;
-    let (replies, _, _) = replies_within_length(alloc, &all, all.input.len())?;
+    let (replies, _, _) = replies_to_requests_within_length(alloc, &all, all.input.len())?;
     for room in 0..replies.len() {
         for fault in [
             None,

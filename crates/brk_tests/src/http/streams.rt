@@ -190,13 +190,13 @@ pub fn a_head_has_at_most_16_384_bytes(alloc: Global) -> Result<(), Fail> {
 }
 
 // Serves a stream on a new desk in files whose log accepts `calls` calls and fails at each later
-// call. Returns the observation, which ends with `NotBegun` if the database cannot be opened or the
-// desk cannot be created. Fails only if memory runs out.
+// call. Returns the observation, whose outcome is `NotBegun` if the database cannot be opened or
+// the desk cannot be created. Fails only if memory runs out.
 fn serve_with_failing_log(alloc: Global, calls: u64, input: &[u8]) -> Result<Observation, Fail> {
     let Sent { seen, .. } = perform_job_until_crash(
         alloc,
         &Held::empty_files(alloc),
-        MachineCrash::of_log_after(calls),
+        MachineCrash::after_log_calls(calls),
         Options::new(1),
         Job::Desk(Task::Stream),
         input,

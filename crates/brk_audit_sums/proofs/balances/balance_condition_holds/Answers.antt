@@ -46,7 +46,7 @@ returns-clause-value c = λ schema.
     ∙ (λ i. trades_sum q i +ℤ moved_sum s.moves.items q i) in
     told_by (λ row. row.balance ≡ row.account.opening +ℤ sum_at_key nat_cmp c.in_ok-sums.sums row.account.id)
     (λ row. row.balance ≡ row.opening +ℤ moved_on t row.id) abstract_account_row s.accounts.items c.deref-5.result.now c.deref-5.ensures.value
-    c.all_rows_have_sums.ensures
+    c.all_totals_match_sums.ensures
     (λ row e. e ∙ ap (λ z. row.account.opening +ℤ z) (sum row.account.id))
     (λ row e. e ∙ sym (ap (λ z. row.account.opening +ℤ z) (sum row.account.id)))
     (balances_by_rows schema t (key_parts t (form_parts c.requires.form.schema t c.requires.form.form).keys).accounts c.requires.status)

@@ -33,7 +33,7 @@ returns-clause-value c = λ schema.
     c.deref-2.ensures.value) in
     told_by (λ row. pos row.commissions ≡ sum_at_key nat_cmp c.in_ok-sums.sums row.broker.id)
     (λ row. pos row.commissions ≡ sum_over_broker_trades t (λ r. pos r.commission) row.id) abstract_broker_row s.brokers.items c.deref-4.result.now
-    c.deref-4.ensures.value c.all_rows_have_sums.ensures
+    c.deref-4.ensures.value c.all_totals_match_sums.ensures
     (λ row e. e ∙ sum row.broker.id)
     (λ row e. e ∙ sym (sum row.broker.id))
     (commissions_by_rows schema t (key_parts t (form_parts c.requires.form.schema t c.requires.form.form).keys).brokers c.requires.status)

@@ -35,12 +35,12 @@ returns-then-begins_with_end_field g c = λ text h.
     _ _ _ _ c.loop-settled.invariant.reached _ c.loop-settled.invariant.written _ text c.in_ok-check_end_record_and_write_end_line.ensures.right
     c.in_ok-check_end_record_and_write_end_line.ensures.ok h
 
-pub returns-in_err-read_record_after_row : goal.returns-in_err-read_record_after_row
-returns-in_err-read_record_after_row g c = λ text h.
-    let p = err_from_is_err_and c.from_residual-in_err-read_record_after_row.result c.from_residual-in_err-read_record_after_row.ensures.1 in
+pub returns-in_err-read_record_or_refuse_last_row : goal.returns-in_err-read_record_or_refuse_last_row
+returns-in_err-read_record_or_refuse_last_row g c = λ text h.
+    let p = err_from_is_err_and c.from_residual-in_err-read_record_or_refuse_last_row.result c.from_residual-in_err-read_record_or_refuse_last_row.ensures.1 in
     rw (p.1, p.2) (next_record_ended g.D.Rows.meets_disk_assumption g.D.Rows.represents g.D.Rows.crash_exposes_only g.D.Rows.acts g.D.Rows.form g.D.Rows.step g.C.Clock.gives g.R.Read.remaining
     _ _ _ _ c.loop-settled.invariant.reached _ c.loop-settled.invariant.written _ _ text (λ ends. let no = c.if-begins_with_end_field.ensures.1 ends in cc)
-    c.in_err-read_record_after_row.ensures.err h)
+    c.in_err-read_record_or_refuse_last_row.ensures.err h)
 
 pub execute_row_and_write_line-requires-clause-counted : goal.execute_row_and_write_line-requires-clause-counted
 execute_row_and_write_line-requires-clause-counted g c =
@@ -51,16 +51,16 @@ pub returns-in_err-counts : goal.returns-in_err-counts
 returns-in_err-counts g c = λ text h.
     let p = err_from_is_err_and c.from_residual-in_err-counts.result c.from_residual-in_err-counts.ensures.1 in
     rw (p.1, p.2) (row_ended g.D.Rows.meets_disk_assumption g.D.Rows.represents g.D.Rows.crash_exposes_only g.D.Rows.acts g.D.Rows.form g.D.Rows.step g.C.Clock.gives g.R.Read.remaining
-    _ _ _ _ c.loop-settled.invariant.reached _ c.loop-settled.invariant.written _ c.read_record_after_row.new.records _ _ _ (λ ends. let no = c.if-begins_with_end_field.ensures.1 ends in cc)
-    c.in_err-counts.ensures.disk_was_clean c.in_ok-read_record_after_row.ensures.read _ text (rw c.in_ok-read_record_after_row.ensures.unwritten at c.in_err-counts.ensures.err) h)
+    _ _ _ _ c.loop-settled.invariant.reached _ c.loop-settled.invariant.written _ c.read_record_or_refuse_last_row.new.records _ _ _ (λ ends. let no = c.if-begins_with_end_field.ensures.1 ends in cc)
+    c.in_err-counts.ensures.disk_was_clean c.in_ok-read_record_or_refuse_last_row.ensures.read _ text (rw c.in_ok-read_record_or_refuse_last_row.ensures.unwritten at c.in_err-counts.ensures.err) h)
 
 pub loop-settled-preserved : goal.loop-settled-preserved
 loop-settled-preserved g c =
     let more = row_decided g.D.Rows.meets_disk_assumption g.D.Rows.represents g.D.Rows.crash_exposes_only g.D.Rows.acts g.D.Rows.form g.D.Rows.step g.C.Clock.gives g.R.Read.remaining
     _ _ _ _ c.loop-settled.invariant.reached _ c.loop-settled.invariant.written _ _ _ _ _ (λ ends. let no = c.if-begins_with_end_field.ensures.1 ends in cc)
-    c.in_ok-counts.ensures.disk_was_clean (rw c.swap.ensures.x_after c.in_ok-read_record_after_row.ensures.read) _
-    (rw c.in_ok-read_record_after_row.ensures.unwritten at c.in_ok-counts.ensures.ok) in
-    record { setup = c.in_ok-read_record_after_row.ensures.setup; reached = more.0; written = more.1 }
+    c.in_ok-counts.ensures.disk_was_clean (rw c.swap.ensures.x_after c.in_ok-read_record_or_refuse_last_row.ensures.read) _
+    (rw c.in_ok-read_record_or_refuse_last_row.ensures.unwritten at c.in_ok-counts.ensures.ok) in
+    record { setup = c.in_ok-read_record_or_refuse_last_row.ensures.setup; reached = more.0; written = more.1 }
 
 pub returns : goal.returns
 returns g c = λ text h.

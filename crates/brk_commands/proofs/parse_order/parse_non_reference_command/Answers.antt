@@ -30,4 +30,4 @@ returns-clause-read c =
     (other_text c.args.kind.now c.as_slice-2.result.now (codes "feed") c.eq-2.result c.eq-2.ensures c.as_slice-2.ensures c.if-eq-2.false)
     (other_text c.args.kind.now c.as_slice-3.result.now (codes "cancel") c.eq-3.result c.eq-3.ensures c.as_slice-3.ensures c.if-eq-3.false)
     (other_text c.args.kind.now c.as_slice-4.result.now (codes "result") c.eq-4.result c.eq-4.ensures c.as_slice-4.ensures c.if-eq-4.false))
-    c.parse_update_movement_or_day.ensures.read
+    c.parse_update_movement_or_one_day_settlement.ensures.read

@@ -14,7 +14,7 @@ returns-in-Some-clause-read g c =
     let symbol = c.args.symbol.now in
     let held = c.in_ok-held.held in
     let shares = c.shares_of_symbol-shares.result in
-    retold g.S.Store c.args.store.now c.read_valued_summaries.new.store held (c.in-Some.assets, shares)
+    retold g.S.Store c.args.store.now c.read_holding_summaries_and_value.new.store held (c.in-Some.assets, shares)
     (λ held (t : Tables). AreValuedSummariesOfAccount t account.account.id held)
     (λ (amounts : ℤ × Option ℤ) (t : Tables). AreAssetsAndSharesOfAccount t account symbol amounts.0 amounts.1)
     (λ t p. record {

@@ -17,7 +17,7 @@ returns-clause-read g c =
     let next = c.in_ok-next.next in
     let all = c.in_ok-next.has_all_movements in
     let found : MovementPlanFacts = record { balance = balance; has_all_movements = all; next = next } in
-    read_with g.S.Store c.args.store.now c.account_balance.new.self c.next_movement_number_and_limit.new.self {H = Fault} balance (next, all) found
+    read_with g.S.Store c.args.store.now c.account_balance.new.self c.next_cash_row_number_and_limit_reached.new.self {H = Fault} balance (next, all) found
     (IsBalanceOfAccount m.account)
     (λ (number : ℕ × Bool) (t : Tables). (number.0 ≡ last_cash_row_number_or_zero t + 1) × IsTrueIfMovementsAreMaximum number.1 t)
     (λ found (t : Tables). MovementFactsMatchTables t m found)
@@ -28,5 +28,5 @@ pub returns-in_err-next-clause-read : goal.returns-in_err-next-clause-read
 returns-in_err-next-clause-read g c =
     let old = c.args.store.now in
     let p = err_from_is_err_and c.from_residual-in_err-next.result c.from_residual-in_err-next.ensures.1 in
-    rw p.1 (failed_after g.S.Store old c.account_balance.new.self c.next_movement_number_and_limit.new.self _ p.0 _ _
+    rw p.1 (failed_after g.S.Store old c.account_balance.new.self c.next_cash_row_number_and_limit_reached.new.self _ p.0 _ _
     (single_read_changes_nothing old c.account_balance.new.self _ _ c.in_ok-balance.ensures.read) c.in_err-next.ensures.read)

@@ -14,7 +14,7 @@ returns-clause-read g c =
     let rule = c.in_ok-rule.rule in
     let next = c.in_ok-next.next in
     let posting : Posting = record { rule = rule; next = next } in
-    read_with g.S.Store c.args.store.now c.settlement_day.new.self c.next_cash_row_number.new.self {H = Fault} rule next posting
+    read_with g.S.Store c.args.store.now c.one_day_settlement_start.new.self c.next_cash_row_number.new.self {H = Fault} rule next posting
     (λ rule (t : Tables). rule ≡ t.rule) (λ next (t : Tables). next ≡ last_cash_row_number_or_zero t + 1) (λ posting (t : Tables). PostingFactsMatchTables t posting)
     (λ t r n. record { rule = r; next = n })
     c.in_ok-rule.ensures.read c.in_ok-next.ensures.read
@@ -23,5 +23,5 @@ pub returns-in_err-next-clause-read : goal.returns-in_err-next-clause-read
 returns-in_err-next-clause-read g c =
     let old = c.args.store.now in
     let p = err_from_is_err_and c.from_residual-in_err-next.result c.from_residual-in_err-next.ensures.1 in
-    rw p.1 (failed_after g.S.Store old c.settlement_day.new.self c.next_cash_row_number.new.self _ p.0 _ _
-    (single_read_changes_nothing old c.settlement_day.new.self _ _ c.in_ok-rule.ensures.read) c.in_err-next.ensures.read)
+    rw p.1 (failed_after g.S.Store old c.one_day_settlement_start.new.self c.next_cash_row_number.new.self _ p.0 _ _
+    (single_read_changes_nothing old c.one_day_settlement_start.new.self _ _ c.in_ok-rule.ensures.read) c.in_err-next.ensures.read)

@@ -18,7 +18,7 @@ returns-clause-read g c =
     let security = c.in_ok-security.security in
     let rate = c.in_ok-rate.rate in
     let listed : SecurityFacts = record { name = security.name; rate = rate } in
-    read_with g.S.Store c.args.store.now c.require_security.new.store c.read_commission_rate_of_band.new.store {H = Fault} security rate listed
+    read_with g.S.Store c.args.store.now c.require_security.new.store c.read_commission_rate_for_quantity.new.store {H = Fault} security rate listed
     (λ security (t : Tables). IsSecurityWithSymbol t trade.symbol security)
     (λ rate (t : Tables). rate ≡ option_map (λ (b : Band). b.rate) (commission_band_of_quantity t c.args.tier trade.kind security.exchange trade.qty))
     (λ listed (t : Tables). IfSome (security_row_with_symbol t trade.symbol) (λ s. SecurityFactsMatchTables t trade c.args.tier s listed))
@@ -29,5 +29,5 @@ pub returns-in_err-rate-clause-read : goal.returns-in_err-rate-clause-read
 returns-in_err-rate-clause-read g c =
     let old = c.args.store.now in
     let p = err_from_is_err_and c.from_residual-in_err-rate.result c.from_residual-in_err-rate.ensures.1 in
-    rw p.1 (failed_after g.S.Store old c.require_security.new.store c.read_commission_rate_of_band.new.store _ p.0 _ _
+    rw p.1 (failed_after g.S.Store old c.require_security.new.store c.read_commission_rate_for_quantity.new.store _ p.0 _ _
     (single_read_changes_nothing old c.require_security.new.store _ _ c.in_ok-security.ensures.read) c.in_err-rate.ensures.read)

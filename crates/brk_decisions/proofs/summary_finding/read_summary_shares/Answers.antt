@@ -9,7 +9,7 @@ use Rattle.brk_decisions.proofs.summary_finding.read_summary_shares.Goals as goa
 
 pub returns-clause-read : goal.returns-clause-read
 returns-clause-read g c =
-    retold g.S.Store c.args.store.now c.summary_of_position.new.self c.in_ok-summary.summary c.shares_of_optional_summary.result
+    retold g.S.Store c.args.store.now c.holding_summary_of_position.new.self c.in_ok-summary.summary c.shares_of_optional_summary.result
     (λ o (t : Tables). option_map abstract_summary_row o ≡ find (λ (r : SummaryRow). (r.account == c.args.account) && bytes_eq r.symbol c.args.symbol.now) t.summaries)
     (λ qty (t : Tables). qty ≡ option_map (λ (r : SummaryRow). r.qty) (summary_row_of_position t c.args.account c.args.symbol.now))
     (λ t e. c.shares_of_optional_summary.ensures ∙ number_in c.in_ok-summary.summary ∙ ap (option_map (λ (r : SummaryRow). r.qty)) e)

@@ -17,7 +17,7 @@ use Rattle.brk_decisions.proofs.tested.read_commission_rate_of_order.Goals as go
 pub returns-in_ok-rate-in-Some-clause-read : goal.returns-in_ok-rate-in-Some-clause-read
 returns-in_ok-rate-in-Some-clause-read g c =
     let order = c.args.order.now in
-    read_with g.S.Store c.args.store.now c.security.new.self c.read_commission_rate_of_band.new.store {H = Fault} (Some c.in-Some.security) c.in_ok-rate-in-Some.rate c.in_ok-rate-in-Some.rate
+    read_with g.S.Store c.args.store.now c.security.new.self c.read_commission_rate_for_quantity.new.store {H = Fault} (Some c.in-Some.security) c.in_ok-rate-in-Some.rate c.in_ok-rate-in-Some.rate
     (λ o (t : Tables). option_map abstract_security_row o ≡ find (λ (r : SecurityRow). bytes_eq r.symbol order.symbol) t.securities)
     (λ rate (t : Tables). rate ≡ option_map (λ (b : Band). b.rate) (commission_band_of_quantity t c.args.tier (trade_type_of_order_type order.order_type) c.in-Some.security.exchange order.qty))
     (λ rate (t : Tables). IfSome (security_row_with_symbol t order.symbol)
@@ -45,5 +45,5 @@ pub returns-in_err-rate-in-Some-clause-read : goal.returns-in_err-rate-in-Some-c
 returns-in_err-rate-in-Some-clause-read g c =
     let old = c.args.store.now in
     let p = err_from_is_err_and c.from_residual-in_err-rate-in-Some.result c.from_residual-in_err-rate-in-Some.ensures.1 in
-    rw p.1 (failed_after g.S.Store old c.security.new.self c.read_commission_rate_of_band.new.store _ p.0 _ _
+    rw p.1 (failed_after g.S.Store old c.security.new.self c.read_commission_rate_for_quantity.new.store _ p.0 _ _
     (single_read_changes_nothing old c.security.new.self _ _ c.in_ok-security.ensures.read) c.in_err-rate-in-Some.ensures.read)

@@ -10,7 +10,7 @@ pub returns-in-Recent-clause-read : goal.returns-in-Recent-clause-read
 returns-in-Recent-clause-read g c = rw c.in-Recent.is c.view_of_recent_trades.ensures.read
 
 pub returns-in-Status-clause-read : goal.returns-in-Status-clause-read
-returns-in-Status-clause-read g c = rw c.in-Status.is c.view_of_account_status.ensures.read
+returns-in-Status-clause-read g c = rw c.in-Status.is c.view_of_account_trade_statuses.ensures.read
 
 pub returns-in-Submitted-clause-read : goal.returns-in-Submitted-clause-read
 returns-in-Submitted-clause-read g c = rw c.in-Submitted.is c.view_of_submitted_trades.ensures.read

@@ -32,9 +32,9 @@ returns-clause-ok c =
     let t5a = amount_column c.args.balance in
     let s5 = s4 ++ t5a in
     let h5 = more o s4 t5a x4 x5 h4 c.in_ok-put_amount_column-2.ensures.ok in
-    let x6 = c.put_spaced_text_line.new.out.items in
+    let x6 = c.put_space_and_text_line.new.out.items in
     let t6a = 32 ∷ c.as_bytes.result.now in
-    on_ok {P = x6 ≡ x5 ++ line_with_line_feed t6a} c.put_spaced_text_line.result c.put_spaced_text_line.ensures.ok (λ h. line_end o s5 t6a x5 x6 h5 h
+    on_ok {P = x6 ≡ x5 ++ line_with_line_feed t6a} c.put_space_and_text_line.result c.put_space_and_text_line.ensures.ok (λ h. line_end o s5 t6a x5 x6 h5 h
     ∙ (λ i. o ++ (line_with_line_feed
     (((((((left_aligned_text 6 (codes "Posted")) ++ (32 ∷ timestamp_text row.stamp)) ++ (32 ∷ right_aligned_text 13 (decimal (c.get.ensures.value i))))
     ++ (32 ∷ right_aligned_text 13 (trade_id_or_hyphen row.trade))) ++ (amount_column (c.from.ensures i))) ++ (amount_column c.args.balance))

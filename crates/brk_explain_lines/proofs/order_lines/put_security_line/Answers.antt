@@ -21,7 +21,7 @@ returns-clause-ok c =
     let t2a = left_aligned_text 15 c.as_bytes.result.now in
     let s2 = s1 ++ t2a in
     let h2 = more o s1 t2a x1 x2 h1 c.in_ok-append_left_aligned.ensures.ok in
-    let x3 = c.put_spaced_text_line.new.out.items in
+    let x3 = c.put_space_and_text_line.new.out.items in
     let t3a = 32 ∷ c.as_bytes-2.result.now in
-    on_ok {P = x3 ≡ x2 ++ line_with_line_feed t3a} c.put_spaced_text_line.result c.put_spaced_text_line.ensures.ok (λ h. line_end o s2 t3a x2 x3 h2 h
+    on_ok {P = x3 ≡ x2 ++ line_with_line_feed t3a} c.put_space_and_text_line.result c.put_space_and_text_line.ensures.ok (λ h. line_end o s2 t3a x2 x3 h2 h
     ∙ (λ i. o ++ (line_with_line_feed ((((left_aligned_text 15 (codes "Security")) ++ (32 ∷ [])) ++ (left_aligned_text 15 (symbol i))) ++ (32 ∷ (name i))))))

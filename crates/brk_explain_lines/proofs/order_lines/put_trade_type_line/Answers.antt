@@ -13,7 +13,7 @@ returns-clause-ok c =
     let t1a = labeled_text (codes "Type") c.as_bytes.result.now in
     let s1 = t1a in
     let h1 = c.in_ok-put_labeled_text.ensures.ok in
-    let x2 = c.put_spaced_text_line.new.out.items in
+    let x2 = c.put_space_and_text_line.new.out.items in
     let t2a = 32 ∷ c.as_bytes-2.result.now in
-    on_ok {P = x2 ≡ x1 ++ line_with_line_feed t2a} c.put_spaced_text_line.result c.put_spaced_text_line.ensures.ok (λ h. line_end o s1 t2a x1 x2 h1 h
+    on_ok {P = x2 ≡ x1 ++ line_with_line_feed t2a} c.put_space_and_text_line.result c.put_space_and_text_line.ensures.ok (λ h. line_end o s1 t2a x1 x2 h1 h
     ∙ (λ i. o ++ (line_with_line_feed ((labeled_text (codes "Type") (code i)) ++ (32 ∷ (name i))))))

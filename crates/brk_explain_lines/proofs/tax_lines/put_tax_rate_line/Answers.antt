@@ -23,9 +23,9 @@ returns-clause-ok c =
     let t3a = 32 ∷ right_aligned_text 11 (decimal c.from.result) in
     let s3 = s2 ++ t3a in
     let h3 = more o s2 t3a x2 x3 h2 c.in_ok-put_number_column-2.ensures.ok in
-    let x4 = c.put_spaced_text_line.new.out.items in
+    let x4 = c.put_space_and_text_line.new.out.items in
     let t4a = 32 ∷ c.as_bytes.result.now in
-    on_ok {P = x4 ≡ x3 ++ line_with_line_feed t4a} c.put_spaced_text_line.result c.put_spaced_text_line.ensures.ok (λ h. line_end o s3 t4a x3 x4 h3 h
+    on_ok {P = x4 ≡ x3 ++ line_with_line_feed t4a} c.put_space_and_text_line.result c.put_space_and_text_line.ensures.ok (λ h. line_end o s3 t4a x3 x4 h3 h
     ∙ (λ i. o ++ (line_with_line_feed
     ((((left_aligned_text 6 (codes "Rate")) ++ (32 ∷ right_aligned_text 13 (decimal (c.get.ensures.value i))))
     ++ (32 ∷ right_aligned_text 11 (decimal (rate i)))) ++ (32 ∷ (name i))))))

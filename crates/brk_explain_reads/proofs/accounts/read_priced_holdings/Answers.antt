@@ -20,7 +20,7 @@ AreHeld account rest held t = map (λ r. priced_holding t (abstract_summary_row 
 pub loop-summary-init : goal.loop-summary-init
 loop-summary-init g c =
     let rest = c.in_ok-rest.rest in
-    retold g.S.Store c.args.store.now c.summaries_of_account.new.self rest tt
+    retold g.S.Store c.args.store.now c.holding_summaries_of_account.new.self rest tt
     (λ all (t : Tables). map abstract_summary_row all.items ≡ filter (λ (r : SummaryRow). r.account == c.args.account) t.summaries)
     (λ _. AreHeld c.args.account rest.items c.new-held.result.items)
     (λ t e. none_made (λ r. priced_holding t (abstract_summary_row r)) abstract_priced_holding rest.items c.new-held.result.items c.new-held.ensures.items

@@ -19,7 +19,7 @@ returns-clause-read g c =
     let made = c.quantity_and_price.ensures in
     let qty = c.quantity_of_summary_or_zero.result in
     let same : to_z w64 (of_z w64 qty) ≡ qty = search rules in
-    read_with g.S.Store c.args.store.now c.summary_of_position.new.self c.require_last_price.new.store {H = Fault} c.in_ok-summary.summary c.in_ok-price.price c.quantity_and_price.result
+    read_with g.S.Store c.args.store.now c.holding_summary_of_position.new.self c.require_last_price.new.store {H = Fault} c.in_ok-summary.summary c.in_ok-price.price c.quantity_and_price.result
     (λ o (t : Tables). option_map abstract_summary_row o ≡ find (λ (r : SummaryRow). (r.account == account) && bytes_eq r.symbol symbol) t.summaries)
     (λ price (t : Tables). price ≡ last_price_in_tables t symbol)
     (λ held (t : Tables). AreQuantityAndPrice t account symbol held)
@@ -32,7 +32,7 @@ returns-clause-read g c =
 pub returns-in_err-price-clause-read : goal.returns-in_err-price-clause-read
 returns-in_err-price-clause-read g c =
     let old = c.args.store.now in
-    let mid = c.summary_of_position.new.self in
+    let mid = c.holding_summary_of_position.new.self in
     let end = c.require_last_price.new.store in
     let p = err_from_is_err_and c.from_residual-in_err-price.result c.from_residual-in_err-price.ensures.1 in
     rw p.1 (none_read g.S.Store old end p.0 _ (both_change_nothing g.S.Store old mid end _ _ _ _ c.in_ok-summary.ensures.read c.in_err-price.ensures.read))

@@ -19,12 +19,12 @@ returns-clause-read g c =
     let terms = c.in_ok-terms.terms in
     let settled = c.in_ok-settled.settled in
     let cash = c.in_ok-cash.cash in
-    read_with g.S.Store old c.read_settlement_and_cash.new.store c.read_cash_sum_before.new.store {H = Fault} settled cash (result_with price lots terms settled cash)
+    read_with g.S.Store old c.read_settlement_cash_and_one_day_start.new.store c.read_cash_sum_before.new.store {H = Fault} settled cash (result_with price lots terms settled cash)
     (λ settled (t : Tables). AreTradeLotsInClosingOrder t u lots × AreTaxRatesAndBand t order terms × IsSettlementAndCashOfTrade t u.id settled)
     (λ cash (t : Tables). IsCashSumBeforeStamp t u.account u.stamp cash)
     (λ details (t : Tables). IsResultOfOrder order details t)
     (λ t k e. result_known t order price lots terms settled cash c.in-Some.is k.0 k.1 k.2 e)
-    (read_with g.S.Store old c.read_tax_rates_and_band.new.store c.read_settlement_and_cash.new.store {H = Fault} terms settled settled
+    (read_with g.S.Store old c.read_tax_rates_and_band.new.store c.read_settlement_cash_and_one_day_start.new.store {H = Fault} terms settled settled
     (λ terms (t : Tables). AreTradeLotsInClosingOrder t u lots × AreTaxRatesAndBand t order terms)
     (λ settled (t : Tables). IsSettlementAndCashOfTrade t u.id settled)
     (λ settled (t : Tables). AreTradeLotsInClosingOrder t u lots × AreTaxRatesAndBand t order terms × IsSettlementAndCashOfTrade t u.id settled)
@@ -49,7 +49,7 @@ returns-in_err-settled-clause-read g c =
     let old = c.args.store.now in
     let mid = c.read_trade_lots.new.store in
     let late = c.read_tax_rates_and_band.new.store in
-    let end = c.read_settlement_and_cash.new.store in
+    let end = c.read_settlement_cash_and_one_day_start.new.store in
     let p = err_from_is_err_and c.from_residual-in_err-settled.result c.from_residual-in_err-settled.ensures.1 in
     rw p.1
     (none_read g.S.Store old end p.0 _

@@ -28,9 +28,9 @@ returns-clause-ok c =
     let t3a = shares_column (to_z w64 (of_z w64 c.args.held)) in
     let s3 = s2 ++ t3a in
     let h3 = more o s2 t3a x2 x3 h2 c.in_ok-put_shares_column.ensures.ok in
-    let x4 = c.put_spaced_text_line.new.out.items in
+    let x4 = c.put_space_and_text_line.new.out.items in
     let t4a = 32 ∷ c.as_bytes.result.now in
-    on_ok {P = x4 ≡ x3 ++ line_with_line_feed t4a} c.put_spaced_text_line.result c.put_spaced_text_line.ensures.ok (λ h. line_end o s3 t4a x3 x4 h3 h
+    on_ok {P = x4 ≡ x3 ++ line_with_line_feed t4a} c.put_space_and_text_line.result c.put_space_and_text_line.ensures.ok (λ h. line_end o s3 t4a x3 x4 h3 h
     ∙ (λ i. o ++ (line_with_line_feed
     ((((leading_row_columns (codes "Trade") (timestamp_text row.stamp) row.id (shares i) (c.in_ok-price.ensures.price i))
     ++ (value_column (c.in_ok-value.ensures.value i))) ++ (shares_column (held i))) ++ (32 ∷ (code i))))))

@@ -41,7 +41,7 @@ returns-clause-read g c =
     let found = c.in_ok-found.found in
     let view = c.lookup_account.result in
     let rows = map abstract_trade_row trades.items in
-    read_with_reads g.S.Store old c.first_twenty_trades_of_account.new.self c.read_all_rows_of_trades.new.store {X = Result View Refusal} {H = Fault} (Some row) found (Ok view)
+    read_with_reads g.S.Store old c.first_twenty_trades_of_account.new.self c.read_settlement_cash_and_history_of_trades.new.store {X = Result View Refusal} {H = Fault} (Some row) found (Ok view)
     (λ o (t : Tables). IsRowOf id o t × (rows ≡ take 20 (trade_rows_oldest_first (filter (is_trade_of_account_in_span id span.first span.last) t.trades))))
     (λ found. HaveAllRowsOfTrades rows found.items)
     (AnswersQueryAsModel (TradesOfAccount id span.first span.last))
@@ -63,7 +63,7 @@ pub returns-in_err-found-clause-read : goal.returns-in_err-found-clause-read
 returns-in_err-found-clause-read g c =
     let old = c.args.store.now in
     let p = err_from_is_err_and c.from_residual-in_err-found.result c.from_residual-in_err-found.ensures.1 in
-    rw p.1 (none_read g.S.Store old c.read_all_rows_of_trades.new.store p.0 _
-    (joined_reads_change_nothing old c.first_twenty_trades_of_account.new.self c.read_all_rows_of_trades.new.store
+    rw p.1 (none_read g.S.Store old c.read_settlement_cash_and_history_of_trades.new.store p.0 _
+    (joined_reads_change_nothing old c.first_twenty_trades_of_account.new.self c.read_settlement_cash_and_history_of_trades.new.store
     (unchanged_after g.S.Store old c.account.new.self c.first_twenty_trades_of_account.new.self _ _
     (single_read_changes_nothing old c.account.new.self _ _ c.in_ok-_row.ensures.read) c.in_ok-trades.ensures.read) c.in_err-found.ensures.read.unchanged))

@@ -40,7 +40,7 @@ returns-clause-read g c =
     let ordered = c.in_ok-ordered.ordered in
     let found = c.in_ok-found.found in
     let view = c.lookup_ids.result in
-    read_with_reads g.S.Store old mid c.read_all_rows_of_trades.new.store {X = Result View Refusal} {H = Fault} named found (Ok view)
+    read_with_reads g.S.Store old mid c.read_settlement_cash_and_history_of_trades.new.store {X = Result View Refusal} {H = Fault} named found (Ok view)
     (AreFound ids)
     (λ found. HaveAllRowsOfTrades (map abstract_trade_row ordered.items) found.items)
     (AnswersQueryAsModel (TradesWith ids))
@@ -70,8 +70,8 @@ pub returns-in_err-found-clause-read : goal.returns-in_err-found-clause-read
 returns-in_err-found-clause-read g c =
     let old = c.args.store.now in
     let p = err_from_is_err_and c.from_residual-in_err-found.result c.from_residual-in_err-found.ensures.1 in
-    rw p.1 (none_read g.S.Store old c.read_all_rows_of_trades.new.store p.0 _
-    (joined_reads_change_nothing old c.read_trades_by_ids.new.store c.read_all_rows_of_trades.new.store
+    rw p.1 (none_read g.S.Store old c.read_settlement_cash_and_history_of_trades.new.store p.0 _
+    (joined_reads_change_nothing old c.read_trades_by_ids.new.store c.read_settlement_cash_and_history_of_trades.new.store
     (joined_reads_change_nothing old c.last_stamp.new.self c.read_trades_by_ids.new.store
     (single_read_changes_nothing old c.last_stamp.new.self _ _ c.in_ok-_last.ensures.read) c.in_ok-named.ensures.read.unchanged)
     c.in_err-found.ensures.read.unchanged))

@@ -24,7 +24,7 @@ FirstNamed sector names requests found i t =
 pub loop-name-init : goal.loop-name-init
 loop-name-init g c =
     let requests = c.in_ok-requests.requests in
-    retold g.S.Store c.args.store.now c.requests.new.self requests tt (λ all (t : Tables). map abstract_request_row all.items ≡ t.requests)
+    retold g.S.Store c.args.store.now c.all_trade_requests.new.self requests tt (λ all (t : Tables). map abstract_request_row all.items ≡ t.requests)
     (λ _. FirstNamed c.args.sector.now c.args.names.now requests.items c.new-found.result.items 0)
     (λ t e. (e, c.new-found.ensures.items))
     c.in_ok-requests.ensures.read

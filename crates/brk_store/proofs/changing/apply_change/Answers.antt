@@ -83,8 +83,8 @@ returns-in-AddSettlement-clause-step g c = made _ _ _ _ _ c.in-AddSettlement.is 
 pub returns-in-AddMove-clause-step : goal.returns-in-AddMove-clause-step
 returns-in-AddMove-clause-step g c = made _ _ _ _ _ c.in-AddMove.is c.add_cash_row.ensures.step
 
-pub returns-in-SetSettlementDay-clause-step : goal.returns-in-SetSettlementDay-clause-step
-returns-in-SetSettlementDay-clause-step g c = made _ _ _ _ _ c.in-SetSettlementDay.is c.set_settlement_day.ensures.step
+pub returns-in-SetOneDaySettlementStart-clause-step : goal.returns-in-SetOneDaySettlementStart-clause-step
+returns-in-SetOneDaySettlementStart-clause-step g c = made _ _ _ _ _ c.in-SetOneDaySettlementStart.is c.set_one_day_settlement_start.ensures.step
 
 pub returns-in-SetBalance-clause-step : goal.returns-in-SetBalance-clause-step
 returns-in-SetBalance-clause-step g c = made _ _ _ _ _ c.in-SetBalance.is c.set_account_balance.ensures.step

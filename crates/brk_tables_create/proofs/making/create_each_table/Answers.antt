@@ -22,14 +22,14 @@ loop-table-preserved g c =
     let i = c.loop-table.table-index in
     let a = state g.S.Store c.args.tx.now.conn.now in
     let b = state g.S.Store c.loop-table.tx.conn.now in
-    let d = state g.S.Store c.create_desk_table.new.tx.conn.now in
+    let d = state g.S.Store c.create_empty_table.new.tx.conn.now in
     record {
-      same = c.create_desk_table.ensures.same_reference ∙ c.loop-table.invariant.same;
+      same = c.create_empty_table.ensures.same_reference ∙ c.loop-table.invariant.same;
       step = step_then a b d tt (Ok tt) (λ _ x y. each (take i tables) x.now y.now)
           (λ _ x y. CreatesTableOfShape x.now y.now (table_definition_at_tree (abstract_table (get_or tables i TheDesk))))
           (λ _ x y. each (take (i + 1) tables) x.now y.now)
           (λ _ p made. made_at TheDesk tables i c.loop-table-test.true a.now b.now d.now p made)
-          c.loop-table.invariant.step c.in_ok-create_desk_table.ensures.step;
+          c.loop-table.invariant.step c.in_ok-create_empty_table.ensures.step;
     }
 
 pub returns-clause-step : goal.returns-clause-step

@@ -12,7 +12,7 @@ returns-in_err-accounts-clause-step g c = fails c.from_residual.result _ c.from_
 pub returns-in_err-accounts-clause-fault : goal.returns-in_err-accounts-clause-fault
 returns-in_err-accounts-clause-fault g c =
     fault_handed_on c.from_residual.result c.in_err-accounts.field-0.0 _ c.from_residual.ensures.1
-    (fault_of_read c.account_rows.result c.decode_read.result c.in_err-accounts.field-0.0 c.account_rows.ensures.fault c.decode_read.ensures.fault
+    (fault_of_read c.account_rows.result c.decode_read_result.result c.in_err-accounts.field-0.0 c.account_rows.ensures.fault c.decode_read_result.ensures.fault
     c.in_err-accounts.was)
 
 pub returns-in_err-permissions-clause-step : goal.returns-in_err-permissions-clause-step
@@ -23,7 +23,7 @@ returns-in_err-permissions-clause-step g c =
 pub returns-in_err-permissions-clause-fault : goal.returns-in_err-permissions-clause-fault
 returns-in_err-permissions-clause-fault g c =
     fault_handed_on c.from_residual-in_err-permissions.result c.in_err-permissions.field-0.0 _ c.from_residual-in_err-permissions.ensures.1
-    (fault_of_read c.permission_rows.result c.decode_read-2.result c.in_err-permissions.field-0.0 c.permission_rows.ensures.fault c.decode_read-2.ensures.fault
+    (fault_of_read c.permission_rows.result c.decode_read_result-2.result c.in_err-permissions.field-0.0 c.permission_rows.ensures.fault c.decode_read_result-2.ensures.fault
     c.in_err-permissions.was)
 
 pub returns-in_err-securities-clause-step : goal.returns-in_err-securities-clause-step
@@ -34,7 +34,7 @@ returns-in_err-securities-clause-step g c =
 pub returns-in_err-securities-clause-fault : goal.returns-in_err-securities-clause-fault
 returns-in_err-securities-clause-fault g c =
     fault_handed_on c.from_residual-in_err-securities.result c.in_err-securities.field-0.0 _ c.from_residual-in_err-securities.ensures.1
-    (fault_of_read c.security_rows.result c.decode_read-3.result c.in_err-securities.field-0.0 c.security_rows.ensures.fault c.decode_read-3.ensures.fault
+    (fault_of_read c.security_rows.result c.decode_read_result-3.result c.in_err-securities.field-0.0 c.security_rows.ensures.fault c.decode_read_result-3.ensures.fault
     c.in_err-securities.was)
 
 pub returns-in_err-last_trades-clause-step : goal.returns-in_err-last_trades-clause-step
@@ -45,7 +45,7 @@ returns-in_err-last_trades-clause-step g c =
 pub returns-in_err-last_trades-clause-fault : goal.returns-in_err-last_trades-clause-fault
 returns-in_err-last_trades-clause-fault g c =
     fault_handed_on c.from_residual-in_err-last_trades.result c.in_err-last_trades.field-0.0 _ c.from_residual-in_err-last_trades.ensures.1
-    (fault_of_read c.last_trade_rows.result c.decode_read-4.result c.in_err-last_trades.field-0.0 c.last_trade_rows.ensures.fault c.decode_read-4.ensures.fault
+    (fault_of_read c.last_trade_rows.result c.decode_read_result-4.result c.in_err-last_trades.field-0.0 c.last_trade_rows.ensures.fault c.decode_read_result-4.ensures.fault
     c.in_err-last_trades.was)
 
 pub returns-clause-step : goal.returns-clause-step

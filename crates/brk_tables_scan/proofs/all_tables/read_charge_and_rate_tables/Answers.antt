@@ -12,39 +12,39 @@ returns-in_err-charges-clause-step g c = fails c.from_residual.result _ c.from_r
 pub returns-in_err-charges-clause-fault : goal.returns-in_err-charges-clause-fault
 returns-in_err-charges-clause-fault g c =
     fault_handed_on c.from_residual.result c.in_err-charges.field-0.0 _ c.from_residual.ensures.1
-    (fault_of_read c.charge_rows.result c.decode_read.result c.in_err-charges.field-0.0 c.charge_rows.ensures.fault c.decode_read.ensures.fault
+    (fault_of_read c.charge_rows.result c.decode_read_result.result c.in_err-charges.field-0.0 c.charge_rows.ensures.fault c.decode_read_result.ensures.fault
     c.in_err-charges.was)
 
 pub returns-in_err-bands-clause-step : goal.returns-in_err-bands-clause-step
-returns-in_err-bands-clause-step g c = fails c.from_residual-in_err-bands.result _ c.from_residual-in_err-bands.ensures.0 (both c.charge_rows.ensures.step c.band_rows.ensures.step)
+returns-in_err-bands-clause-step g c = fails c.from_residual-in_err-bands.result _ c.from_residual-in_err-bands.ensures.0 (both c.charge_rows.ensures.step c.commission_rate_rows.ensures.step)
 
 pub returns-in_err-bands-clause-fault : goal.returns-in_err-bands-clause-fault
 returns-in_err-bands-clause-fault g c =
     fault_handed_on c.from_residual-in_err-bands.result c.in_err-bands.field-0.0 _ c.from_residual-in_err-bands.ensures.1
-    (fault_of_read c.band_rows.result c.decode_read-2.result c.in_err-bands.field-0.0 c.band_rows.ensures.fault c.decode_read-2.ensures.fault
+    (fault_of_read c.commission_rate_rows.result c.decode_read_result-2.result c.in_err-bands.field-0.0 c.commission_rate_rows.ensures.fault c.decode_read_result-2.ensures.fault
     c.in_err-bands.was)
 
 pub returns-in_err-tax_rates-clause-step : goal.returns-in_err-tax_rates-clause-step
 returns-in_err-tax_rates-clause-step g c =
     fails c.from_residual-in_err-tax_rates.result _ c.from_residual-in_err-tax_rates.ensures.0
-    (both (both c.charge_rows.ensures.step c.band_rows.ensures.step) c.tax_rate_rows.ensures.step)
+    (both (both c.charge_rows.ensures.step c.commission_rate_rows.ensures.step) c.tax_rate_rows.ensures.step)
 
 pub returns-in_err-tax_rates-clause-fault : goal.returns-in_err-tax_rates-clause-fault
 returns-in_err-tax_rates-clause-fault g c =
     fault_handed_on c.from_residual-in_err-tax_rates.result c.in_err-tax_rates.field-0.0 _ c.from_residual-in_err-tax_rates.ensures.1
-    (fault_of_read c.tax_rate_rows.result c.decode_read-3.result c.in_err-tax_rates.field-0.0 c.tax_rate_rows.ensures.fault c.decode_read-3.ensures.fault
+    (fault_of_read c.tax_rate_rows.result c.decode_read_result-3.result c.in_err-tax_rates.field-0.0 c.tax_rate_rows.ensures.fault c.decode_read_result-3.ensures.fault
     c.in_err-tax_rates.was)
 
 pub returns-in_err-customer_taxes-clause-step : goal.returns-in_err-customer_taxes-clause-step
 returns-in_err-customer_taxes-clause-step g c =
     fails c.from_residual-in_err-customer_taxes.result _ c.from_residual-in_err-customer_taxes.ensures.0
-    (both (both (both c.charge_rows.ensures.step c.band_rows.ensures.step) c.tax_rate_rows.ensures.step) c.customer_tax_rows.ensures.step)
+    (both (both (both c.charge_rows.ensures.step c.commission_rate_rows.ensures.step) c.tax_rate_rows.ensures.step) c.customer_tax_rows.ensures.step)
 
 pub returns-in_err-customer_taxes-clause-fault : goal.returns-in_err-customer_taxes-clause-fault
 returns-in_err-customer_taxes-clause-fault g c =
     fault_handed_on c.from_residual-in_err-customer_taxes.result c.in_err-customer_taxes.field-0.0 _ c.from_residual-in_err-customer_taxes.ensures.1
-    (fault_of_read c.customer_tax_rows.result c.decode_read-4.result c.in_err-customer_taxes.field-0.0 c.customer_tax_rows.ensures.fault
-    c.decode_read-4.ensures.fault c.in_err-customer_taxes.was)
+    (fault_of_read c.customer_tax_rows.result c.decode_read_result-4.result c.in_err-customer_taxes.field-0.0 c.customer_tax_rows.ensures.fault
+    c.decode_read_result-4.ensures.fault c.in_err-customer_taxes.was)
 
 pub returns-clause-step : goal.returns-clause-step
 returns-clause-step g c =
@@ -57,10 +57,10 @@ returns-clause-step g c =
       customer_taxes = c.in_ok-customer_taxes.ensures.decoding.0.items;
     } in
     shows_four Charges Bands TaxRates CustomerTaxes (state g.S.Store c.args.tx.now.conn.now) (state g.S.Store c.charge_rows.new.tx.conn.now)
-    (state g.S.Store c.band_rows.new.tx.conn.now) (state g.S.Store c.tax_rate_rows.new.tx.conn.now) (state g.S.Store c.customer_tax_rows.new.tx.conn.now)
+    (state g.S.Store c.commission_rate_rows.new.tx.conn.now) (state g.S.Store c.tax_rate_rows.new.tx.conn.now) (state g.S.Store c.customer_tax_rows.new.tx.conn.now)
     c.in_ok-charges.ensures.decoding.0 c.in_ok-bands.ensures.decoding.0 c.in_ok-tax_rates.ensures.decoding.0 c.in_ok-customer_taxes.ensures.decoding.0
     (of_read c.charge_rows.result c.in_ok-charges.ensures.decoding.0 c.in_ok-charges.ensures.decoding.1 c.charge_rows.ensures.step)
-    (of_read c.band_rows.result c.in_ok-bands.ensures.decoding.0 c.in_ok-bands.ensures.decoding.1 c.band_rows.ensures.step)
+    (of_read c.commission_rate_rows.result c.in_ok-bands.ensures.decoding.0 c.in_ok-bands.ensures.decoding.1 c.commission_rate_rows.ensures.step)
     (of_read c.tax_rate_rows.result c.in_ok-tax_rates.ensures.decoding.0 c.in_ok-tax_rates.ensures.decoding.1 c.tax_rate_rows.ensures.step)
     (of_read c.customer_tax_rows.result c.in_ok-customer_taxes.ensures.decoding.0 c.in_ok-customer_taxes.ensures.decoding.1 c.customer_tax_rows.ensures.step) _ _
     (λ s. record {

@@ -12,8 +12,8 @@ returns-in_err-moves-clause-step g c = fails c.from_residual.result _ c.from_res
 pub returns-in_err-moves-clause-fault : goal.returns-in_err-moves-clause-fault
 returns-in_err-moves-clause-fault g c =
     fault_handed_on c.from_residual.result c.in_err-moves.field-0.0 _ c.from_residual.ensures.1
-    (fault_of_read c.cash_move_rows_in_schema.result c.decode_read.result c.in_err-moves.field-0.0 c.cash_move_rows_in_schema.ensures.fault
-    c.decode_read.ensures.fault c.in_err-moves.was)
+    (fault_of_read c.cash_move_rows_in_schema.result c.decode_read_result.result c.in_err-moves.field-0.0 c.cash_move_rows_in_schema.ensures.fault
+    c.decode_read_result.ensures.fault c.in_err-moves.was)
 
 pub returns-in_err-settle_rule_rows_in_schema-clause-step : goal.returns-in_err-settle_rule_rows_in_schema-clause-step
 returns-in_err-settle_rule_rows_in_schema-clause-step g c =

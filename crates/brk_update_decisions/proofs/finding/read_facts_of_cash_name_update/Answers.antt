@@ -31,7 +31,7 @@ pub returns-clause-read : goal.returns-clause-read
 returns-clause-read g c =
     let span = c.args.span in
     let paid = c.in_ok-paid.paid in
-    read_with g.S.Store c.args.store.now c.read_security_name.new.store c.read_cash_trades_with_names.new.store {X = Option TextUpdate} {H = Fault}
+    read_with g.S.Store c.args.store.now c.read_security_name.new.store c.read_trades_with_cash_names.new.store {X = Option TextUpdate} {H = Fault}
     (Some c.in-Some.name) paid (Some (CashNames c.in-Some.name paid))
     (IsNameOf c.args.symbol.now)
     (λ paid (t : Tables). CashTextsMatchTables t (first_twenty_completed_cash_trade_rows_of_symbol c.args.symbol.now span.first span.last t) paid.items)
@@ -43,5 +43,5 @@ pub returns-in_err-paid-clause-read : goal.returns-in_err-paid-clause-read
 returns-in_err-paid-clause-read g c =
     let old = c.args.store.now in
     let p = err_from_is_err_and c.from_residual-in_err-paid.result c.from_residual-in_err-paid.ensures.1 in
-    rw p.1 (failed_after g.S.Store old c.read_security_name.new.store c.read_cash_trades_with_names.new.store _ p.0 _ _
+    rw p.1 (failed_after g.S.Store old c.read_security_name.new.store c.read_trades_with_cash_names.new.store _ p.0 _ _
     (single_read_changes_nothing old c.read_security_name.new.store _ _ c.in_ok-name.ensures.read) c.in_err-paid.ensures.read)

@@ -18,21 +18,21 @@ returns-in-Ok-None g c = record {
   };
 }
 
-pub returns-in_err-write_account_lines : goal.returns-in_err-write_account_lines
-returns-in_err-write_account_lines g c =
+pub returns-in_err-write_account_explanation_lines : goal.returns-in_err-write_account_explanation_lines
+returns-in_err-write_account_explanation_lines g c =
     let first = keeps_read g.S.Store _ _ c.account_details.result (AreDetailsOfAccount c.args.account) c.account_details.ensures.read in
-    let fails : FailsAsLines c.from_residual.result c.in_err-write_account_lines.field-0.0 = c.from_residual.ensures.1 in
+    let fails : FailsAsLines c.from_residual.result c.in_err-write_account_explanation_lines.field-0.0 = c.from_residual.ensures.1 in
     record {
       told = record {
         written = λ clean t holds.
-            let mid = clean_then g.S.Store c.account_details.new.self c.write_account_lines.new.desk c.in_err-write_account_lines.ensures.keeps clean in
+            let mid = clean_then g.S.Store c.account_details.new.self c.write_account_explanation_lines.new.desk c.in_err-write_account_explanation_lines.ensures.keeps clean in
             let are_details = (rw (c.in-Ok-Some.is, c.in-Ok-Some.field-0-is) at (c.account_details.ensures.read.answered mid)) t holds in
             reported (WritesLinesOrRefuses (explanation t (AccountOf c.args.account)) _ _) _ _ fails
             (tells_fault (explanation t (AccountOf c.args.account)) (all_account_lines t c.args.account c.in-Ok-Some.details)
             (account_told t c.args.account c.in-Ok-Some.details are_details) _ _ _
-            (c.in_err-write_account_lines.ensures.written clean t (first.same_rows t holds)));
-        fault = reported_fault _ _ fails c.in_err-write_account_lines.ensures.fault;
-        keeps = keeps_then g.S.Store c.args.desk.now c.account_details.new.self c.write_account_lines.new.desk first c.in_err-write_account_lines.ensures.keeps;
+            (c.in_err-write_account_explanation_lines.ensures.written clean t (first.same_rows t holds)));
+        fault = reported_fault _ _ fails c.in_err-write_account_explanation_lines.ensures.fault;
+        keeps = keeps_then g.S.Store c.args.desk.now c.account_details.new.self c.write_account_explanation_lines.new.desk first c.in_err-write_account_explanation_lines.ensures.keeps;
         unwritten = λ refusal is. absurd (no_refusal _ _ refusal fails is);
       };
     }
@@ -43,13 +43,13 @@ returns g c =
     record {
       told = record {
         written = λ clean t holds.
-            let mid = clean_then g.S.Store c.account_details.new.self c.write_account_lines.new.desk c.in_ok-write_account_lines.ensures.keeps clean in
+            let mid = clean_then g.S.Store c.account_details.new.self c.write_account_explanation_lines.new.desk c.in_ok-write_account_explanation_lines.ensures.keeps clean in
             let are_details = (rw (c.in-Ok-Some.is, c.in-Ok-Some.field-0-is) at (c.account_details.ensures.read.answered mid)) t holds in
             tells_all (explanation t (AccountOf c.args.account)) (all_account_lines t c.args.account c.in-Ok-Some.details)
             (account_told t c.args.account c.in-Ok-Some.details are_details) _ _
-            (c.in_ok-write_account_lines.ensures.written clean t (first.same_rows t holds));
+            (c.in_ok-write_account_explanation_lines.ensures.written clean t (first.same_rows t holds));
         fault = tt;
-        keeps = keeps_then g.S.Store c.args.desk.now c.account_details.new.self c.write_account_lines.new.desk first c.in_ok-write_account_lines.ensures.keeps;
+        keeps = keeps_then g.S.Store c.args.desk.now c.account_details.new.self c.write_account_explanation_lines.new.desk first c.in_ok-write_account_explanation_lines.ensures.keeps;
         unwritten = λ refusal is. absurd (let same = is in cc);
       };
     }

@@ -22,7 +22,7 @@ returns-in_err-moved-clause-written g c = λ clean t holds.
     let lines = lines_of_cash_rows first (progress_before_cash_rows a.opening) (cash_rows_in_span a.account 0 last t) in
     let end = end_of_walk t a.account a.from a.to first last a.opening c.requires c.first_stamp_of_day.ensures c.last_stamp_of_day.ensures in
     opening_broke t _ _ _ _ _ _ _ _ c.from_residual.ensures.1
-    (subst (λ (ls : List Text). FailsWithinFirstLines ls (g.W.Write.contents a.writer.now) (g.W.Write.contents c.write_cash_walk_lines.new.writer) c.in_err-moved.field-0.0)
+    (subst (λ (ls : List Text). FailsWithinFirstLines ls (g.W.Write.contents a.writer.now) (g.W.Write.contents c.write_opening_and_cash_lines_if_any.new.writer) c.in_err-moved.field-0.0)
     (walk_lines t a.account a.from a.to first last a.opening c.requires c.first_stamp_of_day.ensures c.last_stamp_of_day.ensures)
     (first_before lines (opening_line_unless_written end.is_opened end.total) _ _ _ (c.in_err-moved.ensures.written clean t holds)))
 
@@ -34,7 +34,7 @@ returns-in_err-write_opening_line_unless_written-clause-written g c = λ clean t
     let lines = lines_of_cash_rows first (progress_before_cash_rows a.opening) (cash_rows_in_span a.account 0 last t) in
     let end = end_of_walk t a.account a.from a.to first last a.opening c.requires c.first_stamp_of_day.ensures c.last_stamp_of_day.ensures in
     let rows = c.in_ok-moved.ensures.written clean t holds in
-    let mid = g.W.Write.contents c.write_cash_walk_lines.new.writer in
+    let mid = g.W.Write.contents c.write_opening_and_cash_lines_if_any.new.writer in
     let after = g.W.Write.contents c.write_opening_line_unless_written.new.writer in
     let e = c.in_err-write_opening_line_unless_written.field-0.0 in
     opening_broke t _ _ _ _ _ _ _ _ c.from_residual-in_err-write_opening_line_unless_written.ensures.1
@@ -51,7 +51,7 @@ returns-clause-written g c = λ clean t holds.
     let lines = lines_of_cash_rows first (progress_before_cash_rows a.opening) (cash_rows_in_span a.account 0 last t) in
     let end = end_of_walk t a.account a.from a.to first last a.opening c.requires c.first_stamp_of_day.ensures c.last_stamp_of_day.ensures in
     let rows = c.in_ok-moved.ensures.written clean t holds in
-    let mid = g.W.Write.contents c.write_cash_walk_lines.new.writer in
+    let mid = g.W.Write.contents c.write_opening_and_cash_lines_if_any.new.writer in
     let after = g.W.Write.contents c.write_opening_line_unless_written.new.writer in (
       subst (λ (ls : List Text). Appends (g.W.Write.contents a.writer.now) after (text_of_lines ls))
           (walk_lines t a.account a.from a.to first last a.opening c.requires c.first_stamp_of_day.ensures c.last_stamp_of_day.ensures)

@@ -29,14 +29,14 @@ returns-in_err-cash-clause-written g c = λ clean t holds.
 pub returns-clause-written : goal.returns-clause-written
 returns-clause-written g c = λ clean t holds.
     let a = c.args in
-    let mid = clean_then g.S.Store c.write_cash_and_closing_lines.new.desk c.write_lot_and_total_lines.new.desk c.write_lot_and_total_lines.ensures.keeps clean in
-    let second = c.write_cash_and_closing_lines.ensures.keeps.same_rows t holds in
+    let mid = clean_then g.S.Store c.write_opening_cash_and_closing_lines.new.desk c.write_lot_and_total_lines.new.desk c.write_lot_and_total_lines.ensures.keeps clean in
+    let second = c.write_opening_cash_and_closing_lines.ensures.keeps.same_rows t holds in
     let done = c.in_ok-cash.ensures.written mid t holds in
     let days = cash_and_closing_lines t a.account a.from a.to a.head.now.opening in
     let rest = lot_and_total_lines t a.account a.head.now.holdings (length (cash_move_rows_within_days a.from a.to (sorted_cash_rows_of_account t a.account))) in
     behind (statement_header_lines a.account a.head.now.name a.from a.to) (days ++ rest) _ _ _ _ c.in_ok-write_header_lines.ensures
     (behind days rest _ _ _ _ done.0
-    (subst (λ (n : ℕ). WritesLines (lot_and_total_lines t a.account a.head.now.holdings n) (g.W.Write.contents c.write_cash_and_closing_lines.new.writer)
+    (subst (λ (n : ℕ). WritesLines (lot_and_total_lines t a.account a.head.now.holdings n) (g.W.Write.contents c.write_opening_cash_and_closing_lines.new.writer)
     (g.W.Write.contents c.write_lot_and_total_lines.new.writer) c.write_lot_and_total_lines.result) done.1
     (c.write_lot_and_total_lines.ensures.written clean t second)))
 

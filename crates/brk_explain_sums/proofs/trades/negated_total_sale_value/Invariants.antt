@@ -1,0 +1,7 @@
+use Rattle.std.proofs.Common.{◌≡◌, map, take}
+use Rattle.brk_changes.specs.Rows.{abstract_trade_row}
+use Rattle.brk_explain_model.specs.Holdings as holdings
+use Rattle.brk_explain_sums.proofs.trades.negated_total_sale_value.Given as goal
+
+abbrev pub invariant-loop-row : goal.invariant-loop-row
+invariant-loop-row l = l.total ≡ holdings.negated_total_sale_value (map abstract_trade_row (take l.row-index l.done))
