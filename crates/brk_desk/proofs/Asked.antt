@@ -30,7 +30,7 @@ pub is_asked : {S : Type 0} (g : Ghosts S) (old new : Held S) (query : Query) (r
     → IfErr result IsCallFault → AskPost g old new query result
 is_asked g old new query (Ok seen) read may = record {
   answered = λ clean base keeps. (read.answered clean (sheets base) keeps.rows).0 base keeps.books keeps.sound refl;
-  carried = λ clean. carried_rows g old query seen (read.answered clean);
+  has_rows = λ clean. carried_rows g old query seen (read.answered clean);
   same_bases = λ base keeps. still_kept g old new base (read.same_rows (sheets base)) keeps;
   fault = may;
   survives = read.survives;
@@ -39,7 +39,7 @@ is_asked g old new query (Ok seen) read may = record {
 }
 is_asked g old new query (Err fault) read may = record {
   answered = λ clean. tt;
-  carried = λ clean. tt;
+  has_rows = λ clean. tt;
   same_bases = λ base keeps. still_kept g old new base (read.same_rows (sheets base)) keeps;
   fault = may;
   survives = read.survives;

@@ -12,6 +12,6 @@ use Rattle.brk_commit.proofs.Seen.{still_kept}
 pub audits : {S : Type 0} (g : Ghosts S) (old new : Held S) (result : Result (Unit {0}) Fault) → AuditPost g old new result → DeskAuditPost g old new result
 audits g old new result audit = record {
   audited = audit;
-  passes = λ clean base keeps. sound_books_pass g old new result audit base keeps clean;
+  undamaged = λ clean base keeps. sound_books_pass g old new result audit base keeps clean;
   same_bases = λ base keeps. still_kept g old new base (audit.same_rows (sheets base)) keeps;
 }

@@ -59,13 +59,13 @@ RecoversOnlyLastCommit {S} g = (s : S) (db : Trees) → IsTrue (g.view s).is_ope
 module _ {S : Type 0} (g : Ghosts S) (settled : RecoversOnlyLastCommit g) where
   -- a connection opened over the tables of sound books in order keeps them
   opened_keeps : (trees : Trees) (conn : Held S) (base : Base) → IsConsistent base → IsDiskContentOfRows (sheets base) trees → IsNewConnectionToDiskContent g trees conn → Represents g conn base
-  opened_keeps trees conn base can are opened = record { rows = found_again g (sheets base) trees conn are opened.over; consistent = can }
+  opened_keeps trees conn base can are opened = record { rows = found_again g (sheets base) trees conn are opened.connected; consistent = can }
 
   -- a connection that was just opened leaves its trees alone
   pub leaves_alone : (trees : Trees) (conn : Held S) → IsNewConnectionToDiskContent g trees conn → HasCleanDisk (state g conn) → CrashStatesSatisfy g conn (λ left. left ≡ trees)
   leaves_alone trees conn opened clean left may =
       let o = opened.opens clean in
-      settled conn.store left o.is_open may ∙ sym (ap (λ (db : Database). db.trees) o.clean) ∙ opened.over.same clean
+      settled conn.store left o.is_open may ∙ sym (ap (λ (db : Database). db.trees) o.clean) ∙ opened.connected.same clean
 
   -- trees with the tables of the third schema: what is adopted over them is audited, and nothing is
   -- written
@@ -90,7 +90,7 @@ module _ {S : Type 0} (g : Ghosts S) (settled : RecoversOnlyLastCommit g) where
       → (base : Base) → IsConsistent base → IsDiskContentOfRows (sheets base) trees → (May : Base → Type 0) → May base → FindsBaseWithoutDamage g store result May
   taken_over trees conn store result opened adopted clean base can are May may = record {
     base = base;
-    may = may;
+    possible = may;
     undamaged = sound_books_pass g conn store result audited base held clean;
     represented = audited_stands trees conn store result opened audited clean base can are;
   }

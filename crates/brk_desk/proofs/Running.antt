@@ -32,7 +32,7 @@ use Rattle.brk_commit.specs.Keys.{optional_model_key}
 use Rattle.brk_desk.specs.Commands.{model_call}
 use Rattle.brk_commit.specs.Booked.{CommandPost, IsDiskContentAfterCommand, base_after_keyed_command}
 use Rattle.brk_store.specs.Audited.{Represents}
-use Rattle.brk_desk.specs.CallPosts.{OutcomesAcknowledgeNothing, HasAcknowledgedCommands, AskPost, FailsOnlyWithMemoryOrStore, CrashMayExposeDiskContent, OutcomePost, RunPost}
+use Rattle.brk_desk.specs.CallPosts.{OutcomesAcknowledgeNothing, IsDiskContentWithAcknowledgedCommands, AskPost, FailsOnlyWithMemoryOrStore, CrashMayExposeDiskContent, OutcomePost, RunPost}
 use Rattle.brk_desk.specs.declared.call.Call.{Call}
 use Rattle.brk_desk.specs.declared.call.Call.TheVariants as call
 use Rattle.brk_desk.specs.declared.call.Outcome.{Outcome}
@@ -115,7 +115,7 @@ module _ {S : Type 0} (g : Ghosts S) where
     -- one call more that acknowledges nothing leaves recoverable trees so
     left_still : (made : Call) (o : Outcome) (base mid : Base) → Run base (map model_call calls) (map model_outcome outcomes) mid
         → IsOutcomeOfCall mid (model_call (now, made)).0 (model_call (now, made)).1 (model_outcome o) mid → AcknowledgesNothing (model_outcome o)
-        → (trees : Trees) → HasAcknowledgedCommands base calls outcomes trees → HasAcknowledgedCommands base (calls ++ (now, made) ∷ []) (outcomes ++ o ∷ []) trees
+        → (trees : Trees) → IsDiskContentWithAcknowledgedCommands base calls outcomes trees → IsDiskContentWithAcknowledgedCommands base (calls ++ (now, made) ∷ []) (outcomes ++ o ∷ []) trees
     left_still made o base mid ran told quiet trees l = (
       l.0,
       mapped base l.0 calls outcomes (now, made) o
@@ -133,10 +133,10 @@ module _ {S : Type 0} (g : Ghosts S) where
         (come : HasCleanDisk (state g c) → (trees : Trees) → Comes trees
         → IsTrue (state g b).is_open
         × ((mid : Base) → Represents g b mid → (base : Base) → Run base (map model_call calls) (map model_outcome outcomes) mid
-        → HasAcknowledgedCommands base (calls ++ (now, made) ∷ []) (outcomes ++ o ∷ []) trees))
+        → IsDiskContentWithAcknowledgedCommands base (calls ++ (now, made) ∷ []) (outcomes ++ o ∷ []) trees))
         (survives : Survives (state g b) (state g c) Comes) where
-      found : HasCleanDisk (state g c) → (base : Base) → Represents g a base → CrashStatesSatisfy g b (HasAcknowledgedCommands base calls outcomes)
-          → CrashStatesSatisfy g c (HasAcknowledgedCommands base (calls ++ (now, made) ∷ []) (outcomes ++ o ∷ []))
+      found : HasCleanDisk (state g c) → (base : Base) → Represents g a base → CrashStatesSatisfy g b (IsDiskContentWithAcknowledgedCommands base calls outcomes)
+          → CrashStatesSatisfy g c (IsDiskContentWithAcknowledgedCommands base (calls ++ (now, made) ∷ []) (outcomes ++ o ∷ []))
       found k base keeps before trees may =
           let r = run.refines_model (clean k) base keeps in
           elim (survives.crash k trees may) [
@@ -170,7 +170,7 @@ module _ {S : Type 0} (g : Ghosts S) where
     -- one command more that is booked
     done_found : (command : _) (key : _) (reply : _) → CommandPost g b c now (abstract_command command) (optional_model_key key) (Ok (given.Done reply))
         → HasCleanDisk (state g c) → (base : Base) → Represents g a base
-        → CrashStatesSatisfy g c (HasAcknowledgedCommands base (calls ++ (now, call.Do command key) ∷ []) (outcomes ++ outcome_of_command (Ok (given.Done reply)) ∷ []))
+        → CrashStatesSatisfy g c (IsDiskContentWithAcknowledgedCommands base (calls ++ (now, call.Do command key) ∷ []) (outcomes ++ outcome_of_command (Ok (given.Done reply)) ∷ []))
     done_found command key reply called k base keeps trees may =
         let r = run.refines_model (called.clean k) base keeps in
         let s = called.answered k r.0 r.1 in (

@@ -64,7 +64,7 @@ module _ {S : Type 0} (g : Ghosts S) (settled : RecoversOnlyLastCommit g) where
         let there : HasDeskTables (sheets (base_of_tables rows)) (state g conn).now =
         subst (λ (t : Tables). HasDeskTables t (state g conn).now) (are_upgraded Third rows a.2 a.1).tables (third_rows rows (state g conn).now a.0) in
         audited_stands g settled trees conn store (Ok tt) opened (adopted.audited defined (λ _ _. desk_is_there third_schema rows (state g conn).now a.0)) clean (base_of_tables rows)
-        (rows_can_be Third rows (state g conn).now a) ((state g conn).now, there, sym (opened.over.same before))
+        (rows_can_be Third rows (state g conn).now a) ((state g conn).now, there, sym (opened.connected.same before))
 
     -- of rows that were upgraded, which are committed
     moved_stands : (schema : known.Schema) (rows : Tables) → StoresRowsWithAuditResult (abstract_schema schema) rows (state g conn).now None
@@ -108,15 +108,15 @@ module _ {S : Type 0} (g : Ghosts S) (settled : RecoversOnlyLastCommit g) where
           there : HasCleanDisk (state g conn) → StoresRowsWithAuditResult (abstract_schema schema) rows (state g conn).now None
           there good =
               subst (λ db. StoresRowsWithAuditResult (abstract_schema schema) rows db None)
-              (same_database (state g first).now (state g conn).now (opened.over.live was_clean (opened.opens was_clean).is_open).0 (again.2.over.live good (again.2.opens good).is_open).0
-              (opened.over.same was_clean ∙ sym same ∙ sym (again.2.over.same good))) answered
+              (same_database (state g first).now (state g conn).now (opened.connected.live was_clean (opened.opens was_clean).is_open).0 (again.2.connected.live good (again.2.opens good).is_open).0
+              (opened.connected.same was_clean ∙ sym same ∙ sym (again.2.connected.same good))) answered
 
       there : StoresRowsWithAuditResult (abstract_schema schema) rows (state g conn).now None
       there =
           let good = clean_before (state g conn) (state g store) _ (adopts.survives defined) after in
           subst (λ db. StoresRowsWithAuditResult (abstract_schema schema) rows db None)
-          (same_database (state g first).now (state g conn).now (opened.over.live was_clean (opened.opens was_clean).is_open).0 (again.2.over.live good (again.2.opens good).is_open).0
-          (opened.over.same was_clean ∙ sym same ∙ sym (again.2.over.same good))) answered
+          (same_database (state g first).now (state g conn).now (opened.connected.live was_clean (opened.opens was_clean).is_open).0 (again.2.connected.live good (again.2.opens good).is_open).0
+          (opened.connected.same was_clean ∙ sym same ∙ sym (again.2.connected.same good))) answered
 
       stands_after : (r : Result (Unit {0}) Fault) → r ≡ result → OnOk r (RepresentsDurableBase g store (base_of_tables rows))
       stands_after (Ok x) e = adopted_stands again.0 conn store again.2 (subst (AdoptPost g conn store) (sym e) adopts) after defined schema rows there
@@ -135,7 +135,7 @@ module _ {S : Type 0} (g : Ghosts S) (settled : RecoversOnlyLastCommit g) where
         let t : FindsBaseWithoutDamage g store result (λ b. b ≡ base_of_tables rows) =
         taken_over g settled again.0 conn store result again.2 adopts after (base_of_tables rows) (rows_can_be schema rows (state g first).now answered)
         (subst (λ b. IsDiskContentOfRows (sheets b) again.0) same are) (λ b. b ≡ base_of_tables rows) refl in
-        record { undamaged = t.undamaged; represented = whichever result (subst (RepresentsDurableBase g store) t.may t.represented) }
+        record { undamaged = t.undamaged; represented = whichever result (subst (RepresentsDurableBase g store) t.possible t.represented) }
       where
         whichever : (r : Result (Unit {0}) Fault) → RepresentsDurableBase g store (base_of_tables rows) → OnOk r (RepresentsDurableBase g store (base_of_tables rows))
         whichever (Ok x) h = h

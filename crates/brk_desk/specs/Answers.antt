@@ -8,26 +8,26 @@ use Rattle.brk_view.specs.Views.{records_of_view}
 use Rattle.brk_view.specs.declared.view.View.{View}
 use Rattle.brk_commit.specs.Answers.{CommandAnswer, model_answer}
 use Rattle.brk_desk.specs.declared.call.Outcome.{Outcome}
-use Rattle.brk_desk.specs.declared.call.Outcome.TheVariants as came
+use Rattle.brk_desk.specs.declared.call.Outcome.TheVariants as desk_outcome
 
 -- The outcome of the model that the outcome of a desk's call represents: an answer becomes the
 -- answer of the model, and a view its list of records of texts; a refusal and a fault are
 -- unchanged.
 abbrev pub model_outcome : Outcome → run.Outcome
-model_outcome (came.Did answer) = run.Did (model_answer answer)
-model_outcome (came.Saw view) = run.Saw (records_of_view view)
-model_outcome (came.NoView refusal) = run.NoView refusal
-model_outcome (came.Failed fault) = run.Failed fault
+model_outcome (desk_outcome.Did answer) = run.Did (model_answer answer)
+model_outcome (desk_outcome.Saw view) = run.Saw (records_of_view view)
+model_outcome (desk_outcome.NoView refusal) = run.NoView refusal
+model_outcome (desk_outcome.Failed fault) = run.Failed fault
 
 -- The outcome of a desk's call that executed a command and returned this result: `Did` with its
 -- answer, or `Failed` with its fault.
 abbrev pub outcome_of_command : Result CommandAnswer Fault → Outcome
-outcome_of_command (Ok answer) = came.Did answer
-outcome_of_command (Err fault) = came.Failed fault
+outcome_of_command (Ok answer) = desk_outcome.Did answer
+outcome_of_command (Err fault) = desk_outcome.Failed fault
 
 -- The outcome of a desk's call that executed a query and returned this result: `Saw` with its view,
 -- `NoView` with its refusal, or `Failed` with its fault.
 abbrev pub outcome_of_query : Result (Result View Refusal) Fault → Outcome
-outcome_of_query (Ok (Ok view)) = came.Saw view
-outcome_of_query (Ok (Err refusal)) = came.NoView refusal
-outcome_of_query (Err fault) = came.Failed fault
+outcome_of_query (Ok (Ok view)) = desk_outcome.Saw view
+outcome_of_query (Ok (Err refusal)) = desk_outcome.NoView refusal
+outcome_of_query (Err fault) = desk_outcome.Failed fault

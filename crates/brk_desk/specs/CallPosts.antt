@@ -23,7 +23,7 @@ use Rattle.brk_model.specs.Queries.{Query}
 use Rattle.brk_model.specs.Run.{IsCallFault, Run}
 use Rattle.brk_model.specs.Tables.{Tables, tables_without_rows}
 use Rattle.brk_changes.specs.Schemas.{abstract_schema}
-use Rattle.brk_changes.specs.declared.schema.Schema as known
+use Rattle.brk_changes.specs.declared.schema.Schema as typed_schema
 use Rattle.brk_book_theorems.specs.Runs.{IsRunWithSumsAndTaxes}
 use Rattle.brk_audit_theorems.specs.Passing.{PassesAudit}
 use Rattle.brk_invariant_theorems.specs.Runs.{CallMeetsAuditFormats}
@@ -43,7 +43,7 @@ use Rattle.brk_commit.specs.Answers.{CommandAnswer}
 use Rattle.brk_desk.specs.declared.call.Call.{Call}
 use Rattle.brk_desk.specs.declared.call.Call.TheVariants as call
 use Rattle.brk_desk.specs.declared.call.Outcome.{Outcome}
-use Rattle.brk_desk.specs.declared.call.Outcome.TheVariants as came
+use Rattle.brk_desk.specs.declared.call.Outcome.TheVariants as desk_outcome
 
 -- The postcondition of a query, which writes nothing: the result equals that of the model for every
 -- base that the store represented, or it is a fault, `Memory` or `Store`. A view has the rows that
@@ -59,9 +59,9 @@ pub record AskPost {S : Type 0} (g : Ghosts S) (old new : Held S) (query : Query
   -- histories, or of touched lots, carries the trades or lot changes that the query selects from
   -- the tables of the base, also in columns that no text of the view shows (`answered` is on its
   -- texts only). Vacuous if the disk assumption fails.
-  pub carried : HasCleanDisk (state g new)
+  pub has_rows : HasCleanDisk (state g new)
       → IfOk result (λ seen. IfOk seen (λ view. (base : Base) → Represents g old base → HasRowsOfQuery query view (sheets base)))
-  -- The store represents every base that it represented, whatever the result.
+  -- The store represents every base that it represented before. Vacuous once it is closed.
   pub same_bases : PreservesRepresentation g old new
   -- A fault is `Memory` or `Store`, whether or not the disk assumption holds. A refusal is no
   -- fault.
@@ -91,23 +91,23 @@ OutcomesAcknowledgeNothing outcomes = AllByRecursion AcknowledgesNothing (map mo
 
 -- If the outcome is a fault, it is `Memory` or `Store`. Vacuous otherwise.
 abbrev pub FailsOnlyWithMemoryOrStore : Outcome → Type 0
-FailsOnlyWithMemoryOrStore (came.Failed fault) = IsCallFault fault
+FailsOnlyWithMemoryOrStore (desk_outcome.Failed fault) = IsCallFault fault
 FailsOnlyWithMemoryOrStore _ = Unit {0}
 
 -- A database with the disk contents `trees` contains the tables of some base that a crash may
 -- expose after the calls from `base` (`CrashMayExposeBase`), and the texts of these tables are
 -- UTF-8. That base has the change of every acknowledged command, and of at most one command more,
 -- which returned a fault and after which no change was acknowledged.
-abbrev pub HasAcknowledgedCommands : Base → List (ℕ × Call) → List Outcome → Trees → Type 0
-HasAcknowledgedCommands base calls outcomes trees =
+abbrev pub IsDiskContentWithAcknowledgedCommands : Base → List (ℕ × Call) → List Outcome → Trees → Type 0
+IsDiskContentWithAcknowledgedCommands base calls outcomes trees =
     (after : Base) × CrashMayExposeBase base (map model_call calls) (map model_outcome outcomes) after × IsDiskContentOfRows (sheets after) trees
     × IsTrue (has_utf8_texts (sheets after))
 
 -- The store was open before the calls, and for each base that it represented then, `trees` are disk
--- contents that a crash may expose after the calls from this base (`HasAcknowledgedCommands`).
+-- contents that a crash may expose after the calls from this base (`IsDiskContentWithAcknowledgedCommands`).
 abbrev pub CrashMayExposeDiskContent : {S : Type 0} → Ghosts S → Held S → List (ℕ × Call) → List Outcome → Trees → Type 0
 CrashMayExposeDiskContent g old calls outcomes trees =
-    IsTrue (state g old).is_open × ((base : Base) → Represents g old base → HasAcknowledgedCommands base calls outcomes trees)
+    IsTrue (state g old).is_open × ((base : Base) → Represents g old base → IsDiskContentWithAcknowledgedCommands base calls outcomes trees)
 
 -- The postcondition of a sequence of calls that were executed in order, from the state `old` to the
 -- state `new`. For every base that the store represented, the calls with their outcomes are a run
@@ -130,16 +130,16 @@ pub record RunPost {S : Type 0} (g : Ghosts S) (old new : Held S) (calls : List 
   -- If the store is open after the calls, it was open before.
   pub was_open : HasCleanDisk (state g new) → IsTrue (state g new).is_open → IsTrue (state g old).is_open
   -- Crash safety: a crash after the calls exposes a state that a crash before them could expose or,
-  -- only if the store was open, recoverable contents (`HasAcknowledgedCommands`).
+  -- only if the store was open, tables with the acknowledged commands (`IsDiskContentWithAcknowledgedCommands`).
   pub survives : Survives (state g old) (state g new) (CrashMayExposeDiskContent g old calls outcomes)
-  -- If some outcome is `Done`, a crash after the calls exposes only recoverable contents
-  -- (`HasAcknowledgedCommands`).
+  -- If some outcome is `Done`, a crash after the calls exposes only tables with the acknowledged
+  -- commands (`IsDiskContentWithAcknowledgedCommands`).
   pub durable : HasCleanDisk (state g new) → (base : Base) → Represents g old base → ¬ OutcomesAcknowledgeNothing outcomes
-      → CrashStatesSatisfy g new (HasAcknowledgedCommands base calls outcomes)
-  -- If a crash before the calls exposes only the tables of `base`, a crash after them exposes only
-  -- recoverable contents (`HasAcknowledgedCommands`).
+      → CrashStatesSatisfy g new (IsDiskContentWithAcknowledgedCommands base calls outcomes)
+  -- If a crash before the calls could expose only the tables of `base`, one after them exposes only
+  -- tables with the acknowledged commands (`IsDiskContentWithAcknowledgedCommands`).
   pub stays_durable : HasCleanDisk (state g new) → (base : Base) → Represents g old base → CrashStatesSatisfy g old (IsDiskContentOfRows (sheets base))
-      → CrashStatesSatisfy g new (HasAcknowledgedCommands base calls outcomes)
+      → CrashStatesSatisfy g new (IsDiskContentWithAcknowledgedCommands base calls outcomes)
   -- If the disk assumption holds after the calls, it held before.
   pub clean : HasCleanDisk (state g new) → HasCleanDisk (state g old)
   -- The commands meet the formats that an audit checks, and their keys are well-formed
@@ -170,7 +170,7 @@ pub record RunGuarantee {S : Type 0} (g : Ghosts S) (old new : Held S) (calls : 
   -- From the base that the rows `rows` of any schema determine, if the store held these rows
   -- upgraded to schema 3, and the rows before the upgrade pass the audit of their schema and have
   -- texts in UTF-8.
-  pub from_audited_rows : HasCleanDisk (state g new) → (schema : known.Schema) (rows : Tables)
+  pub from_audited_rows : HasCleanDisk (state g new) → (schema : typed_schema.Schema) (rows : Tables)
       → HoldsRows g old (tables_upgraded_from_schema (abstract_schema schema) rows) → IsTrue (has_utf8_texts rows) → PassesAudit (abstract_schema schema) rows
       → ReachesBasePassingAudit g new (base_of_tables rows) calls outcomes
 
@@ -179,10 +179,10 @@ pub record RunGuarantee {S : Type 0} (g : Ghosts S) (old new : Held S) (calls : 
 -- represented before; and under the disk assumption, if the store represented a base before, the
 -- result is not `Damaged`.
 pub record DeskAuditPost {S : Type 0} (g : Ghosts S) (old new : Held S) (result : Result (Unit {0}) Fault) : Type 0 where
-  -- It satisfies the postcondition of an audit of a store.
+  -- The call satisfies the postcondition of an audit of a store.
   pub audited : AuditPost g old new result
   -- Under the disk assumption, if the store represented a base before the audit, the result is not
   -- `Damaged`.
-  pub passes : HasCleanDisk (state g new) → (base : Base) → Represents g old base → AuditAnswerSatisfies result (λ failing. failing ≡ None)
-  -- The store represents every base that it represented before the audit.
+  pub undamaged : HasCleanDisk (state g new) → (base : Base) → Represents g old base → AuditAnswerSatisfies result (λ failing. failing ≡ None)
+  -- The store represents every base that it represented before. Vacuous once it is closed.
   pub same_bases : PreservesRepresentation g old new

@@ -10,7 +10,7 @@ use Rattle.brk_model.specs.Base.{Base}
 use Rattle.brk_model.specs.Sheets.{sheets}
 use Rattle.brk_model.specs.Tables.{Tables}
 use Rattle.brk_changes.specs.Schemas.{abstract_schema}
-use Rattle.brk_changes.specs.declared.schema.Schema as known
+use Rattle.brk_changes.specs.declared.schema.Schema as typed_schema
 use Rattle.brk_store.specs.Audited.{StoresRowsWithAuditResult, AuditAnswerSatisfies, Represents}
 use Rattle.brk_store.specs.Holds.{IsDiskContentOfRows, IsConnectionToDiskContent, CrashStatesSatisfy}
 
@@ -28,7 +28,7 @@ pub record RepresentsDurableBase {S : Type 0} (g : Ghosts S) (store : Held S) (b
 -- database that is committed.
 pub record IsNewConnectionToDiskContent {S : Type 0} (g : Ghosts S) (trees : Trees) (conn : Held S) : Type 0 where
   -- The connection is to a database with these disk contents.
-  pub over : IsConnectionToDiskContent g trees conn
+  pub connected : IsConnectionToDiskContent g trees conn
   -- Under the disk assumption it is open, in autocommit mode, without savepoints, with
   -- `sqlite3_changes()` and `sqlite3_last_insert_rowid()` 0, and its current state is committed.
   pub opens : HasCleanDisk (state g conn) → Opens (state g conn)
@@ -43,7 +43,7 @@ IsNewConnectionAfterCrash g at_crash conn = (trees : Trees) × (state g at_crash
 -- tables, only the rows of this base.
 abbrev pub RepresentsAuditedRowsDurably : {S : Type 0} → Ghosts S → Held S → Held S → Type 0
 RepresentsAuditedRowsDurably g conn store =
-    (schema : known.Schema) × (rows : Tables) × StoresRowsWithAuditResult (abstract_schema schema) rows (state g conn).now None
+    (schema : typed_schema.Schema) × (rows : Tables) × StoresRowsWithAuditResult (abstract_schema schema) rows (state g conn).now None
     × RepresentsDurableBase g store (base_of_tables rows)
 
 -- The adoption with the result `result` did not fail with `Damaged`; at `Ok` the store represents
@@ -56,13 +56,13 @@ pub record AdoptsBaseWithoutDamage {S : Type 0} (g : Ghosts S) (store : Held S) 
   pub represented : OnOk result (RepresentsDurableBase g store base)
 
 -- The adoption with the result `result` did not fail with `Damaged`. `store`, which is the store at
--- `Ok` and the returned connection at `Memory` or `Store`, represents a base that satisfies `May`,
--- and a crash exposes, in the desk's tables, only the rows of this base.
-pub record FindsBaseWithoutDamage {S : Type 0} (g : Ghosts S) (store : Held S) (result : Result (Unit {0}) Fault) (May : Base → Type 0) : Type 0 where
+-- `Ok` and the returned connection at `Memory` or `Store`, represents a base that satisfies
+-- `IsPossible`, and a crash exposes, in the desk's tables, only the rows of this base.
+pub record FindsBaseWithoutDamage {S : Type 0} (g : Ghosts S) (store : Held S) (result : Result (Unit {0}) Fault) (IsPossible : Base → Type 0) : Type 0 where
   -- The base that is represented after the adoption.
   pub base : Base
   -- It is one of the bases that may be recovered.
-  pub may : May base
+  pub possible : IsPossible base
   -- The adoption did not fail with `Damaged`.
   pub undamaged : AuditAnswerSatisfies result (λ failing. failing ≡ None)
   -- The store represents this base, and a crash exposes, in the desk's tables, only its rows.

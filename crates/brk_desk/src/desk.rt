@@ -19,12 +19,12 @@ use std::alloc::Global;
 use std::marker::Model;
 
 /// A desk, which executes commands and answers queries over one store. A *base* is the abstract
-/// state of a brokerage; a desk *represents* it if its tables equal those of the base and the base
+/// state of a brokerage; a desk *represents* a base if it holds the tables of the base and the base
 /// is consistent. A command is *acknowledged* once its call has returned `Done`; `Again` returns a
 /// stored reply and acknowledges nothing.
 ///
 /// A *crash* is the end of the process or the machine. It *exposes* what the next open of the
-/// database finds, after the `sqlite` crate has recovered the log. The clauses specify a crash
+/// database finds, after the `sqlite` crate has recovered the WAL. The clauses specify a crash
 /// after a call has returned; no clause covers a crash within a call (docs/PROMISES.md, "Trusted
 /// parts"). The clauses use the toolchain's model of a crash (`may_leave`), which supposes that a
 /// successful sync has reached the disk, and limits what a torn write leaves. The disk assumption
@@ -33,7 +33,7 @@ use std::marker::Model;
 /// A desk is *open* while its store is: only an I/O error, a full disk or file, or a corrupt page
 /// can close it, and not each does. No function of this crate returns whether it is open. Under the
 /// disk assumption: a desk that is still open after a fault is unchanged, and a crash exposes only
-/// its last commit; if the fault closed the desk, a crash may expose the command as committed.
+/// its last commit; if a command's fault closed it, a crash may expose the command as committed.
 ///
 /// In contracts the value of a desk is the connection of its store (`Held S`), and `t` are the rows
 /// that the store holds.
@@ -69,7 +69,7 @@ impl<S: Alter> Desk<S> {
     ghost use Rattle.brk_commit.specs.Booked.{CommandPost};
     ghost use Rattle.brk_desk.specs.CallPosts.{AskPost, DeskAuditPost, OutcomePost};
     ghost use Rattle.brk_desk.specs.Runs.{IsRunWithOutcomes};
-    ghost use Rattle.brk_desk.specs.declared.call.Outcome as came;
+    ghost use Rattle.brk_desk.specs.declared.call.Outcome as desk_outcome;
     ghost use Rattle.brk_money.specs.declared.fault.Condition.TheVariants.{NotEmpty};
     ghost use Rattle.brk_money.specs.declared.fault.Fault.TheVariants.{Damaged, Memory};
     ghost use Rattle.brk_view.specs.Queries.{abstract_query};
@@ -103,17 +103,17 @@ impl<S: Alter> Desk<S> {
     /// Fails with `Memory` or `Store` only. `Memory` means that an allocation of the desk's own
     /// code was refused. `Store` may also mean that the `sqlite` crate ran out of memory, that a
     /// row that it reads is malformed, that a row that another row requires does not exist, that a
-    /// lot has no shares, that a number or a sum is out of range, or that no number is left for a
+    /// lot has no shares, that a number or a sum is out of range, or that no CM_ID is left for a
     /// cash row; none of these closes the store. A refusal, a stored reply or a fault changes
-    /// nothing in a store that is still open, and records no key. After a fault that closed the
+    /// nothing, and records no key, in a store that is still open. After a fault that closed the
     /// store a crash may expose the command as committed (`Desk`).
     ///
     /// A crash after the call exposes a state that a crash before the call could expose, or the
     /// tables after the command; after `Done` it exposes only the tables after the command.
     ///
-    /// Retry after a fault: after `Store`, which may have closed the store, first drop the desk,
+    /// Retry: after `Memory`, on this desk; after `Store`, which may have closed it, drop the desk,
     /// and open and adopt the file again. Under one key a command is accepted at most once. A retry
-    /// without a key may execute the command a second time: read the tables first, after `Store` in
+    /// without a key may execute the command twice: read the tables first; after `Store`, those in
     /// the reopened file.
     pub fn call(
         &mut self,
@@ -143,7 +143,7 @@ impl<S: Alter> Desk<S> {
 
     /// Executes exactly the calls in `calls`, in this order, each at its clock reading, and appends
     /// one outcome for each to `out`. A query, a refusal, a stored reply or a fault changes nothing
-    /// in a store that is still open, and the next call is executed.
+    /// in a store that is still open; after any of them the next call is executed.
     ///
     /// Fails with `Memory` only. The desk and the outcomes in `out` are then unchanged. The fault
     /// of an outcome is `Memory` or `Store`.
@@ -151,7 +151,7 @@ impl<S: Alter> Desk<S> {
     /// A crash after the run has returned exposes a state that a crash before the run could expose,
     /// or tables with the changes of every acknowledged command, and of at most one more: one that
     /// returned a fault, and after which no command was acknowledged. If the run acknowledges a
-    /// command, or if a crash before the run exposed only the tables of the represented base, a
+    /// command, or if a crash before it could expose only the tables of the represented base, a
     /// crash after it exposes only tables with these changes.
     pub fn run(
         &mut self,
@@ -159,7 +159,7 @@ impl<S: Alter> Desk<S> {
         calls: &[(Stamp, Call)],
         out: &mut Vec<Outcome>,
     ) -> Result<(), Fault>
-        ensures executed { OnOk result ((outcomes : List came.Outcome) × (out.new.items ≡ out.old.items ++ outcomes)
+        ensures executed { OnOk result ((outcomes : List desk_outcome.Outcome) × (out.new.items ≡ out.old.items ++ outcomes)
             × IsRunWithOutcomes S.Store self.old self.new calls.now outcomes) }
         // Fails with `Memory` only.
         ensures fault { OnErr result (result ≡ Err Memory) }
@@ -194,8 +194,8 @@ impl<S: Alter> Desk<S> {
     /// its rows pass this audit.
     ///
     /// Fails with `Damaged` and the first condition that fails, or with `Memory` or `Store`. Under
-    /// the disk assumption a desk that represents a base never returns `Damaged`. The rows are
-    /// unchanged, and so is a database that is still open, whatever the result.
+    /// the disk assumption a desk that represents a base never returns `Damaged`. If the database
+    /// is still open, it is unchanged, whatever the result.
     ///
     /// A crash after the call exposes only states that a crash before the call could expose.
     ///
@@ -212,8 +212,8 @@ impl<S: Alter> Desk<S> {
     }
 
     /// Returns the figures of an account's statement that are not rows: the account's name, its
-    /// opening balance, and the market value of its holdings at last prices, both in cents. Returns
-    /// `None` if the account does not exist.
+    /// opening balance (CA_OPEN), and the market value of its holdings at last prices, both in
+    /// cents. Returns `None` if the account does not exist.
     ///
     /// Fails with `Memory` or `Store` only; `Store` may also mean that a held symbol has no last
     /// price or that the sum overflows. If the database is still open, it is unchanged, whatever
@@ -227,13 +227,13 @@ impl<S: Alter> Desk<S> {
         read_statement_head(alloc, &mut self.store, account)
     }
 
-    /// Returns the facts that the explanation of a trade reads: the trade with its account,
-    /// security and status changes, and its results if it is completed. Returns `None` if the trade
-    /// does not exist.
+    /// Returns the facts that `brk explain` prints of a trade: the trade with its account, security
+    /// and status changes, and its results if it is completed. Returns `None` if the trade does not
+    /// exist.
     ///
     /// Fails with `Memory` or `Store` only; `Store` may also mean that a row that another row
-    /// requires does not exist or, for a completed trade, that it or a trade that opened a lot of
-    /// which it closed shares has no price, or that the number of the account's cash rows with
+    /// requires does not exist or, for a completed trade, that it, or a trade that opened a lot of
+    /// which it closed shares, has no price, or that the number of the account's cash rows with
     /// stamps before this trade's or the sum of their amounts overflows. If the database is still
     /// open, it is unchanged, whatever the result.
     ///
@@ -263,7 +263,7 @@ impl<S: Alter> Desk<S> {
         read_account_details(alloc, &mut self.store, account)
     }
 
-    /// Returns the facts that the explanation of the holding of an account in a security reads: the
+    /// Returns the facts that `brk explain` prints of the holding of an account in a security: the
     /// rows of the account and of the security; the completed trades of the account in the
     /// security, in the order of completion; every lot that these trades opened, also if it was
     /// closed, in the same order, each with its changes by other trades, in the order of their
@@ -308,14 +308,14 @@ impl<S: Alter> Desk<S> {
 
     /// Passes the completed trades of a broker's accounts to a visitor, sorted by the stamp of
     /// completion, then by id, ascending. Returns `Ok` only after the visitor has taken the last
-    /// trade.
+    /// trade. Does not check that the broker exists.
     ///
     /// Fails with `Cause` and the visitor's error, or with `Failed` and the fault `Memory` or
     /// `Store` after a prefix of the trades. If the database is still open, it is unchanged,
     /// whatever the result.
     ///
     /// `ready`: the visitor must be ready to take records, and is so after the walk. `leads`: the
-    /// visitors before and after the walk satisfy the relation `leads` that the visitor defines.
+    /// visitor after the walk is one that calls may lead to (`Visitor::leads`).
     ///
     /// A crash after the call exposes only states that a crash before the call could expose.
     pub fn visit_completed_trades_of_broker<E, V: Visitor<TradeRow, E>>(
@@ -335,14 +335,14 @@ impl<S: Alter> Desk<S> {
 
     /// Passes the cash rows of an account with stamps from `from` to `to`, both included, to a
     /// visitor, sorted by stamp, then by number (CM_ID), ascending. Returns `Ok` only after the
-    /// visitor has taken the last row.
+    /// visitor has taken the last row. Does not check that the account exists.
     ///
     /// Fails with `Cause` and the visitor's error, or with `Failed` and the fault `Memory` or
     /// `Store` after a prefix of the rows. If the database is still open, it is unchanged, whatever
     /// the result.
     ///
     /// `ready`: the visitor must be ready to take records, and is so after the walk. `leads`: the
-    /// visitors before and after the walk satisfy the relation `leads` that the visitor defines.
+    /// visitor after the walk is one that calls may lead to (`Visitor::leads`).
     ///
     /// A crash after the call exposes only states that a crash before the call could expose.
     pub fn visit_cash_rows<E, V: Visitor<MoveRow, E>>(
@@ -363,14 +363,15 @@ impl<S: Alter> Desk<S> {
     }
 
     /// Passes the lots of an account to a visitor, sorted by symbol, then by opening stamp, then by
-    /// trade id, ascending. Returns `Ok` only after the visitor has taken the last lot.
+    /// trade id, ascending. Returns `Ok` only after the visitor has taken the last lot. Does not
+    /// check that the account exists.
     ///
     /// Fails with `Cause` and the visitor's error, or with `Failed` and the fault `Memory` or
     /// `Store` after a prefix of the lots. If the database is still open, it is unchanged, whatever
     /// the result.
     ///
     /// `ready`: the visitor must be ready to take records, and is so after the walk. `leads`: the
-    /// visitors before and after the walk satisfy the relation `leads` that the visitor defines.
+    /// visitor after the walk is one that calls may lead to (`Visitor::leads`).
     ///
     /// A crash after the call exposes only states that a crash before the call could expose.
     pub fn visit_lots<E, V: Visitor<HoldingRow, E>>(
@@ -389,13 +390,13 @@ impl<S: Alter> Desk<S> {
 
     /// Calls a closure with each cash row of an account with a stamp from `from` to `to`, both
     /// included, sorted by stamp, then by number (CM_ID), ascending. Returns `Ok` only after the
-    /// last row.
+    /// last row. Does not check that the account exists.
     ///
     /// Fails with the closure's first error, or with a fault (`Memory` or `Store`) as an error of
     /// type `E`, after a prefix of the rows. If the database is still open, it is unchanged,
     /// whatever the result.
     ///
-    /// `callable`: the closure must accept every record, at its first and at each later call.
+    /// `callable`: the closure must be callable with any record, at its first and each later call.
     /// `called`: the closure is called with the rows, in order and one at a time, until its first
     /// error or a fault.
     ///
@@ -415,13 +416,14 @@ impl<S: Alter> Desk<S> {
     }
 
     /// Calls a closure with each lot of an account and its symbol, sorted by symbol, then by
-    /// opening stamp, then by trade id, ascending. Returns `Ok` only after the last lot.
+    /// opening stamp, then by trade id, ascending. Returns `Ok` only after the last lot. Does not
+    /// check that the account exists.
     ///
     /// Fails with the closure's first error, or with a fault (`Memory` or `Store`) as an error of
     /// type `E`, after a prefix of the lots. If the database is still open, it is unchanged,
     /// whatever the result.
     ///
-    /// `callable`: the closure must accept every record, at its first and at each later call.
+    /// `callable`: the closure must be callable with any record, at its first and each later call.
     /// `called`: the closure is called with the lots, in order and one at a time, until its first
     /// error or a fault.
     ///

@@ -5,8 +5,8 @@ ghost use Rattle.sqlite.specs.Held.{Held};
 ghost use Rattle.brk_io.specs.Calls.{IsCallSequence};
 ghost use Rattle.brk_desk.specs.CallPosts.{OutcomePost};
 ghost use Rattle.brk_desk.specs.Runs.{IsRunWithOutcomes};
-ghost use Rattle.brk_desk.specs.declared.call.Call as made;
-ghost use Rattle.brk_desk.specs.declared.call.Outcome as came;
+ghost use Rattle.brk_desk.specs.declared.call.Call as desk_call;
+ghost use Rattle.brk_desk.specs.declared.call.Outcome as desk_outcome;
 
 use sqlite::Alter;
 
@@ -18,10 +18,10 @@ use sqlite::Alter;
 /// `joined_runs`: two runs, the second of which begins in the state in which the first ends, are
 /// one run of all their calls.
 pub fn call_sequences_are_runs<S: Alter>()
-    ensures one_run { (old new : Held S) (calls : List (ℕ × made.Call)) (outcomes : List came.Outcome)
+    ensures one_run { (old new : Held S) (calls : List (ℕ × desk_call.Call)) (outcomes : List desk_outcome.Outcome)
         → IsCallSequence (λ before now call outcome after. OutcomePost S.Store before after now call outcome) old calls outcomes new
         → IsRunWithOutcomes S.Store old new calls outcomes }
-    ensures joined_runs { (old mid new : Held S) (calls others : List (ℕ × made.Call)) (outcomes more : List came.Outcome)
+    ensures joined_runs { (old mid new : Held S) (calls others : List (ℕ × desk_call.Call)) (outcomes more : List desk_outcome.Outcome)
         → IsRunWithOutcomes S.Store old mid calls outcomes → IsRunWithOutcomes S.Store mid new others more
         → IsRunWithOutcomes S.Store old new (calls ++ others) (outcomes ++ more) }
 {}

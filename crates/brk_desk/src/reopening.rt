@@ -14,8 +14,8 @@ ghost use Rattle.brk_desk.specs.Reopening.{RepresentsAuditedRowsDurably, IsNewCo
 ghost use Rattle.brk_desk.specs.Reopening.{IsNewConnectionAfterCrash, FindsBaseWithoutDamage, RepresentsDurableBase};
 ghost use Rattle.brk_desk.specs.CrashBases.{CrashMayExposeBase};
 ghost use Rattle.brk_commit.specs.Answers.{CommandAnswer};
-ghost use Rattle.brk_desk.specs.declared.call.Call as made;
-ghost use Rattle.brk_desk.specs.declared.call.Outcome as came;
+ghost use Rattle.brk_desk.specs.declared.call.Call as desk_call;
+ghost use Rattle.brk_desk.specs.declared.call.Outcome as desk_outcome;
 ghost use Rattle.brk_model.specs.Adopted.{base_of_tables};
 ghost use Rattle.brk_model.specs.Base.{Base, empty_base};
 ghost use Rattle.brk_model.specs.Commands.{Command};
@@ -30,11 +30,11 @@ use sqlite::Alter;
 
 /// Proves that recovery never reports damage: the adoption of a crash state does not fail with
 /// `Damaged`. This holds after a crash that follows a command or a run on a store that represented
-/// a base, if a crash before it exposed only the tables of this base (`crash_after_call`,
+/// a base, if a crash before the call could expose only its tables (`crash_after_call`,
 /// `crash_after_run`); after a crash that follows an adoption of rows that pass their audit
-/// (`crash_after_adoption`); and after a crash that follows a creation, except for states that were
-/// possible before it (`crash_after_creation`). The adoption may fail with `Memory` or `Store`.
-/// After a creation or an adoption that succeeded, a crash exposes only the tables of the
+/// (`crash_after_adoption`); and after a crash that follows `Store::create`, except for states that
+/// were possible before it (`crash_after_creation`). The adoption may fail with `Memory` or
+/// `Store`. After a creation or an adoption that succeeded, a crash exposes only the tables of the
 /// represented base (`created`, `adopted`).
 ///
 /// All clauses are under the disk assumption: every read so far returned what was written. They are
@@ -50,13 +50,13 @@ pub fn recovery_never_reports_damage<S: Alter>()
     ensures adopted { (trees : Trees) (conn store : Held S) → IsNewConnectionToDiskContent S.Store trees conn
         → ConnectionTablesWithDeskNamesAreDeskTables S.Store conn → AdoptPost S.Store conn store (Ok tt)
         → HasCleanDisk (state S.Store store) → RepresentsAuditedRowsDurably S.Store conn store }
-    // After a crash that follows the adoption of a newly opened database whose rows pass the audit
-    // of their schema, perhaps an older one, a later adoption does not fail with `Damaged`. If it
-    // succeeds, the store represents the base that these rows determine.
+    // After a crash that follows an adoption, failed or not, of a newly opened database whose rows
+    // pass the audit of their schema, perhaps an older one, a later adoption does not fail with
+    // `Damaged`. If it succeeds, the store represents the base that these rows determine.
     ensures crash_after_adoption { (trees : Trees) (before at_crash reopened adopted : Held S)
-        (interrupted result : Result (Unit {0}) faults.Fault) (schema : Schema) (rows : Tables)
+        (first_result result : Result (Unit {0}) faults.Fault) (schema : Schema) (rows : Tables)
         → IsNewConnectionToDiskContent S.Store trees before → StoresRowsWithAuditResult (abstract_schema schema) rows (state S.Store before).now None
-        → AdoptPost S.Store before at_crash interrupted → HasCleanDisk (state S.Store at_crash)
+        → AdoptPost S.Store before at_crash first_result → HasCleanDisk (state S.Store at_crash)
         → IsNewConnectionAfterCrash S.Store at_crash reopened → AdoptPost S.Store reopened adopted result → HasCleanDisk (state S.Store adopted)
         → AdoptsBaseWithoutDamage S.Store adopted result (base_of_tables rows) }
     // After a crash that follows the creation of the tables, the adopted store represents the empty
@@ -83,7 +83,7 @@ pub fn recovery_never_reports_damage<S: Alter>()
     // represents the base with every acknowledged command, or with one command more
     // (`CrashMayExposeBase`).
     ensures crash_after_run { (before at_crash reopened adopted : Held S) (base : Base) (result : Result (Unit {0}) faults.Fault) (calls : List (ℕ
-        × made.Call)) (outcomes : List came.Outcome)
+        × desk_call.Call)) (outcomes : List desk_outcome.Outcome)
         → RepresentsDurableBase S.Store before base → RunPost S.Store before at_crash calls outcomes → HasCleanDisk (state S.Store at_crash)
         → IsNewConnectionAfterCrash S.Store at_crash reopened
         → AdoptPost S.Store reopened adopted result → HasCleanDisk (state S.Store adopted)

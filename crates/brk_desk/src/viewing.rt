@@ -24,11 +24,11 @@ use std::alloc::Global;
 
 // Returns the view of the estimated figures of an order, in cents: its price, the buy and the sell
 // value of the shares that it would close, the tax, the commission, the charge and the assets of
-// the account; or the refusal of the order. Accepts no order. The result equals that of the model
-// if the tables equal those of a base that satisfies the books invariant and the audit invariant.
-// If the database is still open, it is unchanged. Fails with `Memory` or `Store` only; with `Store`
+// the account; or the refusal of the order. Places no order. The result equals that of the model if
+// the tables equal those of a base that satisfies the books invariant and the audit invariant. If
+// the database is still open, it is unchanged. Fails with `Memory` or `Store` only; with `Store`
 // also if the account's customer or one of the customer's taxes does not exist, the tax rates total
-// more than the greatest rate, a held symbol has no last price, a sum overflows, a lot that was
+// more than `TaxRate::GREATEST`, a held symbol has no last price, a sum overflows, a lot that was
 // read has no shares, or the number of lots read exceeds 32 bits.
 fn view_of_estimate<S: Alter>(alloc: Global, store: &mut Store<S>, order: &Order) -> Planned<View>
     ensures read { ReadPost S.Store store.old store.new result (AnswersQueryAsModel (EstimateOf (abstract_order order.now))) }

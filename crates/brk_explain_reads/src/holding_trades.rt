@@ -129,7 +129,7 @@ pub(crate) fn read_trades_and_lots_of_holding<S: Alter>(
     ensures read { ReadPost S.Store store.old store.new result (λ held t. AreTradesAndLotsOfHolding t account symbol.now held) }
     ensures fault { IfErr result IsCallFault }
 {
-    let ids = store.completed_trade_ids_of_holding(alloc, account, symbol)?;
+    let ids = store.completed_trade_ids_of_position(alloc, account, symbol)?;
     let mut held = TradesAndLots {
         done: Vec::new(alloc),
         lots: Vec::new(alloc),

@@ -375,6 +375,6 @@ module _ {S C : Type 0} (g : Ghosts S) (rests : RecoversOnlyLastCommit g) (form 
       let t = taken_over g rests again.0 conn store taken again.2 adopted next f.stood f.can f.are (λ (b : Base). b ≡ f.stood) refl in (
         t.undamaged,
         λ keeps good.
-            let k = keeps good f.stood (subst (Represents g store) t.may t.represented.represented) in
+            let k = keeps good f.stood (subst (Represents g store) t.possible t.represented.represented) in
             (k.0, k.1, from_how f.after f.stood k.0 two (counts.ok + counts.again + counts.no) k.2.0 f.how, one_from_how f.after f.stood k.0 two (counts.ok + counts.again + counts.no) k.2.0 f.how),
       )

@@ -16,10 +16,10 @@ use Rattle.brk_changes.specs.Rows.{abstract_holding_row}
 use Rattle.brk_changes.specs.declared.holding_row.HoldingRow as row
 use Rattle.brk_tables_trading.specs.Pages.{page_after_skipped, page_size}
 use Rattle.brk_book_theorems.specs.TradeReads.{lot_of_row}
-use Rattle.brk_store.specs.Pages.{remaining_page_lots, unread_rows, lot_rows_in_closing_order}
+use Rattle.brk_store.specs.Pages.{remaining_lots, unread_rows, lot_rows_in_closing_order}
 
 pub page_turned : (rows : List HoldingRow) (read : ℕ) (page : List row.HoldingRow) → map abstract_holding_row page ≡ page_after_skipped read rows
-    → remaining_page_lots page (nat_lt (length page) page_size) (read + length page) rows ≡ map lot_of_row (drop read rows)
+    → remaining_lots page (nat_lt (length page) page_size) (read + length page) rows ≡ map lot_of_row (drop read rows)
 page_turned rows read page e = ap (map lot_of_row) (go (nat_lt (length page) page_size) refl)
   where
     k : List HoldingRow
@@ -49,7 +49,7 @@ module _ {S : Type 0} (g : Ghosts S) (held : Held S) (lifo : Bool) (account : �
   -- For some rows that the store holds, `ls` are the lots that a source of pages with this state
   -- still has to return.
   abbrev pub AreRemainingLotsOfPages : List row.HoldingRow → Bool → ℕ → List Lot → Type 0
-  AreRemainingLotsOfPages pending ended read ls = (t : Tables) × HoldsRows g held t × (ls ≡ remaining_page_lots pending ended read (lot_rows_in_closing_order lifo account symbol t))
+  AreRemainingLotsOfPages pending ended read ls = (t : Tables) × HoldsRows g held t × (ls ≡ remaining_lots pending ended read (lot_rows_in_closing_order lifo account symbol t))
 
   -- the first lot of a page, and what is left then
   pub turned : (t : Tables) (holds : HoldsRows g held t) (read read' : ℕ) (page : List row.HoldingRow) (ended : Bool) (first : Option Lot) (ls : List Lot)
@@ -59,21 +59,21 @@ module _ {S : Type 0} (g : Ghosts S) (held : Held S) (lifo : Bool) (account : �
       → MatchOption first ((ls ≡ []) × AreRemainingLotsOfPages (drop 1 page) ended read' []) (λ lot. (more : List Lot) × (ls ≡ lot ∷ more) × AreRemainingLotsOfPages (drop 1 page) ended read' more)
   turned t holds read read' page ended first ls shown count last is left =
       let rows = lot_rows_in_closing_order lifo account symbol t in
-      let whole : ls ≡ remaining_page_lots page ended read' rows = left ∙ sym (page_turned rows read page shown)
-      ∙ ap (λ b. remaining_page_lots page b (read + length page) rows) (sym last) ∙ ap (λ n. remaining_page_lots page ended n rows) (sym count) in
+      let whole : ls ≡ remaining_lots page ended read' rows = left ∙ sym (page_turned rows read page shown)
+      ∙ ap (λ b. remaining_lots page b (read + length page) rows) (sym last) ∙ ap (λ n. remaining_lots page ended n rows) (sym count) in
       go page is last whole
     where
       go : (page : List row.HoldingRow) → first ≡ option_map lot_of_typed_row (slice_get page 0) → ended ≡ nat_lt (length page) page_size
-          → ls ≡ remaining_page_lots page ended read' (lot_rows_in_closing_order lifo account symbol t)
+          → ls ≡ remaining_lots page ended read' (lot_rows_in_closing_order lifo account symbol t)
           → MatchOption first ((ls ≡ []) × AreRemainingLotsOfPages (drop 1 page) ended read' []) (λ lot. (more : List Lot) × (ls ≡ lot ∷ more) × AreRemainingLotsOfPages (drop 1 page) ended read' more)
       go [] f l w =
-          let none : remaining_page_lots [] ended read' (lot_rows_in_closing_order lifo account symbol t) ≡ [] =
-          ap (λ b. remaining_page_lots [] b read' (lot_rows_in_closing_order lifo account symbol t)) l in
+          let none : remaining_lots [] ended read' (lot_rows_in_closing_order lifo account symbol t) ≡ [] =
+          ap (λ b. remaining_lots [] b read' (lot_rows_in_closing_order lifo account symbol t)) l in
           subst (λ o. MatchOption o ((ls ≡ []) × AreRemainingLotsOfPages [] ended read' [])
           (λ lot. (more : List Lot) × (ls ≡ lot ∷ more) × AreRemainingLotsOfPages [] ended read' more)) (sym f) (w ∙ none, (t, holds, sym none))
       go (p ∷ ps) f l w =
           subst (λ o. MatchOption o ((ls ≡ []) × AreRemainingLotsOfPages ps ended read' []) (λ lot. (more : List Lot) × (ls ≡ lot ∷ more) × AreRemainingLotsOfPages ps ended read' more)) (sym f)
-          (remaining_page_lots ps ended read' (lot_rows_in_closing_order lifo account symbol t), w, (t, holds, refl))
+          (remaining_lots ps ended read' (lot_rows_in_closing_order lifo account symbol t), w, (t, holds, refl))
 
 -- ---- from an end
 

@@ -1,7 +1,7 @@
 -- The result of an audit of a database, and the postconditions of an audit and of an adoption. A
 -- database has a schema (`DatabaseHasSchema`) if it has each table of the schema, with its name and
--- exactly its columns, no table that a later schema adds, and one row of the table DESK, with the
--- number of the schema. `brk_store/specs/Holds.antt` explains the other terms of the clauses. A
+-- exactly its column names, no table that a later schema adds, and one row of the table DESK, with
+-- the number of the schema. `brk_store/specs/Holds.antt` explains the other terms of the clauses. A
 -- clause with the premise `HasCleanDisk` for the new state, and the promise on crashes in
 -- `survives`, are vacuous if some read up to the return of the call did not return what was
 -- written.
@@ -127,8 +127,8 @@ pub record AuditPost {S : Type 0} (g : Ghosts S) (old new : Held S) (result : Re
 -- The database `db` contains the tables of some schema with rows that pass the audit of this schema
 -- and whose texts are UTF-8. The database `after` contains the tables of schema 3 with the rows of
 -- the base that these rows determine. Every other table of `db` is in `after`, and its rows are
--- unchanged, unless a foreign key of this table changes or deletes them by CASCADE, SET NULL or SET
--- DEFAULT.
+-- unchanged, unless a foreign key of this table may change or delete them by CASCADE, SET NULL or
+-- SET DEFAULT.
 abbrev pub UpgradesAuditedRows : Database → Database → Type 0
 UpgradesAuditedRows db after =
     (schema : known.Schema) × (t : Tables) × (passed : StoresRowsWithAuditResult (abstract_schema schema) t db None)
@@ -146,7 +146,7 @@ IsUpgradedDiskContent db trees =
 -- and, at `Ok`, a store that holds the rows, converted to schema 3. `old` is the connection before
 -- the call, and `new` the connection or the store after it. The clauses with the premise
 -- `ConnectionTablesWithDeskNamesAreDeskTables` promise nothing of a database whose tables have the
--- names and columns of a desk's, but another definition.
+-- names and column names of a desk's, but other definitions.
 pub record AdoptPost {S : Type 0} (g : Ghosts S) (old new : Held S) (result : Result (Unit {0}) Fault) : Type 0 where
   -- `Ok` is returned only if the rows pass the audit, and `Damaged` only with the first condition
   -- that fails. Vacuous if some read up to the return of the call did not return what was written,

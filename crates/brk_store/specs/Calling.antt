@@ -10,6 +10,6 @@ use Rattle.brk_changes.specs.declared.holding_row.HoldingRow.{HoldingRow}
 pub record IsClosureCallWithLot {F R : Type 0} (g : Mut F (Bor (List ℕ) × (Bor Lot × Unit {0})) R) (f : F) (row : HoldingRow) (r : R) (f' : F) : Type 0 where
   pub symbol : Bor (List ℕ)
   pub lot : Bor Lot
-  pub named : symbol.now ≡ row.symbol
-  pub shown : lot.now ≡ record { trade = row.trade; price = row.price; qty = row.qty; stamp = row.stamp }
+  pub same_symbol : symbol.now ≡ row.symbol
+  pub same_lot : lot.now ≡ record { trade = row.trade; price = row.price; qty = row.qty; stamp = row.stamp }
   pub called : Called g f (symbol, (lot, tt)) r f'

@@ -2,7 +2,7 @@
 -- - `Held S`: in contracts, a connection to a database in a storage of the type `S` (files,
 --   memory), with its SQLite schema and the transaction that it is in, if any.
 -- - `Ghosts S`, `g`: the specification of the storage (a ghost has a meaning in proofs only): its
---   contents, its faults, and the contents that a crash may expose.
+--   contents, its failures, and the contents that a crash may expose.
 -- - `state g conn`: the state of the connection. `now` is the database as the connection sees it,
 --   changes of the transaction that it is in included; `committed` is the database at the last
 --   commit; `may_leave` holds of the disk contents that a crash may expose.
@@ -17,10 +17,10 @@
 --   has reached the disk, and limits what a torn write leaves.
 -- - `Survives old new P`: a crash in the state `new` exposes contents that a crash in the state
 --   `old` could expose, or contents that satisfy `P`. With `λ _. ⊥` for `P`: only the former. It
---   also states that only a fault of the disk closes an open connection, and that a disk assumption
+--   also states that only a failure of the disk closes an open connection, and that a disk assumption
 --   that has failed stays failed.
--- - `IfOk r P`, `OnOk r Q`: if the result `r` is `Ok`, `P` holds of its value, or `Q` holds.
---   `IfErr r P`, `OnErr r Q`: if `r` is `Err`, `P` holds of its error, or `Q` holds.
+-- - `IfOk r P`: if the result `r` is `Ok`, `P` holds of its value. `OnOk r Q`: if it is `Ok`, `Q`
+--   holds. `IfErr r P`, `OnErr r Q`: the same for `Err` and its error.
 -- - `Tables`: the rows of all tables of a desk, `t` in the clauses; *the rows `t`* and *the tables
 --   of a base* (`sheets base`) are values of this type. In rows that a database contains, those of
 --   each table are sorted by its key, ascending.
@@ -66,14 +66,14 @@ pub record WasOpenAndIsUnchanged (old new : State) : Type 0 where
   pub committed : new.committed ≡ old.committed
 
 -- The postcondition of a read, which writes nothing: `old` is the store before the call, and `new`
--- after it. `Told` relates a returned value to the rows that the store holds. No clause states that
--- the store is open after the call, not even at `Ok`: a disk fault at the end of the transaction of
--- the read may close it.
-pub record ReadPost {S V E : Type 0} (g : Ghosts S) (old new : Held S) (result : Result V E) (Told : V → Tables → Type 0) : Type 0 where
-  -- A returned value satisfies `Told` with the rows that the store held before the call. Vacuous if
-  -- some read up to the return of the call did not return what was written, or if the store was
+-- after it. `Matches` relates a returned value to the rows that the store holds. No clause states
+-- that the store is open after the call, not even at `Ok`: a disk failure at the end of the
+-- transaction of the read may close it.
+pub record ReadPost {S V E : Type 0} (g : Ghosts S) (old new : Held S) (result : Result V E) (Matches : V → Tables → Type 0) : Type 0 where
+  -- A returned value satisfies `Matches` with the rows that the store held before the call. Vacuous
+  -- if some read up to the return of the call did not return what was written, or if the store was
   -- open and did not contain the tables of a desk.
-  pub answered : HasCleanDisk (state g new) → IfOk result (λ answer. (t : Tables) → HoldsRows g old t → Told answer t)
+  pub answered : HasCleanDisk (state g new) → IfOk result (λ answer. (t : Tables) → HoldsRows g old t → Matches answer t)
   -- A value is returned only if the store was open before the call.
   pub was_open : HasCleanDisk (state g new) → OnOk result (IsTrue (state g old).is_open)
   -- The store holds after the call the rows that it held before, whatever the result.
@@ -93,7 +93,7 @@ pub record ApplyPost {S V E : Type 0} (g : Ghosts S) (old new : Held S) (result 
   pub open_and_committed : HasCleanDisk (state g new)
       → OnOk result (IsTrue (state g old).is_open × IsTrue (state g new).is_open × ((state g new).committed ≡ (state g new).now))
   -- At `Ok` the SQLite schema of the database is unchanged. The rows of each table that is not the
-  -- desk's are unchanged too, unless a foreign key of that table changes or deletes them by
+  -- desk's are unchanged too, unless a foreign key of that table may change or delete them by
   -- CASCADE, SET NULL or SET DEFAULT.
   pub other_tables : HasCleanDisk (state g new)
       → OnOk result ((t : Tables) (tree : DeskTable → ℕ) → HasTables desk_tables t tree (state g old).now

@@ -1,5 +1,5 @@
--- The lots of a position in the order in which a trade closes them, and the lots that remain after
--- pages of them were read.
+-- The lots of a position in the order in which a trade closes them, and those not yet returned
+-- after pages of them were read.
 use Rattle.std.specs.Prelude.{ℕ, List, [], ◌++◌, Bool, if◌then◌else◌, drop, map}
 use Rattle.brk_lots.specs.declared.lot.Lot.{Lot}
 use Rattle.brk_lots.specs.Lots.{list_reversed_if_lifo}
@@ -22,5 +22,5 @@ unread_rows ended read rows = if ended then [] else drop read rows
 -- The lots that a source of pages has not returned yet: first the lots of `pending`, the rows that
 -- were read and not yet returned, then, unless `ended`, the lots of `rows` from number `read` + 1
 -- on.
-abbrev pub remaining_page_lots : List row.HoldingRow → Bool → ℕ → List HoldingRow → List Lot
-remaining_page_lots pending ended read rows = map lot_of_row (map abstract_holding_row pending ++ unread_rows ended read rows)
+abbrev pub remaining_lots : List row.HoldingRow → Bool → ℕ → List HoldingRow → List Lot
+remaining_lots pending ended read rows = map lot_of_row (map abstract_holding_row pending ++ unread_rows ended read rows)

@@ -12,20 +12,21 @@ use Rattle.brk_store.specs.Holds.{HoldsRows, ReadPost, WasOpenAndIsUnchanged}
 -- The postcondition of any number of reads: the store holds the rows that it held before them; if
 -- the database is open after them, it was open before and is unchanged; a crash after them exposes
 -- only states that a crash before them could expose. The promises on the open database and on a
--- crash are vacuous if some read up to the return of the last one did not return what was written.
+-- crash are vacuous if some disk read up to the end of the last call did not return what was
+-- written.
 pub record IsUnchangedByReads {S : Type 0} (g : Ghosts S) (old new : Held S) : Type 0 where
   pub same_rows : (t : Tables) → HoldsRows g old t → HoldsRows g new t
   pub unchanged_if_open : HasCleanDisk (state g new) → IsTrue (state g new).is_open → WasOpenAndIsUnchanged (state g old) (state g new)
   pub survives : Survives (state g old) (state g new) (λ _. ⊥)
 
--- The postcondition of a call that makes any number of reads, or none, and writes nothing. `Told`
+-- The postcondition of a call that makes any number of reads, or none, and writes nothing. `Matches`
 -- relates the returned value to the rows that the store holds.
-pub record ReadSequencePost {S V E : Type 0} (g : Ghosts S) (old new : Held S) (result : Result V E) (Told : V → Tables → Type 0) : Type 0 where
-  -- A returned value satisfies `Told` with the rows that the store held before the call. Vacuous if
+pub record ReadSequencePost {S V E : Type 0} (g : Ghosts S) (old new : Held S) (result : Result V E) (Matches : V → Tables → Type 0) : Type 0 where
+  -- A returned value satisfies `Matches` with the rows that the store held before the call. Vacuous if
   -- some read up to the return of the call did not return what was written, or if the store was
   -- open and did not contain the tables of a desk. If the store was closed, a returned value
-  -- satisfies `Told` with all rows.
-  pub answered : HasCleanDisk (state g new) → IfOk result (λ answer. (t : Tables) → HoldsRows g old t → Told answer t)
+  -- satisfies `Matches` with all rows.
+  pub answered : HasCleanDisk (state g new) → IfOk result (λ answer. (t : Tables) → HoldsRows g old t → Matches answer t)
   -- The call changes nothing (`IsUnchangedByReads`), whatever the result.
   pub unchanged : IsUnchangedByReads g old new
 
@@ -35,7 +36,7 @@ module _ {S : Type 0} {g : Ghosts S} where
   pub disk_was_clean_before_reads : (old new : Held S) → IsUnchangedByReads g old new → HasCleanDisk (state g new) → HasCleanDisk (state g old)
   disk_was_clean_before_reads old new k = clean_before (state g old) (state g new) (λ _. ⊥) k.survives
 
-  -- If reads from the store `p` to `q` satisfy `IsUnchangedByReads`, and further reads from `q` to
+  -- If reads that lead from `p` to `q` satisfy `IsUnchangedByReads`, and further reads from `q` to
   -- `r` do, all of them together, from `p` to `r`, satisfy it.
   pub joined_reads_change_nothing : (p q r : Held S) → IsUnchangedByReads g p q → IsUnchangedByReads g q r → IsUnchangedByReads g p r
   joined_reads_change_nothing p q r a b = record {
@@ -48,9 +49,9 @@ module _ {S : Type 0} {g : Ghosts S} where
   }
 
   -- A read that satisfies `ReadPost` satisfies `IsUnchangedByReads`.
-  pub single_read_changes_nothing : {V E : Type 0} (old new : Held S) (result : _) (Told : _) → ReadPost {V = V} {E = E} g old new result Told
+  pub single_read_changes_nothing : {V E : Type 0} (old new : Held S) (result : _) (Matches : _) → ReadPost {V = V} {E = E} g old new result Matches
       → IsUnchangedByReads g old new
-  single_read_changes_nothing old new result Told r = record { same_rows = r.same_rows; unchanged_if_open = r.unchanged_if_open; survives = r.survives }
+  single_read_changes_nothing old new result Matches r = record { same_rows = r.same_rows; unchanged_if_open = r.unchanged_if_open; survives = r.survives }
 
 -- The empty sequence of reads, after which the store is `old` as before, satisfies
 -- `IsUnchangedByReads`.

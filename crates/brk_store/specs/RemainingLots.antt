@@ -6,7 +6,7 @@ use Rattle.sqlite.specs.Held.{Held}
 use Rattle.brk_lots.specs.declared.lot.Lot.{Lot}
 use Rattle.brk_model.specs.Tables.{Tables}
 use Rattle.brk_store.specs.Holds.{HoldsRows}
-use Rattle.brk_store.specs.Pages.{remaining_page_lots, lot_rows_in_closing_order}
+use Rattle.brk_store.specs.Pages.{remaining_lots, lot_rows_in_closing_order}
 use Rattle.brk_store.specs.declared.pages.Page.{Page}
 use Rattle.brk_store.specs.declared.pages.Pages.{Pages}
 
@@ -25,4 +25,4 @@ number_of_rows_read p = p.read
 abbrev pub AreRemainingLots : {S : Type 0} → Ghosts S → Pages S Page → List Lot → Type 0
 AreRemainingLots g p ls =
     (t : Tables) × HoldsRows g p.store.now t
-    × (ls ≡ remaining_page_lots (drop p.page.returned p.page.rows.items) p.ended p.read (lot_rows_in_closing_order p.lifo p.account p.symbol.now t))
+    × (ls ≡ remaining_lots (drop p.page.returned p.page.rows.items) p.ended p.read (lot_rows_in_closing_order p.lifo p.account p.symbol.now t))

@@ -17,7 +17,7 @@ abbrev pub market_value_of_account : Tables → ℕ → ℤ
 market_value_of_account t account = total_by (market_value_of_summary t) (filter (λ row. row.account == account) t.summaries)
 
 -- The rows of `held` equal the holding summaries of the account `account` in the tables `t`, in the
--- order of the table, and its value is the market value of these summaries at last prices, in
+-- order of the table, and `held.value` is the market value of these summaries at last prices, in
 -- cents.
 pub record AreValuedSummariesOfAccount (t : Tables) (account : ℕ) (held : ValuedSummaries) : Type 0 where
   pub rows : map abstract_summary_row held.rows.items ≡ filter (λ r. r.account == account) t.summaries

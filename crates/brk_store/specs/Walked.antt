@@ -39,7 +39,7 @@ EqualsStoredList g store list all = (t : Tables) → HoldsRows g store t → all
 -- The records `first` are a prefix of the list that `list` selects from the rows that the store
 -- holds, possibly empty. Vacuous if the store is open and has no tables of a desk. If the store is
 -- closed, or the disk assumption fails, `first` has to be a prefix of `list t` for all rows `t`:
--- only the empty list is one, if `list` selects no record from some rows.
+-- only the empty list is one, if `list t` is empty for some rows `t`.
 abbrev pub IsPrefixOfStoredList : {S M : Type 0} → Ghosts S → Held S → (Tables → List M) → List M → Type 0
 IsPrefixOfStoredList {S} {M} g store list first = (t : Tables) → HoldsRows g store t → (rest : List M) × (first ++ rest ≡ list t)
 

@@ -34,7 +34,7 @@ pub fn audit_results_are_unique()
 /// Vacuous if the disk assumption fails, or once the store is closed.
 pub fn stores_with_rows_have_desk_definitions<S: Alter>()
     ensures defined { (held : Held S) (t : Tables) → HoldsRows S.Store held t → ConnectionTablesWithDeskNamesAreDeskTables S.Store held }
-    ensures has_tables { (held : Held S) (t : Tables) → HoldsRows S.Store held t → ConnectionHasThirdSchema S.Store held }
+    ensures has_third_schema { (held : Held S) (t : Tables) → HoldsRows S.Store held t → ConnectionHasThirdSchema S.Store held }
 {}
 
 /// Proves, under the disk assumption, that an audit of a store that holds rows with texts in UTF-8

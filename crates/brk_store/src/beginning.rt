@@ -12,10 +12,10 @@ pub(crate) fn begin_transaction<S: Alter>(conn: &mut Connection<S>) -> Transacti
     requires { conn.old.in_transaction ≡ false }
     ensures same_reference { result.conn.ghost_name ≡ conn.entry.ghost_name }
     ensures begun { result.conn.now ≡ record conn.old { in_transaction = true } }
-    ensures settled { IsTrue (state S.Store conn.old).is_open → (state S.Store conn.old).now ≡ (state S.Store conn.old).committed }
+    ensures is_committed { IsTrue (state S.Store conn.old).is_open → (state S.Store conn.old).now ≡ (state S.Store conn.old).committed }
 {
-    // The value is not needed: by the contract of the call, an open database outside a transaction
-    // is in its committed state.
+    // Called only for its contract, by which an open database outside a transaction is in its
+    // committed state.
     let _is_autocommit = conn.is_autocommit();
     conn.transaction()
 }

@@ -19,7 +19,7 @@ use brk_changes::MoveRow;
 use brk_money::{Day, Fault, Id, MoveId};
 use sqlite::Alter;
 
-// The greatest number of deposits and withdrawals of a desk.
+// The limit on the count of deposits and withdrawals of a desk.
 const GREATEST_MOVEMENT_COUNT: u64 = 1_000_000_000_000;
 
 impl<S: Alter> Store<S> {
@@ -56,7 +56,7 @@ impl<S: Alter> Store<S> {
     }
 
     // Returns true if there are at least `GREATEST_MOVEMENT_COUNT` deposits and withdrawals, which
-    // are the cash rows without a trade. The query steps over these rows, so its time grows with
+    // are the cash rows without a trade. The query reads each of these rows, so its time grows with
     // their number. If the database is still open, it is unchanged. Fails with `Store` only.
     fn has_reached_movement_limit(&mut self) -> Result<bool, Fault>
         ensures read { ReadPost S.Store self.old self.new result (λ all t. all ≡ nat_le greatest_id (length (filter (λ r. is_none r.trade) t.moves))) }

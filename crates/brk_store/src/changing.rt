@@ -1,4 +1,4 @@
-//! Changes of rows and the creation of the tables, each in one transaction.
+//! Changes of rows, all in one transaction, and the creation of the tables in one.
 
 ghost use Rattle.std.specs.Prelude.{◌≡◌, ◌⊎◌, Err, IfErr, OnErr, false};
 ghost use Rattle.brk_money.specs.declared.fault.Condition.TheVariants.{NotEmpty};
@@ -18,9 +18,10 @@ use sqlite::{Alter, Connection, Transaction};
 
 // Applies one change to the tables of a desk within the transaction, by one SQL statement. A change
 // that updates or deletes a row that does not exist changes nothing. The rows of other tables are
-// unchanged, unless a foreign key of such a table changes or deletes them. Fails with `Store` only,
-// also if the row to add exists or breaks another constraint of its table, or if the `sqlite` crate
-// runs out of memory. After a failure the rows within the transaction are not specified.
+// unchanged, unless a foreign key of such a table may change or delete them. Fails with `Store`
+// only, also if the row to add has a used key or breaks another constraint of its table, or if the
+// `sqlite` crate runs out of memory. At an error nothing is committed; the transaction and its rows
+// are not specified.
 fn apply_change<S: Alter>(tx: &mut Transaction<'_, S>, change: &Change) -> Result<(), Fault>
     ensures same_reference { tx.new.conn.ghost_name ≡ tx.old.conn.ghost_name }
     ensures step { IsTransactionStep (state S.Store tx.old.conn.now) (state S.Store tx.new.conn.now) result
@@ -99,8 +100,8 @@ fn apply_change<S: Alter>(tx: &mut Transaction<'_, S>, change: &Change) -> Resul
 
 // Applies the changes to the tables of the desk, in order, within the transaction, up to the first
 // that fails. The rows of each table that is not the desk's are unchanged, unless a foreign key of
-// that table changes or deletes them. Fails with `Store` only, if `apply_change` does. After a
-// failure the rows within the transaction are not specified.
+// that table may change or delete them. Fails with `Store` only, if `apply_change` does. After a
+// failure nothing is committed; the transaction and its rows are not specified.
 fn apply_each_change<S: Alter>(tx: &mut Transaction<'_, S>, changes: &[Change]) -> Result<(), Fault>
     ensures same_reference { tx.new.conn.ghost_name ≡ tx.old.conn.ghost_name }
     ensures step { IsTransactionStep (state S.Store tx.old.conn.now) (state S.Store tx.new.conn.now) result
@@ -114,11 +115,12 @@ fn apply_each_change<S: Alter>(tx: &mut Transaction<'_, S>, changes: &[Change]) 
 }
 
 /// Applies the changes in order in one transaction and commits it. The SQLite schema is unchanged,
-/// and so are the rows of each table that is not the desk's, unless a foreign key of that table
-/// changes or deletes them. The connection must be in autocommit mode, and is so after the call.
+/// and so are the rows of each table that is not the desk's, unless a foreign key of that table may
+/// change or delete them. The connection must be in autocommit mode, and is so after the call.
 ///
-/// Fails with `Store` only, also if a row to add exists or breaks another constraint of its table,
-/// or if the `sqlite` crate runs out of memory. A database that is still open is then unchanged.
+/// Fails with `Store` only, also if a row to add has a used key or breaks another constraint of its
+/// table, or if the `sqlite` crate runs out of memory. A database that is still open is then
+/// unchanged.
 ///
 /// A crash after the call exposes a state that a crash before the call could expose or, in the
 /// desk's tables, the rows with all changes; after `Ok` only the latter.
@@ -131,11 +133,11 @@ pub(crate) fn apply_changes_in_transaction<S: Alter>(
     ensures applied { ApplyPost S.Store conn.old conn.new result (tables_after_changes changes.now) }
     ensures fault { OnErr result (result ≡ Err fault.Store) }
 {
-    // The value is not needed: by the contract of the call, an open database outside a transaction
-    // is in its committed state.
+    // Called only for its contract, by which an open database outside a transaction is in its
+    // committed state.
     let _is_autocommit = conn.is_autocommit();
     let mut tx = conn.transaction();
-    // The value is not needed: a statement compiles only if the store is open. No row is read.
+    // Fails on a closed store, also without changes: only an open one compiles a statement.
     let _exists = statement_compiles(&mut tx, Table::TheDesk.existence_probe_text())?;
     apply_each_change(&mut tx, changes)?;
     match tx.commit() {
@@ -160,8 +162,8 @@ pub(crate) fn create_tables_in_transaction<S: Alter>(conn: &mut Connection<S>) -
     ensures created { CreatePost S.Store conn.old conn.new result }
     ensures fault { IfErr result (λ f. (f ≡ fault.Store) ⊎ (f ≡ fault.Damaged NotEmpty)) }
 {
-    // The value is not needed: by the contract of the call, an open database outside a transaction
-    // is in its committed state.
+    // Called only for its contract, by which an open database outside a transaction is in its
+    // committed state.
     let _is_autocommit = conn.is_autocommit();
     let mut tx = conn.transaction();
     if brk_tables_scan::has_some_desk_table(&mut tx)? {

@@ -7,7 +7,7 @@ ghost use Rattle.brk_model.specs.Run.{IsCallFault};
 ghost use Rattle.brk_sql.specs.Model.{IsConnectionStep};
 ghost use Rattle.brk_store.specs.Audited.{IsSchemaOfDatabase};
 ghost use Rattle.brk_store.specs.AuditResult.{IsTrueAuditResult};
-ghost use Rattle.brk_store.specs.declared.examining.AuditResult.TheVariants as told;
+ghost use Rattle.brk_store.specs.declared.examining.AuditResult.TheVariants as audit_result;
 ghost use Rattle.brk_tables_scan.specs.Schemas.{TablesWithDeskNamesAreDeskTables};
 
 use crate::auditing::audit_rows_of_schema;
@@ -27,8 +27,9 @@ pub enum AuditResult {
 }
 
 // Returns the schema that the database has, or `None` if it has none of the three. If the function
-// returns a value, the database was open and is unchanged. Fails with `Store` only. The result is
-// specified only if the database satisfies `TablesWithDeskNamesAreDeskTables`.
+// returns a value, the database was open and is unchanged. Fails with `Store` only, and commits
+// nothing. The result is specified only if the database satisfies
+// `TablesWithDeskNamesAreDeskTables`.
 fn schema_of_database<S: Alter>(tx: &mut Transaction<'_, S>) -> Result<Option<Schema>, Fault>
     ensures same_reference { tx.new.conn.ghost_name ≡ tx.old.conn.ghost_name }
     ensures step { IsConnectionStep S.Store tx.old tx.new result (λ found a b. IsTrue a.is_open × (b.now ≡ a.now)
@@ -49,8 +50,9 @@ fn schema_of_database<S: Alter>(tx: &mut Transaction<'_, S>) -> Result<Option<Sc
 
 /// Audits the database by the conditions of the schema that it has, and returns the result: `Fails`
 /// with the condition `Schema` if it has none of the three schemas. If the function returns a
-/// value, the database was open and is unchanged. Fails with `Memory` or `Store` only. The result
-/// is specified only if the database satisfies `TablesWithDeskNamesAreDeskTables`.
+/// value, the database was open and is unchanged. Fails with `Memory` or `Store` only, and commits
+/// nothing. The result is specified only if the database satisfies
+/// `TablesWithDeskNamesAreDeskTables`.
 pub(crate) fn audit_by_own_schema<S: Alter>(
     tx: &mut Transaction<'_, S>,
     alloc: Global,
@@ -58,7 +60,7 @@ pub(crate) fn audit_by_own_schema<S: Alter>(
     ensures same_reference { tx.new.conn.ghost_name ≡ tx.old.conn.ghost_name }
     ensures step { IsConnectionStep S.Store tx.old tx.new result (λ examined a b. IsTrue a.is_open × (b.now ≡ a.now)
         × (TablesWithDeskNamesAreDeskTables a.now → IsTrueAuditResult examined a.now)) }
-    ensures condition { IfOk result (λ examined. examined ≢ told.Fails NotEmpty) }
+    ensures condition { IfOk result (λ examined. examined ≢ audit_result.Fails NotEmpty) }
     ensures fault { IfErr result IsCallFault }
 {
     let Some(schema) = schema_of_database(tx)? else {

@@ -1,5 +1,5 @@
-//! Reads of the completed trades of a holding. Each read begins a transaction and ends it without a
-//! commit (no clause states this). A read fails with `Store` also if a row is malformed or if the
+//! Reads of the completed trades of a position. Each read begins a transaction and ends it without
+//! a commit (no clause states this). A read fails with `Store` also if a row is malformed or if the
 //! `sqlite` crate runs out of memory. A crash after a read exposes only states that a crash before
 //! it could expose.
 
@@ -21,7 +21,7 @@ impl<S: Alter> Store<S> {
     /// Returns the ids of the completed trades of an account in a security, sorted by the stamp of
     /// completion and then by id, both ascending. If the database is still open, it is unchanged.
     /// Fails with `Memory` or `Store`.
-    pub fn completed_trade_ids_of_holding(
+    pub fn completed_trade_ids_of_position(
         &mut self,
         alloc: Global,
         account: Id,
@@ -34,6 +34,6 @@ impl<S: Alter> Store<S> {
         ensures fault { IfErr result IsCallFault }
     {
         let mut tx = begin_transaction(&mut self.conn);
-        brk_tables_views::completed_trade_ids_of_holding(&mut tx, alloc, account, symbol)
+        brk_tables_views::completed_trade_ids_of_position(&mut tx, alloc, account, symbol)
     }
 }

@@ -1,4 +1,4 @@
-//! The lots of a position, which a source reads from the store in pages of 16 rows.
+//! The lots of a position, which a source reads from the store 16 rows at a time (a page of them).
 
 ghost use Rattle.std.specs.Prelude.{◌≡◌, ◌≢◌, ◌≤◌, ◌+◌, IfErr, IfOk, IsTrue, length, map, pos};
 ghost use Rattle.std.specs.List.{All};
@@ -36,7 +36,7 @@ pub struct Page {
 pub type LotPages<'a, S> = Pages<'a, S, Page>;
 
 /// A source of lots that reads a borrowed store in pages. `P` is always `Page` (`LotPages`). It is
-/// a parameter, so that the contract of a caller can use the store after the source is dropped.
+/// a parameter, so that a caller's contract can specify the store after the source is dropped.
 pub struct Pages<'a, S: Alter, P> {
     store: &'a mut Store<S>,
     alloc: Global,
@@ -44,7 +44,7 @@ pub struct Pages<'a, S: Alter, P> {
     symbol: &'a Symbol,
     lifo: bool,
     page: P,
-    // `read`: the number of rows that were read. `ended`: true if no more rows exist.
+    // `read`: the number of rows that were read. `ended`: true once a page had fewer than 16 rows.
     read: u32,
     ended: bool,
     // The number of calls of `next` that failed; it stops at the greatest `u64`.
@@ -155,7 +155,7 @@ impl<S: Alter> Store<S> {
     /// A call of the source may fail, with `Memory` or `Store` only; `Store` may also mean that the
     /// next page has more than 16 rows or a lot without shares, or that the number of rows read
     /// exceeds 32 bits. The remaining lots and the open database are then unchanged, so the call
-    /// may be retried.
+    /// may be repeated, if the store is still open.
     ///
     /// A crash after reads of the source exposes only states that a crash before them could expose.
     pub fn lot_pages<'a>(
@@ -237,7 +237,8 @@ impl<S: Alter> Pages<'_, S, Page> {
         ensures counted { IfOk result (λ page. self.new.read ≡ self.old.read + length page.items) }
         ensures count_at_error { OnErr result (self.new.read ≡ self.old.read) }
 
-        // Also if the disk assumption fails: at most 16 rows, none without shares, and the faults.
+        // Also if the disk assumption fails: at most 16 rows, none without shares; no fault but
+        // `Memory` or `Store`.
         ensures few { IfOk result (λ page. length page.items ≤ page_size) }
         ensures some_shares { IfOk result (λ page. All (λ r. r.qty ≢ pos 0) page.items) }
         ensures fault { IfErr result IsCallFault }
@@ -283,7 +284,7 @@ impl<S: Alter> Pages<'_, S, Page> {
         ensures asked { self.new.read - (length self.new.page.rows.items - self.new.page.returned) ≤ self.old.read + 1 }
 
         // The count of faults is unchanged; the only faults are `Memory` and `Store`.
-        ensures faults { self.new.faults ≡ self.old.faults }
+        ensures fault_count { self.new.faults ≡ self.old.faults }
         ensures fault { IfErr result IsCallFault }
     {
         if self.ended {

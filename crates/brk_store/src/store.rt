@@ -14,11 +14,11 @@ use std::marker::Model;
 /// drop the store, and open and adopt its file again.
 ///
 /// A *crash* is the end of the process or the machine. It *exposes* what the next open of the
-/// database finds, after the `sqlite` crate has recovered the log. The clauses specify a crash
-/// after a call has returned; no clause covers a crash within a call (docs/PROMISES.md, "Trusted
-/// parts"). The clauses use the toolchain's model of a crash (`may_leave`), which supposes that a
-/// successful sync has reached the disk, and limits what a torn write leaves. The disk assumption
-/// is on reads alone, and does not include this model.
+/// database finds, after the `sqlite` crate has recovered the write-ahead log. The clauses specify
+/// a crash after a call has returned; no clause covers a crash within a call (docs/PROMISES.md,
+/// "Trusted parts"). The clauses use the toolchain's model of a crash (`may_leave`), which supposes
+/// that a successful sync has reached the disk, and limits what a torn write leaves. The disk
+/// assumption is on reads alone, and does not include this model.
 ///
 /// Under the disk assumption: a store that is still open after a fault is unchanged, and a crash
 /// exposes only its last commit (`crash_of_open_store_exposes_last_commit`); if the fault closed
@@ -86,12 +86,12 @@ impl<S: Alter> Store<S> {
     /// Applies `changes` in order, in one transaction, and commits them. A change that updates or
     /// deletes a row that does not exist changes nothing and is no error. The SQLite schema is
     /// unchanged. The rows of each table that is not the desk's are unchanged, unless a foreign key
-    /// of that table changes or deletes them by CASCADE, SET NULL or SET DEFAULT. The `sqlite`
+    /// of that table may change or delete them by CASCADE, SET NULL or SET DEFAULT. The `sqlite`
     /// crate runs no trigger, and does not write a table that has one.
     ///
-    /// Fails with `Store` only, which may also mean that a row to add exists or breaks another
-    /// constraint of its table, or that the `sqlite` crate ran out of memory; none of these closes
-    /// the store. At an error the rows and the open database are unchanged.
+    /// Fails with `Store` only, which may also mean that a row to add has a used key or breaks
+    /// another constraint of its table, or that the `sqlite` crate ran out of memory; none of these
+    /// closes the store. At an error the rows and the open database are unchanged.
     ///
     /// A crash after the call exposes a state that a crash before the call could expose or, in the
     /// desk's tables, the rows with all changes; after `Ok` only the latter. After an error it may

@@ -19,9 +19,9 @@ use sqlite::Alter;
 use std::alloc::Global;
 
 impl<S: Alter> Store<S> {
-    /// Returns the ten most recent trades of an account, or all if it has fewer: the first, sorted
-    /// by the stamp of their last status change and then by id, both descending. If the database is
-    /// still open, it is unchanged. Fails with `Memory` or `Store`.
+    /// Returns the ten most recent trades of an account, or all if it has fewer, sorted by the
+    /// stamp of their last status change and then by id, both descending. If the database is still
+    /// open, it is unchanged. Fails with `Memory` or `Store`.
     pub fn last_ten_trades_of_account(
         &mut self,
         alloc: Global,
@@ -35,9 +35,9 @@ impl<S: Alter> Store<S> {
         brk_tables_trading::last_ten_trades_of_account(&mut tx, alloc, account)
     }
 
-    /// Returns the fifty most recent trades of an account, or all if it has fewer: the first,
-    /// sorted by the stamp of their last status change and then by id, both descending. If the
-    /// database is still open, it is unchanged. Fails with `Memory` or `Store`.
+    /// Returns the fifty most recent trades of an account, or all if it has fewer, sorted by the
+    /// stamp of their last status change and then by id, both descending. If the database is still
+    /// open, it is unchanged. Fails with `Memory` or `Store`.
     pub fn last_fifty_trades_of_account(
         &mut self,
         alloc: Global,

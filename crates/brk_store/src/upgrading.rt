@@ -49,9 +49,9 @@ impl<S: Alter> Store<S> {
     /// Audits the database of `conn` by the conditions of its own schema and, if its rows pass this
     /// audit, opens it as a store. The rows of the store pass the audit of schema 3. A database of
     /// an older schema is upgraded to schema 3 in one transaction, and the store is open after the
-    /// upgrade; a database of schema 3 is not written. An upgrade does not change the rows of
-    /// tables that are not the desk's, unless a foreign key of such a table changes or deletes them
-    /// by CASCADE, SET NULL or SET DEFAULT.
+    /// upgrade; a database of schema 3 is not written, and no clause states that its store is open.
+    /// An upgrade does not change the rows of tables that are not the desk's, unless a foreign key
+    /// of such a table may change or delete them by CASCADE, SET NULL or SET DEFAULT.
     ///
     /// Errors return the connection; a database that is still open is unchanged. The fault is
     /// `Memory`, `Store`, or `Damaged` with the first condition that fails (`Schema` if the
@@ -66,9 +66,9 @@ impl<S: Alter> Store<S> {
     /// The result, the rows of the store and of other tables, the crash states, and that a database
     /// of schema 3 is not written, are specified only if the database satisfies
     /// `ConnectionTablesWithDeskNamesAreDeskTables`: if it has all tables of some schema, by their
-    /// names and columns, then these tables have the definitions of the desk's tables, with the
-    /// same types, keys and foreign keys, and no foreign key with CASCADE, SET NULL or SET DEFAULT.
-    /// A database without such tables, for example an empty one, satisfies this premise.
+    /// names and column names, then these tables have the definitions of the desk's tables, with
+    /// the same types, keys and foreign keys, and no foreign key with CASCADE, SET NULL or SET
+    /// DEFAULT. A database without such tables, for example an empty one, satisfies this premise.
     pub fn adopt(alloc: Global, mut conn: Connection<S>) -> Result<Store<S>, (Connection<S>, Fault)>
         ensures adopted { MatchResult result (λ store. AdoptPost S.Store conn store (Ok tt)) (λ e. AdoptPost S.Store conn e.0 (Err e.1)) }
         ensures condition { IfErr result (λ e. e.1 ≢ fault.Damaged NotEmpty) }

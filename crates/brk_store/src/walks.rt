@@ -27,7 +27,7 @@ impl<S: Alter> Store<S> {
     /// the result.
     ///
     /// `ready`: the visitor must be ready to take records, and is so after the walk. `leads`: the
-    /// visitor's `leads` relates the visitor before the walk to the visitor after it.
+    /// calls of the walk lead from the visitor before it to the visitor after it (`Visitor`).
     ///
     /// A crash after the call exposes only states that a crash before the call could expose.
     pub fn visit_cash_rows<E, V: Visitor<MoveRow, E>>(
@@ -61,7 +61,7 @@ impl<S: Alter> Store<S> {
     /// the result.
     ///
     /// `ready`: the visitor must be ready to take records, and is so after the walk. `leads`: the
-    /// visitor's `leads` relates the visitor before the walk to the visitor after it.
+    /// calls of the walk lead from the visitor before it to the visitor after it (`Visitor`).
     ///
     /// A crash after the call exposes only states that a crash before the call could expose.
     pub fn visit_lots<E, V: Visitor<HoldingRow, E>>(
@@ -87,7 +87,7 @@ impl<S: Alter> Store<S> {
     /// whatever the result.
     ///
     /// `ready`: the visitor must be ready to take records, and is so after the walk. `leads`: the
-    /// visitor's `leads` relates the visitor before the walk to the visitor after it.
+    /// calls of the walk lead from the visitor before it to the visitor after it (`Visitor`).
     ///
     /// A crash after the call exposes only states that a crash before the call could expose.
     pub fn visit_completed_trades<E, V: Visitor<TradeRow, E>>(
@@ -110,9 +110,9 @@ impl<S: Alter> Store<S> {
     /// type `E`, after a prefix of the rows. If the database is still open, it is unchanged,
     /// whatever the result.
     ///
-    /// `callable`: the closure must accept every record, at its first and at each later call.
-    /// `called`: the closure is called with the rows, in order and one at a time, until its first
-    /// error or a fault.
+    /// `callable`: the closure's contract must permit a call with every record, the first and
+    /// later. `called`: the closure is called with the rows, in order and one at a time, until its
+    /// first error or a fault.
     ///
     /// A crash after the call exposes only states that a crash before the call could expose.
     pub fn walk_cash<E: From<Fault>, F: FnMut(&MoveRow) -> Result<(), E> + Drop>(
@@ -142,9 +142,9 @@ impl<S: Alter> Store<S> {
     /// type `E`, after a prefix of the lots. If the database is still open, it is unchanged,
     /// whatever the result.
     ///
-    /// `callable`: the closure must accept every record, at its first and at each later call.
-    /// `called`: the closure is called with the lots, in order and one at a time, until its first
-    /// error or a fault.
+    /// `callable`: the closure's contract must permit a call with every record, the first and
+    /// later. `called`: the closure is called with the lots, in order and one at a time, until its
+    /// first error or a fault.
     ///
     /// A crash after the call exposes only states that a crash before the call could expose.
     pub fn walk_lots<E: From<Fault>, F: FnMut(&str, &Lot) -> Result<(), E> + Drop>(

@@ -18,7 +18,7 @@ use std::alloc::Global;
 /// Returns the ids of the completed trades of an account in a security, sorted by the stamp of
 /// completion and then by id, both ascending. Changes nothing if it succeeds. Fails with `Memory`
 /// or `Store` only; with `Store` also if a row is malformed.
-pub fn completed_trade_ids_of_holding<S: Alter>(
+pub fn completed_trade_ids_of_position<S: Alter>(
     tx: &mut Transaction<'_, S>,
     alloc: Global,
     account: Id,

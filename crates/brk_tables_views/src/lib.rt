@@ -26,7 +26,7 @@ pub mod walking;
 
 pub use brokers::{account_ids_of_broker, all_requests, brokers_with_name};
 pub use cash::walk_cash_rows_of_account;
-pub use holdings::completed_trade_ids_of_holding;
+pub use holdings::completed_trade_ids_of_position;
 pub use lot_changes::{lot_changes_by_trade, lot_changes_of_lot};
 pub use lots::walk_lots;
 pub use trades::walk_completed_trades;

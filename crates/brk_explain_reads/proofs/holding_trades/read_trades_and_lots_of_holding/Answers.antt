@@ -32,7 +32,7 @@ FirstTrades account symbol ids done lots i t =
 
 pub loop-id-init : goal.loop-id-init
 loop-id-init g c =
-    retold g.S.Store c.args.store.now c.completed_trade_ids_of_holding.new.self c.in_ok-ids.ids tt
+    retold g.S.Store c.args.store.now c.completed_trade_ids_of_position.new.self c.in_ok-ids.ids tt
     (λ all (t : Tables). all.items ≡ held_ids t c.args.account c.args.symbol.now)
     (λ _. FirstTrades c.args.account c.args.symbol.now c.deref-id-items.result.now c.new.result.items c.new-2.result.items 0)
     (λ t e. (c.deref-id-items.ensures.value ∙ e, ap (map (λ (r : trade.TradeRow). Some (abstract_trade_row r))) c.new.ensures.items, ap (map abstract_lot_details) c.new-2.ensures.items))

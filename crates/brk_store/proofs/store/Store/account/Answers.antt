@@ -5,4 +5,4 @@ use Rattle.brk_store.proofs.store.Store.account.Goals as goal
 pub returns-clause-read : goal.returns-clause-read
 returns-clause-read g c =
     read_is_over g.S.Store c.args.self.now c.self.inside.conn c.begin_transaction-tx.result.conn.now c.account_by_id.new.tx.conn.now c.drop-tx.new.self.0 _ c.self.view_is (search rules)
-    c.begin_transaction-tx.ensures.begun c.begin_transaction-tx.ensures.settled c.account_by_id.ensures.step c.drop-tx.ensures.survives c.drop-tx.ensures.undone
+    c.begin_transaction-tx.ensures.begun c.begin_transaction-tx.ensures.is_committed c.account_by_id.ensures.step c.drop-tx.ensures.survives c.drop-tx.ensures.undone

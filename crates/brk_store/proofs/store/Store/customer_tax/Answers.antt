@@ -6,4 +6,4 @@ pub returns-clause-read : goal.returns-clause-read
 returns-clause-read g c =
     read_is_over g.S.Store c.args.self.now c.self.inside.conn c.begin_transaction-tx.result.conn.now c.customer_tax_by_customer_and_tax.new.tx.conn.now
     c.drop-tx.new.self.0 _ c.self.view_is (search rules)
-    c.begin_transaction-tx.ensures.begun c.begin_transaction-tx.ensures.settled c.customer_tax_by_customer_and_tax.ensures.step c.drop-tx.ensures.survives c.drop-tx.ensures.undone
+    c.begin_transaction-tx.ensures.begun c.begin_transaction-tx.ensures.is_committed c.customer_tax_by_customer_and_tax.ensures.step c.drop-tx.ensures.survives c.drop-tx.ensures.undone

@@ -14,7 +14,7 @@ use Rattle.brk_tables_schema.proofs.TradingBack.{id_back, id_is_back}
 use Rattle.brk_tables_views.proofs.CompletedOfHolding
 use Rattle.brk_tables_views.proofs.CompletedOfHolding.{plain}
 use Rattle.brk_tables_views.proofs.IdReads.{as_they_are, id_cells, tells_completed_of_holding}
-use Rattle.brk_tables_views.proofs.holdings.completed_trade_ids_of_holding.Goals as goal
+use Rattle.brk_tables_views.proofs.holdings.completed_trade_ids_of_position.Goals as goal
 
 pub select_rows-requires : goal.select_rows-requires
 select_rows-requires g c = record { no_returning_clause = plain }

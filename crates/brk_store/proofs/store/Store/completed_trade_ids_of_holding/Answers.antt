@@ -1,9 +1,0 @@
-use Rattle.std.proofs.Common.{rules}
-use Rattle.brk_store.proofs.Ending.{read_is_over}
-use Rattle.brk_store.proofs.store.Store.completed_trade_ids_of_holding.Goals as goal
-
-pub returns-clause-read : goal.returns-clause-read
-returns-clause-read g c =
-    read_is_over g.S.Store c.args.self.now c.self.inside.conn c.begin_transaction-tx.result.conn.now c.completed_trade_ids_of_holding.new.tx.conn.now
-    c.drop-tx.new.self.0 _ c.self.view_is (search rules)
-    c.begin_transaction-tx.ensures.begun c.begin_transaction-tx.ensures.settled c.completed_trade_ids_of_holding.ensures.step c.drop-tx.ensures.survives c.drop-tx.ensures.undone
