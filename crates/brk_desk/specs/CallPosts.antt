@@ -104,16 +104,18 @@ IsDiskContentWithAcknowledgedCommands base calls outcomes trees =
     × IsTrue (has_utf8_texts (sheets after))
 
 -- The store was open before the calls, and for each base that it represented then, `trees` are disk
--- contents that a crash may expose after the calls from this base (`IsDiskContentWithAcknowledgedCommands`).
+-- contents that a crash may expose after the calls from this base
+-- (`IsDiskContentWithAcknowledgedCommands`).
 abbrev pub CrashMayExposeDiskContent : {S : Type 0} → Ghosts S → Held S → List (ℕ × Call) → List Outcome → Trees → Type 0
 CrashMayExposeDiskContent g old calls outcomes trees =
     IsTrue (state g old).is_open × ((base : Base) → Represents g old base → IsDiskContentWithAcknowledgedCommands base calls outcomes trees)
 
 -- The postcondition of a sequence of calls that were executed in order, from the state `old` to the
--- state `new`. For every base that the store represented, the calls with their outcomes are a run
--- of the model (`Run`), and the store represents the base after this run. The other clauses are on
--- the number and the faults of the outcomes, on an unchanged database, on crashes, and on the
--- formats of commands and keys.
+-- state `new`. Under the disk assumption, for every base that the store represented, the calls with
+-- their outcomes are a run of the model (`Run`), and the store represents the base after this run.
+-- The other clauses are on the number and the faults of the outcomes, on an unchanged database, on
+-- the store and the disk assumption before the calls, on crashes, and on the formats of commands
+-- and keys.
 pub record RunPost {S : Type 0} (g : Ghosts S) (old new : Held S) (calls : List (ℕ × Call)) (outcomes : List Outcome) : Type 0 where
   -- There is exactly one outcome for each call.
   pub count : length outcomes ≡ length calls
@@ -130,7 +132,8 @@ pub record RunPost {S : Type 0} (g : Ghosts S) (old new : Held S) (calls : List 
   -- If the store is open after the calls, it was open before.
   pub was_open : HasCleanDisk (state g new) → IsTrue (state g new).is_open → IsTrue (state g old).is_open
   -- Crash safety: a crash after the calls exposes a state that a crash before them could expose or,
-  -- only if the store was open, tables with the acknowledged commands (`IsDiskContentWithAcknowledgedCommands`).
+  -- only if the store was open, tables with the acknowledged commands
+  -- (`IsDiskContentWithAcknowledgedCommands`).
   pub survives : Survives (state g old) (state g new) (CrashMayExposeDiskContent g old calls outcomes)
   -- If some outcome is `Done`, a crash after the calls exposes only tables with the acknowledged
   -- commands (`IsDiskContentWithAcknowledgedCommands`).

@@ -86,29 +86,31 @@ read_volume_query (sector ∷ names) = Ok (λ s ns. VolumeOf s ns) ⊛ read_name
 
 -- ---- the views
 
--- The parsers of the views `submitted` and `estimate`, each with its name.
+-- The names of the views `submitted` and `estimate`, each with the parser of its query from the
+-- arguments.
 abbrev pub order_view_parsers : List (NamedParser Query)
 order_view_parsers = (codes "submitted", read_no_arguments SubmittedTrades) ∷ (codes "estimate", read_and_wrap EstimateOf read_order) ∷ []
 
--- The parsers of the views `customer`, `taxid`, `recent` and `status`, each with its name.
+-- The names of the views `customer`, `taxid`, `recent` and `status`, each with the parser of its
+-- query from the arguments.
 abbrev pub account_view_parsers : List (NamedParser Query)
 account_view_parsers =
     (codes "customer", read_single_argument (read_and_wrap PositionOf read_id))
     ∷ (codes "taxid", read_single_argument (read_and_wrap PositionOfTaxId read_tax_id))
     ∷ (codes "recent", read_single_argument (read_and_wrap RecentOf read_id)) ∷ (codes "status", read_single_argument (read_and_wrap StatusOf read_id)) ∷ []
 
--- The parsers of the views `trades`, `accounttrades`, `symboltrades` and `lots`, each with its
--- name.
+-- The names of the views `trades`, `accounttrades`, `symboltrades` and `lots`, each with the parser
+-- of its query from the arguments.
 abbrev pub lookup_view_parsers : List (NamedParser Query)
 lookup_view_parsers =
     (codes "trades", read_and_wrap TradesWith read_distinct_ids) ∷ (codes "accounttrades", read_value_and_stamps read_id (λ a f l. TradesOfAccount a f l))
     ∷ (codes "symboltrades", read_value_and_stamps read_symbol (λ s f l. TradesOfSymbol s f l)) ∷ (codes "lots", read_lots_query) ∷ []
 
--- The parser of the view `volume`, with its name, as a list of one.
+-- The name of the view `volume`, with the parser of its query from the arguments, as a list of one.
 abbrev pub volume_view_parsers : List (NamedParser Query)
 volume_view_parsers = (codes "volume", read_volume_query) ∷ []
 
--- The parsers of all views, each with its name.
+-- The names of all views, each with the parser of its query from the arguments.
 abbrev pub view_parsers : List (NamedParser Query)
 view_parsers = order_view_parsers ++ account_view_parsers ++ lookup_view_parsers ++ volume_view_parsers
 

@@ -49,9 +49,9 @@ abbrev pub WritesTables : {W T S V E : Type 0} → ProgramTables W T → Ghosts 
 WritesTables desk g old new result f = IsConnectionStep g old new result (λ _ a b. ChangesTablesBy desk f a.now b.now)
 
 -- Under the disk assumption and within a transaction: if the call succeeds, the database was open
--- and is unchanged, and `Matches` relates the returned value to the records of the program's tables.
--- The last part is vacuous if the database does not contain all these tables. The call is a step of
--- its connection (`IsConnectionStep`), so under the disk assumption it commits nothing, and leaves
--- an open transaction open if it succeeds.
+-- and is unchanged, and `Matches` relates the returned value to the records of the program's
+-- tables. The last part is vacuous if the database does not contain all these tables. The call is a
+-- step of its connection (`IsConnectionStep`), so under the disk assumption it commits nothing, and
+-- leaves an open transaction open if it succeeds.
 abbrev pub ReadsTables : {W T S V E : Type 0} → ProgramTables W T → Ghosts S → Transaction S → Transaction S → Result V E → (V → T → Type 0) → Type 0
 ReadsTables desk g old new result Matches = IsConnectionStep g old new result (λ v. IsUnchangedAndSatisfies desk (Matches v))

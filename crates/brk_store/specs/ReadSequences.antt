@@ -19,11 +19,11 @@ pub record IsUnchangedByReads {S : Type 0} (g : Ghosts S) (old new : Held S) : T
   pub unchanged_if_open : HasCleanDisk (state g new) → IsTrue (state g new).is_open → WasOpenAndIsUnchanged (state g old) (state g new)
   pub survives : Survives (state g old) (state g new) (λ _. ⊥)
 
--- The postcondition of a call that makes any number of reads, or none, and writes nothing. `Matches`
--- relates the returned value to the rows that the store holds.
+-- The postcondition of a call that makes any number of reads, or none, and writes nothing.
+-- `Matches` relates the returned value to the rows that the store holds.
 pub record ReadSequencePost {S V E : Type 0} (g : Ghosts S) (old new : Held S) (result : Result V E) (Matches : V → Tables → Type 0) : Type 0 where
-  -- A returned value satisfies `Matches` with the rows that the store held before the call. Vacuous if
-  -- some read up to the return of the call did not return what was written, or if the store was
+  -- A returned value satisfies `Matches` with the rows that the store held before the call. Vacuous
+  -- if some read up to the return of the call did not return what was written, or if the store was
   -- open and did not contain the tables of a desk. If the store was closed, a returned value
   -- satisfies `Matches` with all rows.
   pub answered : HasCleanDisk (state g new) → IfOk result (λ answer. (t : Tables) → HoldsRows g old t → Matches answer t)

@@ -16,10 +16,10 @@ abbrev pub WritesDeskTables : {S V E : Type 0} → Ghosts S → Transaction S �
 WritesDeskTables g old new result f = WritesTables desk_tables g old new result f
 
 -- Under the disk assumption and within a transaction: if the call succeeds, the database was open
--- and is unchanged, and `Matches` relates the returned value to the rows of a desk's tables. The last
--- part is vacuous if the database does not contain all tables of a desk in schema 3. The call is a
--- step of its connection (`IsConnectionStep`), so under the disk assumption it commits nothing, and
--- leaves an open transaction open if it succeeds.
+-- and is unchanged, and `Matches` relates the returned value to the rows of a desk's tables. The
+-- last part is vacuous if the database does not contain all tables of a desk in schema 3. The call
+-- is a step of its connection (`IsConnectionStep`), so under the disk assumption it commits
+-- nothing, and leaves an open transaction open if it succeeds.
 abbrev pub ReadsDeskTables : {S V E : Type 0} → Ghosts S → Transaction S → Transaction S → Result V E → (V → Tables → Type 0) → Type 0
 ReadsDeskTables g old new result Matches = ReadsTables desk_tables g old new result Matches
 
