@@ -6,8 +6,6 @@ has up to MOST mutants, and a mutant is rejected if the prover reports an error 
 for which it reports none, or one of a name, is tried alone, as `rt must-fail` does it.
 
 It calls functions of the kit's rt (tried on kit 13f) over the libraries in the folders out/ of the tree, which `./brk` or `rt check` built."""
-import importlib.machinery
-import importlib.util
 import os
 import re
 import shutil
@@ -15,6 +13,7 @@ import sys
 import tempfile
 
 import edits
+from kit import load
 
 MOST = 12
 FUNCTION = re.compile(r'^ *(?:pub(?:\(\w+\))? )?(?:const )?fn (\w+)')
@@ -26,11 +25,7 @@ FLAGS = ['--jobs', '1']
 
 def kit():
     """The kit's rt as a module, for which a stamp is worked out once for each crate."""
-    path = os.path.realpath(shutil.which('rt') or sys.exit('tools/together.py: there is no rt'))
-    loader = importlib.machinery.SourceFileLoader('rt', path)
-    rt = importlib.util.module_from_spec(importlib.util.spec_from_loader('rt', loader))
-    sys.modules['rt'] = rt
-    loader.exec_module(rt)
+    rt = load(lambda why: sys.exit(f'tools/together.py: {why}'))
     made, known = rt.rtlib.Crate.stamp, {}
     rt.rtlib.Crate.stamp = lambda crate: known.get(crate.folder) or known.setdefault(crate.folder, made(crate))
     # as under rt ci: the crates above a library load its statements
