@@ -15,7 +15,7 @@ use Rattle.brk_changes.specs.declared.move_row.MoveRow as move
 use Rattle.brk_audit_sums.specs.AccountTerms.{account_broker_in_terms}
 use Rattle.brk_audit_sums.specs.Completed.{is_completed_trade_row}
 use Rattle.brk_audit_sums.specs.Settling.{account_broker_or_zero}
-use Rattle.brk_audit_sums.specs.Sums.{broker_posting_of_row, movement_posting_of_row, sum_over_broker_trades}
+use Rattle.brk_audit_sums.specs.Sums.{broker_posting_of_trade_row, movement_posting_of_row, sum_over_broker_trades}
 use Rattle.brk_audit_sums.specs.declared.account_terms.AccountTerms.{AccountTerms}
 use Rattle.brk_book_theorems.proofs.Places.{filter-append}
 use Rattle.brk_book_theorems.proofs.Worth.{total-append}
@@ -47,7 +47,7 @@ posted_sum p k j a b rows q e f =
 -- the sums of what completed trades post at brokers, as sums over the tables
 pub broker_sums : (s : Sheets) (terms : BTreeMap ℕ AccountTerms) (amount : TradeRow → ℤ) (sums : BTreeMap ℕ ℤ) (postings : List (KeyedAmount ℕ)) → HasTerms terms s.accounts.items
     → ((q : ℕ) → sum_at_key nat_cmp sums q ≡ total_amount_at_key nat_cmp postings q)
-    → postings ≡ filter_map (λ r. broker_posting_of_row (account_broker_in_terms terms) (abstract_trade_row r) (amount (abstract_trade_row r))) s.trades.items
+    → postings ≡ filter_map (λ r. broker_posting_of_trade_row (account_broker_in_terms terms) (abstract_trade_row r) (amount (abstract_trade_row r))) s.trades.items
     → (q : ℕ) → sum_at_key nat_cmp sums q ≡ sum_over_broker_trades (abstract_sheets s) amount q
 broker_sums s terms amount sums postings has summed posted q =
     summed q ∙ ap (λ ps. total_amount_at_key nat_cmp ps q) posted

@@ -18,13 +18,13 @@ sum_over_account_cash_trades t amount account = total_by amount (filter (λ r. i
 
 -- The amount as a posting at the broker of the trade's account, where `brokers` returns the broker
 -- of an account, or `None` if the trade is not completed.
-abbrev pub broker_posting_of_row : (ℕ → ℕ) → TradeRow → ℤ → Option (KeyedAmount ℕ)
-broker_posting_of_row brokers r amount = if is_completed_trade_row r then Some (record { key = brokers r.account; amount = amount }) else None
+abbrev pub broker_posting_of_trade_row : (ℕ → ℕ) → TradeRow → ℤ → Option (KeyedAmount ℕ)
+broker_posting_of_trade_row brokers r amount = if is_completed_trade_row r then Some (record { key = brokers r.account; amount = amount }) else None
 
 -- The trade's settlement amount, in cents, as a posting at its account, where `statuses` returns
 -- the tax status of an account, or `None` if the trade is not a completed cash trade.
-abbrev pub cash_posting_of_row : (ℕ → TaxStatus) → TradeRow → Option (KeyedAmount ℕ)
-cash_posting_of_row statuses r =
+abbrev pub cash_posting_of_trade_row : (ℕ → TaxStatus) → TradeRow → Option (KeyedAmount ℕ)
+cash_posting_of_trade_row statuses r =
     if is_completed_cash_trade r then Some (record { key = r.account; amount = settlement_amount_at_tax_status (statuses r.account) r }) else None
 
 -- The sum of the amounts of the account's deposits and withdrawals, in cents; the amount of a

@@ -9,7 +9,7 @@ ghost use Rattle.brk_changes.specs.Rows.{abstract_move_row};
 ghost use Rattle.brk_changes.specs.Sheets.{abstract_sheets};
 ghost use Rattle.brk_audit_sums.specs.AccountTerms.{account_tax_status_in_terms};
 ghost use Rattle.brk_audit_sums.specs.Conditions.{HasWellFormedRows, HasValidStatuses};
-ghost use Rattle.brk_audit_sums.specs.Sums.{cash_posting_of_row, movement_posting_of_row};
+ghost use Rattle.brk_audit_sums.specs.Sums.{cash_posting_of_trade_row, movement_posting_of_row};
 ghost use Rattle.brk_audit_sums.specs.Tally.{sum_at_key};
 
 use crate::account_terms::{AccountTerms, account_tax_status, account_terms_by_id};
@@ -81,7 +81,7 @@ struct Balances;
 impl KeyedSum for Balances {
     type Total = AccountRow;
 
-    ghost posting_of = { λ terms r. cash_posting_of_row (account_tax_status_in_terms terms) r };
+    ghost posting_of = { λ terms r. cash_posting_of_trade_row (account_tax_status_in_terms terms) r };
 
     ghost has_sum = { λ sums row. row.balance ≡ row.account.opening +ℤ sum_at_key nat_cmp sums row.account.id };
 

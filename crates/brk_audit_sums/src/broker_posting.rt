@@ -1,7 +1,7 @@
 ghost use Rattle.std.specs.Prelude.{◌≡◌};
 ghost use Rattle.brk_changes.specs.Rows.{abstract_trade_row};
 ghost use Rattle.brk_audit_sums.specs.AccountTerms.{account_broker_in_terms};
-ghost use Rattle.brk_audit_sums.specs.Sums.{broker_posting_of_row};
+ghost use Rattle.brk_audit_sums.specs.Sums.{broker_posting_of_trade_row};
 
 use crate::account_terms::{AccountTerms, account_broker_id};
 use crate::completion::is_completed;
@@ -17,7 +17,7 @@ pub(crate) fn posting_at_broker(
     trade: &TradeRow,
     amount: i64,
 ) -> Option<KeyedAmount<u64>>
-    ensures { result ≡ broker_posting_of_row (account_broker_in_terms terms.now) (abstract_trade_row trade.now) amount }
+    ensures { result ≡ broker_posting_of_trade_row (account_broker_in_terms terms.now) (abstract_trade_row trade.now) amount }
 {
     if !is_completed(trade.status) {
         return None;

@@ -7,7 +7,7 @@ ghost use Rattle.brk_model.specs.Schemas.{Schema};
 ghost use Rattle.brk_changes.specs.Sheets.{abstract_sheets};
 ghost use Rattle.brk_audit_sums.specs.AccountTerms.{account_broker_in_terms};
 ghost use Rattle.brk_audit_sums.specs.Conditions.{HasWellFormedRows, HasValidStatuses};
-ghost use Rattle.brk_audit_sums.specs.Sums.{broker_posting_of_row};
+ghost use Rattle.brk_audit_sums.specs.Sums.{broker_posting_of_trade_row};
 ghost use Rattle.brk_audit_sums.specs.Tally.{sum_at_key};
 
 use crate::account_terms::{AccountTerms, account_terms_by_id};
@@ -27,7 +27,7 @@ struct Commissions;
 impl KeyedSum for Commissions {
     type Total = BrokerRow;
 
-    ghost posting_of = { λ terms r. broker_posting_of_row (account_broker_in_terms terms) r (pos r.commission) };
+    ghost posting_of = { λ terms r. broker_posting_of_trade_row (account_broker_in_terms terms) r (pos r.commission) };
 
     ghost has_sum = { λ sums row. pos row.commissions ≡ sum_at_key nat_cmp sums row.broker.id };
 

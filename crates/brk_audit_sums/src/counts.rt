@@ -7,7 +7,7 @@ ghost use Rattle.brk_model.specs.Schemas.{Schema};
 ghost use Rattle.brk_changes.specs.Sheets.{abstract_sheets};
 ghost use Rattle.brk_audit_sums.specs.AccountTerms.{account_broker_in_terms};
 ghost use Rattle.brk_audit_sums.specs.Conditions.{HasWellFormedRows, HasValidStatuses};
-ghost use Rattle.brk_audit_sums.specs.Sums.{broker_posting_of_row};
+ghost use Rattle.brk_audit_sums.specs.Sums.{broker_posting_of_trade_row};
 ghost use Rattle.brk_audit_sums.specs.Tally.{sum_at_key};
 
 use crate::account_terms::{AccountTerms, account_terms_by_id};
@@ -26,7 +26,7 @@ struct TradeCounts;
 impl KeyedSum for TradeCounts {
     type Total = BrokerRow;
 
-    ghost posting_of = { λ terms r. broker_posting_of_row (account_broker_in_terms terms) r (pos 1) };
+    ghost posting_of = { λ terms r. broker_posting_of_trade_row (account_broker_in_terms terms) r (pos 1) };
 
     ghost has_sum = { λ sums row. row.trades ≡ sum_at_key nat_cmp sums row.broker.id };
 

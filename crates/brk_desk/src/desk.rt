@@ -102,17 +102,17 @@ impl<S: Alter> Desk<S> {
     ///
     /// Fails with `Memory` or `Store` only. `Memory` means that an allocation of the desk's own
     /// code was refused. `Store` may also mean that the `sqlite` crate ran out of memory, that a
-    /// row that it reads is malformed, that a row that another row requires does not exist, that a
-    /// lot has no shares, that a number or a sum is out of range, or that no CM_ID is left for a
-    /// cash row; none of these closes the store. A refusal, a stored reply or a fault changes
-    /// nothing, and records no key, in a store that is still open. After a fault that closed the
-    /// store a crash may expose the command as committed (`Desk`).
+    /// stored row is malformed, that a row that another row requires does not exist, that a lot has
+    /// no shares, that a number or a sum is out of range, or that no CM_ID is left for a cash row;
+    /// none of these closes the store. A refusal, a stored reply or a fault changes nothing, and
+    /// records no key, in a store that is still open. After a fault that closed the store a crash
+    /// may expose the command as committed (`Desk`).
     ///
     /// A crash after the call exposes a state that a crash before the call could expose, or the
     /// tables after the command; after `Done` it exposes only the tables after the command.
     ///
     /// Retry: after `Memory`, on this desk; after `Store`, which may have closed it, drop the desk,
-    /// and open and adopt the file again. Under one key a command is accepted at most once. A retry
+    /// and open and adopt the file again. A command is accepted at most once under a key. A repeat
     /// without a key may execute the command twice: read the tables first; after `Store`, those in
     /// the reopened file.
     pub fn call(
@@ -246,7 +246,7 @@ impl<S: Alter> Desk<S> {
     }
 
     /// Returns the row of an account and its holding summaries, sorted by symbol, ascending, each
-    /// with the last price of its symbol, in cents, or `None` if the account does not exist.
+    /// with the last price of its symbol, in cents. Returns `None` if the account does not exist.
     ///
     /// Fails with `Memory` or `Store` only; `Store` may also mean that one of these symbols has no
     /// last price. If the database is still open, it is unchanged, whatever the result.

@@ -59,7 +59,7 @@ pub fn recovery_never_reports_damage<S: Alter>()
         → AdoptPost S.Store before at_crash first_result → HasCleanDisk (state S.Store at_crash)
         → IsNewConnectionAfterCrash S.Store at_crash reopened → AdoptPost S.Store reopened adopted result → HasCleanDisk (state S.Store adopted)
         → AdoptsBaseWithoutDamage S.Store adopted result (base_of_tables rows) }
-    // After a crash that follows the creation of the tables, the adopted store represents the empty
+    // After a crash after `Store::create`, failed or not, the adopted store represents the empty
     // base. Nothing is specified for a state that a crash before the creation could expose.
     ensures crash_after_creation { (before at_crash reopened adopted : Held S) (created result : Result (Unit {0}) faults.Fault) (trees : Trees)
         → CreatePost S.Store before at_crash created

@@ -75,8 +75,8 @@ lot_change_lines price changes = map (lot_change_line price) changes
 unfoldable pub lot_history_lines : LotDetails → List Text
 lot_history_lines lot = lot_opening_line lot ∷ lot_change_lines (completion_price_or_zero lot.trade) lot.changes ++ lot_remainder_line lot ∷ []
 
--- The lines of the total purchases `bought`, the total sales `sold`, the realised gain `gain` and
--- the cost basis `cost` of a holding, which are all given in cents.
+-- The lines of the total purchases `bought`, the negated total sales `sold`, the realised gain
+-- `gain` and the cost basis `cost` of a holding, which are all given in cents.
 unfoldable pub purchase_sale_gain_and_cost_lines : ℤ → ℤ → ℤ → ℤ → List Text
 purchase_sale_gain_and_cost_lines bought sold gain cost =
     labeled_amount (codes "Purchases") bought ∷ labeled_amount (codes "Sales") sold ∷ labeled_amount (codes "Realised gain") gain

@@ -8,7 +8,7 @@ ghost use Rattle.brk_money.specs.declared.fault.Fault.TheVariants.{Memory};
 ghost use Rattle.brk_store.specs.Holds.{ReadPost};
 
 use crate::known::read_existing_trade;
-use crate::lot_changes::{OpeningAndLaterChanges, read_changes_sorted_by_completion};
+use crate::lot_changes::{OpeningAndLaterChanges, read_lot_changes_sorted_by_completion};
 use brk_changes::{LotChange, TradeRow};
 use brk_explain_rows::{LotDetails, PricedLotChange};
 use brk_money::{Fault, Id};
@@ -62,7 +62,7 @@ fn read_lot_of_trade<S: Alter>(
     ensures read { ReadPost S.Store store.old store.new result (λ lot t. option_map abstract_lot_details lot ≡ lot_opened_by_trade t trade) }
     ensures fault { IfErr result IsCallFault }
 {
-    let all = read_changes_sorted_by_completion(alloc, store, trade)?;
+    let all = read_lot_changes_sorted_by_completion(alloc, store, trade)?;
     let OpeningAndLaterChanges {
         opening,
         changes_by_others,

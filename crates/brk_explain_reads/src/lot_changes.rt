@@ -160,7 +160,7 @@ fn sort_changes_by_stamp(
 /// sorted by the stamps of these trades, ascending. If the database is still open, it is unchanged.
 /// Fails with `Memory` or `Store`; with `Store` also if one of the other trades does not exist or
 /// has no price.
-pub(crate) fn read_changes_sorted_by_completion<S: Alter>(
+pub(crate) fn read_lot_changes_sorted_by_completion<S: Alter>(
     alloc: Global,
     store: &mut Store<S>,
     lot: Id,

@@ -22,9 +22,9 @@ use brk_explain_rows::LotDetails;
 use brk_money::{Fault, Price, Wide};
 use std::alloc::Global;
 
-// Appends to `out` the lines of the total purchases `bought`, the total sales `sold`, the realised
-// gain `gain` and the cost basis `cost` of a holding, in cents. Fails with `Memory` only; a part of
-// the lines may then be appended.
+// Appends to `out` the lines of the total purchases `bought`, the negated total sales `sold`, the
+// realised gain `gain` and the cost basis `cost` of a holding, in cents. Fails with `Memory` only;
+// a part of the lines may then be appended.
 #[tactic(auto, unfolding(brk_explain_model::specs::HoldingLines::purchase_sale_gain_and_cost_lines))]
 fn put_purchase_sale_gain_and_cost_lines(
     alloc: Global,

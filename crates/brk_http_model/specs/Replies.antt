@@ -12,7 +12,8 @@ use Rattle.brk_http_model.specs.Routes.{split_at_byte}
 use Rattle.brk_http_model.specs.declared.problem.RequestProblem.{RequestProblem}
 use Rattle.brk_http_model.specs.declared.problem.RequestProblem.TheVariants.{TooLarge, BadRequest, NotImplemented, NotFound, NotAllowed}
 
--- The response to a request: a problem, or the outcome of a call of the desk.
+-- The response to a request: a problem, or an outcome: that of a call of the desk, or the refusal
+-- of a malformed row or query, for which no call is made.
 pub data Response : Type 0 where
   FromProblem : RequestProblem → Response
   FromOutcome : Outcome → Response
@@ -76,7 +77,7 @@ outcome_body (NoView refusal) = json_texts_object (codes "no") (refusal_fields r
 outcome_body (Failed fault) = json_error_object (fault_word fault)
 
 -- The body of the reply for a response: the JSON object of an error with the text of its problem,
--- or the body for the outcome of its call.
+-- or the body for its outcome.
 abbrev pub response_body : Response → Text
 response_body (FromProblem problem) = json_error_object (text_of_problem problem)
 response_body (FromOutcome outcome) = outcome_body outcome

@@ -66,7 +66,7 @@ pub enum Fault {
     /// An allocation of the desk's own code was refused.
     Memory,
     /// The database or its disk failed, its rows are malformed or contradict each other, or the
-    /// `sqlite` crate or the decoding of a row ran out of memory.
+    /// `sqlite` crate, or the decoding of the row of a read of one row, ran out of memory.
     Store,
     /// The database fails this condition of a desk's tables; returned only when tables are created,
     /// adopted, upgraded or audited.

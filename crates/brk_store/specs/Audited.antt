@@ -22,7 +22,7 @@ use Rattle.brk_model.specs.Form.{has_utf8_texts}
 use Rattle.brk_model.specs.Schemas.{Schema, third_schema}
 use Rattle.brk_model.specs.Sheets.{sheets}
 use Rattle.brk_model.specs.Tables.{Tables}
-use Rattle.brk_changes.specs.declared.schema.Schema as known
+use Rattle.brk_changes.specs.declared.schema.Schema as typed_schema
 use Rattle.brk_changes.specs.declared.schema.Schema.TheVariants.{Third}
 use Rattle.brk_changes.specs.Schemas.{abstract_schema}
 use Rattle.brk_tables_schema.specs.Made.{HasDeskTables, HasDeskTablesInSchema, IsTableOfSchema}
@@ -58,9 +58,9 @@ IsDatabaseAuditResultBySchema schema db answer = (t : Tables) × StoresRowsWithA
 
 -- `Some schema`: the database `db` has this schema (`DatabaseHasSchema`). `None`: it has none of
 -- the three schemas.
-abbrev pub IsSchemaOfDatabase : Option known.Schema → Database → Type 0
+abbrev pub IsSchemaOfDatabase : Option typed_schema.Schema → Database → Type 0
 IsSchemaOfDatabase (Some schema) db = DatabaseHasSchema (abstract_schema schema) db
-IsSchemaOfDatabase None db = (schema : known.Schema) → ¬ DatabaseHasSchema (abstract_schema schema) db
+IsSchemaOfDatabase None db = (schema : typed_schema.Schema) → ¬ DatabaseHasSchema (abstract_schema schema) db
 
 -- `answer` is the result of an audit of the database `db` by the conditions of the schema that it
 -- has: the first condition that it fails, or `None` if it passes. The result is never `NotEmpty`,
@@ -68,7 +68,7 @@ IsSchemaOfDatabase None db = (schema : known.Schema) → ¬ DatabaseHasSchema (a
 abbrev pub IsDatabaseAuditResult : Database → Option Condition → Type 0
 IsDatabaseAuditResult db (Some condition.NotEmpty) = ⊥
 IsDatabaseAuditResult db (Some condition.Schema) = IsSchemaOfDatabase None db
-IsDatabaseAuditResult db answer = (schema : known.Schema) × IsDatabaseAuditResultBySchema (abstract_schema schema) db answer
+IsDatabaseAuditResult db answer = (schema : typed_schema.Schema) × IsDatabaseAuditResultBySchema (abstract_schema schema) db answer
 
 -- `P` holds of the first condition that failed in the audit of a call with this result: of `None`
 -- at `Ok`, and of the condition at `Damaged`. Vacuous at `Memory` and `Store`, which say nothing
@@ -82,7 +82,7 @@ AuditAnswerSatisfies (Err Store) P = ⊤
 -- ---- premises on the database
 
 -- For each schema: if the current database of the connection `held` has all tables of the schema,
--- by name and with exactly their column names, they are defined as a desk defines them, with its
+-- by name and with exactly their column names, they satisfy `HasDeskDefinitions`, with a desk's
 -- types, keys and foreign keys (`TablesWithDeskNamesAreDeskTables`). A database without these
 -- tables, for example an empty one, satisfies this premise. Vacuous if the disk assumption fails,
 -- or once the database is closed.
@@ -91,7 +91,7 @@ ConnectionTablesWithDeskNamesAreDeskTables g held =
     HasCleanDisk (state g held) → IsTrue (state g held).is_open → TablesWithDeskNamesAreDeskTables (state g held).now
 
 -- If the current database of the connection `held` has all tables of schema 3, by name and with
--- exactly their column names, they are defined as a desk defines them, with its types, keys and
+-- exactly their column names, they satisfy `HasDeskDefinitions`, with a desk's types, keys and
 -- foreign keys (`TablesWithSchemaNamesAreDeskTables`). Vacuous if the disk assumption fails, or
 -- once the database is closed.
 abbrev pub ConnectionTablesWithThirdSchemaNamesAreDeskTables : {S : Type 0} → Ghosts S → Held S → Type 0
@@ -109,13 +109,13 @@ ConnectionHasThirdSchema g held = HasCleanDisk (state g held) → IsTrue (state 
 -- connection before the call, and `new` after it.
 pub record AuditPost {S : Type 0} (g : Ghosts S) (old new : Held S) (result : Result (Unit {0}) Fault) : Type 0 where
   -- `Ok` is returned only if the rows pass the audit, and `Damaged` only with the first condition
-  -- that fails. Vacuous if some read up to the return of the call did not return what was written,
-  -- or if the old database does not satisfy `ConnectionTablesWithThirdSchemaNamesAreDeskTables`.
+  -- that fails. Vacuous if a disk read up to the call's return did not return what was written, or
+  -- if the old database does not satisfy `ConnectionTablesWithThirdSchemaNamesAreDeskTables`.
   pub answered : HasCleanDisk (state g new) → ConnectionTablesWithThirdSchemaNamesAreDeskTables g old
       → AuditAnswerSatisfies result (IsDatabaseAuditResultBySchema third_schema (state g old).now)
   -- `Ok` and `Damaged` are returned only if the database was open before the call.
   pub was_open : HasCleanDisk (state g new) → AuditAnswerSatisfies result (λ _. IsTrue (state g old).is_open)
-  -- The store holds after the call the rows that it held before, whatever the result.
+  -- The store holds the rows that it held before, whatever the result. Vacuous once it is closed.
   pub same_rows : (t : Tables) → HoldsRows g old t → HoldsRows g new t
   -- If the database is open after the call, it was open before and is unchanged.
   pub unchanged_if_open : HasCleanDisk (state g new) → IsTrue (state g new).is_open → WasOpenAndIsUnchanged (state g old) (state g new)
@@ -131,7 +131,7 @@ pub record AuditPost {S : Type 0} (g : Ghosts S) (old new : Held S) (result : Re
 -- SET DEFAULT.
 abbrev pub UpgradesAuditedRows : Database → Database → Type 0
 UpgradesAuditedRows db after =
-    (schema : known.Schema) × (t : Tables) × (passed : StoresRowsWithAuditResult (abstract_schema schema) t db None)
+    (schema : typed_schema.Schema) × (t : Tables) × (passed : StoresRowsWithAuditResult (abstract_schema schema) t db None)
     × HasDeskTables (sheets (base_of_tables t)) after × PreservesTablesOutside (IsTableOfSchema (abstract_schema schema)) passed.0.0 db after
 
 -- The database `db` contains the tables of a schema older than 3 with rows that pass the audit of
@@ -139,7 +139,7 @@ UpgradesAuditedRows db after =
 -- contains the tables of schema 3 with the rows of the base that these rows determine.
 abbrev pub IsUpgradedDiskContent : Database → Trees → Type 0
 IsUpgradedDiskContent db trees =
-    (schema : known.Schema) × (t : Tables) × (schema ≢ Third) × StoresRowsWithAuditResult (abstract_schema schema) t db None
+    (schema : typed_schema.Schema) × (t : Tables) × (schema ≢ Third) × StoresRowsWithAuditResult (abstract_schema schema) t db None
     × IsDiskContentOfRows (sheets (base_of_tables t)) trees
 
 -- The postcondition of an adoption: an audit by the conditions of the schema that the database has
@@ -149,8 +149,8 @@ IsUpgradedDiskContent db trees =
 -- names and column names of a desk's, but other definitions.
 pub record AdoptPost {S : Type 0} (g : Ghosts S) (old new : Held S) (result : Result (Unit {0}) Fault) : Type 0 where
   -- `Ok` is returned only if the rows pass the audit, and `Damaged` only with the first condition
-  -- that fails. Vacuous if some read up to the return of the call did not return what was written,
-  -- or if the old database does not satisfy `ConnectionTablesWithDeskNamesAreDeskTables`.
+  -- that fails. Vacuous if a disk read up to the call's return did not return what was written, or
+  -- if the old database does not satisfy `ConnectionTablesWithDeskNamesAreDeskTables`.
   pub answered : HasCleanDisk (state g new) → ConnectionTablesWithDeskNamesAreDeskTables g old
       → AuditAnswerSatisfies result (IsDatabaseAuditResult (state g old).now)
   -- `Ok` and `Damaged` are returned only if the database was open before the call.

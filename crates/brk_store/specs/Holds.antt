@@ -71,12 +71,12 @@ pub record WasOpenAndIsUnchanged (old new : State) : Type 0 where
 -- transaction of the read may close it.
 pub record ReadPost {S V E : Type 0} (g : Ghosts S) (old new : Held S) (result : Result V E) (Matches : V → Tables → Type 0) : Type 0 where
   -- A returned value satisfies `Matches` with the rows that the store held before the call. Vacuous
-  -- if some read up to the return of the call did not return what was written, or if the store was
+  -- if a disk read up to the call's return did not return what was written, or if the store was
   -- open and did not contain the tables of a desk.
   pub answered : HasCleanDisk (state g new) → IfOk result (λ answer. (t : Tables) → HoldsRows g old t → Matches answer t)
   -- A value is returned only if the store was open before the call.
   pub was_open : HasCleanDisk (state g new) → OnOk result (IsTrue (state g old).is_open)
-  -- The store holds after the call the rows that it held before, whatever the result.
+  -- The store holds the rows that it held before, whatever the result. Vacuous once it is closed.
   pub same_rows : (t : Tables) → HoldsRows g old t → HoldsRows g new t
   -- If the database is open after the call, it was open before and is unchanged.
   pub unchanged_if_open : HasCleanDisk (state g new) → IsTrue (state g new).is_open → WasOpenAndIsUnchanged (state g old) (state g new)
@@ -98,7 +98,7 @@ pub record ApplyPost {S V E : Type 0} (g : Ghosts S) (old new : Held S) (result 
   pub other_tables : HasCleanDisk (state g new)
       → OnOk result ((t : Tables) (tree : DeskTable → ℕ) → HasTables desk_tables t tree (state g old).now
       → PreservesUnrelatedTables tree (state g old).now (state g new).now)
-  -- At an error the store holds the rows that it held before.
+  -- At an error the store holds the rows that it held before. Vacuous once it is closed.
   pub same_rows_at_error : OnErr result ((t : Tables) → HoldsRows g old t → HoldsRows g new t)
   -- At an error: if the database is open after the call, it was open before and is unchanged.
   pub unchanged_if_open : HasCleanDisk (state g new) → IsTrue (state g new).is_open → OnErr result (WasOpenAndIsUnchanged (state g old) (state g new))

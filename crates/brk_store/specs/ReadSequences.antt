@@ -23,7 +23,7 @@ pub record IsUnchangedByReads {S : Type 0} (g : Ghosts S) (old new : Held S) : T
 -- `Matches` relates the returned value to the rows that the store holds.
 pub record ReadSequencePost {S V E : Type 0} (g : Ghosts S) (old new : Held S) (result : Result V E) (Matches : V → Tables → Type 0) : Type 0 where
   -- A returned value satisfies `Matches` with the rows that the store held before the call. Vacuous
-  -- if some read up to the return of the call did not return what was written, or if the store was
+  -- if a disk read up to the call's return did not return what was written, or if the store was
   -- open and did not contain the tables of a desk. If the store was closed, a returned value
   -- satisfies `Matches` with all rows.
   pub answered : HasCleanDisk (state g new) → IfOk result (λ answer. (t : Tables) → HoldsRows g old t → Matches answer t)

@@ -61,7 +61,7 @@ pub record WalkPost {S X M V E : Type 0} (g : Ghosts S) (old new : Held S) (of :
   pub fault : IfErr result (IsWalkError stops after)
   -- `Ok` is returned only if the store was open before the call.
   pub was_open : HasCleanDisk (state g new) → OnOk result (IsTrue (state g old).is_open)
-  -- The store holds after the call the rows that it held before, whatever the result.
+  -- The store holds the rows that it held before, whatever the result. Vacuous once it is closed.
   pub same_rows : (t : Tables) → HoldsRows g old t → HoldsRows g new t
   -- If the database is open after the call, it was open before and is unchanged.
   pub unchanged_if_open : HasCleanDisk (state g new) → IsTrue (state g new).is_open → WasOpenAndIsUnchanged (state g old) (state g new)

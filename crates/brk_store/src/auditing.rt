@@ -20,9 +20,9 @@ use sqlite::{Alter, Connection, Transaction};
 use std::alloc::Global;
 
 /// Returns the first condition of `schema` that the rows of its tables fail, or `None` if they
-/// pass. If the function returns a value, the database was open and is unchanged. Fails with
-/// `Memory` or `Store` only, and commits nothing. The result is specified only if the database has
-/// the schema (`DatabaseHasSchema`) and its tables have the definitions of the desk's tables
+/// pass. At `Ok` the database was open and is unchanged. Fails with `Memory` or `Store` only, and
+/// commits nothing. The result is specified only if the database has the schema
+/// (`DatabaseHasSchema`) and its tables have the definitions of the desk's tables
 /// (`TablesWithSchemaNamesAreDeskTables`).
 pub(crate) fn audit_rows_of_schema<S: Alter>(
     tx: &mut Transaction<'_, S>,
@@ -42,10 +42,10 @@ pub(crate) fn audit_rows_of_schema<S: Alter>(
     }
 }
 
-// Returns the first condition of schema 3 that the database fails, or `None` if it passes. If the
-// function returns a value, the database was open and is unchanged. Fails with `Memory` or `Store`
-// only, and commits nothing. The result is specified only if tables with the names and column names
-// of schema 3 have the definitions of the desk's tables (`TablesWithSchemaNamesAreDeskTables`).
+// Returns the first condition of schema 3 that the database fails, or `None` if it passes. At `Ok`
+// the database was open and is unchanged. Fails with `Memory` or `Store` only, and commits nothing.
+// The result is specified only if tables with the names and column names of schema 3 have the
+// definitions of the desk's tables (`TablesWithSchemaNamesAreDeskTables`).
 fn first_failing_condition<S: Alter>(
     tx: &mut Transaction<'_, S>,
     alloc: Global,
@@ -86,15 +86,14 @@ impl<S: Alter> Store<S> {
     /// its rows pass this audit.
     ///
     /// Fails with `Damaged` and the first condition that fails, or with `Memory` or `Store`. The
-    /// rows that the store holds are unchanged, and so is a database that is still open, whatever
-    /// the result.
+    /// database, if it is still open, is unchanged, whatever the result.
     ///
     /// A crash after the call exposes only states that a crash before the call could expose.
     ///
     /// The result is specified only if the database satisfies
     /// `ConnectionTablesWithThirdSchemaNamesAreDeskTables`: if it has all tables of schema 3, by
-    /// their names and column names, these have the definitions of the desk's tables. Every store
-    /// that holds rows satisfies this premise (`stores_with_rows_have_desk_definitions`).
+    /// their names and column names, these satisfy `HasDeskDefinitions`. Every store that holds a
+    /// desk's tables satisfies it (`stores_with_rows_have_desk_definitions`).
     pub fn audit(&mut self, alloc: Global) -> Result<(), Fault>
         ensures audited { AuditPost S.Store self.old self.new result }
         ensures condition { IfErr result (λ f. f ≢ fault.Damaged NotEmpty) }

@@ -19,7 +19,7 @@ use sqlite::{Alter, Connection, Transaction};
 // Applies one change to the tables of a desk within the transaction, by one SQL statement. A change
 // that updates or deletes a row that does not exist changes nothing. The rows of other tables are
 // unchanged, unless a foreign key of such a table may change or delete them. Fails with `Store`
-// only, also if the row to add has a used key or breaks another constraint of its table, or if the
+// only, also if the row to add breaks PRIMARY KEY or another constraint of its table, or if the
 // `sqlite` crate runs out of memory. At an error nothing is committed; the transaction and its rows
 // are not specified.
 fn apply_change<S: Alter>(tx: &mut Transaction<'_, S>, change: &Change) -> Result<(), Fault>
@@ -118,7 +118,7 @@ fn apply_each_change<S: Alter>(tx: &mut Transaction<'_, S>, changes: &[Change]) 
 /// and so are the rows of each table that is not the desk's, unless a foreign key of that table may
 /// change or delete them. The connection must be in autocommit mode, and is so after the call.
 ///
-/// Fails with `Store` only, also if a row to add has a used key or breaks another constraint of its
+/// Fails with `Store` only, also if a row to add breaks PRIMARY KEY or another constraint of its
 /// table, or if the `sqlite` crate runs out of memory. A database that is still open is then
 /// unchanged.
 ///

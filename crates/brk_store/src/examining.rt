@@ -26,10 +26,9 @@ pub enum AuditResult {
     Fails(Condition),
 }
 
-// Returns the schema that the database has, or `None` if it has none of the three. If the function
-// returns a value, the database was open and is unchanged. Fails with `Store` only, and commits
-// nothing. The result is specified only if the database satisfies
-// `TablesWithDeskNamesAreDeskTables`.
+// Returns the schema that the database has, or `None` if it has none of the three. At `Ok` the
+// database was open and is unchanged. Fails with `Store` only, and commits nothing. The result is
+// specified only if the database satisfies `TablesWithDeskNamesAreDeskTables`.
 fn schema_of_database<S: Alter>(tx: &mut Transaction<'_, S>) -> Result<Option<Schema>, Fault>
     ensures same_reference { tx.new.conn.ghost_name ≡ tx.old.conn.ghost_name }
     ensures step { IsConnectionStep S.Store tx.old tx.new result (λ found a b. IsTrue a.is_open × (b.now ≡ a.now)
@@ -49,10 +48,9 @@ fn schema_of_database<S: Alter>(tx: &mut Transaction<'_, S>) -> Result<Option<Sc
 }
 
 /// Audits the database by the conditions of the schema that it has, and returns the result: `Fails`
-/// with the condition `Schema` if it has none of the three schemas. If the function returns a
-/// value, the database was open and is unchanged. Fails with `Memory` or `Store` only, and commits
-/// nothing. The result is specified only if the database satisfies
-/// `TablesWithDeskNamesAreDeskTables`.
+/// with the condition `Schema` if it has none of the three schemas. At `Ok` the database was open
+/// and is unchanged. Fails with `Memory` or `Store` only, and commits nothing. The result is
+/// specified only if the database satisfies `TablesWithDeskNamesAreDeskTables`.
 pub(crate) fn audit_by_own_schema<S: Alter>(
     tx: &mut Transaction<'_, S>,
     alloc: Global,

@@ -154,8 +154,8 @@ impl<S: Alter> Store<S> {
     ///
     /// A call of the source may fail, with `Memory` or `Store` only; `Store` may also mean that the
     /// next page has more than 16 rows or a lot without shares, or that the number of rows read
-    /// exceeds 32 bits. The remaining lots and the open database are then unchanged, so the call
-    /// may be repeated, if the store is still open.
+    /// exceeds 32 bits. The remaining lots, and a database that is still open, are then unchanged,
+    /// so the call may be repeated after `Memory`; after `Store`, drop the store.
     ///
     /// A crash after reads of the source exposes only states that a crash before them could expose.
     pub fn lot_pages<'a>(
@@ -223,7 +223,7 @@ impl<S: Alter> Pages<'_, S, Page> {
     // with `Store` also if the page has more than 16 rows or a lot without shares, or if the number
     // of rows read exceeds 32 bits. At an error this number is unchanged.
     fn read_next_page(&mut self) -> Result<Vec<HoldingRow>, Fault>
-        // The store is the same and unchanged; of the source only the number of rows read changes.
+        // The same store, unchanged if still open; of the source only `store` and `read` change.
         ensures same_reference { self.new.store.ghost_name ≡ self.old.store.ghost_name }
         ensures same { self.new ≡ record self.old { store = self.new.store; read = self.new.read } }
         ensures store { IsUnchangedByReads S.Store self.old.store.now self.new.store.now }
@@ -267,7 +267,7 @@ impl<S: Alter> Pages<'_, S, Page> {
         // All lots of the current page were returned.
         requires { length self.old.page.rows.items ≤ self.old.page.returned }
 
-        // The store is the same and unchanged.
+        // The same store, unchanged if it is still open.
         ensures same_reference { self.new.store.ghost_name ≡ self.old.store.ghost_name }
         ensures store { IsUnchangedByReads S.Store self.old.store.now self.new.store.now }
 

@@ -59,11 +59,11 @@ impl<S: Alter> Store<S> {
     /// desk's are unchanged.
     ///
     /// Errors return the connection; a database that is still open is unchanged. The fault
-    /// `Damaged(NotEmpty)`, which here means no damage but that tables of a desk exist, is returned
-    /// only if a table with the name of a desk's table exists; if one exists, the fault is this one
-    /// or `Store`. The fault `Store` may also mean that the `sqlite` crate ran out of memory. If
-    /// `conn` is in a transaction, the fault is `Store` and the connection is unchanged; otherwise
-    /// the returned connection is in autocommit mode.
+    /// `Damaged(NotEmpty)`, which here does not mean damage, is returned only if a table with the
+    /// name of a desk's table exists; if one exists, the fault is this one or `Store`. The fault
+    /// `Store` may also mean that the `sqlite` crate ran out of memory. If `conn` is in a
+    /// transaction, the fault is `Store` and the connection is unchanged; otherwise the returned
+    /// connection is in autocommit mode.
     ///
     /// A crash after the call exposes a state that a crash before the call could expose, or the
     /// tables without rows; after `Ok` only the latter. After an error it may expose the created
@@ -89,9 +89,9 @@ impl<S: Alter> Store<S> {
     /// of that table may change or delete them by CASCADE, SET NULL or SET DEFAULT. The `sqlite`
     /// crate runs no trigger, and does not write a table that has one.
     ///
-    /// Fails with `Store` only, which may also mean that a row to add has a used key or breaks
-    /// another constraint of its table, or that the `sqlite` crate ran out of memory; none of these
-    /// closes the store. At an error the rows and the open database are unchanged.
+    /// Fails with `Store` only, which may also mean that a row to add breaks PRIMARY KEY or another
+    /// constraint of its table, or that the `sqlite` crate ran out of memory; none of these closes
+    /// the store. At an error a database that is still open is unchanged.
     ///
     /// A crash after the call exposes a state that a crash before the call could expose or, in the
     /// desk's tables, the rows with all changes; after `Ok` only the latter. After an error it may
@@ -106,7 +106,7 @@ impl<S: Alter> Store<S> {
     /// Returns the connection of the store, which is in autocommit mode.
     pub fn into_conn(self) -> Connection<S>
         ensures same { result ≡ self }
-        ensures idle { result.in_transaction ≡ false }
+        ensures autocommit { result.in_transaction ≡ false }
     {
         let Store { conn } = self;
         conn

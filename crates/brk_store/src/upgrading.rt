@@ -66,9 +66,9 @@ impl<S: Alter> Store<S> {
     /// The result, the rows of the store and of other tables, the crash states, and that a database
     /// of schema 3 is not written, are specified only if the database satisfies
     /// `ConnectionTablesWithDeskNamesAreDeskTables`: if it has all tables of some schema, by their
-    /// names and column names, then these tables have the definitions of the desk's tables, with
-    /// the same types, keys and foreign keys, and no foreign key with CASCADE, SET NULL or SET
-    /// DEFAULT. A database without such tables, for example an empty one, satisfies this premise.
+    /// names and column names, then these tables satisfy `HasDeskDefinitions`, with a desk's types,
+    /// keys and foreign keys, and no foreign key with CASCADE, SET NULL or SET DEFAULT. A database
+    /// without such tables, for example an empty one, satisfies this premise.
     pub fn adopt(alloc: Global, mut conn: Connection<S>) -> Result<Store<S>, (Connection<S>, Fault)>
         ensures adopted { MatchResult result (λ store. AdoptPost S.Store conn store (Ok tt)) (λ e. AdoptPost S.Store conn e.0 (Err e.1)) }
         ensures condition { IfErr result (λ e. e.1 ≢ fault.Damaged NotEmpty) }

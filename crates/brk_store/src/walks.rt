@@ -1,7 +1,6 @@
 //! Walks: reads that pass rows, one at a time, to a visitor (`visit_..`) or to a closure
 //! (`walk_..`). The store is borrowed for the whole walk. The fault is `Store` also if a row is
-//! malformed or if the `sqlite` crate runs out of memory, and `Memory` if the decoding of a row
-//! does.
+//! malformed or if the `sqlite` crate runs out of memory, and `Memory` if decoding in a walk does.
 
 ghost use Rattle.std.specs.Fn.{CalledAt};
 ghost use Rattle.brk_changes.specs.Rows.{abstract_holding_row, abstract_move_row, abstract_trade_row};
@@ -20,7 +19,8 @@ use sqlite::Alter;
 impl<S: Alter> Store<S> {
     /// Passes the cash rows of an account with stamps from `from` to `to`, both included, to a
     /// visitor, sorted by stamp, ascending. Rows with equal stamps are sorted by number (CM_ID),
-    /// ascending. Returns `Ok` only after the visitor has taken the last row.
+    /// ascending. Returns `Ok` only after the visitor has taken the last row. Does not check that
+    /// the account exists.
     ///
     /// Fails with `Cause` and the visitor's error, or with `Failed` and the fault `Memory` or
     /// `Store` after a prefix of the rows. If the database is still open, it is unchanged, whatever
@@ -54,7 +54,7 @@ impl<S: Alter> Store<S> {
 
     /// Passes the lots of an account to a visitor, sorted by symbol, then by opening stamp, both
     /// ascending. Lots with equal symbols and stamps are sorted by trade, ascending. Returns `Ok`
-    /// only after the visitor has taken the last lot.
+    /// only after the visitor has taken the last lot. Does not check that the account exists.
     ///
     /// Fails with `Cause` and the visitor's error, or with `Failed` and the fault `Memory` or
     /// `Store` after a prefix of the lots. If the database is still open, it is unchanged, whatever
@@ -110,9 +110,9 @@ impl<S: Alter> Store<S> {
     /// type `E`, after a prefix of the rows. If the database is still open, it is unchanged,
     /// whatever the result.
     ///
-    /// `callable`: the closure's contract must permit a call with every record, the first and
-    /// later. `called`: the closure is called with the rows, in order and one at a time, until its
-    /// first error or a fault.
+    /// `callable`: the closure must be callable with any record, at its first call and any later.
+    /// `called`: the closure is called with the rows, in order and one at a time, until its first
+    /// error or a fault.
     ///
     /// A crash after the call exposes only states that a crash before the call could expose.
     pub fn walk_cash<E: From<Fault>, F: FnMut(&MoveRow) -> Result<(), E> + Drop>(
@@ -142,9 +142,9 @@ impl<S: Alter> Store<S> {
     /// type `E`, after a prefix of the lots. If the database is still open, it is unchanged,
     /// whatever the result.
     ///
-    /// `callable`: the closure's contract must permit a call with every record, the first and
-    /// later. `called`: the closure is called with the lots, in order and one at a time, until its
-    /// first error or a fault.
+    /// `callable`: the closure must be callable with any record, at its first call and any later.
+    /// `called`: the closure is called with the lots, in order and one at a time, until its first
+    /// error or a fault.
     ///
     /// A crash after the call exposes only states that a crash before the call could expose.
     pub fn walk_lots<E: From<Fault>, F: FnMut(&str, &Lot) -> Result<(), E> + Drop>(

@@ -91,7 +91,7 @@ fn append_touched_lot_changes(
 // Appends to `changes` the row changes of the lots `touched`, which `trade` closes or reduces, in
 // their sequence: for each first of its HOLDING row, then of its new HOLDING_HISTORY row. Fails
 // with `Memory` only; a part of the row changes may then be appended.
-fn append_changes_of_all_touched_lots(
+fn append_changes_of_closed_and_reduced_lots(
     trade: Id,
     touched: &[Touch],
     changes: &mut Vec<Change>,
@@ -307,7 +307,7 @@ fn create_result_changes(
     let completed = &outcome.completed;
     let mut changes = Vec::new(alloc);
     append_completed_trade_changes(trade.id, price, completed, &mut changes)?;
-    append_changes_of_all_touched_lots(trade.id, &closed.touched, &mut changes)?;
+    append_changes_of_closed_and_reduced_lots(trade.id, &closed.touched, &mut changes)?;
     append_opened_lot_changes(trade, closed.opened, &mut changes)?;
     append_summary_broker_settlement_changes(found, outcome, &mut changes)?;
     append_cash_row_changes(trade.account, completed, cash, &mut changes)?;

@@ -13,7 +13,7 @@ use Rattle.brk_model_theorems.proofs.FormParts.{form_parts}
 use Rattle.brk_audit_sums.specs.declared.account_terms.AccountTerms.{AccountTerms}
 use Rattle.brk_audit_sums.specs.AccountTerms.{account_tax_status_in_terms, terms_of_account_row}
 use Rattle.brk_audit_sums.specs.Settling.{settlement_amount_at_tax_status, is_completed_cash_trade, account_tax_status_or_untaxed}
-use Rattle.brk_audit_sums.specs.Sums.{cash_posting_of_row, movement_posting_of_row, sum_over_account_cash_trades}
+use Rattle.brk_audit_sums.specs.Sums.{cash_posting_of_trade_row, movement_posting_of_row, sum_over_account_cash_trades}
 use Rattle.brk_audit_sums.specs.declared.tally.KeyedAmount.{KeyedAmount}
 use Rattle.brk_audit_sums.specs.Tally.{sum_at_key, total_amount_at_key}
 use Rattle.brk_audit_sums.proofs.AccountTerms.{HasTerms, same_tax_statuses}
@@ -27,12 +27,12 @@ returns-clause-value c = λ schema.
     let t : Tables = abstract_sheets s in
     let terms : BTreeMap ℕ AccountTerms = c.in_ok-terms.terms in
     let has : HasTerms terms s.accounts.items = λ id. c.in_ok-terms.ensures.terms id ∙ ap (λ rows. option_map terms_of_account_row (find (λ a. a.account.id == id) rows)) c.deref.ensures.value in
-    let posted : c.in_ok-postings.postings.items ≡ filter_map (λ r. cash_posting_of_row (account_tax_status_in_terms terms) (abstract_trade_row r)) s.trades.items =
-    c.in_ok-postings.ensures.all ∙ ap (filter_map (λ r. cash_posting_of_row (account_tax_status_in_terms terms) (abstract_trade_row r))) c.deref-2.ensures.value in
+    let posted : c.in_ok-postings.postings.items ≡ filter_map (λ r. cash_posting_of_trade_row (account_tax_status_in_terms terms) (abstract_trade_row r)) s.trades.items =
+    c.in_ok-postings.ensures.all ∙ ap (filter_map (λ r. cash_posting_of_trade_row (account_tax_status_in_terms terms) (abstract_trade_row r))) c.deref-2.ensures.value in
     let moved : c.deref-4.result.now ≡ c.in_ok-postings.postings.items ++ filter_map (λ r. movement_posting_of_row (abstract_move_row r)) s.moves.items =
     c.deref-4.ensures.value ∙ c.in_ok-append_movement_postings.ensures.all
     ∙ ap (λ rows. c.in_ok-postings.postings.items ++ filter_map (λ r. movement_posting_of_row (abstract_move_row r)) rows) c.deref-3.ensures.value in
-    let trades : List (KeyedAmount ℕ) = filter_map (λ r. cash_posting_of_row (account_tax_status_in_terms terms) (abstract_trade_row r)) s.trades.items in
+    let trades : List (KeyedAmount ℕ) = filter_map (λ r. cash_posting_of_trade_row (account_tax_status_in_terms terms) (abstract_trade_row r)) s.trades.items in
     let trades_sum : (q : ℕ)
     → total_amount_at_key nat_cmp trades q
     ≡ sum_over_account_cash_trades t (λ r. settlement_amount_at_tax_status (account_tax_status_or_untaxed t r.account) r) q =

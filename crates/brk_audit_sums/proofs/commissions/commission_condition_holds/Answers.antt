@@ -12,7 +12,7 @@ use Rattle.brk_audit_theorems.proofs.Parts.{key_parts}
 use Rattle.brk_model_theorems.proofs.FormParts.{form_parts}
 use Rattle.brk_audit_sums.specs.declared.account_terms.AccountTerms.{AccountTerms}
 use Rattle.brk_audit_sums.specs.AccountTerms.{account_broker_in_terms, terms_of_account_row}
-use Rattle.brk_audit_sums.specs.Sums.{broker_posting_of_row, sum_over_broker_trades}
+use Rattle.brk_audit_sums.specs.Sums.{broker_posting_of_trade_row, sum_over_broker_trades}
 use Rattle.brk_audit_sums.specs.Tally.{sum_at_key, total_amount_at_key}
 use Rattle.brk_audit_sums.proofs.AccountTerms.{HasTerms}
 use Rattle.brk_audit_sums.proofs.Checked.{broker_sums, told_by}
@@ -29,7 +29,7 @@ returns-clause-value c = λ schema.
     broker_sums s terms (λ r. pos r.commission) c.in_ok-sums.sums c.in_ok-postings.postings.items has
     (λ q. c.in_ok-sums.ensures.sums q ∙ ap (λ ps. total_amount_at_key nat_cmp ps q) c.deref-3.ensures.value)
     (c.in_ok-postings.ensures.all
-    ∙ ap (filter_map (λ r. broker_posting_of_row (account_broker_in_terms terms) (abstract_trade_row r) (pos (abstract_trade_row r).commission)))
+    ∙ ap (filter_map (λ r. broker_posting_of_trade_row (account_broker_in_terms terms) (abstract_trade_row r) (pos (abstract_trade_row r).commission)))
     c.deref-2.ensures.value) in
     told_by (λ row. pos row.commissions ≡ sum_at_key nat_cmp c.in_ok-sums.sums row.broker.id)
     (λ row. pos row.commissions ≡ sum_over_broker_trades t (λ r. pos r.commission) row.id) abstract_broker_row s.brokers.items c.deref-4.result.now

@@ -6,7 +6,7 @@ use Rattle.brk_explain_model.specs.Holdings.{LotChange}
 use Rattle.brk_explain_reads.specs.HoldingParts.{AreLotChangesByCompletion, AreLotChangesByTradeId}
 use Rattle.brk_explain_reads.specs.declared.lot_changes.OpeningAndLaterChanges.{OpeningAndLaterChanges}
 use Rattle.brk_explain_reads.proofs.Changes.{turn_known}
-use Rattle.brk_explain_reads.proofs.lot_changes.read_changes_sorted_by_completion.Goals as goal
+use Rattle.brk_explain_reads.proofs.lot_changes.read_lot_changes_sorted_by_completion.Goals as goal
 
 pub returns-clause-read : goal.returns-clause-read
 returns-clause-read g c =
