@@ -28,7 +28,7 @@ use Rattle.brk_book_theorems.proofs.Summaries.{all_summaries, own_summary}
 use Rattle.brk_book_theorems.proofs.Worth.{summaries_in}
 use Rattle.brk_audit_theorems.proofs.AdoptedBooks.{adopted_books, symbol_of}
 use Rattle.brk_audit_theorems.proofs.Climbs.{Climbs, In, climbs_append, climbs_filter, climbs_map, each_in, list_all_true, not_itself, of_all, same_rows, stays}
-use Rattle.brk_audit_theorems.specs.Told.{account_id_key, security_symbol_key}
+use Rattle.brk_audit_theorems.specs.Histories.{account_id_key, security_symbol_key}
 use Rattle.brk_audit_theorems.proofs.Members.{All-flat_map, FoundIn, found_in}
 use Rattle.brk_audit_theorems.proofs.Parts.{KeyParts, key_parts}
 use Rattle.brk_model_theorems.specs.FormParts.{SatisfiesFormParts}

@@ -30,7 +30,7 @@ use Rattle.brk_book_theorems.proofs.TermReading.{reads_last_trade}
 use Rattle.brk_book_theorems.proofs.TradeReading.{trades_in_order}
 use Rattle.brk_book_theorems.proofs.MoveReading.{movements_back, rows_posted, turn_filter}
 use Rattle.brk_book_theorems.proofs.Each.{AllCommute, Commute, each, each_map, each_sort}
-use Rattle.brk_audit_theorems.specs.Told.{HasSettlementAndCashTextsOnlyIfCompleted, HasValidHistories, HasAscendingStatusStamps, base_sorted_by_keys}
+use Rattle.brk_audit_theorems.specs.Histories.{HasSettlementAndCashTextsOnlyIfCompleted, HasValidHistories, HasAscendingStatusStamps, base_sorted_by_keys}
 use Rattle.brk_audit_theorems.proofs.Members.{map-map, map_back}
 
 -- ---- statuses

@@ -22,7 +22,7 @@ use Rattle.brk_book_theorems.proofs.LotReading.{All-sort}
 use Rattle.brk_book_theorems.proofs.Same.{All-of}
 use Rattle.brk_book_theorems.proofs.Places.{filter-append, map-append}
 use Rattle.brk_book_theorems.proofs.TradeReading.{trades_in_order}
-use Rattle.brk_audit_theorems.specs.Told.{HasValidStatusSequence, HasValidHistories, HasAscendingStatusStamps}
+use Rattle.brk_audit_theorems.specs.Histories.{HasValidStatusSequence, HasValidHistories, HasAscendingStatusStamps}
 use Rattle.brk_audit_theorems.proofs.Marks.{no_more_ways, three_ways}
 use Rattle.brk_audit_theorems.proofs.Again.{IsRead, both_all, marks_again, movements_again, reads}
 use Rattle.brk_audit_theorems.proofs.AdoptedBooks.{contains_both, of_mapped}

@@ -10,7 +10,7 @@ use Rattle.brk_model.specs.Sheets.{sheets, sheets_in_schema}
 use Rattle.brk_model.specs.Audit.{ConditionHolds}
 use Rattle.brk_book_theorems.specs.Books.{BooksInvariant}
 use Rattle.brk_audit_theorems.specs.Passing.{PassesAudit}
-use Rattle.brk_audit_theorems.specs.Told.{HasValidHistories}
+use Rattle.brk_audit_theorems.specs.Histories.{HasValidHistories}
 use Rattle.brk_audit_theorems.proofs.Sorted.{sorted_tables}
 use Rattle.brk_audit_theorems.proofs.Again.{base_again}
 use Rattle.brk_audit_theorems.proofs.AgainStatus.{status_again}

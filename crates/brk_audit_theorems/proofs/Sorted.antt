@@ -24,7 +24,7 @@ use Rattle.brk_book_theorems.proofs.Order.{by_key-map, key_one_way, key_splits, 
 use Rattle.brk_book_theorems.proofs.Same.{All-map, All-of, map-same}
 use Rattle.brk_book_theorems.proofs.Reading.{find-id}
 use Rattle.brk_book_theorems.proofs.Each.{AllCommute, Commute, each, each_sort}
-use Rattle.brk_audit_theorems.specs.Told.{account_id_key, broker_id_key, base_sorted_by_keys, security_symbol_key}
+use Rattle.brk_audit_theorems.specs.Histories.{account_id_key, broker_id_key, base_sorted_by_keys, security_symbol_key}
 use Rattle.brk_audit_theorems.proofs.Members.{each-append, sorted_each}
 
 -- rows sorted twice are sorted once

@@ -1,3 +1,3 @@
 pub mod Passing
 pub mod Upgrade
-pub mod Told
+pub mod Histories

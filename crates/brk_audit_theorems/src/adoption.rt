@@ -12,7 +12,7 @@ ghost use Rattle.brk_model.specs.Ways.{satisfies_status_condition};
 ghost use Rattle.brk_model.specs.Sheets.{sheets, sheets_in_schema};
 ghost use Rattle.brk_book_theorems.specs.Books.{BooksInvariant};
 ghost use Rattle.brk_audit_theorems.specs.Passing.{PassesAudit};
-ghost use Rattle.brk_audit_theorems.specs.Told.{HasValidHistories, base_sorted_by_keys};
+ghost use Rattle.brk_audit_theorems.specs.Histories.{HasValidHistories, base_sorted_by_keys};
 
 /// Proves that the base that is read from rows that pass the audit of a schema satisfies the books
 /// invariant, and that the rows are the tables of this base in that schema, each sorted by key. For

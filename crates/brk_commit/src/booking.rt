@@ -9,7 +9,7 @@ ghost use Rattle.brk_commit.specs.Booked.{CommandPost};
 ghost use Rattle.brk_invariant_theorems.specs.InForm.{MeetsAuditFormats, IsWellFormedKey};
 
 use crate::deciding::decide_command;
-use crate::in_form::{prove_command_meets_audit_formats, prove_key_is_well_formed};
+use crate::formats::{prove_command_meets_audit_formats, prove_key_is_well_formed};
 use crate::keeping::{answer_retry, plan_with_stored_reply, read_stored_reply};
 use brk_commands::Command;
 use brk_money::{Fault, Stamp};

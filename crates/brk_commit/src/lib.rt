@@ -4,9 +4,9 @@
 
 pub mod booking;
 mod deciding;
-pub mod in_form;
+pub mod formats;
 mod keeping;
 
 pub use booking::{CommandAnswer, execute_and_commit_command};
 pub use brk_ref::Answer;
-pub use in_form::{prove_command_meets_audit_formats, prove_key_is_well_formed};
+pub use formats::{prove_command_meets_audit_formats, prove_key_is_well_formed};

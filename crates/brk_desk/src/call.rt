@@ -25,9 +25,9 @@ pub enum Outcome {
     Saw(View),
     /// The refusal of the query.
     NoView(Refusal),
-    /// The call failed with this fault. A store that is still open is unchanged, and a crash
-    /// exposes only its last commit. If a command failed and the fault closed the store, a crash
-    /// may expose the command as committed.
+    /// The call failed with this fault. Under the disk assumption: an open store is unchanged, and
+    /// a crash exposes only its last commit. If a command failed and the fault closed the store, a
+    /// crash may expose the command as committed.
     Failed(Fault),
 }
 

@@ -6,8 +6,8 @@ mod asking;
 pub mod beginning;
 pub mod call;
 pub mod desk;
-pub mod in_order;
 pub mod reopening;
+pub mod runs;
 mod viewing;
 
 pub use brk_commands::{Command, line_text, parse_row, row_text};

@@ -70,9 +70,10 @@ pub fn recovery_never_reports_damage<S: Alter>()
     // Suppose that a store represents a base and that a crash exposes only the tables of this base
     // (`RepresentsDurableBase`), as after a creation or an adoption. After a crash that follows a
     // command on this store, the adopted store represents the base before the command or the base
-    // after it; after `Done` the latter, since a crash then exposes only its rows (`durable` of
-    // `CommandPost`). A crash of the adopted store exposes only the tables of the base that it
-    // represents, so this clause and the next one apply again after each further crash.
+    // after it. The clause does not say which; after `Done` a crash exposes only the latter's rows
+    // (`durable` of `CommandPost`). A crash of the adopted store exposes only the tables of the
+    // base that it represents, so this clause and the next one apply again after each further
+    // crash.
     ensures crash_after_call { (before at_crash reopened adopted : Held S) (base : Base) (result : Result (Unit {0}) faults.Fault)
         (now : ℕ) (command : Command) (key : Option Key)
         (answer : Result CommandAnswer faults.Fault) → RepresentsDurableBase S.Store before base → CommandPost S.Store before at_crash now command key answer

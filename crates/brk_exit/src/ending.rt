@@ -4,8 +4,8 @@ ghost use Rattle.brk_exit.specs.Ending as spec;
 ghost use Rattle.brk_exit.specs.Lines as line;
 ghost use Rattle.brk_exit.specs.Sinks.{SinkFailsWithinText, ReceivesTextOrFails};
 
+use crate::messages::{ErrorLineParts, fault_error_line, send_line};
 use crate::sink::Sink;
-use crate::telling::{ErrorLineParts, fault_error_line, send_line};
 use brk_args::UsageFault;
 use brk_http_engine::{FaultKind as StreamFault, ServeFault};
 use brk_io::{BatchFault, FaultKind, NotWritten};

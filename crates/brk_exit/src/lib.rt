@@ -2,8 +2,8 @@
 #![tactic(auto)]
 
 pub mod ending;
+pub mod messages;
 pub mod sink;
-pub mod telling;
 
 pub use brk_io;
 pub use brk_report_lines;

@@ -37,7 +37,7 @@ use Rattle.brk_book_theorems.proofs.Tested.{All-back, All-front}
 use Rattle.brk_explain_theorems.specs.Before.{trades_completed_before_stamp}
 use Rattle.brk_explain_theorems.specs.Balances.{printed_balance_after_trade, balance_at_stamp, printed_balance_before_trade}
 use Rattle.brk_explain_theorems.specs.Closings.{result_details_in_base}
-use Rattle.brk_explain_theorems.specs.Stays.{PrintsSameFigures}
+use Rattle.brk_explain_theorems.specs.UnchangedFigures.{PrintsSameFigures}
 use Rattle.brk_explain_theorems.proofs.Among.{Among, among, ids_around}
 use Rattle.brk_explain_theorems.proofs.Amounts.{of_holder, settlement_is}
 use Rattle.brk_explain_theorems.proofs.BalanceStays.{balance_kept, same_account, same_amount}

@@ -13,7 +13,7 @@ use Rattle.brk_model.specs.Sheets.{tables_sorted_by_key}
 use Rattle.brk_model.specs.Step.{step}
 use Rattle.brk_model.specs.Tables.{tables_of_base_in_schema}
 use Rattle.brk_book_theorems.specs.Books.{BooksInvariant}
-use Rattle.brk_explain_theorems.specs.Told.{PrintsReplyFigures}
+use Rattle.brk_explain_theorems.specs.ReplyFigures.{PrintsReplyFigures}
 use Rattle.brk_explain_theorems.proofs.Told.{replies_told}
 
 -- the step of a command that was done, and what was kept under its key

@@ -25,7 +25,7 @@ use Rattle.brk_explain_theorems.specs.Before.{trades_completed_before_stamp, sha
 use Rattle.brk_explain_theorems.specs.Balances.{balance_at_stamp}
 use Rattle.brk_explain_theorems.specs.Closings.{PrintedClosingsMatchDeal}
 use Rattle.brk_explain_theorems.specs.Equations.{PrintedSettlementMatchesBase}
-use Rattle.brk_explain_theorems.specs.Told.{PrintsReplyFigures}
+use Rattle.brk_explain_theorems.specs.ReplyFigures.{PrintsReplyFigures}
 use Rattle.brk_explain_theorems.proofs.BalanceStays.{all_by}
 use Rattle.brk_explain_theorems.proofs.BalanceSums.{balances_as_told}
 use Rattle.brk_explain_theorems.proofs.ClosingLaws.{closes_as_told}

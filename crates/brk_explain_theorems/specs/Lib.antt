@@ -3,6 +3,6 @@ pub mod Closings
 pub mod Balances
 pub mod Gains
 pub mod Equations
-pub mod Told
-pub mod Stays
+pub mod ReplyFigures
+pub mod UnchangedFigures
 pub mod Brokers

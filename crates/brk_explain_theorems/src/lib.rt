@@ -8,4 +8,4 @@ pub mod closings;
 pub mod gains;
 pub mod replies;
 pub mod settlements;
-pub mod stays;
+pub mod unchanged_figures;

@@ -7,7 +7,7 @@ ghost use Rattle.brk_model.specs.Keyed.{keyed_step};
 ghost use Rattle.brk_model.specs.Records.{Key, Trade};
 ghost use Rattle.brk_model.specs.Step.{step};
 ghost use Rattle.brk_book_theorems.specs.Books.{BooksInvariant};
-ghost use Rattle.brk_explain_theorems.specs.Told.{PrintsReplyFigures};
+ghost use Rattle.brk_explain_theorems.specs.ReplyFigures.{PrintsReplyFigures};
 
 /// Proves that after an accepted result, with or without a key, the explanation of its trade prints
 /// the commission, tax, settlement amount, due day, buy value, sell value and balance of the reply,

@@ -23,7 +23,7 @@ use Rattle.brk_book_theorems.specs.Books.{BooksInvariant, HasDistinctMovementSta
 use Rattle.brk_book_theorems.proofs.Same.{All-map, All-mapped}
 use Rattle.brk_book_theorems.proofs.Reading.{find-id, find-map}
 use Rattle.brk_audit_theorems.specs.Passing.{PassesAudit}
-use Rattle.brk_audit_theorems.specs.Told.{HasValidStatusSequence, HasSettlementAndCashTextsOnlyIfCompleted, HasValidHistories, HasAscendingStatusStamps}
+use Rattle.brk_audit_theorems.specs.Histories.{HasValidStatusSequence, HasSettlementAndCashTextsOnlyIfCompleted, HasValidHistories, HasAscendingStatusStamps}
 use Rattle.brk_audit_theorems.proofs.Again.{IsRead, reads, found_first, posted_in, posting_again, turn_one}
 use Rattle.brk_audit_theorems.proofs.Climbs.{list_all_true}
 use Rattle.brk_model_theorems.proofs.Conjunctions.{parts3}

@@ -47,7 +47,7 @@ use Rattle.brk_book_theorems.proofs.References.{no_broker_trades, no_trades_of, 
 use Rattle.brk_book_theorems.proofs.LotReading.{numbered_rise, rise_apart}
 use Rattle.brk_book_theorems.proofs.TradeReading.{reads_trade}
 use Rattle.brk_book_theorems.proofs.Tested.{All-back, All-front}
-use Rattle.brk_audit_theorems.specs.Told.{HasValidStatusSequence, HasSettlementAndCashTextsOnlyIfCompleted, HasValidHistories, HasAscendingStatusStamps, broker_id_key}
+use Rattle.brk_audit_theorems.specs.Histories.{HasValidStatusSequence, HasSettlementAndCashTextsOnlyIfCompleted, HasValidHistories, HasAscendingStatusStamps, broker_id_key}
 use Rattle.brk_audit_theorems.proofs.Again.{IsRead, both_all, reads}
 use Rattle.brk_audit_theorems.proofs.Climbs.{Climbs, list_all_true, not_itself, of_all}
 use Rattle.brk_audit_theorems.proofs.Members.{found_in}

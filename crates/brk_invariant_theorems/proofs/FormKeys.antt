@@ -33,7 +33,7 @@ use Rattle.brk_book_theorems.proofs.LotReading.{IdsApart, numbered_rise, rise_ap
 use Rattle.brk_book_theorems.proofs.LotReading.{rise_filter}
 use Rattle.brk_audit_theorems.proofs.Marks.{no_more_ways, three_ways}
 use Rattle.brk_audit_theorems.proofs.Sorted.{All-block, All-rows}
-use Rattle.brk_audit_theorems.specs.Told.{account_id_key, broker_id_key}
+use Rattle.brk_audit_theorems.specs.Histories.{account_id_key, broker_id_key}
 use Rattle.brk_invariant_theorems.specs.Sound.{AuditInvariant, HasDistinctKeys}
 use Rattle.brk_invariant_theorems.proofs.OneTrade.{false_true}
 use Rattle.brk_invariant_theorems.proofs.SortedRows.{OtherKeys, OthersApart, accounts_apart, apart_filter, apart_flat_map, apart_map, apart_rises, apart_sort}

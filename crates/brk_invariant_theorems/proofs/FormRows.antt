@@ -56,7 +56,7 @@ use Rattle.brk_book_theorems.proofs.TermReading.{map-or, reads_last_trade, reads
 use Rattle.brk_book_theorems.proofs.TradeReading.{reads_trade, trades_in_order}
 use Rattle.brk_book_theorems.proofs.LotReading.{All-sort, IdsApart, numbered_rise, rise_apart}
 use Rattle.brk_book_theorems.proofs.References.{broker_found}
-use Rattle.brk_audit_theorems.specs.Told.{HasValidHistories}
+use Rattle.brk_audit_theorems.specs.Histories.{HasValidHistories}
 use Rattle.brk_audit_theorems.proofs.Again.{IsRead, base_again, both_all, reads}
 use Rattle.brk_audit_theorems.proofs.AgainStatus.{all_list, first_of_two, some_last}
 use Rattle.brk_audit_theorems.proofs.Marks.{filtered, last_has, no_more_ways, three_ways}

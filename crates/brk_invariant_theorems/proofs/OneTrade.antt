@@ -20,7 +20,7 @@ use Rattle.brk_model.specs.Ways.{is_strictly_ascending, is_valid_status_sequence
 use Rattle.brk_book_theorems.proofs.Same.{All-filter, All-map, All-mapped, map-last}
 use Rattle.brk_book_theorems.proofs.Completing.{All-passing}
 use Rattle.brk_book_theorems.proofs.LotReading.{All-sort}
-use Rattle.brk_audit_theorems.specs.Told.{HasValidStatusSequence, HasAscendingStatusStamps}
+use Rattle.brk_audit_theorems.specs.Histories.{HasValidStatusSequence, HasAscendingStatusStamps}
 use Rattle.brk_audit_theorems.proofs.Marks.{no_more_ways, same_statuses, three_ways, two_ways}
 use Rattle.brk_invariant_theorems.specs.Sound.{StatusStampIsAtMostLastStamp, AuditInvariant, TradeAuditInvariant, BaseTradeAuditInvariant, has_price_exactly_if_completed}
 use Rattle.brk_invariant_theorems.proofs.Bounds.{IsCheap, replay_all}

@@ -20,7 +20,7 @@ use Rattle.brk_book_theorems.proofs.LotReading.{All-sort, IdsApart}
 use Rattle.brk_model.specs.Keys.{band_key, permission_key}
 use Rattle.brk_audit_theorems.proofs.Climbs.{Climbs, key_through}
 use Rattle.brk_audit_theorems.proofs.Members.{All-flat_map}
-use Rattle.brk_audit_theorems.specs.Told.{account_id_key}
+use Rattle.brk_audit_theorems.specs.Histories.{account_id_key}
 use Rattle.brk_invariant_theorems.specs.Sound.{HasDistinctKeys, customer_tax_id_key}
 use Rattle.brk_invariant_theorems.proofs.SoundRecords.{new_text}
 

@@ -35,7 +35,7 @@ use Rattle.brk_book_theorems.proofs.References.{amount_as_before, as_before, kno
 use Rattle.brk_book_theorems.proofs.Steps.{in_order}
 use Rattle.brk_audit_theorems.proofs.Again.{both_all}
 use Rattle.brk_model_theorems.proofs.Conjunctions.{parts3, parts5}
-use Rattle.brk_audit_theorems.specs.Told.{broker_id_key}
+use Rattle.brk_audit_theorems.specs.Histories.{broker_id_key}
 use Rattle.brk_invariant_theorems.specs.Sound.{AuditInvariant, TradeAuditInvariant, BaseTradeAuditInvariant, HasDistinctKeys, PermissionAccountIsListed}
 use Rattle.brk_invariant_theorems.specs.Sound.{TaxCustomerIsListed, TaxRateIsListed, is_well_formed_account, is_well_formed_broker}
 use Rattle.brk_invariant_theorems.specs.Sound.{has_cash_text_with_security_name, is_well_formed_security, customer_tax_id_key}

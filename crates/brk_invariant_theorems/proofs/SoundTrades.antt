@@ -45,7 +45,7 @@ use Rattle.brk_book_theorems.proofs.Completions.{completed_tick, completed_unsee
 use Rattle.brk_book_theorems.proofs.Completing.{one_of_id}
 use Rattle.brk_book_theorems.proofs.LotReading.{All-sort, numbered_rise, rise_apart}
 use Rattle.brk_book_theorems.proofs.Ordering.{first_not_completed, ordered_done}
-use Rattle.brk_audit_theorems.specs.Told.{HasAscendingStatusStamps}
+use Rattle.brk_audit_theorems.specs.Histories.{HasAscendingStatusStamps}
 use Rattle.brk_audit_theorems.proofs.Again.{both_all}
 use Rattle.brk_audit_theorems.proofs.Climbs.{In, each_in, of_all}
 use Rattle.brk_audit_theorems.proofs.Marks.{filtered}

@@ -17,7 +17,7 @@ use Rattle.brk_model.specs.Form.{is_well_formed_kept_row, are_well_formed_listin
 use Rattle.brk_model.specs.Form.{are_well_formed_id_and_name, has_well_formed_permission_texts, are_trade_numbers_in_range, is_one_day_settlement_start_in_calendar}
 use Rattle.brk_model.specs.Ways.{is_strictly_ascending}
 use Rattle.brk_model.specs.Keys.{KeyPart, word, charge_key, customer_key, customer_tax_key, kept_key, tax_rate_key}
-use Rattle.brk_audit_theorems.specs.Told.{HasValidStatusSequence, HasSettlementAndCashTextsOnlyIfCompleted, HasAscendingStatusStamps, broker_id_key}
+use Rattle.brk_audit_theorems.specs.Histories.{HasValidStatusSequence, HasSettlementAndCashTextsOnlyIfCompleted, HasAscendingStatusStamps, broker_id_key}
 
 -- No two records of the list have the same key, where `key` returns the key of a record.
 abbrev pub HasDistinctKeys : {Row : Type 0} → (Row → List KeyPart) → List Row → Type 0

@@ -23,7 +23,7 @@ ghost use Rattle.brk_model.specs.Step.{step};
 ghost use Rattle.brk_model.specs.Tables.{Tables};
 ghost use Rattle.brk_book_theorems.specs.Books.{BooksInvariant};
 ghost use Rattle.brk_audit_theorems.specs.Passing.{PassesAudit};
-ghost use Rattle.brk_audit_theorems.specs.Told.{HasValidHistories};
+ghost use Rattle.brk_audit_theorems.specs.Histories.{HasValidHistories};
 ghost use Rattle.brk_invariant_theorems.specs.InForm.{MeetsAuditFormats, IsWellFormedKey};
 ghost use Rattle.brk_invariant_theorems.specs.Runs.{CallMeetsAuditFormats, IsWellFormedCall};
 ghost use Rattle.brk_invariant_theorems.specs.Sound.{AuditInvariant};

@@ -33,7 +33,7 @@ use Rattle.brk_report_lines.specs.declared.fault.LinesFault.{LinesFault}
 use Rattle.brk_report_lines.specs.declared.fault.LinesFault.TheVariants.{Desk, Write}
 use Rattle.brk_explain_sums.specs.HoldingTexts.{lines_of_holding_details}
 use Rattle.brk_report.specs.ExplanationParts.{all_broker_lines, all_account_lines}
-use Rattle.brk_report.specs.Told.{WritesLinesOrRefuses}
+use Rattle.brk_report.specs.LinesOutput.{WritesLinesOrRefuses}
 use Rattle.brk_report.proofs.FirstLines.{HasFirst, first_behind}
 use Rattle.brk_report.proofs.Whole.{passes_found}
 

@@ -8,7 +8,7 @@ use Rattle.brk_model.specs.Tables.{Tables}
 use Rattle.brk_store.specs.Holds.{ReadPost}
 use Rattle.brk_store.specs.Walked.{WalkPost}
 use Rattle.brk_tables_views.specs.declared.walking.WalkError.{WalkError}
-use Rattle.brk_report.specs.Stated.{PreservesDesk}
+use Rattle.brk_report.specs.StatementOutput.{PreservesDesk}
 
 clean_before : (a b : State) → Survives a b (λ _. ⊥) → HasCleanDisk b → HasCleanDisk a
 clean_before a b s clean = omega (arith, s.clean)

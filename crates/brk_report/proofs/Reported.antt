@@ -7,7 +7,7 @@ use Rattle.brk_report_lines.specs.declared.fault.LinesFault.{LinesFault}
 use Rattle.brk_report_lines.specs.declared.fault.LinesFault.TheVariants.{Desk, Write}
 use Rattle.brk_report_lines.specs.declared.fault.ReportFault.{ReportFault}
 use Rattle.brk_report_lines.specs.declared.fault.ReportFault.TheVariants as report
-use Rattle.brk_report.specs.Stated.{IsLinesFaultOtherThanDamage, IsReportFaultOtherThanDamage}
+use Rattle.brk_report.specs.StatementOutput.{IsLinesFaultOtherThanDamage, IsReportFaultOtherThanDamage}
 
 -- the result of a report that fails because writing its lines does
 abbrev pub FailsAsLines : {Y : Type 0} → Result Y ReportFault → LinesFault → Type 0

@@ -13,7 +13,7 @@ use Rattle.brk_model.specs.Statement.{cash_move_rows_within_days, text_of_lines,
 use Rattle.brk_model.specs.Tables.{AccountRow, Tables}
 use Rattle.brk_queries.specs.declared.head.StatementHead.{StatementHead}
 use Rattle.brk_report.specs.StatementParts.{all_statement_lines, statement_header_lines}
-use Rattle.brk_report.specs.Stated.{AreStatementLines, WritesStatement}
+use Rattle.brk_report.specs.StatementOutput.{AreStatementLines, WritesStatement}
 use Rattle.brk_report_lines.specs.Faults.{report_fault_of_lines_fault}
 use Rattle.brk_report_lines.specs.Written.{FailsWithinLines}
 use Rattle.brk_report_lines.specs.declared.fault.LinesFault.{LinesFault}

@@ -1,9 +1,9 @@
-pub mod Stated
+pub mod StatementOutput
 pub mod CashWalk
 pub mod WalkFaults
 pub mod StatementParts
 pub mod Requests
-pub mod Told
+pub mod LinesOutput
 pub mod ExplanationParts
 pub mod Printed
 pub mod Asked

@@ -10,7 +10,7 @@ pub mod walk_faults;
 pub use brk_report_lines::ReportFault;
 pub use explanations::explaining::write_explanation;
 pub use explanations::parse::{ExplainRequest, parse_explain_request};
-pub use statements::stating::{StatementFault, statement};
+pub use statements::writing::{StatementFault, statement};
 pub use views::asking::parse_query_and_write_view;
 pub use views::form::Form;
 pub use walk_faults::fault_from_walk_error;

@@ -2,5 +2,5 @@
 
 mod parts;
 pub mod sections;
-pub mod stating;
 pub mod visitors;
+pub mod writing;

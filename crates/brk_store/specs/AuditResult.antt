@@ -8,8 +8,8 @@ use Rattle.brk_store.specs.declared.examining.AuditResult.{AuditResult}
 use Rattle.brk_store.specs.declared.examining.AuditResult.TheVariants.{Passes, Fails}
 
 -- The audit result is true of the database `db`. `Passes schema`: the database contains the tables
--- of `schema` with some rows whose texts are UTF-8, and these rows pass the audit by the conditions
--- of `schema`. `Fails failing`: an audit of the database returns the condition `failing`
+-- of `schema` with rows, or none, whose texts are UTF-8, and these rows pass the audit by the
+-- conditions of `schema`. `Fails failing`: an audit of the database returns the condition `failing`
 -- (`IsDatabaseAuditResult`).
 abbrev pub IsTrueAuditResult : AuditResult → Database → Type 0
 IsTrueAuditResult (Passes schema) db = (t : Tables) × StoresRowsWithAuditResult (abstract_schema schema) t db None

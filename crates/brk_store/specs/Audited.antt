@@ -146,7 +146,7 @@ IsUpgradedDiskContent db trees =
 -- and, at `Ok`, a store that holds the rows, converted to schema 3. `old` is the connection before
 -- the call, and `new` the connection or the store after it. The clauses with the premise
 -- `ConnectionTablesWithDeskNamesAreDeskTables` promise nothing of a database whose tables have the
--- names and column names of a desk's, but other definitions.
+-- names and column names of a desk's, but not `HasDeskDefinitions`.
 pub record AdoptPost {S : Type 0} (g : Ghosts S) (old new : Held S) (result : Result (Unit {0}) Fault) : Type 0 where
   -- `Ok` is returned only if the rows pass the audit, and `Damaged` only with the first condition
   -- that fails. Vacuous if a disk read up to the call's return did not return what was written, or

@@ -72,7 +72,7 @@ pub record WasOpenAndIsUnchanged (old new : State) : Type 0 where
 pub record ReadPost {S V E : Type 0} (g : Ghosts S) (old new : Held S) (result : Result V E) (Matches : V → Tables → Type 0) : Type 0 where
   -- A returned value satisfies `Matches` with the rows that the store held before the call. Vacuous
   -- if a disk read up to the call's return did not return what was written, or if the store was
-  -- open and did not contain the tables of a desk.
+  -- open and satisfied `HasDeskTables` for no `t`.
   pub answered : HasCleanDisk (state g new) → IfOk result (λ answer. (t : Tables) → HoldsRows g old t → Matches answer t)
   -- A value is returned only if the store was open before the call.
   pub was_open : HasCleanDisk (state g new) → OnOk result (IsTrue (state g old).is_open)
@@ -85,7 +85,7 @@ pub record ReadPost {S V E : Type 0} (g : Ghosts S) (old new : Held S) (result :
 
 -- The postcondition of a call that changes the rows `t` to `after t`, all together or not at all:
 -- `old` is the store before the call, and `new` after it. The clauses on `t` are vacuous if the
--- store was open before the call and did not contain the tables of a desk.
+-- store was open before the call and satisfied `HasDeskTables` for no `t`.
 pub record ApplyPost {S V E : Type 0} (g : Ghosts S) (old new : Held S) (result : Result V E) (after : Tables → Tables) : Type 0 where
   -- At `Ok` the store holds the tables with all changes.
   pub applied : OnOk result ((t : Tables) → HoldsRows g old t → HoldsRows g new (after t))

@@ -24,8 +24,8 @@ pub record IsUnchangedByReads {S : Type 0} (g : Ghosts S) (old new : Held S) : T
 pub record ReadSequencePost {S V E : Type 0} (g : Ghosts S) (old new : Held S) (result : Result V E) (Matches : V → Tables → Type 0) : Type 0 where
   -- A returned value satisfies `Matches` with the rows that the store held before the call. Vacuous
   -- if a disk read up to the call's return did not return what was written, or if the store was
-  -- open and did not contain the tables of a desk. If the store was closed, a returned value
-  -- satisfies `Matches` with all rows.
+  -- open and satisfied `HasDeskTables` for no `t`. If the store was closed, a returned value
+  -- satisfies `Matches` with every `t`.
   pub answered : HasCleanDisk (state g new) → IfOk result (λ answer. (t : Tables) → HoldsRows g old t → Matches answer t)
   -- The call changes nothing (`IsUnchangedByReads`), whatever the result.
   pub unchanged : IsUnchangedByReads g old new

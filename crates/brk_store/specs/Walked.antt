@@ -30,16 +30,16 @@ abbrev pub completed_trades_by_stamp : Tables → List TradeRow
 completed_trades_by_stamp t = sort_by_key (λ r. r.stamp) (filter (λ r. is_same_trade_status r.status Completed) t.trades)
 
 -- The records `all` equal the whole list that `list` selects from the rows that the store holds.
--- Vacuous if the store is open and has no tables of a desk. If the store is closed, or the disk
--- assumption fails, `all` has to equal `list t` for all rows `t`: no records do, if the list
--- depends on the rows.
+-- Vacuous if the store is open and satisfies `HasDeskTables` for no `t`. If the store is closed, or
+-- the disk assumption fails, `all` has to equal `list t` for all rows `t`: no records do, if the
+-- list depends on the rows.
 abbrev pub EqualsStoredList : {S M : Type 0} → Ghosts S → Held S → (Tables → List M) → List M → Type 0
 EqualsStoredList g store list all = (t : Tables) → HoldsRows g store t → all ≡ list t
 
 -- The records `first` are a prefix of the list that `list` selects from the rows that the store
--- holds, possibly empty. Vacuous if the store is open and has no tables of a desk. If the store is
--- closed, or the disk assumption fails, `first` has to be a prefix of `list t` for all rows `t`:
--- only the empty list is one, if `list t` is empty for some rows `t`.
+-- holds, possibly empty. Vacuous if the store is open and satisfies `HasDeskTables` for no `t`. If
+-- the store is closed, or the disk assumption fails, `first` has to be a prefix of `list t` for all
+-- rows `t`: only the empty list is one, if `list t` is empty for some rows `t`.
 abbrev pub IsPrefixOfStoredList : {S M : Type 0} → Ghosts S → Held S → (Tables → List M) → List M → Type 0
 IsPrefixOfStoredList {S} {M} g store list first = (t : Tables) → HoldsRows g store t → (rest : List M) × (first ++ rest ≡ list t)
 
@@ -53,8 +53,8 @@ pub record WalkPost {S X M V E : Type 0} (g : Ghosts S) (old new : Held S) (of :
     (before after : V) (result : Result (Unit {0}) (WalkError E)) : Type 0 where
   -- At `Ok` the visitor has taken every record.
   pub all : HasCleanDisk (state g new) → OnOk result (TakesListSatisfying (EqualsStoredList g old list) of takes before after)
-  -- At a fault the visitor has taken a prefix of the records. At its own error it has taken the
-  -- records before the one for which it returned the error.
+  -- At a fault the visitor has taken a prefix of the records. At an error of the visitor it has
+  -- taken the records before the one for which it returned the error.
   pub early : HasCleanDisk (state g new) → IfErr result (TableWalkEndsEarly (IsPrefixOfStoredList g old list) of takes stops before after)
   -- The error is `Memory` or `Store`, or that of the visitor, whether or not the disk assumption
   -- holds.

@@ -32,7 +32,7 @@ pub fn audit_results_are_unique()
 /// Proves that the database of a store that holds the tables of schema 3 with any rows satisfies
 /// the premise of an adoption (`ConnectionTablesWithDeskNamesAreDeskTables`) and has schema 3.
 /// Vacuous if the disk assumption fails, or once the store is closed.
-pub fn stores_with_rows_have_desk_definitions<S: Alter>()
+pub fn stores_that_hold_tables_have_desk_definitions<S: Alter>()
     ensures defined { (held : Held S) (t : Tables) → HoldsRows S.Store held t → ConnectionTablesWithDeskNamesAreDeskTables S.Store held }
     ensures has_third_schema { (held : Held S) (t : Tables) → HoldsRows S.Store held t → ConnectionHasThirdSchema S.Store held }
 {}
@@ -49,8 +49,8 @@ pub fn audits_return_result_for_stored_rows<S: Alter>()
         → AuditAnswerSatisfies result (λ answer. answer ≡ None) }
 {}
 
-/// Proves that an adoption of a database that contains the tables of schema 3 with some rows
-/// satisfies the postcondition of an audit (`AuditPost`): the adoption writes nothing.
+/// Proves that an adoption of a database that contains the tables of schema 3 with any rows, or
+/// none, satisfies the postcondition of an audit (`AuditPost`): the adoption writes nothing.
 pub fn adoption_of_third_schema_is_audit<S: Alter>()
     ensures { (old new : Held S) (result : Result (Unit {0}) Fault) (t : Tables)
         → AdoptPost S.Store old new result → HoldsRows S.Store old t → AuditPost S.Store old new result }

@@ -22,7 +22,7 @@ use std::alloc::Global;
 /// Returns the first condition of `schema` that the rows of its tables fail, or `None` if they
 /// pass. At `Ok` the database was open and is unchanged. Fails with `Memory` or `Store` only, and
 /// commits nothing. The result is specified only if the database has the schema
-/// (`DatabaseHasSchema`) and its tables have the definitions of the desk's tables
+/// (`DatabaseHasSchema`) and its tables satisfy `HasDeskDefinitions`
 /// (`TablesWithSchemaNamesAreDeskTables`).
 pub(crate) fn audit_rows_of_schema<S: Alter>(
     tx: &mut Transaction<'_, S>,
@@ -44,8 +44,8 @@ pub(crate) fn audit_rows_of_schema<S: Alter>(
 
 // Returns the first condition of schema 3 that the database fails, or `None` if it passes. At `Ok`
 // the database was open and is unchanged. Fails with `Memory` or `Store` only, and commits nothing.
-// The result is specified only if tables with the names and column names of schema 3 have the
-// definitions of the desk's tables (`TablesWithSchemaNamesAreDeskTables`).
+// The result is specified only if tables with the names and column names of schema 3 satisfy
+// `HasDeskDefinitions` (`TablesWithSchemaNamesAreDeskTables`).
 fn first_failing_condition<S: Alter>(
     tx: &mut Transaction<'_, S>,
     alloc: Global,
@@ -93,7 +93,7 @@ impl<S: Alter> Store<S> {
     /// The result is specified only if the database satisfies
     /// `ConnectionTablesWithThirdSchemaNamesAreDeskTables`: if it has all tables of schema 3, by
     /// their names and column names, these satisfy `HasDeskDefinitions`. Every store that holds a
-    /// desk's tables satisfies it (`stores_with_rows_have_desk_definitions`).
+    /// desk's tables satisfies it (`stores_that_hold_tables_have_desk_definitions`).
     pub fn audit(&mut self, alloc: Global) -> Result<(), Fault>
         ensures audited { AuditPost S.Store self.old self.new result }
         ensures condition { IfErr result (λ f. f ≢ fault.Damaged NotEmpty) }

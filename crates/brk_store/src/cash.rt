@@ -55,7 +55,7 @@ impl<S: Alter> Store<S> {
         brk_tables_cash::cash_row_with_greatest_number(&mut tx)
     }
 
-    // Returns true if there are at least `GREATEST_MOVEMENT_COUNT` deposits and withdrawals, which
+    // Returns whether there are at least `GREATEST_MOVEMENT_COUNT` deposits and withdrawals, which
     // are the cash rows without a trade. The query reads each of these rows, so its time grows with
     // their number. If the database is still open, it is unchanged. Fails with `Store` only.
     fn has_reached_movement_limit(&mut self) -> Result<bool, Fault>
@@ -84,7 +84,7 @@ impl<S: Alter> Store<S> {
     }
 
     /// Returns a pair: the number of the next cash row, which is one more than the greatest number,
-    /// or 1 if there is no cash row; and true if there are at least `Id::GREATEST`
+    /// or 1 if there is no cash row; and whether there are at least `Id::GREATEST`
     /// (1,000,000,000,000) deposits and withdrawals together, so that no further movement may be
     /// booked. If the database is still open, it is unchanged. Fails with `Store` only, also if the
     /// greatest `MoveId` is in use.
@@ -99,7 +99,7 @@ impl<S: Alter> Store<S> {
         if next.get() < GREATEST_MOVEMENT_COUNT {
             return Ok((next, false));
         }
-        let has_all_movements = self.has_reached_movement_limit()?;
-        Ok((next, has_all_movements))
+        let has_reached_limit = self.has_reached_movement_limit()?;
+        Ok((next, has_reached_limit))
     }
 }

@@ -104,7 +104,8 @@ impl<S: Alter> Store<S> {
 
     /// Calls a closure with each cash row of an account with a stamp from `from` to `to`, both
     /// included, sorted by stamp, ascending. Rows with equal stamps are sorted by number (CM_ID),
-    /// ascending. Returns `Ok` only after the closure has returned `Ok` for the last row.
+    /// ascending. Returns `Ok` only after the closure has returned `Ok` for the last row. Does not
+    /// check that the account exists.
     ///
     /// Fails with the closure's first error, or with a fault (`Memory` or `Store`) as an error of
     /// type `E`, after a prefix of the rows. If the database is still open, it is unchanged,
@@ -136,7 +137,8 @@ impl<S: Alter> Store<S> {
 
     /// Calls a closure with each lot of an account and its symbol, sorted by symbol, then by
     /// opening stamp, both ascending. Lots with equal symbols and stamps are sorted by trade,
-    /// ascending. Returns `Ok` only after the closure has returned `Ok` for the last lot.
+    /// ascending. Returns `Ok` only after the closure has returned `Ok` for the last lot. Does not
+    /// check that the account exists.
     ///
     /// Fails with the closure's first error, or with a fault (`Memory` or `Store`) as an error of
     /// type `E`, after a prefix of the lots. If the database is still open, it is unchanged,

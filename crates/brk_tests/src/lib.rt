@@ -31,16 +31,15 @@ pub fn run_test(alloc: Global, name: &str) -> Option<Result<(), Fail>> {
             cuts::a_batch_can_be_retried_after_a_write_fault(alloc),
         "a_failing_disk_leaves_whole_statement_lines" =>
             files::statements::a_failing_disk_leaves_whole_statement_lines(alloc),
-        "desk_creation_recovers_from_crashes" => files::stops::desk_creation_recovers_from_crashes(
-            alloc,
-        ),
+        "desk_creation_recovers_from_crashes" =>
+            files::crashes::desk_creation_recovers_from_crashes(alloc),
         "batch_execution_recovers_from_crashes" =>
-            files::stops::batch_execution_recovers_from_crashes(alloc),
+            files::crashes::batch_execution_recovers_from_crashes(alloc),
         "upgrade_from_schema_1_recovers_from_crashes" =>
-            files::stops::upgrade_from_schema_1_recovers_from_crashes(alloc),
+            files::crashes::upgrade_from_schema_1_recovers_from_crashes(alloc),
         "upgrade_from_schema_2_recovers_from_crashes" =>
-            files::stops::upgrade_from_schema_2_recovers_from_crashes(alloc),
-        "desks_in_files_can_be_reopened" => files::stops::desks_in_files_can_be_reopened(alloc),
+            files::crashes::upgrade_from_schema_2_recovers_from_crashes(alloc),
+        "desks_in_files_can_be_reopened" => files::crashes::desks_in_files_can_be_reopened(alloc),
         "a_cut_request_gets_the_reply_400" => http::cuts::a_cut_request_gets_the_reply_400(alloc),
         "a_stream_can_be_retried_after_a_read_fault" =>
             http::cuts::a_stream_can_be_retried_after_a_read_fault(alloc),

@@ -1,9 +1,9 @@
 ghost use Rattle.std.specs.Prelude.{IfErr};
 ghost use Rattle.brk_report.specs.Requests.{abstract_explain_request};
 ghost use Rattle.brk_report.specs.ExplanationParts.{all_broker_lines, all_account_lines};
-ghost use Rattle.brk_report.specs.Told.{WriteLinesPost};
+ghost use Rattle.brk_report.specs.LinesOutput.{WriteLinesPost};
 ghost use Rattle.brk_explain_model.specs.Explain.{TradeOf, AccountOf, HoldingOf, BrokerOf, explanation};
-ghost use Rattle.brk_report.specs.Stated.{PreservesDesk, IsLinesFaultOtherThanDamage, HoldsForStoredTables};
+ghost use Rattle.brk_report.specs.StatementOutput.{PreservesDesk, IsLinesFaultOtherThanDamage, HoldsForStoredTables};
 ghost use Rattle.brk_report_lines.specs.Written.{WritesLines};
 
 use crate::explanations::parse::ExplainRequest;

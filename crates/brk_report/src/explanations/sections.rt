@@ -6,7 +6,7 @@ ghost use Rattle.brk_report.specs.ExplanationParts.{WritesCountedLines, account_
 ghost use Rattle.brk_explain_model.specs.AccountLines.{account_cash_rows_by_stamp};
 ghost use Rattle.brk_explain_model.specs.BrokerLines.{completed_trades_of_broker};
 ghost use Rattle.brk_model.specs.Statement.{holding_rows_of_account};
-ghost use Rattle.brk_report.specs.Stated.{PreservesDesk, IsLinesFaultOtherThanDamage, HoldsForStoredTables};
+ghost use Rattle.brk_report.specs.StatementOutput.{PreservesDesk, IsLinesFaultOtherThanDamage, HoldsForStoredTables};
 
 use crate::explanations::visitors::{CashPostingWriter, OpenLotWriter, TradeCommissionWriter};
 use crate::walk_faults::fault_from_walk_error;

@@ -2,7 +2,7 @@
 //! the lots with the totals.
 
 ghost use Rattle.std.specs.Prelude.{◌≤◌, IfErr};
-ghost use Rattle.brk_report.specs.Stated.{PreservesDesk, IsLinesFaultOtherThanDamage, HoldsForStoredTables};
+ghost use Rattle.brk_report.specs.StatementOutput.{PreservesDesk, IsLinesFaultOtherThanDamage, HoldsForStoredTables};
 ghost use Rattle.brk_report.specs.StatementParts.{WritesCashAndClosingLines, lot_and_total_lines, statement_header_lines};
 ghost use Rattle.brk_report_lines.specs.Written.{WritesLines};
 

@@ -2,7 +2,7 @@
 
 ghost use Rattle.std.specs.Prelude.{◌≤◌, IfErr};
 ghost use Rattle.brk_report.specs.CashWalk.{WritesCashLines, WritesLinesOfCashWalk};
-ghost use Rattle.brk_report.specs.Stated.{PreservesDesk, IsLinesFaultOtherThanDamage, HoldsForStoredTables, WritesLotLines};
+ghost use Rattle.brk_report.specs.StatementOutput.{PreservesDesk, IsLinesFaultOtherThanDamage, HoldsForStoredTables, WritesLotLines};
 ghost use Rattle.brk_store.specs.Walked.{cash_rows_in_span};
 
 use crate::statements::visitors::{

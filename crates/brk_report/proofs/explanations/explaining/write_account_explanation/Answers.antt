@@ -3,7 +3,7 @@ use Rattle.brk_explain_model.specs.Explain.{AccountOf, explanation}
 use Rattle.brk_explain_rows.specs.Details.{AreDetailsOfAccount}
 use Rattle.brk_report.proofs.Keeping.{clean_then, keeps_read, keeps_then}
 use Rattle.brk_report.proofs.Reported.{FailsAsLines, no_refusal, reported, reported_fault}
-use Rattle.brk_report.specs.Told.{WritesLinesOrRefuses}
+use Rattle.brk_report.specs.LinesOutput.{WritesLinesOrRefuses}
 use Rattle.brk_report.specs.ExplanationParts.{all_account_lines}
 use Rattle.brk_report.proofs.Explained.{account_told, no_account, tells_all, tells_fault}
 use Rattle.brk_report.proofs.explanations.explaining.write_account_explanation.Goals as goal

@@ -3,7 +3,7 @@ use Rattle.brk_model.specs.Statement.{holding_rows_of_account}
 use Rattle.brk_ref.specs.Records.{abstract_account_row}
 use Rattle.brk_explain_model.specs.AccountLines.{holding_and_total_lines, account_header_lines, balance_and_lot_header_lines, account_cash_rows_by_stamp}
 use Rattle.brk_explain_rows.specs.Details.{abstract_priced_holding}
-use Rattle.brk_report.specs.Stated.{IsLinesFaultOtherThanDamage}
+use Rattle.brk_report.specs.StatementOutput.{IsLinesFaultOtherThanDamage}
 use Rattle.brk_report.proofs.Handing.{behind, breaks_as, on_err, wants}
 use Rattle.brk_report.proofs.Keeping.{clean_then}
 use Rattle.brk_report_lines.specs.Written.{WritesLines}

@@ -3,7 +3,7 @@ use Rattle.brk_explain_model.specs.Explain.{BrokerOf, explanation}
 use Rattle.brk_explain_rows.specs.Details.{AreDetailsOfBroker}
 use Rattle.brk_report.proofs.Keeping.{clean_then, keeps_read, keeps_then}
 use Rattle.brk_report.proofs.Reported.{FailsAsLines, no_refusal, reported, reported_fault}
-use Rattle.brk_report.specs.Told.{WritesLinesOrRefuses}
+use Rattle.brk_report.specs.LinesOutput.{WritesLinesOrRefuses}
 use Rattle.brk_report.specs.ExplanationParts.{all_broker_lines}
 use Rattle.brk_report.proofs.Explained.{broker_told, no_broker, tells_all, tells_fault}
 use Rattle.brk_report.proofs.explanations.explaining.write_broker_explanation.Goals as goal

@@ -1,7 +1,7 @@
 use Rattle.std.proofs.Common.{ℕ, ◌++◌, Err, Ok, length, subst}
 use Rattle.brk_ref.specs.Records.{abstract_broker_row}
 use Rattle.brk_explain_model.specs.BrokerLines.{broker_total_lines, broker_header_lines, completed_trades_of_broker}
-use Rattle.brk_report.specs.Stated.{IsLinesFaultOtherThanDamage}
+use Rattle.brk_report.specs.StatementOutput.{IsLinesFaultOtherThanDamage}
 use Rattle.brk_report.proofs.Handing.{behind, breaks_as, on_err, wants}
 use Rattle.brk_report_lines.specs.Written.{WritesLines}
 use Rattle.brk_report_lines.proofs.Composed.{breaks_before, breaks_behind}

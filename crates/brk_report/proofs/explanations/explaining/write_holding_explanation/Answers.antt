@@ -5,7 +5,7 @@ use Rattle.brk_explain_sums.specs.HoldingTexts.{lines_of_holding_details}
 use Rattle.brk_report.proofs.Keeping.{keeps_read}
 use Rattle.brk_report.proofs.Reported.{FailsAsLines, no_refusal, reported, reported_fault}
 use Rattle.brk_report.proofs.Section.{in_broken}
-use Rattle.brk_report.specs.Told.{WritesLinesOrRefuses}
+use Rattle.brk_report.specs.LinesOutput.{WritesLinesOrRefuses}
 use Rattle.brk_report.proofs.FirstLines.{text_written}
 use Rattle.brk_report.proofs.Explained.{holding_first, holding_told, no_holding, tells_all, tells_fault}
 use Rattle.brk_report.proofs.explanations.explaining.write_holding_explanation.Goals as goal

@@ -5,7 +5,7 @@ use Rattle.brk_explain_rows.specs.Details.{AreDetailsOfTrade, abstract_trade_det
 use Rattle.brk_report.proofs.Keeping.{keeps_read}
 use Rattle.brk_report.proofs.Reported.{FailsAsLines, no_refusal, reported, reported_fault}
 use Rattle.brk_report.proofs.Section.{in_broken}
-use Rattle.brk_report.specs.Told.{WritesLinesOrRefuses}
+use Rattle.brk_report.specs.LinesOutput.{WritesLinesOrRefuses}
 use Rattle.brk_report.proofs.FirstLines.{text_written}
 use Rattle.brk_report.proofs.Explained.{no_trade, tells_all, tells_fault, trade_first, trade_told}
 use Rattle.brk_report.proofs.explanations.explaining.write_trade_explanation.Goals as goal

@@ -2,7 +2,7 @@ use Rattle.std.proofs.Common.{ℕ, [], ◌∷◌, ◌++◌, codes, decimal, leng
 use Rattle.brk_model.specs.Statement.{amount_line, lot_line, holding_rows_of_account}
 use Rattle.brk_report_lines.specs.Written.{WritesLines}
 use Rattle.brk_report_lines.proofs.Composed.{breaks_behind, breaks_off}
-use Rattle.brk_report.specs.Stated.{IsLinesFaultOtherThanDamage}
+use Rattle.brk_report.specs.StatementOutput.{IsLinesFaultOtherThanDamage}
 use Rattle.brk_report.proofs.Handing.{behind, breaks_as, line_first, on_err, wants}
 use Rattle.brk_report.proofs.Section.{in_broken, in_written}
 use Rattle.brk_report.proofs.statements.parts.write_lot_and_total_lines.Goals as goal

@@ -4,7 +4,7 @@ use Rattle.brk_model.specs.Statement.{amount_line, cash_move_rows_before_day, so
 use Rattle.brk_report_lines.specs.Written.{FailsWithinLines}
 use Rattle.brk_report_lines.proofs.Composed.{breaks_behind, breaks_off, then_all}
 use Rattle.brk_report.specs.CashWalk.{opening_and_cash_lines}
-use Rattle.brk_report.specs.Stated.{IsLinesFaultOtherThanDamage}
+use Rattle.brk_report.specs.StatementOutput.{IsLinesFaultOtherThanDamage}
 use Rattle.brk_report.proofs.Handing.{days_broke, on_err, wants}
 use Rattle.brk_report.proofs.Section.{in_broken}
 use Rattle.brk_report.proofs.statements.parts.write_opening_cash_and_closing_lines.Goals as goal

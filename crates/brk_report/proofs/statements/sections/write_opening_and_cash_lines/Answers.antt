@@ -6,7 +6,7 @@ use Rattle.brk_report_lines.specs.Written.{FailsWithinFirstLines, FailsWithinLin
 use Rattle.brk_report_lines.proofs.Composed.{then_all}
 use Rattle.brk_store.specs.Walked.{cash_rows_in_span}
 use Rattle.brk_report.specs.CashWalk.{lines_of_cash_rows, opening_line_unless_written, progress_before_cash_rows}
-use Rattle.brk_report.specs.Stated.{IsLinesFaultOtherThanDamage}
+use Rattle.brk_report.specs.StatementOutput.{IsLinesFaultOtherThanDamage}
 use Rattle.brk_report.specs.declared.statements.visitors.CashProgress.{CashProgress}
 use Rattle.brk_report.proofs.CashWalked.{first_before, first_behind}
 use Rattle.brk_report.proofs.Handing.{on_err, opening_broke}

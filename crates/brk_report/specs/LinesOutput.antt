@@ -9,7 +9,7 @@ use Rattle.brk_money.specs.declared.refusal.Refusal.{Refusal}
 use Rattle.brk_model.specs.Run.{IsCallFault}
 use Rattle.brk_model.specs.Statement.{text_of_lines}
 use Rattle.brk_model.specs.Tables.{Tables}
-use Rattle.brk_report.specs.Stated.{PreservesDesk, IsReportFaultOtherThanDamage, HoldsForStoredTables}
+use Rattle.brk_report.specs.StatementOutput.{PreservesDesk, IsReportFaultOtherThanDamage, HoldsForStoredTables}
 use Rattle.brk_report_lines.specs.Written.{WritesProperPrefixOfLines, WritesLinesAndPartOfNext}
 use Rattle.brk_report_lines.specs.declared.fault.ReportFault.{ReportFault}
 use Rattle.brk_report_lines.specs.declared.fault.ReportFault.TheVariants.{Refused, Desk, Write}

@@ -1,6 +1,6 @@
 use Rattle.std.proofs.lemmas.Result.{on_err_weaker}
 use Rattle.brk_exit.proofs.Prefixes.{fails_after, fails_before, on_err}
-use Rattle.brk_exit.proofs.telling.send_line.Goals as goal
+use Rattle.brk_exit.proofs.messages.send_line.Goals as goal
 
 pub returns-in_err-send-clause-err : goal.returns-in_err-send-clause-err
 returns-in_err-send-clause-err g c =

@@ -5,10 +5,10 @@ use Rattle.std.proofs.lemmas.Bool.Decides.{nat_tests}
 use Rattle.std.proofs.lemmas.Int.{ints}
 use Rattle.brk_queries.specs.Heads.{IsStatementHeadOfAccount}
 use Rattle.brk_report.proofs.Keeping.{clean_then, keeps_read, keeps_still, keeps_then}
-use Rattle.brk_report.specs.Stated.{WritesStatement}
+use Rattle.brk_report.specs.StatementOutput.{WritesStatement}
 use Rattle.brk_report.proofs.Reported.{FailsAsLines, no_refusal, reported, reported_fault}
 use Rattle.brk_report.proofs.Whole.{refused_account, refused_days, states_all, states_fault}
-use Rattle.brk_report.proofs.statements.stating.statement.Goals as goal
+use Rattle.brk_report.proofs.statements.writing.statement.Goals as goal
 
 not_before : (a b : ℕ) → b ≤ a → nat_lt a b ≡ false
 not_before a b h = grind (arith, nat_tests)

@@ -1,5 +1,5 @@
 use Rattle.brk_desk.proofs.Made.{run_of, runs_joined}
-use Rattle.brk_desk.proofs.in_order.call_sequences_are_runs.Goals as goal
+use Rattle.brk_desk.proofs.runs.call_sequences_are_runs.Goals as goal
 
 pub returns-clause-one_run : goal.returns-clause-one_run
 returns-clause-one_run g c = λ old new calls outcomes made. run_of g.S.Store old new calls outcomes made

@@ -1,5 +1,5 @@
 use Rattle.brk_explain_theorems.proofs.DetailsStay.{explanations_stay}
-use Rattle.brk_explain_theorems.proofs.stays.runs_preserve_explained_figures.Goals as goal
+use Rattle.brk_explain_theorems.proofs.unchanged_figures.runs_preserve_explained_figures.Goals as goal
 
 pub returns : goal.returns
 returns c = explanations_stay

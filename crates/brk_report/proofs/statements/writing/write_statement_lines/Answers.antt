@@ -3,11 +3,11 @@ use Rattle.brk_model.specs.Statement.{sorted_cash_rows_of_account, cash_move_row
 use Rattle.brk_report_lines.specs.Written.{WritesLines}
 use Rattle.brk_report_lines.proofs.Composed.{breaks_before, breaks_behind}
 use Rattle.brk_report.specs.StatementParts.{cash_and_closing_lines, lot_and_total_lines, statement_header_lines}
-use Rattle.brk_report.specs.Stated.{IsLinesFaultOtherThanDamage}
+use Rattle.brk_report.specs.StatementOutput.{IsLinesFaultOtherThanDamage}
 use Rattle.brk_report.proofs.Handing.{behind, breaks_as, on_err}
 use Rattle.brk_report.proofs.Section.{in_broken}
 use Rattle.brk_report.proofs.Keeping.{clean_then}
-use Rattle.brk_report.proofs.statements.stating.write_statement_lines.Goals as goal
+use Rattle.brk_report.proofs.statements.writing.write_statement_lines.Goals as goal
 
 pub returns-in_err-write_header_lines-clause-written : goal.returns-in_err-write_header_lines-clause-written
 returns-in_err-write_header_lines-clause-written g c = λ clean t holds.
