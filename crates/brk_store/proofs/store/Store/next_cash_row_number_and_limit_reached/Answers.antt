@@ -27,6 +27,6 @@ returns-then-get-lt-GREATEST_MOVEMENT_COUNT-clause-read g c =
 pub returns-clause-read : goal.returns-clause-read
 returns-clause-read g c =
     let next = c.in_ok-next.next in
-    let all = c.in_ok-has_all_movements.has_all_movements in
+    let all = c.in_ok-has_reached_limit.has_reached_limit in
     read_with g.S.Store c.args.self.now c.next_cash_row_number.new.self c.has_reached_movement_limit.new.self next all (next, all) IsNext AreAll AreNextAndAll
-    (λ t is are. (is, are)) c.in_ok-next.ensures.read c.in_ok-has_all_movements.ensures.read
+    (λ t is are. (is, are)) c.in_ok-next.ensures.read c.in_ok-has_reached_limit.ensures.read
