@@ -34,9 +34,9 @@ pub fn empty_stores_represent_the_empty_base<S: Alter>()
 /// Proves that a store represents the base that its rows determine, if these rows pass the audit of
 /// schema 3 and their texts are UTF-8 (`rows`).
 ///
-/// `upgraded`: a store with the rows that an upgrade from any schema yields, the same rows for
-/// schema 3, represents the base that the rows before the upgrade determine, if those rows pass the
-/// audit of their schema and their texts are UTF-8.
+/// `upgraded`: a store with the rows that an upgrade from any schema yields (from schema 3, which
+/// needs none, the unchanged rows) represents the base that the rows before the upgrade determine,
+/// if those rows pass the audit of their schema and their texts are UTF-8.
 pub fn store_represents_base_of_audited_rows<S: Alter>()
     ensures rows { (store : Held S) (rows : Tables) → HoldsRows S.Store store rows → IsTrue (has_utf8_texts rows) → PassesAudit third_schema rows
         → Represents S.Store store (base_of_tables rows) }

@@ -169,7 +169,7 @@ impl<S: Alter> Store<S> {
         ensures same_reference { (borrowed_store result).ghost_name ≡ self.entry.ghost_name }
         ensures same { (borrowed_store result).now ≡ self.old }
 
-        // All lots of the position remain; none was requested, and no row was read.
+        // All lots of the position remain; none was returned (`asked`), and no row was read.
         ensures remaining { (t : Tables) → HoldsRows S.Store self.old t
             → ⟦<Pages<'static, S, Page> as LotSource>⟧.remaining result (list_reversed_if_lifo lifo (lots_of_position t account symbol.now)) }
         ensures asked { ⟦<Pages<'static, S, Page> as LotSource>⟧.asked result ≡ 0 }
@@ -208,8 +208,8 @@ impl<S: Alter> Pages<'_, S, Page> {
     ghost use Rattle.brk_store.specs.RemainingLots.{AreRemainingLots, number_of_rows_read};
     ghost use Rattle.brk_tables_trading.specs.Pages.{page_after_skipped, page_size};
 
-    /// Returns the number of rows that were read: at least the number of lots that were returned,
-    /// and at most 15 more.
+    /// Returns the number of rows that were read: at least the number of lots that were returned
+    /// (`asked`), and at most 15 more.
     pub fn rows_read(&self) -> u64
         ensures counted { result ≡ number_of_rows_read self.now }
         ensures least { ⟦<Pages<'static, S, Page> as LotSource>⟧.asked self.now ≤ result }
@@ -280,7 +280,7 @@ impl<S: Alter> Pages<'_, S, Page> {
         // At an error the remaining lots are unchanged.
         ensures remaining_at_error { IfErr result (λ _. (ls : List TheLot) → AreRemainingLots S.Store self.old ls → AreRemainingLots S.Store self.new ls) }
 
-        // The number of lots requested grows by at most 1.
+        // The number of lots returned (`asked`) grows by at most 1.
         ensures asked { self.new.read - (length self.new.page.rows.items - self.new.page.returned) ≤ self.old.read + 1 }
 
         // The count of faults is unchanged; the only faults are `Memory` and `Store`.
