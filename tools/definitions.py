@@ -17,7 +17,7 @@ CODE = [
     'brk_changes',
     'brk_sql',
     'brk_tables_schema',
-    'brk_tables_create',
+    'brk_tables',
     'brk_tables_scan',
     'brk_store',
     'brk_commit',

@@ -1,7 +1,7 @@
 #!/usr/bin/env python3
 """Writes the files that follow from the list of tables and statements below: the shapes and cells of the tables (brk_tables_schema), which
-text makes which table (brk_tables_create), the rows of a desk's tables in code (brk_changes), the names of all columns, the reads of
-whole tables and their decoding (brk_tables_scan), that a database has the rows of one set of tables (brk_tables_unique), the tables that
+text makes which table (brk_tables), the rows of a desk's tables in code (brk_changes), the names of all columns, the reads of
+whole tables and their decoding (brk_tables_scan), that a database has the rows of one set of tables (brk_tables), the tables that
 a transcript shows (brk_replay), and what each SQL text means over any schema (in the crate of the statement). Run it at the top of the
 repository after a change of the list; `.ci/run` does so first. It lays out what it wrote by `rt fmt`, so where nothing changed it leaves
 the tree as it was, and it prints nothing. With `--texts` it prints the SQL texts as well, for the Rust code. What it writes is checked
@@ -16,7 +16,7 @@ from long_lines import broken
 
 OUT = 'crates/brk_tables_schema/proofs'
 SPECS = 'crates/brk_tables_schema/specs'
-MAKING = 'crates/brk_tables_create/proofs'
+MAKING = 'crates/brk_tables/proofs'
 
 # For each table: the SQL name, its name among the tables, the type of its rows, the key of a row, the list of its rows,
 # whether its key is the rowid, and its columns: name, kind, how a row r shows it, the table and column it names.
@@ -248,8 +248,8 @@ def save(path, text):
     with open(path, 'w') as file:
         file.write(broken(text, MOST_WRITTEN) if '/proofs/' in path else text)
 
-def write(crate, name, what, table, body):
-    save(f'crates/{crate}/proofs/{name}.antt', HEAD.format(what=what, table=shape(table)) + body)
+def write(folder, name, what, table, body):
+    save(f'crates/{folder}/{name}.antt', HEAD.format(what=what, table=shape(table)) + body)
 
 def codes_of(text):
     """The codes of a text, as joined literals if the text is too long for one line of a proof"""
@@ -258,7 +258,7 @@ def codes_of(text):
     cut = text.rfind(' ', 0, LONGEST_LITERAL) + 1
     return f'codes "{text[:cut]}"\n    ++ {codes_of(text[cut:])}'
 
-def insert(crate, name, t, values):
+def insert(folder, name, t, values):
     """values: for each column a parameter's number, ('lit', n) or 'null'"""
     sql, cols, rowkey = TABLES[t]
     shown = ', '.join(f'?{v}' if isinstance(v, int) else 'NULL' if v == 'null' else str(v[1]) for v in values)
@@ -266,7 +266,7 @@ def insert(crate, name, t, values):
     term = lambda v: f'col 0 {v - 1}' if isinstance(v, int) else 'lit Null' if v == 'null' else f'lit (Int (pos {v[1]}))'
     terms = [term(v) for v in values]
     terms = [terms[0], 'lit Null'] + terms[1:] if rowkey else ['lit Null'] + terms
-    write(crate, name, 'an INSERT', t, f'''
+    write(folder, name, 'an INSERT', t, f'''
 abbrev pub statement : List ℕ
 statement = {codes_of(text)}
 
@@ -279,7 +279,7 @@ understood_as schema at tree h = inserts schema statement (read statement) refl 
 ''')
     return text
 
-def update(crate, name, t, sets, tests):
+def update(folder, name, t, sets, tests):
     sql, cols, rowkey = TABLES[t]
     text = f'UPDATE {sql} SET {", ".join(f"{c} = ?{n}" for c, n in sets)} WHERE {" AND ".join(f"{c} = ?{n}" for c, n in tests)}'
     new = dict(sets)
@@ -288,7 +288,7 @@ def update(crate, name, t, sets, tests):
         if rowkey and i == 0:
             continue
         project.append(f'col 0 {new[c] - 1}' if c in new else f'col 1 {i + 1}')
-    write(crate, name, 'an UPDATE', t, f'''
+    write(folder, name, 'an UPDATE', t, f'''
 abbrev pub statement : List ℕ
 statement = {codes_of(text)}
 
@@ -318,11 +318,11 @@ understood_as schema at tree h = updates_or schema statement (read statement) re
 ''')
     return text
 
-def delete(crate, name, t, tests):
+def delete(folder, name, t, tests):
     sql, cols, rowkey = TABLES[t]
     text = f'DELETE FROM {sql}' + (f' WHERE {" AND ".join(f"{c} = ?{n}" for c, n in tests)}' if tests else '')
     proof = f'rw ({", ".join(test_lemmas(t, tests, "[]", False))})' if tests else 'refl'
-    write(crate, name, 'a DELETE', t, f'''
+    write(folder, name, 'a DELETE', t, f'''
 abbrev pub statement : List ℕ
 statement = {codes_of(text)}
 
@@ -373,7 +373,7 @@ use Rattle.sqlite_ast.specs.declared.Statement.TheVariants as written
 use Rattle.brk_tables_scan.proofs.ShownColumns.{columns_shown}
 '''
 
-def select(crate, name, t, tests, order, limit=None, shown=None, offset=None):
+def select(folder, name, t, tests, order, limit=None, shown=None, offset=None):
     """order: [(column, falls)]; limit: a parameter's number or ('lit', n); shown: columns, and else all of them; offset: a
     parameter's number."""
     sql, cols, rowkey = TABLES[t]
@@ -406,7 +406,7 @@ def select(crate, name, t, tests, order, limit=None, shown=None, offset=None):
     cols_b = lst('None' if place(t, c) == 0 else 'Some Binary' for c in names)
     # the read of a whole table shows all columns, by one lemma, and states once what its text is read as
     is_read, reading_is, shown_by, opened = ['refl'] * 3, '', f'rw ({shows})', 'unfolding everything\n'
-    if crate == 'brk_tables_scan':
+    if folder == 'brk_tables_scan/proofs':
         named = '(refl, refl, ' * n1 + 'tt' + ')' * n1
         shown_by = f'columns_shown schema at ({shape(t)} tree) found ({q(sql)}) ({shape(t)} tree).columns {named} max_budget (max_budget - {n1 + 1}) refl core refl'
         is_read, opened = ['is_read.0', 'is_read.1', 'is_read.2'], ''
@@ -500,7 +500,7 @@ after spent last = record (fresh 2 max_budget) {{ budget = max_budget - spent; l
 pub plain : (schema : Schema) (c : Compiled) → understood schema statement ≡ Ok c → c.returning ≡ None
 {opened}plain = no_returning statement (read statement) select {' '.join(is_read)}
 '''
-    write(crate, name, 'a SELECT', t, body)
+    write(folder, name, 'a SELECT', t, body)
     return text
 
 
@@ -933,18 +933,18 @@ pub names_alike : (w : DeskTable) (m n : ℕ) → table_and_column_names (table_
 """
     save('crates/brk_tables_scan/proofs/Listed.antt', out)
 
-# for each crate: its statements, each with its name, its table, and what it takes
+# for each folder of proofs: its statements, each with its name, its table, and what it takes
 STATEMENTS = {
-    'brk_tables_schema': [
+    'brk_tables_schema/proofs': [
         (insert, 'AddKept', 'kept', [1, 2, 3, 4]),
         (update, 'SetLast', 'desk_row', [('D_LAST', 1)], [('D_ID', 2)]),
         (select, 'DeskRows', 'desk_row', [], [('D_ID', False)]),
         (select, 'KeptByKey', 'kept', [('K_BATCH', 1), ('K_N', 2)], [('K_BATCH', False), ('K_N', False)]),
     ],
-    'brk_tables_create': [
+    'brk_tables/proofs': [
         (insert, 'AddDesk', 'desk_row', [('lit', 1), ('lit', 3), 'null']),
     ],
-    'brk_tables_reference': [
+    'brk_tables/proofs/reference': [
         (insert, 'AddBroker', 'broker', [1, 2, ('lit', 0), ('lit', 0)]),
         (insert, 'AddCustomer', 'customer', [1, 2, 3, 4, 5]),
         (insert, 'AddAccount', 'account', [1, 2, 3, 4, 5, 6, 6]),
@@ -968,7 +968,7 @@ STATEMENTS = {
         (select, 'BandsFor', 'band', [('CR_C_TIER', 1), ('CR_TT_ID', 2), ('CR_EX_ID', 3)], [('CR_C_TIER', False), ('CR_TT_ID', False), ('CR_EX_ID', False), ('CR_FROM_QTY', False)]),
         (select, 'CustomerTaxesOf', 'customer_tax', [('CX_C_ID', 1)], [('CX_C_ID', False), ('CX_TX_ID', False)]),
     ],
-    'brk_tables_trading': [
+    'brk_tables/proofs/trading': [
         (insert, 'AddTrade', 'trade', [1, 2, 3, 4, 5, 6, 7, 8, 9, 10, 11, 12, 13, 14, 15]),
         (insert, 'AddTradeHistory', 'history', [1, 2, 3]),
         (insert, 'AddRequest', 'request', [1, 2, 3, 4, 5, 6]),
@@ -1005,7 +1005,7 @@ STATEMENTS = {
         (update, 'SetExecutor', 'trade', [('T_EXEC_NAME', 1)], [('T_ID', 2)]),
         (update, 'SetCashType', 'settlement', [('SE_CASH_TYPE', 1)], [('SE_T_ID', 2)]),
     ],
-    'brk_tables_cash': [
+    'brk_tables/proofs/cash': [
         (insert, 'AddMove', 'move', [1, 2, 3, 4, 5, 6]),
         (select, 'LastMove', 'move', [], [('CM_ID', True)], ('lit', 1)),
         (select, 'MoveByTrade', 'move', [('CM_T_ID', 1)], [('CM_ID', False)]),
@@ -1018,7 +1018,7 @@ STATEMENTS = {
         (select, 'CashByTrade', 'cash', [], [('CT_T_ID', False)]),
         (select, 'AccountOfTrade', 'trade', [('T_ID', 1)], [('T_ID', False)], None, ['T_CA_ID']),
     ],
-    'brk_tables_views': [
+    'brk_tables/proofs/views': [
         (select, 'CashBetween', 'move', [('CM_CA_ID', 1), ('CM_DTS', 2, 'Ge'), ('CM_DTS', 3, 'Le')], [('CM_DTS', False), ('CM_ID', False)]),
         (select, 'LotsBySymbol', 'holding', [('H_CA_ID', 1)], [('H_S_SYMB', False), ('H_DTS', False), ('H_T_ID', False)]),
         (select, 'CompletedByAge', 'trade', [('T_ST_ID', 1)], [('T_DTS', False), ('T_ID', False)]),
@@ -1042,7 +1042,7 @@ def whole_name(d):
     return f'All{d[2].removeprefix("The")}'
 
 # the reads of whole tables
-STATEMENTS['brk_tables_scan'] = [(select, whole_name(d), d[0], [], [(c, False) for c in key_columns(d)]) for d in DATA]
+STATEMENTS['brk_tables_scan/proofs'] = [(select, whole_name(d), d[0], [], [(c, False) for c in key_columns(d)]) for d in DATA]
 
 def cell_at(d, c, row):
     """How a row shows a column"""
@@ -1589,7 +1589,7 @@ unfolding decode
 pub named_alike : (w : DeskTable) (m n : ℕ) → (table_definition_at_tree w m).name ≡ (table_definition_at_tree w n).name
 {chr(10).join(f'named_alike {d[2]} m n = refl' for d in DATA)}
 """
-    save('crates/brk_tables_unique/proofs/Decode.antt', out)
+    save('crates/brk_tables/proofs/Decode.antt', out)
 
 def same_tables():
     """That tables with the same lists of rows are the same"""
@@ -1599,14 +1599,14 @@ use Rattle.std.proofs.Common.{{◌≡◌}}
 use Rattle.brk_model.specs.Schemas.{{Schema}}
 use Rattle.brk_model.specs.Tables.{{Tables}}
 use Rattle.brk_tables_schema.specs.Desk.{{DeskTable, rows_of_table_in_schema, {WHICHES}}}
-use Rattle.brk_tables_unique.proofs.Values.{{{', '.join(f'{sheet_field(d)}_alike' for d in DATA if d[0] in VALUES)}}}
+use Rattle.brk_tables.proofs.Values.{{{', '.join(f'{sheet_field(d)}_alike' for d in DATA if d[0] in VALUES)}}}
 
 pub same_tables : (s : Schema) (t u : Tables) → ((w : DeskTable) → rows_of_table_in_schema s w t ≡ rows_of_table_in_schema s w u) → t ≡ u
 same_tables s t u each = λ i. record {{
 {chr(10).join(f'  {sheet_field(d)} = {values.get(d[0], f"each {d[2]} i")};' for d in DATA)}
 }}
 """
-    save('crates/brk_tables_unique/proofs/SameTables.antt', out)
+    save('crates/brk_tables/proofs/SameTables.antt', out)
 
 def table_list():
     """The tables that a transcript shows"""
@@ -1621,7 +1621,7 @@ pub const TABLES: [(&str, &str); {len(DATA)}] = [
 
 def lay_out():
     """Lays out the crates that were written to, and gives each file that came out as it was its time again"""
-    for crate in ['brk_changes', 'brk_tables_unique', 'brk_replay', *STATEMENTS]:
+    for crate in sorted({'brk_changes', 'brk_replay', *(folder.split('/')[0] for folder in STATEMENTS)}):
         done = subprocess.run(['rt', 'fmt'], cwd=f'crates/{crate}', stdout=subprocess.PIPE, stderr=subprocess.STDOUT, text=True)
         if done.returncode != 0:
             sys.exit(f'tools/tables.py: rt fmt in crates/{crate}:\n{done.stdout}')
@@ -1654,8 +1654,8 @@ if __name__ == '__main__':
     same_tables()
     table_list()
     all_texts = [create_text(table) for table in DATA]
-    for crate, statements in STATEMENTS.items():
-        all_texts += [write_one(crate, *parts) for write_one, *parts in statements]
+    for folder, statements in STATEMENTS.items():
+        all_texts += [write_one(folder, *parts) for write_one, *parts in statements]
     lay_out()
     if '--texts' in sys.argv[1:]:
         print('\n'.join(all_texts))

@@ -23,7 +23,7 @@ use Rattle.brk_changes.specs.declared.schema.Schema.TheVariants.{Third}
 use Rattle.brk_sql.proofs.Inside.{clean_before}
 use Rattle.brk_tables_schema.specs.Made.{HasDeskTables}
 use Rattle.brk_tables_scan.proofs.Defined.{desk_is_there}
-use Rattle.brk_tables_unique.proofs.OneTables.{one_schema}
+use Rattle.brk_tables.proofs.OneTables.{one_schema}
 use Rattle.brk_store.specs.Audited.{StoresRowsWithAuditResult, IsDatabaseAuditResult, AdoptPost, ConnectionTablesWithDeskNamesAreDeskTables, AuditAnswerSatisfies, IsConsistent}
 use Rattle.brk_store.specs.Holds.{IsDiskContentOfRows}
 use Rattle.brk_store.proofs.Schemas.{third_rows}

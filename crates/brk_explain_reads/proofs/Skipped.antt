@@ -14,10 +14,10 @@ use Rattle.brk_money.specs.declared.fault.Fault.{Fault}
 use Rattle.brk_model.specs.Run.{IsCallFault}
 use Rattle.brk_model.specs.Tables.{AccountRow, Tables, TradeRow}
 use Rattle.brk_tables_schema.specs.Made.{HasDeskTables}
-use Rattle.brk_tables_views.specs.Walk.{IsWalkError}
-use Rattle.brk_tables_views.specs.Walks.{TableWalkEndsEarly, TakesListSatisfying}
-use Rattle.brk_tables_views.specs.declared.walking.WalkError.{WalkError}
-use Rattle.brk_tables_views.specs.declared.walking.WalkError.TheVariants.{Failed, Cause}
+use Rattle.brk_tables.specs.Walk.{IsWalkError}
+use Rattle.brk_tables.specs.Walks.{TableWalkEndsEarly, TakesListSatisfying}
+use Rattle.brk_tables.specs.declared.views.walking.WalkError.{WalkError}
+use Rattle.brk_tables.specs.declared.views.walking.WalkError.TheVariants.{Failed, Cause}
 use Rattle.brk_explain_model.specs.BrokerLines.{accounts_with_broker, broker_of_account_or_zero, completed_trades_of_broker}
 use Rattle.brk_store.specs.Holds.{HoldsRows, ReadPost}
 use Rattle.brk_store.specs.ReadSequences.{IsUnchangedByReads, disk_was_clean_before_reads, single_read_changes_nothing, joined_reads_change_nothing}

@@ -12,7 +12,7 @@ use Rattle.brk_model.specs.Statement.{sorted_cash_rows_of_account, cash_row_tota
 use Rattle.brk_model.specs.Tables.{MoveRow, Tables}
 use Rattle.brk_store.specs.Holds.{ReadPost}
 use Rattle.brk_store.specs.Walked.{WalkPost, cash_rows_in_span}
-use Rattle.brk_tables_views.specs.declared.walking.WalkError.{WalkError}
+use Rattle.brk_tables.specs.declared.views.walking.WalkError.{WalkError}
 use Rattle.brk_explain_reads.specs.Earlier.{AddsEarlierCashRow}
 use Rattle.brk_explain_reads.specs.Found.{IsCashSumBeforeStamp, cash_rows_before_stamp}
 use Rattle.brk_explain_reads.specs.declared.cash.EarlierCashSum.{EarlierCashSum}

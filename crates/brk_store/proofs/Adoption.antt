@@ -38,7 +38,7 @@ use Rattle.brk_invariant_theorems.proofs.SoundSteps.{empty_sound}
 use Rattle.brk_sql.specs.Desk.{HasNoWritingForeignKeysAt}
 use Rattle.brk_tables_schema.specs.Desk.{DeskTable}
 use Rattle.brk_tables_schema.specs.Made.{HasDeskTables, IsTableOfSchema}
-use Rattle.brk_tables_cash.specs.Upgrade.{PreservesTablesOutside, UpgradesTables}
+use Rattle.brk_tables.specs.Upgrade.{PreservesTablesOutside, UpgradesTables}
 use Rattle.brk_tables_scan.specs.Schemas.{DatabaseHasSchema, TablesWithDeskNamesAreDeskTables, TablesWithSchemaNamesAreDeskTables}
 use Rattle.brk_tables_scan.proofs.Defined.{desk_is_there}
 use Rattle.brk_store.specs.Audited.{IsUpgradedDiskContent, StoresRowsWithAuditResult, IsDatabaseAuditResult, IsDatabaseAuditResultBySchema, UpgradesAuditedRows}

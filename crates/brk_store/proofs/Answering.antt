@@ -21,7 +21,7 @@ use Rattle.brk_ref.specs.Records.{abstract_key, abstract_kept_row, kept_row_with
 use Rattle.brk_sql.specs.Model.{IsTransactionStep}
 use Rattle.brk_sql.proofs.Inside.{step_read, step_then}
 use Rattle.brk_sql.proofs.Order.{map_twice}
-use Rattle.brk_tables_unique.proofs.OneTables.{one_schema}
+use Rattle.brk_tables.proofs.OneTables.{one_schema}
 use Rattle.brk_tables_schema.specs.Made.{HasDeskTablesInSchema}
 use Rattle.brk_tables_scan.specs.Schemas.{DatabaseHasSchema, TablesWithSchemaNamesAreDeskTables}
 use Rattle.brk_tables_scan.specs.KeptKeys.{keys_of_kept_rows, tables_with_whole_kept_rows}

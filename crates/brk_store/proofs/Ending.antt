@@ -18,7 +18,7 @@ use Rattle.brk_money.specs.declared.fault.Condition.TheVariants.{NotEmpty}
 use Rattle.brk_money.specs.declared.fault.Fault.TheVariants.{Damaged, Store}
 use Rattle.brk_tables_schema.specs.Desk.{desk_tables}
 use Rattle.brk_tables_schema.specs.Made.{HasDeskTables}
-use Rattle.brk_tables_create.specs.Made.{CreatesDeskTables}
+use Rattle.brk_tables.specs.Made.{CreatesDeskTables}
 use Rattle.brk_tables_scan.specs.Present.{has_table_of_desk}
 use Rattle.brk_store.specs.Holds.{HoldsRows, WasOpenAndIsUnchanged, ReadPost, ApplyPost, CreatePost}
 

@@ -14,7 +14,7 @@ use Rattle.brk_store.specs.Holds.{HoldsRows}
 use Rattle.brk_model.specs.Tables.{Tables, HoldingRow}
 use Rattle.brk_changes.specs.Rows.{abstract_holding_row}
 use Rattle.brk_changes.specs.declared.holding_row.HoldingRow as row
-use Rattle.brk_tables_trading.specs.Pages.{page_after_skipped, page_size}
+use Rattle.brk_tables.specs.Pages.{page_after_skipped, page_size}
 use Rattle.brk_book_theorems.specs.TradeReads.{lot_of_row}
 use Rattle.brk_store.specs.Pages.{remaining_lots, unread_rows, lot_rows_in_closing_order}
 

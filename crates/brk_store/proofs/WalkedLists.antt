@@ -30,9 +30,9 @@ use Rattle.brk_tables_schema.specs.Made.{HasDeskTables}
 use Rattle.brk_book_theorems.proofs.Bools.{same_text, texts_back}
 use Rattle.brk_book_theorems.proofs.LotReading.{All-sort}
 use Rattle.brk_book_theorems.proofs.Order.{by_key-filter, key_total, nat_one_way, nat_splits, sort_filter}
-use Rattle.brk_tables_views.specs.Lists.{account_cash_rows_between, completed_trades_by_stamp_and_id, account_lots_by_symbol, cash_sort_key, lot_sort_key, stamp_and_id_key}
-use Rattle.brk_tables_views.specs.Walks.{TableWalkPost}
-use Rattle.brk_tables_views.specs.declared.walking.WalkError.{WalkError}
+use Rattle.brk_tables.specs.Lists.{account_cash_rows_between, completed_trades_by_stamp_and_id, account_lots_by_symbol, cash_sort_key, lot_sort_key, stamp_and_id_key}
+use Rattle.brk_tables.specs.Walks.{TableWalkPost}
+use Rattle.brk_tables.specs.declared.views.walking.WalkError.{WalkError}
 use Rattle.brk_store.specs.Walked.{WalkPost, cash_rows_in_span, completed_trades_by_stamp}
 use Rattle.brk_store.proofs.Walking.{is_walked}
 

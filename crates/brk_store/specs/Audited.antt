@@ -26,7 +26,7 @@ use Rattle.brk_changes.specs.declared.schema.Schema as typed_schema
 use Rattle.brk_changes.specs.declared.schema.Schema.TheVariants.{Third}
 use Rattle.brk_changes.specs.Schemas.{abstract_schema}
 use Rattle.brk_tables_schema.specs.Made.{HasDeskTables, HasDeskTablesInSchema, IsTableOfSchema}
-use Rattle.brk_tables_cash.specs.Upgrade.{PreservesTablesOutside}
+use Rattle.brk_tables.specs.Upgrade.{PreservesTablesOutside}
 use Rattle.brk_tables_scan.specs.Schemas.{DatabaseHasSchema, TablesWithDeskNamesAreDeskTables, TablesWithSchemaNamesAreDeskTables}
 use Rattle.brk_book_theorems.specs.Books.{BooksInvariant}
 use Rattle.brk_audit_theorems.specs.Passing.{PassesAudit}

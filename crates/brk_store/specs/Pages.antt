@@ -7,7 +7,7 @@ use Rattle.brk_model.specs.Tables.{Tables, HoldingRow}
 use Rattle.brk_money.specs.Spelling.{Text}
 use Rattle.brk_changes.specs.Rows.{abstract_holding_row}
 use Rattle.brk_changes.specs.declared.holding_row.HoldingRow as row
-use Rattle.brk_tables_trading.specs.Pages.{position_lots_by_age}
+use Rattle.brk_tables.specs.Pages.{position_lots_by_age}
 use Rattle.brk_book_theorems.specs.TradeReads.{lot_of_row}
 
 -- The rows of the lots of `account` in the security `symbol`, sorted by the stamp of their opening

@@ -27,7 +27,7 @@ impl<S: Alter> Store<S> {
         ensures fault { IfErr result IsCallFault }
     {
         let mut tx = begin_transaction(&mut self.conn);
-        brk_tables_views::brokers_with_name(&mut tx, alloc, name)
+        brk_tables::views::brokers_with_name(&mut tx, alloc, name)
     }
 
     /// Returns all requests (TRADE_REQUEST: pending trades), sorted by trade, ascending. If the
@@ -37,7 +37,7 @@ impl<S: Alter> Store<S> {
         ensures fault { IfErr result IsCallFault }
     {
         let mut tx = begin_transaction(&mut self.conn);
-        brk_tables_views::all_requests(&mut tx, alloc)
+        brk_tables::views::all_requests(&mut tx, alloc)
     }
 
     /// Returns the ids of the accounts of a broker, ascending. If the database is still open, it is
@@ -47,6 +47,6 @@ impl<S: Alter> Store<S> {
         ensures fault { IfErr result IsCallFault }
     {
         let mut tx = begin_transaction(&mut self.conn);
-        brk_tables_views::account_ids_of_broker(&mut tx, alloc, broker)
+        brk_tables::views::account_ids_of_broker(&mut tx, alloc, broker)
     }
 }

@@ -2,7 +2,7 @@
 
 use brk_changes::HoldingRow;
 use brk_lots::Lot;
-use brk_tables_views::Visitor;
+use brk_tables::views::Visitor;
 
 /// A visitor that calls a closure with each record and stops at the closure's first error.
 #[derive(Drop)]

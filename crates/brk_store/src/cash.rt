@@ -32,7 +32,7 @@ impl<S: Alter> Store<S> {
         ensures fault { OnErr result (result ≡ Err fault.Store) }
     {
         let mut tx = begin_transaction(&mut self.conn);
-        brk_tables_cash::one_day_settlement_start(&mut tx)
+        brk_tables::cash::one_day_settlement_start(&mut tx)
     }
 
     /// Returns the cash row of a trade, or `None` if it has none. If the database is still open, it
@@ -42,7 +42,7 @@ impl<S: Alter> Store<S> {
         ensures fault { OnErr result (result ≡ Err fault.Store) }
     {
         let mut tx = begin_transaction(&mut self.conn);
-        brk_tables_cash::cash_row_by_trade(&mut tx, trade)
+        brk_tables::cash::cash_row_by_trade(&mut tx, trade)
     }
 
     // Returns the cash row with the greatest number (CM_ID), or `None` if there is no cash row. If
@@ -52,7 +52,7 @@ impl<S: Alter> Store<S> {
         ensures fault { OnErr result (result ≡ Err fault.Store) }
     {
         let mut tx = begin_transaction(&mut self.conn);
-        brk_tables_cash::cash_row_with_greatest_number(&mut tx)
+        brk_tables::cash::cash_row_with_greatest_number(&mut tx)
     }
 
     // Returns whether there are at least `GREATEST_MOVEMENT_COUNT` deposits and withdrawals, which
@@ -63,7 +63,7 @@ impl<S: Alter> Store<S> {
         ensures fault { OnErr result (result ≡ Err fault.Store) }
     {
         let mut tx = begin_transaction(&mut self.conn);
-        brk_tables_cash::has_reached_movement_limit(&mut tx)
+        brk_tables::cash::has_reached_movement_limit(&mut tx)
     }
 
     /// Returns the number of the next cash row: one more than the greatest number, or 1 if there is

@@ -29,7 +29,7 @@ impl<S: Alter> Store<S> {
         ensures fault { IfErr result IsCallFault }
     {
         let mut tx = begin_transaction(&mut self.conn);
-        brk_tables_views::lot_changes_by_trade(&mut tx, alloc, trade)
+        brk_tables::views::lot_changes_by_trade(&mut tx, alloc, trade)
     }
 
     /// Returns all changes of the lot that the trade `lot` opened, sorted by the trade that made
@@ -40,6 +40,6 @@ impl<S: Alter> Store<S> {
         ensures fault { IfErr result IsCallFault }
     {
         let mut tx = begin_transaction(&mut self.conn);
-        brk_tables_views::lot_changes_of_lot(&mut tx, alloc, lot)
+        brk_tables::views::lot_changes_of_lot(&mut tx, alloc, lot)
     }
 }

@@ -4,7 +4,7 @@ ghost use Rattle.std.specs.Prelude.{◌≡◌, ◌≢◌, ◌≤◌, ◌+◌, If
 ghost use Rattle.std.specs.List.{All};
 ghost use Rattle.brk_model.specs.Run.{IsCallFault};
 ghost use Rattle.brk_changes.specs.Rows.{abstract_holding_row};
-ghost use Rattle.brk_tables_trading.specs.Pages.{page_after_skipped, page_size};
+ghost use Rattle.brk_tables.specs.Pages.{page_after_skipped, page_size};
 ghost use Rattle.brk_book_theorems.specs.OrderReads.{lot_of_typed_row};
 ghost use Rattle.brk_store.specs.Holds.{ReadPost};
 ghost use Rattle.brk_store.specs.Pages.{lot_rows_in_closing_order};
@@ -206,7 +206,7 @@ impl<S: Alter> Pages<'_, S, Page> {
     ghost use Rattle.brk_store.specs.ReadSequences.{IsUnchangedByReads};
     ghost use Rattle.brk_store.specs.Pages.{lot_rows_in_closing_order};
     ghost use Rattle.brk_store.specs.RemainingLots.{AreRemainingLots, number_of_rows_read};
-    ghost use Rattle.brk_tables_trading.specs.Pages.{page_after_skipped, page_size};
+    ghost use Rattle.brk_tables.specs.Pages.{page_after_skipped, page_size};
 
     /// Returns the number of rows that were read: at least the number of lots that were returned
     /// (`asked`), and at most 15 more.

@@ -32,7 +32,7 @@ impl<S: Alter> Store<S> {
         ensures fault { IfErr result IsCallFault }
     {
         let mut tx = begin_transaction(&mut self.conn);
-        brk_tables_trading::last_ten_trades_of_account(&mut tx, alloc, account)
+        brk_tables::trading::last_ten_trades_of_account(&mut tx, alloc, account)
     }
 
     /// Returns the fifty most recent trades of an account, or all if it has fewer, sorted by the
@@ -48,7 +48,7 @@ impl<S: Alter> Store<S> {
         ensures fault { IfErr result IsCallFault }
     {
         let mut tx = begin_transaction(&mut self.conn);
-        brk_tables_trading::last_fifty_trades_of_account(&mut tx, alloc, account)
+        brk_tables::trading::last_fifty_trades_of_account(&mut tx, alloc, account)
     }
 
     /// Returns the rows of TRADE_HISTORY of a trade: the statuses that it reached and their stamps,
@@ -59,6 +59,6 @@ impl<S: Alter> Store<S> {
         ensures fault { IfErr result IsCallFault }
     {
         let mut tx = begin_transaction(&mut self.conn);
-        brk_tables_trading::history_of_trade(&mut tx, alloc, trade)
+        brk_tables::trading::history_of_trade(&mut tx, alloc, trade)
     }
 }

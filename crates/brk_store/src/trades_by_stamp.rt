@@ -36,7 +36,7 @@ impl<S: Alter> Store<S> {
         ensures fault { IfErr result IsCallFault }
     {
         let mut tx = begin_transaction(&mut self.conn);
-        brk_tables_views::first_twenty_trades_of_account(
+        brk_tables::views::first_twenty_trades_of_account(
             &mut tx, alloc, account, span.first, span.last,
         )
     }
@@ -55,7 +55,7 @@ impl<S: Alter> Store<S> {
         ensures fault { IfErr result IsCallFault }
     {
         let mut tx = begin_transaction(&mut self.conn);
-        brk_tables_views::first_twenty_trades_of_symbol(
+        brk_tables::views::first_twenty_trades_of_symbol(
             &mut tx, alloc, symbol, span.first, span.last,
         )
     }
@@ -74,6 +74,6 @@ impl<S: Alter> Store<S> {
         ensures fault { OnErr result (result ≡ Err fault.Store) }
     {
         let mut tx = begin_transaction(&mut self.conn);
-        brk_tables_views::first_trade_of_account_from_stamp(&mut tx, account, first)
+        brk_tables::views::first_trade_of_account_from_stamp(&mut tx, account, first)
     }
 }

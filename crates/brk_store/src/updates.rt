@@ -36,7 +36,7 @@ impl<S: Alter> Store<S> {
         ensures fault { IfErr result IsCallFault }
     {
         let mut tx = begin_transaction(&mut self.conn);
-        brk_tables_trading::first_twenty_completed_trades_of_account(
+        brk_tables::trading::first_twenty_completed_trades_of_account(
             &mut tx, alloc, account, span.first, span.last,
         )
     }
@@ -55,7 +55,7 @@ impl<S: Alter> Store<S> {
         ensures fault { IfErr result IsCallFault }
     {
         let mut tx = begin_transaction(&mut self.conn);
-        brk_tables_trading::first_twenty_completed_cash_trades_of_symbol(
+        brk_tables::trading::first_twenty_completed_cash_trades_of_symbol(
             &mut tx, alloc, symbol, span.first, span.last,
         )
     }
@@ -67,6 +67,6 @@ impl<S: Alter> Store<S> {
         ensures fault { OnErr result (result ≡ Err fault.Store) }
     {
         let mut tx = begin_transaction(&mut self.conn);
-        brk_tables_trading::settlement_by_trade(&mut tx, trade)
+        brk_tables::trading::settlement_by_trade(&mut tx, trade)
     }
 }

@@ -1,0 +1,155 @@
+-- What the statements that read trades for a correction of words tell of the tables.
+use Rattle.std.proofs.Common.{◌≡◌, ℕ, List, [], ◌∷◌, Bool, true, false, not, cond, ◌&&◌, ◌||◌, map, filter, take, ◌==◌, Ordering, Less, Equal, Greater, is_eq, Some, refl, sym, ap, ◌∙◌, arith}
+use Rattle.std.specs.Prelude.{bytes_eq, nat_le, nat_lt}
+use Rattle.std.specs.Ordering.{ordering_then}
+use Rattle.std.proofs.lemmas.Bool.Decides.{nat_tests}
+use Rattle.sqlite_value.specs.declared.value.Value.TheVariants.{Text as Words}
+use Rattle.sqlite_value.specs.Order.{Row, column, value_cmp}
+use Rattle.sqlite_keyed.specs.Lists.{sort_by}
+use Rattle.sqlite_rules.specs.Edit.{id_in}
+use Rattle.sqlite_tied.proofs.RuleLemmas.{and_true}
+use Rattle.sqlite.specs.State.{State, Shown}
+use Rattle.brk_money.specs.Kinds.{is_same_trade_status, trade_status_code}
+use Rattle.brk_money.specs.declared.status.Status.{Status}
+use Rattle.brk_money.specs.declared.status.Status.TheVariants.{Completed, Active, Submitted, Pending, Canceled}
+use Rattle.brk_model.specs.Joins.{trade_rows_oldest_first}
+use Rattle.brk_model.specs.Keys.{KeyPart, number, rows_sorted_by_key, insert_row_by_key, settlement_key}
+use Rattle.brk_model.specs.Lists as model
+use Rattle.brk_model.specs.LookupView.{row_stamp_is_between}
+use Rattle.brk_model.specs.Tables.{SettlementRow, TradeRow}
+use Rattle.brk_sql.specs.Desk.{TablesSatisfy}
+use Rattle.brk_sql.proofs.Answer.{limited_map}
+use Rattle.brk_sql.proofs.Decode.{text_in}
+use Rattle.brk_sql.proofs.Looks.{tells_rising, tells_sorted}
+use Rattle.brk_sql.proofs.Texts.{read}
+use Rattle.brk_tables_schema.specs.Cells.{natural_as_value, flag_as_value, trade_cells, settlement_cells}
+use Rattle.brk_tables_schema.specs.Desk.{Trades, Settlements, desk_tables, ordering_by_primary_key}
+use Rattle.brk_tables_schema.specs.Order.{ordering_by_key}
+use Rattle.brk_tables_schema.proofs.Back.{number_in}
+use Rattle.brk_tables_schema.proofs.Compared.{at_least, at_most}
+use Rattle.brk_tables_schema.proofs.Order.{key_total, inserted}
+use Rattle.brk_tables_schema.proofs.Tests.{same_number, same_text}
+use Rattle.brk_changes.specs.Chosen.{first_twenty_completed_cash_trade_rows_of_symbol, first_twenty_completed_trade_rows_of_account}
+use Rattle.brk_tables.proofs.trading.CompletedCashOfSymbol
+use Rattle.brk_tables.proofs.trading.CompletedOfAccount
+use Rattle.brk_tables.proofs.trading.SettlementByTrade
+
+-- ---- the oldest trades first
+
+-- the moment of a trade, and then its id
+abbrev pub trade_age : TradeRow → List KeyPart
+trade_age r = number r.stamp ∷ number r.id ∷ []
+
+by_numbers : (m n j k : ℕ) → nat_lt m n || ((m == n) && nat_lt j k) ≡ nat_lt m n || (not (nat_lt n m) && (nat_lt j k || (not (nat_lt k j) && false)))
+by_numbers m n j k = grind (arith, nat_tests)
+
+-- the order of the model and that of the database are one
+sorted : {X : Type 0} (key : X → List KeyPart) (xs : List X) → rows_sorted_by_key key xs ≡ sort_by (ordering_by_key key) xs
+unfolding Rattle.brk_model.specs.Lists.sort_by
+sorted key [] = refl
+sorted key (x ∷ xs) = ap (insert_row_by_key key x) (sorted key xs) ∙ inserted key x (sort_by (ordering_by_key key) xs)
+
+pub oldest_are : (rows : List TradeRow) → trade_rows_oldest_first rows ≡ sort_by (ordering_by_key trade_age) rows
+oldest_are rows = (λ i. model.sort_by (λ (a b : TradeRow). by_numbers a.stamp b.stamp a.id b.id i) rows) ∙ sorted trade_age rows
+
+second : (a b : Ordering) → is_eq (ordering_then a b) ≡ true → is_eq b ≡ true
+second Less b h = absurd (let f = h in cc)
+second Equal b h = h
+second Greater b h = absurd (let f = h in cc)
+
+-- a code is that of what is completed where the status is
+is_done : (s : Status) → bytes_eq (trade_status_code s) (trade_status_code Completed) ≡ is_same_trade_status s Completed
+is_done Completed = refl
+is_done Active = refl
+is_done Submitted = refl
+is_done Pending = refl
+is_done Canceled = refl
+
+-- a flag is set where what it stands for is so
+is_set : (b : Bool) → (cond b 1 0 == 1) ≡ b
+is_set true = refl
+is_set false = refl
+
+and_assoc : (a b c : Bool) → a && (b && c) ≡ (a && b) && c
+and_assoc true b c = refl
+and_assoc false b c = refl
+
+pub tells_completed_of_account : (old new : State) (account first last : ℕ) (rows : List Row)
+    → Shown CompletedOfAccount.statement (Words (trade_status_code Completed) ∷ natural_as_value account ∷ natural_as_value first ∷ natural_as_value last ∷ []) old new rows
+    → TablesSatisfy desk_tables (λ t. rows ≡ map trade_cells (first_twenty_completed_trade_rows_of_account account first last t)) old.now
+tells_completed_of_account old new account first last rows shown = λ t tree h.
+    let test : TradeRow → Bool = λ r. is_same_trade_status r.status Completed && ((r.account == account) && row_stamp_is_between first last r) in
+    tells_sorted desk_tables Trades CompletedOfAccount.statement
+    (Words (trade_status_code Completed) ∷ natural_as_value account ∷ natural_as_value first ∷ natural_as_value last ∷ [])
+    (read CompletedOfAccount.statement)
+    CompletedOfAccount.terms CompletedOfAccount.project CompletedOfAccount.order CompletedOfAccount.paging CompletedOfAccount.names CompletedOfAccount.understood_as
+    test
+    (λ tree r x e.
+    let a3 : column r 3 ≡ Words (trade_status_code x.status) = ap (λ row. column row 2) e in
+    let a9 : column r 9 ≡ natural_as_value x.account = ap (λ row. column row 8) e in
+    let a2 : column r 2 ≡ natural_as_value x.stamp = ap (λ row. column row 1) e in
+    rw (a3, a9, a2, same_text (trade_status_code x.status) (trade_status_code Completed), is_done x.status, same_number x.account account, at_least x.stamp first, at_most x.stamp last)
+    (ap (λ c. is_same_trade_status x.status Completed && ((x.account == account) && (nat_le first x.stamp && c))) (and_true _)))
+    trade_cells (λ tree r x e. e) (ordering_by_key trade_age) (key_total trade_age)
+    (λ tree a b x y e f.
+    let p0 : column a 2 ≡ natural_as_value x.stamp = ap (λ row. column row 1) e in
+    let q0 : column b 2 ≡ natural_as_value y.stamp = ap (λ row. column row 1) f in
+    let p1 : column a 0 ≡ natural_as_value x.id = ap (λ row. column row 0) e in
+    let q1 : column b 0 ≡ natural_as_value y.id = ap (λ row. column row 0) f in
+    rw (p0, q0, p1, q1) refl)
+    old new rows shown (λ x y e. second (value_cmp (natural_as_value x.stamp) (natural_as_value y.stamp)) _ e) t tree h
+    ∙ limited_map trade_cells (Some 20) (sort_by (ordering_by_key trade_age) (filter test t.trades))
+    ∙ ap (λ rs. map trade_cells (take 20 rs)) (sym (oldest_are (filter test t.trades)))
+
+pub tells_completed_cash_of_symbol : (old new : State) (symbol : List ℕ) (first last : ℕ) (rows : List Row)
+    → Shown CompletedCashOfSymbol.statement (Words (trade_status_code Completed) ∷ flag_as_value true ∷ Words symbol ∷ natural_as_value first ∷ natural_as_value last ∷ []) old new rows
+    → TablesSatisfy desk_tables (λ t. rows ≡ map trade_cells (first_twenty_completed_cash_trade_rows_of_symbol symbol first last t)) old.now
+tells_completed_cash_of_symbol old new symbol first last rows shown = λ t tree h.
+    let test : TradeRow → Bool = λ r. is_same_trade_status r.status Completed && ((r.is_cash && bytes_eq r.symbol symbol) && row_stamp_is_between first last r) in
+    tells_sorted desk_tables Trades CompletedCashOfSymbol.statement
+    (Words (trade_status_code Completed) ∷ flag_as_value true ∷ Words symbol ∷ natural_as_value first ∷ natural_as_value last ∷ [])
+    (read CompletedCashOfSymbol.statement)
+    CompletedCashOfSymbol.terms CompletedCashOfSymbol.project CompletedCashOfSymbol.order CompletedCashOfSymbol.paging CompletedCashOfSymbol.names CompletedCashOfSymbol.understood_as
+    test
+    (λ tree r x e.
+    let a3 : column r 3 ≡ Words (trade_status_code x.status) = ap (λ row. column row 2) e in
+    let a5 : column r 5 ≡ flag_as_value x.is_cash = ap (λ row. column row 4) e in
+    let a6 : column r 6 ≡ Words x.symbol = ap (λ row. column row 5) e in
+    let a2 : column r 2 ≡ natural_as_value x.stamp = ap (λ row. column row 1) e in
+    rw (
+      a3,
+      a5,
+      a6,
+      a2,
+      same_text (trade_status_code x.status) (trade_status_code Completed),
+      is_done x.status,
+      same_number (cond x.is_cash 1 0) 1,
+      is_set
+          x.is_cash,
+      same_text x.symbol symbol,
+      at_least x.stamp first,
+      at_most x.stamp last,
+    )
+    (ap (λ c. is_same_trade_status x.status Completed && (x.is_cash && (bytes_eq x.symbol symbol && (nat_le first x.stamp && c)))) (and_true _)
+    ∙ ap (λ c. is_same_trade_status x.status Completed && c) (and_assoc x.is_cash (bytes_eq x.symbol symbol) (row_stamp_is_between first last x))))
+    trade_cells (λ tree r x e. e) (ordering_by_key trade_age) (key_total trade_age)
+    (λ tree a b x y e f.
+    let p0 : column a 2 ≡ natural_as_value x.stamp = ap (λ row. column row 1) e in
+    let q0 : column b 2 ≡ natural_as_value y.stamp = ap (λ row. column row 1) f in
+    let p1 : column a 0 ≡ natural_as_value x.id = ap (λ row. column row 0) e in
+    let q1 : column b 0 ≡ natural_as_value y.id = ap (λ row. column row 0) f in
+    rw (p0, q0, p1, q1) refl)
+    old new rows shown (λ x y e. second (value_cmp (natural_as_value x.stamp) (natural_as_value y.stamp)) _ e) t tree h
+    ∙ limited_map trade_cells (Some 20) (sort_by (ordering_by_key trade_age) (filter test t.trades))
+    ∙ ap (λ rs. map trade_cells (take 20 rs)) (sym (oldest_are (filter test t.trades)))
+
+-- ---- what tells the words of a trade
+
+pub tells_settlement : (old new : State) (trade : ℕ) (rows : List Row) → Shown SettlementByTrade.statement (natural_as_value trade ∷ []) old new rows
+    → TablesSatisfy desk_tables (λ t. rows ≡ map settlement_cells (filter (λ r. r.trade == trade) t.settlements)) old.now
+tells_settlement old new trade rows shown =
+    tells_rising desk_tables Settlements SettlementByTrade.statement (natural_as_value trade ∷ []) (read SettlementByTrade.statement) SettlementByTrade.terms
+    SettlementByTrade.project SettlementByTrade.order SettlementByTrade.paging SettlementByTrade.names SettlementByTrade.understood_as
+    (λ (r : SettlementRow). r.trade == trade) (λ tree r x e. let a : column r 0 ≡ natural_as_value x.trade = cc in
+    rw (a, same_number x.trade trade) (and_true _)) settlement_cells (λ tree r x e. e) (ordering_by_primary_key Settlements) (key_total settlement_key)
+    (λ tree a b x y e f. let p : column a 0 ≡ natural_as_value x.trade = cc in let q : column b 0 ≡ natural_as_value y.trade = cc in rw (p, q) refl) old new rows shown (λ x y. refl)

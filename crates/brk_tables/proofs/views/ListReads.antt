@@ -1,0 +1,74 @@
+-- What the statements that read changes of lots, brokers and requests tell of the tables.
+use Rattle.std.proofs.Common.{◌≡◌, ◌∙◌, ℕ, List, [], ◌∷◌, true, map, filter, ◌==◌, refl, ap}
+use Rattle.std.specs.Prelude.{bytes_eq}
+use Rattle.sqlite_value.specs.declared.value.Value.TheVariants.{Text as Words}
+use Rattle.sqlite_value.specs.Order.{Row, column}
+use Rattle.sqlite_tied.proofs.RuleLemmas.{and_true}
+use Rattle.sqlite.specs.State.{State, Shown}
+use Rattle.brk_model.specs.Keys.{broker_key, holding_history_key, request_key}
+use Rattle.brk_model.specs.Tables.{BrokerRow, HoldingHistoryRow}
+use Rattle.brk_sql.specs.Desk.{TablesSatisfy}
+use Rattle.brk_sql.specs.Rows.{cells_in_column_order}
+use Rattle.brk_sql.proofs.Decode.{filter_true}
+use Rattle.brk_sql.proofs.Looks.{tells_rising}
+use Rattle.brk_sql.proofs.Pick.{sorted_by}
+use Rattle.brk_sql.proofs.Texts.{read}
+use Rattle.brk_tables_schema.specs.Cells.{natural_as_value, broker_cells, holding_history_cells, request_cells}
+use Rattle.brk_tables_schema.specs.Desk.{Brokers, HoldingHistory, Requests, desk_tables, ordering_by_primary_key}
+use Rattle.brk_tables_schema.specs.Shapes.{holding_history_table}
+use Rattle.brk_tables_schema.proofs.Order.{key_total}
+use Rattle.brk_tables_schema.proofs.Tests.{same_number, same_text}
+use Rattle.brk_tables.proofs.views.BrokersNamed
+use Rattle.brk_tables.proofs.views.ChangesBy
+use Rattle.brk_tables.proofs.views.ChangesOf
+use Rattle.brk_tables.proofs.views.RequestsByTrade
+
+-- ---- what trades made of lots
+
+-- both statements have one order, which is that of the key
+by_lot : (params : Row) (tree : ℕ) (a b : Row) (x y : HoldingHistoryRow) → cells_in_column_order (holding_history_table tree) a ≡ holding_history_cells x
+    → cells_in_column_order (holding_history_table tree) b ≡ holding_history_cells y
+    → sorted_by params ChangesBy.order a b ≡ ordering_by_primary_key HoldingHistory x y
+by_lot params tree a b x y e f =
+    let p0 : column a 1 ≡ natural_as_value x.lot = ap (λ row. column row 0) e in
+    let q0 : column b 1 ≡ natural_as_value y.lot = ap (λ row. column row 0) f in
+    let p1 : column a 2 ≡ natural_as_value x.trade = ap (λ row. column row 1) e in
+    let q1 : column b 2 ≡ natural_as_value y.trade = ap (λ row. column row 1) f in
+    rw (p0, q0, p1, q1) refl
+
+pub tells_changes_by : (old new : State) (trade : ℕ) (rows : List Row) → Shown ChangesBy.statement (natural_as_value trade ∷ []) old new rows
+    → TablesSatisfy desk_tables (λ t. rows ≡ map holding_history_cells (filter (λ r. r.trade == trade) t.holding_history)) old.now
+tells_changes_by old new trade rows shown =
+    tells_rising desk_tables HoldingHistory ChangesBy.statement (natural_as_value trade ∷ []) (read ChangesBy.statement) ChangesBy.terms ChangesBy.project
+    ChangesBy.order ChangesBy.paging ChangesBy.names ChangesBy.understood_as
+    (λ (r : HoldingHistoryRow). r.trade == trade) (λ tree r x e. let a : column r 2 ≡ natural_as_value x.trade = ap (λ row. column row 1) e in
+    rw (a, same_number x.trade trade) (and_true _)) holding_history_cells (λ tree r x e. e)
+    (ordering_by_primary_key HoldingHistory) (key_total holding_history_key) (by_lot (natural_as_value trade ∷ [])) old new rows shown (λ x y. refl)
+
+pub tells_changes_of : (old new : State) (lot : ℕ) (rows : List Row) → Shown ChangesOf.statement (natural_as_value lot ∷ []) old new rows
+    → TablesSatisfy desk_tables (λ t. rows ≡ map holding_history_cells (filter (λ r. r.lot == lot) t.holding_history)) old.now
+tells_changes_of old new lot rows shown =
+    tells_rising desk_tables HoldingHistory ChangesOf.statement (natural_as_value lot ∷ []) (read ChangesOf.statement) ChangesOf.terms ChangesOf.project
+    ChangesOf.order ChangesOf.paging ChangesOf.names ChangesOf.understood_as
+    (λ (r : HoldingHistoryRow). r.lot == lot) (λ tree r x e. let a : column r 1 ≡ natural_as_value x.lot = ap (λ row. column row 0) e in
+    rw (a, same_number x.lot lot) (and_true _)) holding_history_cells (λ tree r x e. e)
+    (ordering_by_primary_key HoldingHistory) (key_total holding_history_key) (by_lot (natural_as_value lot ∷ [])) old new rows shown (λ x y. refl)
+
+-- ---- brokers, and all requests
+
+pub tells_brokers_named : (old new : State) (name : List ℕ) (rows : List Row) → Shown BrokersNamed.statement (Words name ∷ []) old new rows
+    → TablesSatisfy desk_tables (λ t. rows ≡ map broker_cells (filter (λ r. bytes_eq r.name name) t.brokers)) old.now
+tells_brokers_named old new name rows shown =
+    tells_rising desk_tables Brokers BrokersNamed.statement (Words name ∷ []) (read BrokersNamed.statement) BrokersNamed.terms BrokersNamed.project
+    BrokersNamed.order BrokersNamed.paging BrokersNamed.names BrokersNamed.understood_as
+    (λ (r : BrokerRow). bytes_eq r.name name) (λ tree r x e. let a : column r 2 ≡ Words x.name = ap (λ row. column row 1) e in
+    rw (a, same_text x.name name) (and_true _)) broker_cells (λ tree r x e. e) (ordering_by_primary_key Brokers) (key_total broker_key)
+    (λ tree a b x y e f. let p : column a 0 ≡ natural_as_value x.id = cc in let q : column b 0 ≡ natural_as_value y.id = cc in rw (p, q) refl) old new rows shown (λ x y. refl)
+
+pub tells_requests : (old new : State) (rows : List Row) → Shown RequestsByTrade.statement [] old new rows → TablesSatisfy desk_tables (λ t. rows ≡ map request_cells t.requests) old.now
+tells_requests old new rows shown = λ t tree h.
+    tells_rising desk_tables Requests RequestsByTrade.statement [] (read RequestsByTrade.statement) RequestsByTrade.terms RequestsByTrade.project
+    RequestsByTrade.order RequestsByTrade.paging RequestsByTrade.names RequestsByTrade.understood_as
+    (λ _. true) (λ tree r x e. refl) request_cells (λ tree r x e. e) (ordering_by_primary_key Requests) (key_total request_key)
+    (λ tree a b x y e f. let p : column a 0 ≡ natural_as_value x.trade = cc in let q : column b 0 ≡ natural_as_value y.trade = cc in rw (p, q) refl) old new rows shown (λ x y. refl) t tree h
+    ∙ ap (map request_cells) (filter_true t.requests)

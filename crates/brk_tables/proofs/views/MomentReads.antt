@@ -1,0 +1,140 @@
+-- What the statements that read trades by their moments tell of the tables.
+use Rattle.std.proofs.Common.{◌≡◌, ℕ, List, [], ◌∷◌, Bool, true, false, not, cond, ◌&&◌, ◌||◌, map, filter, take, ◌==◌, Ordering, Less, Equal, Greater, is_eq, Some, refl, sym, ap, ◌∙◌, arith}
+use Rattle.std.specs.Prelude.{bytes_eq, nat_le, nat_lt}
+use Rattle.std.specs.Ordering.{ordering_then}
+use Rattle.std.proofs.lemmas.Bool.Decides.{nat_tests}
+use Rattle.sqlite_value.specs.declared.value.Value.TheVariants.{Text as Words}
+use Rattle.sqlite_value.specs.Order.{Row, column, value_cmp}
+use Rattle.sqlite_keyed.specs.Lists.{sort_by}
+use Rattle.sqlite_tied.proofs.RuleLemmas.{and_true}
+use Rattle.sqlite.specs.State.{State, Shown}
+use Rattle.brk_model.specs.Joins.{trade_rows_oldest_first, trade_rows_of_account}
+use Rattle.brk_model.specs.Keys.{KeyPart, number, rows_sorted_by_key, insert_row_by_key}
+use Rattle.brk_model.specs.Lists as model
+use Rattle.brk_model.specs.LookupView.{row_stamp_is_between}
+use Rattle.brk_model.specs.Tables.{TradeRow}
+use Rattle.brk_sql.specs.Desk.{TablesSatisfy}
+use Rattle.brk_sql.specs.Rows.{cells_in_column_order}
+use Rattle.brk_sql.proofs.Answer.{limited_map}
+use Rattle.brk_sql.proofs.Looks.{tells_sorted}
+use Rattle.brk_sql.proofs.Pick.{sorted_by}
+use Rattle.brk_sql.proofs.Texts.{read}
+use Rattle.brk_tables_schema.specs.Cells.{natural_as_value, trade_cells}
+use Rattle.brk_tables_schema.specs.Desk.{Trades, desk_tables}
+use Rattle.brk_tables_schema.specs.Order.{ordering_by_key}
+use Rattle.brk_tables_schema.specs.Shapes.{trade_table}
+use Rattle.brk_tables_schema.proofs.Compared.{at_least, at_most}
+use Rattle.brk_tables_schema.proofs.Order.{key_total, inserted}
+use Rattle.brk_tables_schema.proofs.Tests.{same_number, same_text}
+use Rattle.brk_tables.proofs.views.FirstSince
+use Rattle.brk_tables.proofs.views.TwentyOfAccount
+use Rattle.brk_tables.proofs.views.TwentyOfSymbol
+
+-- ---- the oldest trades first
+
+-- the moment of a trade, and then its id
+abbrev pub trade_age : TradeRow → List KeyPart
+trade_age r = number r.stamp ∷ number r.id ∷ []
+
+abbrev pub rising : TradeRow → TradeRow → Ordering
+rising = ordering_by_key trade_age
+
+by_numbers : (m n j k : ℕ) → nat_lt m n || ((m == n) && nat_lt j k) ≡ nat_lt m n || (not (nat_lt n m) && (nat_lt j k || (not (nat_lt k j) && false)))
+by_numbers m n j k = grind (arith, nat_tests)
+
+-- the order of the model and that of the database are one
+sorted : {X : Type 0} (key : X → List KeyPart) (xs : List X) → rows_sorted_by_key key xs ≡ sort_by (ordering_by_key key) xs
+unfolding Rattle.brk_model.specs.Lists.sort_by
+sorted key [] = refl
+sorted key (x ∷ xs) = ap (insert_row_by_key key x) (sorted key xs) ∙ inserted key x (sort_by (ordering_by_key key) xs)
+
+pub oldest_are : (rows : List TradeRow) → trade_rows_oldest_first rows ≡ sort_by rising rows
+oldest_are rows = (λ i. model.sort_by (λ (a b : TradeRow). by_numbers a.stamp b.stamp a.id b.id i) rows) ∙ sorted trade_age rows
+
+-- trades of one moment and one id are one
+pub second : (a b : Ordering) → is_eq (ordering_then a b) ≡ true → is_eq b ≡ true
+second Less b h = absurd (let f = h in cc)
+second Equal b h = h
+second Greater b h = absurd (let f = h in cc)
+
+-- the three statements have one order, which is that of these moments
+by_age : (params : Row) (tree : ℕ) (a b : Row) (x y : TradeRow) → cells_in_column_order (trade_table tree) a ≡ trade_cells x
+    → cells_in_column_order (trade_table tree) b ≡ trade_cells y → sorted_by params TwentyOfAccount.order a b ≡ rising x y
+by_age params tree a b x y e f =
+    let p0 : column a 2 ≡ natural_as_value x.stamp = ap (λ row. column row 1) e in
+    let q0 : column b 2 ≡ natural_as_value y.stamp = ap (λ row. column row 1) f in
+    let p1 : column a 0 ≡ natural_as_value x.id = ap (λ row. column row 0) e in
+    let q1 : column b 0 ≡ natural_as_value y.id = ap (λ row. column row 0) f in
+    rw (p0, q0, p1, q1) refl
+
+-- the first of those that are shown are the first of those that there are
+first_shown : (n : ℕ) (rows : List TradeRow) → take n (map trade_cells (sort_by rising rows)) ≡ map trade_cells (take n (trade_rows_oldest_first rows))
+first_shown n rows = limited_map trade_cells (Some n) (sort_by rising rows) ∙ ap (λ rs. map trade_cells (take n rs)) (sym (oldest_are rows))
+
+-- ---- between two stamps
+
+pub tells_twenty_of_account : (old new : State) (account first last : ℕ) (rows : List Row)
+    → Shown TwentyOfAccount.statement (natural_as_value account ∷ natural_as_value first ∷ natural_as_value last ∷ []) old new rows
+    → TablesSatisfy desk_tables (λ t. rows ≡ map trade_cells (take 20 (trade_rows_oldest_first (filter (λ r. (r.account == account) && row_stamp_is_between first last r) t.trades)))) old.now
+tells_twenty_of_account old new account first last rows shown = λ t tree h.
+    let test : TradeRow → Bool = λ r. (r.account == account) && row_stamp_is_between first last r in
+    let params : Row = natural_as_value account ∷ natural_as_value first ∷ natural_as_value last ∷ [] in
+    tells_sorted desk_tables Trades TwentyOfAccount.statement params (read TwentyOfAccount.statement)
+    TwentyOfAccount.terms TwentyOfAccount.project TwentyOfAccount.order TwentyOfAccount.paging TwentyOfAccount.names TwentyOfAccount.understood_as
+    test
+    (λ tree r x e.
+    let a9 : column r 9 ≡ natural_as_value x.account = ap (λ row. column row 8) e in
+    let a2 : column r 2 ≡ natural_as_value x.stamp = ap (λ row. column row 1) e in
+    rw (a9, a2, same_number x.account account, at_least x.stamp first, at_most x.stamp last)
+    (ap (λ c. (x.account == account) && (nat_le first x.stamp && c)) (and_true _)))
+    trade_cells (λ tree r x e. e) rising (key_total trade_age) (by_age params)
+    old new rows shown (λ x y e. second (value_cmp (natural_as_value x.stamp) (natural_as_value y.stamp)) _ e) t tree h
+    ∙ first_shown 20 (filter test t.trades)
+
+pub tells_twenty_of_symbol : (old new : State) (symbol : List ℕ) (first last : ℕ) (rows : List Row)
+    → Shown TwentyOfSymbol.statement (Words symbol ∷ natural_as_value first ∷ natural_as_value last ∷ []) old new rows
+    → TablesSatisfy desk_tables (λ t. rows ≡ map trade_cells (take 20 (trade_rows_oldest_first (filter (λ r. bytes_eq r.symbol symbol && row_stamp_is_between first last r) t.trades)))) old.now
+tells_twenty_of_symbol old new symbol first last rows shown = λ t tree h.
+    let test : TradeRow → Bool = λ r. bytes_eq r.symbol symbol && row_stamp_is_between first last r in
+    let params : Row = Words symbol ∷ natural_as_value first ∷ natural_as_value last ∷ [] in
+    tells_sorted desk_tables Trades TwentyOfSymbol.statement params (read TwentyOfSymbol.statement)
+    TwentyOfSymbol.terms TwentyOfSymbol.project TwentyOfSymbol.order TwentyOfSymbol.paging TwentyOfSymbol.names TwentyOfSymbol.understood_as
+    test
+    (λ tree r x e.
+    let a6 : column r 6 ≡ Words x.symbol = ap (λ row. column row 5) e in
+    let a2 : column r 2 ≡ natural_as_value x.stamp = ap (λ row. column row 1) e in
+    rw (a6, a2, same_text x.symbol symbol, at_least x.stamp first, at_most x.stamp last)
+    (ap (λ c. bytes_eq x.symbol symbol && (nat_le first x.stamp && c)) (and_true _)))
+    trade_cells (λ tree r x e. e) rising (key_total trade_age) (by_age params)
+    old new rows shown (λ x y e. second (value_cmp (natural_as_value x.stamp) (natural_as_value y.stamp)) _ e) t tree h
+    ∙ first_shown 20 (filter test t.trades)
+
+-- ---- at or after a stamp
+
+-- what passes one test of what passes another passes both
+filter_twice : {X : Type 0} (p q : X → Bool) (xs : List X) → filter (λ x. q x && p x) xs ≡ filter p (filter q xs)
+filter_twice p q [] = refl
+filter_twice {X} p q (x ∷ xs) = by_test (q x) (filter_twice p q xs)
+  where
+    by_test : (b : Bool) → filter (λ x. q x && p x) xs ≡ filter p (filter q xs)
+        → cond (b && p x) (x ∷ filter (λ x. q x && p x) xs) (filter (λ x. q x && p x) xs) ≡ filter p (cond b (x ∷ filter q xs) (filter q xs))
+    by_test true h = ap (λ ys. cond (p x) (x ∷ ys) ys) h
+    by_test false h = h
+
+pub tells_first_since : (old new : State) (account first : ℕ) (rows : List Row) → Shown FirstSince.statement (natural_as_value account ∷ natural_as_value first ∷ []) old new rows
+    → TablesSatisfy desk_tables (λ t. rows ≡ map trade_cells (take 1 (trade_rows_oldest_first (filter (λ r. nat_le first r.stamp) (trade_rows_of_account t account))))) old.now
+tells_first_since old new account first rows shown = λ t tree h.
+    let test : TradeRow → Bool = λ r. (r.account == account) && nat_le first r.stamp in
+    let params : Row = natural_as_value account ∷ natural_as_value first ∷ [] in
+    tells_sorted desk_tables Trades FirstSince.statement params (read FirstSince.statement)
+    FirstSince.terms FirstSince.project FirstSince.order FirstSince.paging FirstSince.names FirstSince.understood_as
+    test
+    (λ tree r x e.
+    let a9 : column r 9 ≡ natural_as_value x.account = ap (λ row. column row 8) e in
+    let a2 : column r 2 ≡ natural_as_value x.stamp = ap (λ row. column row 1) e in
+    rw (a9, a2, same_number x.account account, at_least x.stamp first)
+    (ap (λ c. (x.account == account) && c) (and_true _)))
+    trade_cells (λ tree r x e. e) rising (key_total trade_age) (by_age params)
+    old new rows shown (λ x y e. second (value_cmp (natural_as_value x.stamp) (natural_as_value y.stamp)) _ e) t tree h
+    ∙ first_shown 1 (filter test t.trades)
+    ∙ ap (λ (rs : List TradeRow). map trade_cells (take 1 (trade_rows_oldest_first rs))) (filter_twice (λ (r : TradeRow). nat_le first r.stamp) (λ (r : TradeRow). r.account == account) t.trades)

@@ -1,0 +1,56 @@
+-- What the statement of a walk over completed trades tells of the tables.
+use Rattle.std.proofs.Common.{◌≡◌, ◌∙◌, List, [], ◌∷◌, ◌++◌, IsTrue, map, filter, refl, sym, ap}
+use Rattle.std.specs.Prelude.{bytes_eq}
+use Rattle.sqlite_value.specs.declared.value.Value.TheVariants.{Text as Words}
+use Rattle.sqlite_value.specs.Order.{Row, column, value_cmp}
+use Rattle.sqlite_tied.proofs.RuleLemmas.{and_true}
+use Rattle.sqlite.specs.State.{State, Shown, Begins}
+use Rattle.brk_money.specs.Kinds.{is_same_trade_status, trade_status_code}
+use Rattle.brk_money.specs.declared.status.Status.{Status}
+use Rattle.brk_money.specs.declared.status.Status.TheVariants.{Completed, Active, Submitted, Pending, Canceled}
+use Rattle.brk_model.specs.Tables.{TradeRow}
+use Rattle.brk_sql.specs.Desk.{TablesSatisfy}
+use Rattle.brk_sql.proofs.Looks.{tells_sorted}
+use Rattle.brk_sql.proofs.Texts.{read}
+use Rattle.brk_tables_schema.specs.Cells.{natural_as_value, trade_cells}
+use Rattle.brk_tables_schema.specs.Desk.{Trades, desk_tables}
+use Rattle.brk_tables_schema.specs.Order.{ordering_by_key}
+use Rattle.brk_tables_schema.proofs.Order.{key_total}
+use Rattle.brk_tables_schema.proofs.Tests.{same_text}
+use Rattle.brk_tables.specs.Lists.{completed_trades_by_stamp_and_id, stamp_and_id_key}
+use Rattle.brk_tables.proofs.views.CompletedByAge
+use Rattle.brk_tables.proofs.views.Starts.{tells_start}
+use Rattle.brk_tables.proofs.views.Telling.{second, sorted}
+
+-- a code is that of what is completed where the status is
+is_done : (s : Status) → bytes_eq (trade_status_code s) (trade_status_code Completed) ≡ is_same_trade_status s Completed
+is_done Completed = refl
+is_done Active = refl
+is_done Submitted = refl
+is_done Pending = refl
+is_done Canceled = refl
+
+pub tells_completed_by_age : (old new : State) (rows : List Row) → Shown CompletedByAge.statement (Words (trade_status_code Completed) ∷ []) old new rows
+    → TablesSatisfy desk_tables (λ t. rows ≡ map trade_cells (completed_trades_by_stamp_and_id t)) old.now
+tells_completed_by_age old new rows shown = λ t tree h.
+    tells_sorted desk_tables Trades CompletedByAge.statement (Words (trade_status_code Completed) ∷ []) (read CompletedByAge.statement) CompletedByAge.terms
+    CompletedByAge.project CompletedByAge.order CompletedByAge.paging CompletedByAge.names CompletedByAge.understood_as
+    (λ (r : TradeRow). is_same_trade_status r.status Completed)
+    (λ tree r x e. let a3 : column r 3 ≡ Words (trade_status_code x.status) = ap (λ row. column row 2) e in
+    rw (a3, same_text (trade_status_code x.status) (trade_status_code Completed), is_done x.status) (and_true _))
+    trade_cells (λ tree r x e. e) (ordering_by_key stamp_and_id_key) (key_total stamp_and_id_key)
+    (λ tree a b x y e f.
+    let p0 : column a 2 ≡ natural_as_value x.stamp = ap (λ row. column row 1) e in
+    let q0 : column b 2 ≡ natural_as_value y.stamp = ap (λ row. column row 1) f in
+    let p1 : column a 0 ≡ natural_as_value x.id = ap (λ row. column row 0) e in
+    let q1 : column b 0 ≡ natural_as_value y.id = ap (λ row. column row 0) f in
+    rw (p0, q0, p1, q1) refl)
+    old new rows shown (λ x y e. second (value_cmp (natural_as_value x.stamp) (natural_as_value y.stamp)) _ e) t tree h
+    ∙ ap (map trade_cells) (sym (sorted stamp_and_id_key (filter (λ (r : TradeRow). is_same_trade_status r.status Completed) t.trades)))
+
+pub completed_start : (s : State) (rows : List Row) → IsTrue s.is_open → Begins CompletedByAge.statement (Words (trade_status_code Completed) ∷ []) s rows
+    → TablesSatisfy desk_tables (λ t. (tail : List Row) × (rows ++ tail ≡ map trade_cells (completed_trades_by_stamp_and_id t))) s.now
+completed_start s rows up begins =
+    tells_start desk_tables Trades CompletedByAge.statement (Words (trade_status_code Completed) ∷ []) (read CompletedByAge.statement) CompletedByAge.terms
+    CompletedByAge.project CompletedByAge.order CompletedByAge.paging CompletedByAge.names CompletedByAge.understood_as s rows begins up
+    (λ t all. all ≡ map trade_cells (completed_trades_by_stamp_and_id t)) (λ all. tells_completed_by_age s s all)

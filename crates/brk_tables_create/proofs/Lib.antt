@@ -1,4 +1,0 @@
-pub mod AddDesk
-pub mod Makes
-pub mod Running
-pub mod Founding

@@ -1,4 +1,0 @@
-pub mod Decode
-pub mod Values
-pub mod SameTables
-pub mod OneTables

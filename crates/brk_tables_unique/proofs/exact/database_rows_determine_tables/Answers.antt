@@ -1,5 +1,0 @@
-use Rattle.brk_tables_unique.proofs.OneTables.{one_tables}
-use Rattle.brk_tables_unique.proofs.exact.database_rows_determine_tables.Goals as goal
-
-pub returns : goal.returns
-returns c = one_tables
