@@ -17,7 +17,7 @@ use Rattle.brk_store.specs.Audited.{Represents}
 use Rattle.brk_store.specs.Holds.{HoldsRows, ReadPost}
 use Rattle.brk_queries.specs.QueryResults.{AnswersQueryAsModel}
 use Rattle.brk_desk.specs.CallPosts.{AskPost}
-use Rattle.brk_commit.proofs.Seen.{still_kept}
+use Rattle.brk_desk.proofs.Seen.{still_kept}
 
 -- a view that was read carries its rows over each base whose books are kept
 carried_rows : {S : Type 0} (g : Ghosts S) (old : Held S) (query : Query) (seen : Result View Refusal) → ((t : Tables) → HoldsRows g old t → AnswersQueryAsModel query seen t)

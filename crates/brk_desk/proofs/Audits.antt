@@ -7,7 +7,7 @@ use Rattle.brk_model.specs.Sheets.{sheets}
 use Rattle.brk_store.specs.Audited.{AuditPost}
 use Rattle.brk_store.proofs.Taking.{sound_books_pass}
 use Rattle.brk_desk.specs.CallPosts.{DeskAuditPost}
-use Rattle.brk_commit.proofs.Seen.{still_kept}
+use Rattle.brk_desk.proofs.Seen.{still_kept}
 
 pub audits : {S : Type 0} (g : Ghosts S) (old new : Held S) (result : Result (Unit {0}) Fault) → AuditPost g old new result → DeskAuditPost g old new result
 audits g old new result audit = record {

@@ -10,3 +10,8 @@ pub mod Made
 pub mod UpgradedRows
 pub mod Defined
 pub mod UpgradeRecovery
+pub mod Seen
+pub mod RowTexts
+pub mod Leaving
+pub mod Kept
+pub mod Calling

@@ -22,15 +22,15 @@ use Rattle.brk_store.proofs.Found.{found_again}
 use Rattle.brk_store.proofs.Taking.{sound_books_pass, third_audited}
 use Rattle.brk_desk.specs.Answers.{model_outcome}
 use Rattle.brk_desk.specs.Commands.{model_call}
-use Rattle.brk_commit.specs.Booked.{CommandPost, IsDiskContentAfterCommand, base_after_keyed_command}
+use Rattle.brk_desk.specs.Booked.{CommandPost, IsDiskContentAfterCommand, base_after_keyed_command}
 use Rattle.brk_desk.specs.CallPosts.{RunPost}
 use Rattle.brk_desk.specs.Reopening.{IsNewConnectionToDiskContent, IsNewConnectionAfterCrash, FindsBaseWithoutDamage, RepresentsDurableBase}
 use Rattle.brk_desk.specs.CrashBases.{CrashMayExposeBase}
-use Rattle.brk_commit.specs.Answers.{CommandAnswer}
+use Rattle.brk_desk.specs.CommandAnswers.{CommandAnswer}
 use Rattle.brk_desk.specs.declared.call.Call.{Call}
 use Rattle.brk_desk.specs.declared.call.Outcome.{Outcome}
 use Rattle.brk_desk.proofs.AtFirst.{made_keeps, stands}
-use Rattle.brk_commit.proofs.Seen.{still_kept}
+use Rattle.brk_desk.proofs.Seen.{still_kept}
 
 pub made_stands : {S : Type 0} (g : Ghosts S) (conn store : Held S) → CreatePost g conn store (Ok tt) → HasCleanDisk (state g store) → RepresentsDurableBase g store empty_base
 made_stands g conn store created clean = record {

@@ -11,7 +11,7 @@ use Rattle.brk_invariant_theorems.specs.Runs.{CallMeetsAuditFormats}
 use Rattle.brk_store.specs.Holds.{IsDiskContentOfRows, WasOpenAndIsUnchanged, CrashStatesSatisfy}
 use Rattle.brk_store.proofs.Sequences.{same_then}
 use Rattle.brk_desk.specs.CrashBases.{AcknowledgesNothing, CrashMayExposeBase}
-use Rattle.brk_commit.proofs.Seen.{still}
+use Rattle.brk_desk.proofs.Seen.{still}
 use Rattle.brk_desk.proofs.Stopping.{may_be_there, quiet_leaves, stands_still}
 use Rattle.brk_ref.specs.declared.answer.Answer.TheVariants as given
 use Rattle.sqlite_trees.specs.declared.store.Store.{Ghosts}
@@ -25,12 +25,12 @@ use Rattle.brk_model.specs.Queries as model
 use Rattle.brk_model.specs.Run.{IsOutcomeOfCall, Ask, IsCallFault, Run}
 use Rattle.brk_view.specs.Queries.{abstract_query}
 use Rattle.brk_view.specs.declared.view.View.{View}
-use Rattle.brk_commit.specs.Answers.{CommandAnswer, IsNotDoneResult, model_answer}
+use Rattle.brk_desk.specs.CommandAnswers.{CommandAnswer, IsNotDoneResult, model_answer}
 use Rattle.brk_desk.specs.Answers.{outcome_of_command, model_outcome, outcome_of_query}
 use Rattle.brk_commands.specs.Commands.{abstract_command}
-use Rattle.brk_commit.specs.Keys.{optional_model_key}
+use Rattle.brk_desk.specs.Keys.{optional_model_key}
 use Rattle.brk_desk.specs.Commands.{model_call}
-use Rattle.brk_commit.specs.Booked.{CommandPost, IsDiskContentAfterCommand, base_after_keyed_command}
+use Rattle.brk_desk.specs.Booked.{CommandPost, IsDiskContentAfterCommand, base_after_keyed_command}
 use Rattle.brk_store.specs.Audited.{Represents}
 use Rattle.brk_desk.specs.CallPosts.{OutcomesAcknowledgeNothing, IsDiskContentWithAcknowledgedCommands, AskPost, FailsOnlyWithMemoryOrStore, CrashMayExposeDiskContent, OutcomePost, RunPost}
 use Rattle.brk_desk.specs.declared.call.Call.{Call}

@@ -33,13 +33,13 @@ use Rattle.brk_queries.specs.QueryResults.{model_query_result}
 use Rattle.brk_view.specs.Carried.{HasRowsOfQuery}
 use Rattle.brk_view.specs.Queries.{abstract_query}
 use Rattle.brk_view.specs.declared.view.View.{View}
-use Rattle.brk_commit.specs.Booked.{CommandPost, PreservesRepresentation}
+use Rattle.brk_desk.specs.Booked.{CommandPost, PreservesRepresentation}
 use Rattle.brk_desk.specs.Answers.{outcome_of_command, model_outcome, outcome_of_query}
 use Rattle.brk_commands.specs.Commands.{abstract_command}
-use Rattle.brk_commit.specs.Keys.{optional_model_key}
+use Rattle.brk_desk.specs.Keys.{optional_model_key}
 use Rattle.brk_desk.specs.Commands.{model_call}
 use Rattle.brk_desk.specs.CrashBases.{AcknowledgesNothing, CrashMayExposeBase}
-use Rattle.brk_commit.specs.Answers.{CommandAnswer}
+use Rattle.brk_desk.specs.CommandAnswers.{CommandAnswer}
 use Rattle.brk_desk.specs.declared.call.Call.{Call}
 use Rattle.brk_desk.specs.declared.call.Call.TheVariants as call
 use Rattle.brk_desk.specs.declared.call.Outcome.{Outcome}

@@ -1,7 +1,7 @@
 -- The call of the model (`run.Call` of brk_model) that a desk's call (`Call` of this crate)
 -- represents.
 use Rattle.std.specs.Prelude.{ℕ}
-use Rattle.brk_commit.specs.Keys.{optional_model_key}
+use Rattle.brk_desk.specs.Keys.{optional_model_key}
 use Rattle.brk_commands.specs.Commands.{abstract_command}
 use Rattle.brk_model.specs.Run as run
 use Rattle.brk_view.specs.Queries.{abstract_query}

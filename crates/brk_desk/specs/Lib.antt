@@ -4,3 +4,6 @@ pub mod CallPosts
 pub mod CrashBases
 pub mod Reopening
 pub mod Runs
+pub mod CommandAnswers
+pub mod Booked
+pub mod Keys

@@ -1,8 +1,8 @@
 ghost use Rattle.std.specs.Prelude.{◌≡◌};
 ghost use Rattle.brk_desk.specs.Answers.{outcome_of_command, outcome_of_query};
 
+use crate::CommandAnswer;
 use brk_commands::Command;
-use brk_commit::CommandAnswer;
 use brk_money::{Fault, Planned, Refusal};
 use brk_ref::Key;
 use brk_view::{Query, View};

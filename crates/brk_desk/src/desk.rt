@@ -1,8 +1,8 @@
 use crate::asking::answer_query;
+use crate::booking::{CommandAnswer, execute_and_commit_command};
 use crate::call::{Call, Outcome};
 use brk_changes::{HoldingRow, MoveRow, TradeRow};
 use brk_commands::Command;
-use brk_commit::{CommandAnswer, execute_and_commit_command};
 use brk_explain_reads::{
     read_account_details, read_broker_details, read_holding_details, read_trade_details,
     visit_completed_trades_of_broker,
@@ -65,8 +65,8 @@ impl<S: Alter> Desk<S> {
     ghost use Rattle.std.specs.Prelude.{◌≡◌, ◌≢◌, ◌++◌, List, Err, IfErr, OnOk, OnErr};
     ghost use Rattle.std.specs.Option.{option_copied};
     ghost use Rattle.brk_commands.specs.Commands.{abstract_command};
-    ghost use Rattle.brk_commit.specs.Keys.{optional_model_key};
-    ghost use Rattle.brk_commit.specs.Booked.{CommandPost};
+    ghost use Rattle.brk_desk.specs.Keys.{optional_model_key};
+    ghost use Rattle.brk_desk.specs.Booked.{CommandPost};
     ghost use Rattle.brk_desk.specs.CallPosts.{AskPost, DeskAuditPost, OutcomePost};
     ghost use Rattle.brk_desk.specs.Runs.{IsRunWithOutcomes};
     ghost use Rattle.brk_desk.specs.declared.call.Outcome as desk_outcome;

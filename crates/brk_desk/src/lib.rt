@@ -1,20 +1,25 @@
 //! The desk executes commands, with or without keys, and answers queries: one call, or a list of
-//! calls in order.
+//! calls in order. A command is executed in one transaction: the decision on it and, if it is
+//! accepted, its commit. Under each key a command is accepted at most once.
 #![tactic(auto)]
 
 mod asking;
 pub mod beginning;
+pub mod booking;
 pub mod call;
+mod deciding;
 pub mod desk;
+mod formats;
+mod keeping;
 pub mod reopening;
 pub mod runs;
 mod viewing;
 
+pub use booking::CommandAnswer;
 pub use brk_commands::{Command, line_text, parse_row, row_text};
-pub use brk_commit::{Answer, CommandAnswer};
 pub use brk_money::{Fault, Planned, Refusal, Stamp};
 pub use brk_queries::StatementHead;
-pub use brk_ref::Key;
+pub use brk_ref::{Answer, Key};
 pub use brk_store;
 pub use brk_store::{Visitor, WalkError};
 pub use brk_view::{Query, View, parse_query};

@@ -1,11 +1,9 @@
 //! Jobs on a desk that is in memory, or in a file that is closed at the end.
 
-use crate::{ask, batch, explain, serve, statement};
+use crate::{FileDesk, ask, batch, explain, file, serve, statement};
 use brk_args::Job;
 use brk_desk::Desk;
 use brk_exit::{Ending, ending_after_close};
-use brk_files as file;
-use brk_files::FileDesk;
 use brk_money::Fault;
 use brk_report::Form;
 use brk_store::Store;

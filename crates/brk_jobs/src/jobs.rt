@@ -1,8 +1,8 @@
 use crate::audit::write_audit_ok;
 use crate::desk::{execute_job_and_close_desk_file, execute_job_on_new_desk_in_memory};
+use crate::file;
 use brk_args::{Job, UsageFault, read_words};
 use brk_exit::Ending;
-use brk_files as file;
 use brk_io::write_all_bytes;
 use std::io::{Read, Write};
 

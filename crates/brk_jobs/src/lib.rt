@@ -1,4 +1,4 @@
-//! The jobs of the program.
+//! The jobs of the program, over a desk in memory or in a file.
 #![tactic(auto)]
 
 mod ask;
@@ -7,6 +7,7 @@ mod batch;
 mod borrowed;
 mod desk;
 mod explain;
+pub mod file;
 pub mod jobs;
 mod pipe;
 mod serve;

@@ -3,7 +3,7 @@
 use brk_clock::ProgramClock;
 use brk_desk::Desk;
 use brk_exit::Ending;
-use brk_http::{ListenFault, serve_on};
+use brk_interfaces::http::{ListenFault, serve_on};
 use brk_money::Stamp;
 use sqlite::Alter;
 use std::net::TcpListener;

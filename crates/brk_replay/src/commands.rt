@@ -9,10 +9,10 @@ use crate::records::{
 };
 use crate::replay::{Piece, append_escaped_output_lines, append_output_line};
 use crate::tests::execute_test_command;
-use brk_http::serve_stream;
-use brk_import::brk_desk::Desk;
-use brk_import::brk_desk::brk_store::Store;
-use brk_import::{Clock, FaultKind, run_batch};
+use brk_interfaces::batches::{Clock, FaultKind, run_batch};
+use brk_interfaces::brk_desk::Desk;
+use brk_interfaces::brk_desk::brk_store::Store;
+use brk_interfaces::http::serve_stream;
 use brk_money::{Fault, Refusal, Stamp, parse_day};
 use brk_orders::parse_stamp;
 use brk_ref::parse_id;

@@ -4,7 +4,7 @@
 use crate::failed::OutOfMemory;
 use crate::replay::{Piece, append_escaped_bytes, append_escaped_output_lines, append_output_line};
 use crate::table_list::TABLES;
-use brk_import::brk_desk::{Desk, parse_query};
+use brk_interfaces::brk_desk::{Desk, parse_query};
 use brk_money::{Planned, Refusal};
 use brk_report::{Form, ReportFault};
 use brk_view::View;

@@ -1,7 +1,7 @@
 //! The test of streams over sockets of this machine, in one process.
 
-use brk_http::{ListenFault, serve_on};
-use brk_import::brk_desk::Desk;
+use brk_interfaces::brk_desk::Desk;
+use brk_interfaces::http::{ListenFault, serve_on};
 use brk_tests::{Still, expect, new_desk, open_in_memory};
 use sqlite::{Alter, Connection};
 use std::alloc::Global;

@@ -1,7 +1,7 @@
 //! Parsing of rows and queries into calls.
 
 use crate::worked::FIRST_MOMENT;
-use brk_import::brk_desk::{Call, parse_query, parse_row};
+use brk_interfaces::brk_desk::{Call, parse_query, parse_row};
 use brk_money::Stamp;
 use brk_ref::{BatchName, Key, RowNumber};
 use std::alloc::{AllocError, Global};

@@ -9,7 +9,7 @@ use crate::files::machine::{
     perform_job_until_crash, run_batch_until_crash,
 };
 use crate::worked::{FIRST_MOMENT, append_end_record, append_purchase};
-use brk_import::brk_desk::brk_store::Store;
+use brk_interfaces::brk_desk::brk_store::Store;
 use brk_lots::{LotSource, close};
 use brk_money::{Id, Price, Qty, Side, Stamp};
 use brk_ref::Symbol;

@@ -3,9 +3,9 @@
 use crate::desks::{desk_with_reference_data, expect, new_desk, open_in_memory, run_batch_at_desk};
 use crate::row_calls::{parse_keyed_row_call, parse_query_call, parse_row_call, split_fields};
 use crate::worked::append_end_record;
-use brk_import::brk_desk::brk_store::Store;
-use brk_import::brk_desk::{Answer, Call, Desk, Outcome, line_text};
-use brk_import::{BatchFault, Counts};
+use brk_interfaces::batches::{BatchFault, Counts};
+use brk_interfaces::brk_desk::brk_store::Store;
+use brk_interfaces::brk_desk::{Answer, Call, Desk, Outcome, line_text};
 use brk_money::{Id, Stamp};
 use brk_trade::Reply;
 use brk_view::View;

@@ -5,7 +5,7 @@ use crate::desks::{
 };
 use crate::faulty::Narrow;
 use brk_changes::MoveRow;
-use brk_import::brk_desk::Desk;
+use brk_interfaces::brk_desk::Desk;
 use brk_lots::Lot;
 use brk_money::{Day, Fault, Id, Stamp, Wide, parse_day};
 use brk_report::ReportFault;

@@ -1,5 +1,0 @@
-pub mod Seen
-pub mod RowTexts
-pub mod Leaving
-pub mod Kept
-pub mod Calling

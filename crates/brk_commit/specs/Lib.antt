@@ -1,3 +1,0 @@
-pub mod Answers
-pub mod Booked
-pub mod Keys

@@ -1,0 +1,93 @@
+//! Stored requests and replies: the rows of KEPT, which accepted commands add under their keys and
+//! which answer retries.
+
+ghost use Rattle.std.specs.Prelude.{◌≡◌, IfOk, IfErr, OnErr, Err};
+ghost use Rattle.std.specs.Option.{option_copied};
+ghost use Rattle.brk_commands.specs.Commands.{abstract_command};
+ghost use Rattle.brk_desk.specs.CommandAnswers.{model_answer};
+ghost use Rattle.brk_desk.specs.Keys.{optional_model_key};
+ghost use Rattle.brk_desk.specs.Keys.{ReadStoredReplyPost, tables_with_stored_command};
+ghost use Rattle.brk_model.specs.Base.{Base};
+ghost use Rattle.brk_model.specs.Keyed.{answer_and_base_of_retry};
+ghost use Rattle.brk_model.specs.Run.{IsCallFault};
+ghost use Rattle.brk_model.specs.Tables.{Tables};
+ghost use Rattle.brk_money.specs.declared.fault.Fault.TheVariants.{Memory};
+ghost use Rattle.brk_changes.specs.Changes.{tables_after_changes};
+ghost use Rattle.brk_plans.specs.Replies.{abstract_reply};
+ghost use Rattle.brk_ref.specs.Records.{abstract_kept_row};
+
+use crate::booking::CommandAnswer;
+use brk_commands::{Command, line_text, row_text};
+use brk_money::{Fault, Refusal};
+use brk_ref::{Answer, Kept, Key};
+use brk_store::Store;
+use brk_trade::{Change, Plan};
+use sqlite::Alter;
+use std::alloc::Global;
+
+// Returns the row of KEPT under the key `key`, which has the stored request and the stored reply,
+// or `None` if there is no key or no such row. If the database is still open, it is unchanged.
+// Without a key the store is unchanged, and the function does not fail. Fails with `Memory` or
+// `Store` only; with `Store` also if the row is malformed.
+pub(crate) fn read_stored_reply<S: Alter>(
+    store: &mut Store<S>,
+    key: Option<&Key>,
+) -> Result<Option<Kept>, Fault>
+    ensures read { ReadStoredReplyPost S.Store store.old store.new (optional_model_key (option_copied key.entry)) result }
+    ensures fault { IfErr result IsCallFault }
+{
+    match key {
+        Some(key) => store.stored_reply_by_key(key),
+        None => Ok(None),
+    }
+}
+
+// Returns the answer to a command whose key already has the stored row `kept`: `Again` with the
+// stored reply if the command is the stored one, otherwise `Refused` with refusal 19. Fails with
+// `Memory` only.
+pub(crate) fn answer_retry(
+    alloc: Global,
+    command: &Command,
+    kept: Kept,
+) -> Result<CommandAnswer, Fault>
+    ensures answer { IfOk result (λ answer. (base : Base)
+        → answer_and_base_of_retry base (abstract_command command.now) (abstract_kept_row kept) ≡ (model_answer answer, base)) }
+    ensures fault { OnErr result (result ≡ Err Memory) }
+{
+    let row = row_text(alloc, command)?;
+    if kept.row_text == row {
+        Ok(Answer::Again(kept.line))
+    } else {
+        Ok(Answer::Refused(Refusal::KeyReused))
+    }
+}
+
+// Returns `plan` with one more change, the last, which adds the row of KEPT that stores the command
+// and its reply under the key. Without a key, returns `plan` unchanged and does not fail. Otherwise
+// fails with `Memory` only.
+pub(crate) fn plan_with_stored_reply(
+    alloc: Global,
+    plan: Plan,
+    command: &Command,
+    key: Option<&Key>,
+) -> Result<Plan, Fault>
+    ensures reply { IfOk result (λ kept. kept.reply ≡ plan.reply) }
+    ensures rows { IfOk result (λ kept. (t : Tables) → tables_after_changes kept.changes.items t
+        ≡ tables_with_stored_command (optional_model_key (option_copied key.entry)) (abstract_command command.now)
+        (abstract_reply plan.reply) (tables_after_changes plan.changes.items t)) }
+    ensures fault { OnErr result (result ≡ Err Memory) }
+{
+    let Some(key) = key else {
+        return Ok(plan);
+    };
+    let key = key.clone()?;
+    let row_text = row_text(alloc, command)?;
+    let line = line_text(alloc, &plan.reply)?;
+    let mut plan = plan;
+    plan.changes.push(Change::AddStoredReply(Kept {
+        key,
+        row_text,
+        line,
+    }))?;
+    Ok(plan)
+}

@@ -1,2 +1,0 @@
-pub mod CallOutcomes
-pub mod Served

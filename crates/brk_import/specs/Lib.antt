@@ -1,3 +1,0 @@
-pub mod CrashTables
-pub mod Rows
-pub mod Retries
