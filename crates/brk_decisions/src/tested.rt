@@ -13,9 +13,9 @@ ghost use Rattle.brk_store.specs.Holds.{ReadPost};
 
 use brk_money::{Fault, Id, Price, Qty, Rate, TradeType};
 use brk_orders::Order;
+use brk_permissions::permitted;
 use brk_ref::{
     ChargeAmount, Customer, Exchange, Executor, Symbol, Tier, commission_rate_for_quantity,
-    permitted,
 };
 use brk_store::Store;
 use sqlite::Alter;

@@ -1,5 +1,5 @@
 -- The postconditions of a desk's calls: a query, a run and an audit. The postcondition of a command
--- is `CommandPost` of brk_commit. `g` is the specification of the storage `S`; `old` and `new` are
+-- is `CommandPost` (`Booked.antt`). `g` is the specification of the storage `S`; `old` and `new` are
 -- the connection before and after a call. `brk_store/specs/Holds.antt` explains the other terms of
 -- the clauses: `state`, `HasCleanDisk`, `is_open`, `Survives` and disk contents (`Trees`). A clause
 -- with the premise `HasCleanDisk` for the new state, and the promise on crashes in `survives`, are

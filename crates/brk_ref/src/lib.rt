@@ -20,7 +20,6 @@ pub mod moved_amount;
 pub mod name;
 pub mod numbers;
 pub mod permission;
-mod permitting;
 pub mod row_number;
 pub mod security;
 pub mod symbol;
@@ -56,7 +55,6 @@ pub use numbers::{
     parse_opening_balance, parse_price, parse_qty, parse_tax_rate, parse_tax_status,
 };
 pub use permission::{Permission, check_permission};
-pub use permitting::permitted;
 pub use row_number::RowNumber;
 pub use security::Security;
 pub use symbol::Symbol;

@@ -4,7 +4,7 @@ use Rattle.std.proofs.lemmas.Iterator.Search.{any_from_yields_List}
 use Rattle.brk_model.specs.Orders.{executor_has_identity}
 use Rattle.brk_ref.specs.Records.{abstract_executor, abstract_permission}
 use Rattle.brk_ref.proofs.Lists.{any_mapped, or_rest}
-use Rattle.brk_ref.proofs.permitting.permitted.Goals as goal
+use Rattle.brk_permissions.proofs.permitted.Goals as goal
 
 pub returns-else-executor_has_names_and_tax_id : goal.returns-else-executor_has_names_and_tax_id
 returns-else-executor_has_names_and_tax_id c =

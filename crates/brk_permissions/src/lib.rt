@@ -1,14 +1,11 @@
 //! The check that an executor may place orders for an account.
+#![tactic(auto)]
 
 ghost use Rattle.std.specs.Prelude.{◌≡◌, map};
 ghost use Rattle.brk_model.specs.Orders as orders;
 ghost use Rattle.brk_ref.specs.Records.{abstract_customer, abstract_executor, abstract_permission};
 
-use crate::customer::Customer;
-use crate::executor::Executor;
-use crate::name::Name;
-use crate::permission::Permission;
-use crate::tax_id::TaxId;
+use brk_ref::{Customer, Executor, Name, Permission, TaxId};
 
 // Returns true if the executor has this first name, last name and tax id.
 fn executor_has_names_and_tax_id(
