@@ -25,7 +25,7 @@ use Rattle.brk_book_theorems.specs.Books.{BooksInvariant}
 use Rattle.brk_book_theorems.proofs.Reading.{is_none-map}
 use Rattle.brk_book_theorems.proofs.TermReading.{reads_security}
 use Rattle.brk_book_theorems.proofs.TradeReading.{reads_trade}
-use Rattle.brk_update_theorems.specs.Corrections.{AreTradesWithIds}
+use Rattle.brk_trade_theorems.specs.Corrections.{AreTradesWithIds}
 use Rattle.brk_view.specs.Lookup.{AreRowsOfTrade, records_of_looked_up_trade, table_rows_of_trade}
 use Rattle.brk_view.specs.Views.{records_of_view}
 use Rattle.brk_view.specs.declared.lookups.LookedUp.{LookedUp}

@@ -12,3 +12,11 @@ pub mod ResultFinding
 pub mod ResultRefusing
 pub mod ResultDoing
 pub mod MovePlanning
+pub mod Through
+pub mod Rewording
+pub mod Setting
+pub mod Texting
+pub mod Choosing
+pub mod Owning
+pub mod Correcting
+pub mod Staying

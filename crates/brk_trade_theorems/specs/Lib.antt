@@ -7,3 +7,4 @@ pub mod ImplementedPlans
 pub mod MovePlans
 pub mod OrderPlans
 pub mod ResultPlans
+pub mod Corrections

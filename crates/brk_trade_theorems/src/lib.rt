@@ -1,7 +1,8 @@
-//! Theorems about plans: a plan from facts that were read implements the command as specified.
-//! Proof-only: there is no code to call.
+//! Theorems about plans: a plan from facts that were read implements the command as specified, and
+//! that of a text update changes only one text column. Proof-only: there is no code to call.
 #![tactic(auto)]
 
+pub mod corrections;
 pub mod move_plans;
 pub mod order_plans;
 pub mod plans;

@@ -17,8 +17,8 @@ use Rattle.brk_plans.specs.declared.plan.Plan.{Plan}
 use Rattle.brk_book_theorems.specs.Books.{BooksInvariant}
 use Rattle.brk_trade_theorems.specs.Decisions.{DecidesCommand}
 use Rattle.brk_trade_theorems.specs.Plans.{PlanImplementsCommand}
-use Rattle.brk_update_theorems.specs.Corrections.{UpdateFactsMatchTables, PlanUpdatePrecondition}
-use Rattle.brk_update_theorems.proofs.Correcting.{update_does, update_refused}
+use Rattle.brk_trade_theorems.specs.Corrections.{UpdateFactsMatchTables, PlanUpdatePrecondition}
+use Rattle.brk_trade_theorems.proofs.Correcting.{update_does, update_refused}
 
 -- `last` is the last stamp of the tables, and the facts for the text update equal those of the
 -- tables.

@@ -6,7 +6,7 @@ ghost use Rattle.brk_model.specs.Run.{IsCallFault};
 ghost use Rattle.brk_orders.specs.Records.{text_update_command};
 ghost use Rattle.brk_store.specs.Holds.{ReadPost};
 ghost use Rattle.brk_store.specs.ReadSequences.{ReadSequencePost};
-ghost use Rattle.brk_update_theorems.specs.Corrections.{UpdateFactsMatchTables};
+ghost use Rattle.brk_trade_theorems.specs.Corrections.{UpdateFactsMatchTables};
 
 use crate::finding::{
     read_facts_of_cash_name_update, read_facts_of_cash_type_update, read_facts_of_executor_update,

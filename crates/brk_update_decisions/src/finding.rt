@@ -6,7 +6,7 @@ ghost use Rattle.brk_model.specs.Joins.{account_row_with_id, security_row_with_s
 ghost use Rattle.brk_model.specs.Run.{IsCallFault};
 ghost use Rattle.brk_store.specs.Holds.{ReadPost};
 ghost use Rattle.brk_store.specs.ReadSequences.{ReadSequencePost};
-ghost use Rattle.brk_update_theorems.specs.Corrections.{CashTextsMatchTables, SettlementTextsMatchTables, UpdateFactsMatchTables, SecurityHasName};
+ghost use Rattle.brk_trade_theorems.specs.Corrections.{CashTextsMatchTables, SettlementTextsMatchTables, UpdateFactsMatchTables, SecurityHasName};
 ghost use Rattle.brk_orders.specs.declared.update.Update.TheVariants as update;
 
 use crate::known::{require_cash_name, require_cash_type};

@@ -5,7 +5,7 @@ ghost use Rattle.std.specs.Prelude.{◌≡◌, IfErr, Some, option_map, string_b
 ghost use Rattle.brk_changes.specs.Rows.{cash_type_text};
 ghost use Rattle.brk_model.specs.Run.{IsCallFault};
 ghost use Rattle.brk_store.specs.Holds.{ReadPost};
-ghost use Rattle.brk_update_theorems.specs.Corrections.{cash_row_of_trade, settlement_row_of_trade};
+ghost use Rattle.brk_trade_theorems.specs.Corrections.{cash_row_of_trade, settlement_row_of_trade};
 
 use brk_money::{Fault, Id};
 use brk_store::Store;

@@ -5,7 +5,7 @@ ghost use Rattle.std.specs.List.{list_any};
 ghost use Rattle.brk_model.specs.Joins.{trade_row_with_id};
 ghost use Rattle.brk_model.specs.Run.{IsCallFault};
 ghost use Rattle.brk_store.specs.ReadSequences.{ReadSequencePost};
-ghost use Rattle.brk_update_theorems.specs.Corrections.{AreTradesWithIds};
+ghost use Rattle.brk_trade_theorems.specs.Corrections.{AreTradesWithIds};
 
 use brk_money::{Fault, Id};
 use brk_store::Store;

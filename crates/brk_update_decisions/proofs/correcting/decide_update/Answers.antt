@@ -5,7 +5,7 @@ use Rattle.brk_orders.specs.Records.{text_update_command}
 use Rattle.brk_trade_theorems.specs.Decisions.{DecidesCommand}
 use Rattle.brk_store.proofs.ReadResults.{decided}
 use Rattle.brk_store.proofs.Sequences.{none_read, read_with_reads}
-use Rattle.brk_update_theorems.specs.Corrections.{UpdateFactsMatchTables}
+use Rattle.brk_trade_theorems.specs.Corrections.{UpdateFactsMatchTables}
 use Rattle.brk_update_decisions.proofs.Deciding.{UpdateFactsAndLastStampMatch, update_decided}
 use Rattle.std.proofs.lemmas.Result.{err_from_is_err_and}
 use Rattle.brk_store.specs.ReadSequences.{joined_reads_change_nothing, single_read_changes_nothing}

@@ -10,7 +10,7 @@ use Rattle.brk_plans.specs.declared.corrected.TextUpdate.{TextUpdate}
 use Rattle.brk_plans.specs.declared.corrected.TextUpdate.TheVariants.{CashNames}
 use Rattle.brk_store.proofs.Sequences.{failed_after, read_with}
 use Rattle.brk_store.proofs.Retelling.{retold}
-use Rattle.brk_update_theorems.specs.Corrections.{CashTextsMatchTables, UpdateFactsMatchTables, SecurityHasName}
+use Rattle.brk_trade_theorems.specs.Corrections.{CashTextsMatchTables, UpdateFactsMatchTables, SecurityHasName}
 use Rattle.std.proofs.lemmas.Result.{err_from_is_err_and}
 use Rattle.brk_store.specs.ReadSequences.{single_read_changes_nothing}
 use Rattle.brk_update_decisions.proofs.finding.read_facts_of_cash_name_update.Goals as goal

@@ -9,7 +9,7 @@ use Rattle.brk_plans.specs.declared.corrected.TextUpdate.{TextUpdate}
 use Rattle.brk_plans.specs.declared.corrected.TextUpdate.TheVariants.{CashTypes}
 use Rattle.brk_store.proofs.Sequences.{failed_after, read_with}
 use Rattle.brk_store.proofs.Retelling.{retold}
-use Rattle.brk_update_theorems.specs.Corrections.{SettlementTextsMatchTables, UpdateFactsMatchTables}
+use Rattle.brk_trade_theorems.specs.Corrections.{SettlementTextsMatchTables, UpdateFactsMatchTables}
 use Rattle.brk_update_decisions.proofs.Found.{missing_if, present_if}
 use Rattle.std.proofs.lemmas.Result.{err_from_is_err_and}
 use Rattle.brk_store.specs.ReadSequences.{single_read_changes_nothing}

@@ -6,7 +6,7 @@ use Rattle.brk_money.specs.Spelling.{Text}
 use Rattle.brk_ref.specs.Records.{abstract_security_row}
 use Rattle.brk_ref.specs.declared.security.Security.{Security}
 use Rattle.brk_store.proofs.Retelling.{retold}
-use Rattle.brk_update_theorems.specs.Corrections.{SecurityHasName}
+use Rattle.brk_trade_theorems.specs.Corrections.{SecurityHasName}
 use Rattle.brk_update_decisions.proofs.finding.read_security_name.Goals as goal
 
 pub returns-in-Some-clause-read : goal.returns-in-Some-clause-read

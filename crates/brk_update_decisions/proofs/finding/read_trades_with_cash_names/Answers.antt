@@ -9,7 +9,7 @@ use Rattle.brk_changes.specs.Rows.{abstract_trade_row}
 use Rattle.brk_changes.specs.declared.trade_row.TradeRow.{TradeRow}
 use Rattle.brk_plans.specs.declared.corrected.CashText.{CashText}
 use Rattle.brk_store.proofs.Retelling.{retold}
-use Rattle.brk_update_theorems.specs.Corrections.{CashTextsMatchTables, cash_text_row_in_tables, cash_text_row_of_typed_row, cash_row_of_trade}
+use Rattle.brk_trade_theorems.specs.Corrections.{CashTextsMatchTables, cash_text_row_in_tables, cash_text_row_of_typed_row, cash_row_of_trade}
 use Rattle.brk_update_decisions.proofs.TradesFound.{one_more, twice}
 use Rattle.std.proofs.lemmas.Result.{err_from_is_err_and}
 use Rattle.brk_store.specs.ReadSequences.{single_read_changes_nothing}

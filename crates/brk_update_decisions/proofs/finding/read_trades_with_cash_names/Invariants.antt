@@ -3,7 +3,7 @@ use Rattle.brk_money.specs.declared.fault.Fault.{Fault}
 use Rattle.brk_changes.specs.Chosen.{first_twenty_completed_cash_trade_rows_of_symbol}
 use Rattle.brk_changes.specs.Rows.{abstract_trade_row}
 use Rattle.brk_store.specs.Holds.{ReadPost}
-use Rattle.brk_update_theorems.specs.Corrections.{cash_text_row_in_tables, cash_text_row_of_typed_row}
+use Rattle.brk_trade_theorems.specs.Corrections.{cash_text_row_in_tables, cash_text_row_of_typed_row}
 use Rattle.brk_update_decisions.proofs.finding.read_trades_with_cash_names.Given as goal
 
 abbrev pub invariant-loop-trade : goal.invariant-loop-trade

@@ -7,7 +7,7 @@ use Rattle.brk_changes.specs.Rows.{cash_type_text, abstract_trade_row}
 use Rattle.brk_changes.specs.declared.trade_row.TradeRow.{TradeRow}
 use Rattle.brk_plans.specs.declared.corrected.SettlementText.{SettlementText}
 use Rattle.brk_store.proofs.Retelling.{retold}
-use Rattle.brk_update_theorems.specs.Corrections.{SettlementTextsMatchTables, settlement_text_row_in_tables, settlement_text_row_of_typed_row, settlement_row_of_trade}
+use Rattle.brk_trade_theorems.specs.Corrections.{SettlementTextsMatchTables, settlement_text_row_in_tables, settlement_text_row_of_typed_row, settlement_row_of_trade}
 use Rattle.brk_update_decisions.proofs.TradesFound.{one_more, twice}
 use Rattle.std.proofs.lemmas.Result.{err_from_is_err_and}
 use Rattle.brk_store.specs.ReadSequences.{single_read_changes_nothing}

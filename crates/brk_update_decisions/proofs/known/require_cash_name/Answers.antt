@@ -4,7 +4,7 @@ use Rattle.brk_model.specs.LookupView.{is_cash_row_of_trade}
 use Rattle.brk_model.specs.Tables.{MoveRow, Tables}
 use Rattle.brk_changes.specs.Rows.{abstract_move_row}
 use Rattle.brk_store.proofs.Retelling.{retold}
-use Rattle.brk_update_theorems.specs.Corrections.{cash_row_of_trade}
+use Rattle.brk_trade_theorems.specs.Corrections.{cash_row_of_trade}
 use Rattle.brk_update_decisions.proofs.known.require_cash_name.Goals as goal
 
 pub returns-in-Some-clause-read : goal.returns-in-Some-clause-read

@@ -2,7 +2,7 @@ use Rattle.std.proofs.Common.{◌≡◌, ◌==◌, Some, ap, find, option_map}
 use Rattle.brk_model.specs.Tables.{SettlementRow, Tables}
 use Rattle.brk_changes.specs.Rows.{cash_type_text, abstract_settlement_row}
 use Rattle.brk_store.proofs.Retelling.{retold}
-use Rattle.brk_update_theorems.specs.Corrections.{settlement_row_of_trade}
+use Rattle.brk_trade_theorems.specs.Corrections.{settlement_row_of_trade}
 use Rattle.brk_update_decisions.proofs.known.require_cash_type.Goals as goal
 
 pub returns-in-Some-clause-read : goal.returns-in-Some-clause-read

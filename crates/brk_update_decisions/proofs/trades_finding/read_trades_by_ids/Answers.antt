@@ -9,7 +9,7 @@ use Rattle.brk_model.specs.Tables.{Tables, TradeRow}
 use Rattle.brk_changes.specs.Rows.{abstract_trade_row}
 use Rattle.brk_changes.specs.declared.trade_row.TradeRow as row
 use Rattle.brk_store.proofs.Sequences.{no_reads, one_read, reads_both, reads_failed, reads_retold, unchanged_after}
-use Rattle.brk_update_theorems.specs.Corrections.{AreTradesWithIds}
+use Rattle.brk_trade_theorems.specs.Corrections.{AreTradesWithIds}
 use Rattle.brk_update_decisions.proofs.TradesFound.{one_more, some_missing}
 use Rattle.std.proofs.lemmas.Result.{err_from_is_err_and}
 use Rattle.brk_update_decisions.proofs.trades_finding.read_trades_by_ids.Goals as goal

@@ -2,7 +2,7 @@ use Rattle.std.proofs.Common.{ap, ◌∙◌}
 use Rattle.std.proofs.lemmas.Result.{IfOk-weaker}
 use Rattle.brk_plans.specs.Replies.{abstract_reply}
 use Rattle.brk_http_model.specs.Routes.{split_at_byte}
-use Rattle.brk_http_theorems.proofs.Commas.{fields_cut}
+use Rattle.brk_interfaces.proofs.Commas.{fields_cut}
 use Rattle.brk_interfaces.proofs.http.at_desk.DeskServiceService.reply_fields.Goals as goal
 
 pub returns-in-Ok : goal.returns-in-Ok
