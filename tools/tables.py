@@ -63,7 +63,7 @@ TRADING_BACK = {'last_trade', 'trade', 'history', 'request', 'holding', 'summary
 TABLES = {d[0]: (d[1], [(c[0], c[1]) for c in d[7]], d[6]) for d in DATA}
 
 # the tables whose definition needs a longer name than the table has in this script
-LONG_NAMES = {'history': 'trade_history', 'cash': 'cash_transaction', 'move': 'cash_move'}
+LONG_NAMES = {'history': 'trade_history', 'cash': 'cash_transaction', 'move': 'cash_move', 'rule': 'settle_rule'}
 
 
 def shape(t):

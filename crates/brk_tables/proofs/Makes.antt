@@ -10,7 +10,7 @@ use Rattle.brk_model.specs.Tables.{tables_without_rows}
 use Rattle.brk_tables_schema.specs.Shapes.{desk_row_table, kept_table, broker_table, customer_table, account_table, permission_table, security_table}
 use Rattle.brk_tables_schema.specs.Shapes.{last_trade_table, charge_table, band_table, tax_rate_table, customer_tax_table, trade_table, trade_history_table}
 use Rattle.brk_tables_schema.specs.Shapes.{request_table, holding_table, summary_table, holding_history_table, settlement_table, cash_transaction_table}
-use Rattle.brk_tables_schema.specs.Shapes.{cash_move_table, rule_table}
+use Rattle.brk_tables_schema.specs.Shapes.{cash_move_table, settle_rule_table}
 use Rattle.brk_tables_schema.specs.Desk.{DeskTable, TheDesk, KeptRows, Brokers, Customers, Accounts, Permissions, Securities, LastTrades, Charges, Bands}
 use Rattle.brk_tables_schema.specs.Desk.{TaxRates, CustomerTaxes, Trades, TradeHistory, Requests, Holdings, Summaries, HoldingHistory, Settlements, CashRows}
 use Rattle.brk_tables_schema.specs.Desk.{CashMoves, SettleRules, table_definition_at_tree, all_tables}
@@ -171,9 +171,9 @@ makes_move = makes move_text cash_move_table refl (λ tree. refl) (λ tree. refl
 abbrev rule_text : List ℕ
 rule_text = create_table_text SettleRules
 
-makes_rule : (old new : State) (count : ℕ) → Executes rule_text [] old new (Ok count) → CreatesTableOfShape old.now new.now rule_table
+makes_rule : (old new : State) (count : ℕ) → Executes rule_text [] old new (Ok count) → CreatesTableOfShape old.now new.now settle_rule_table
 unfolding everything
-makes_rule = makes rule_text rule_table refl (λ tree. refl) (λ tree. refl) refl (read rule_text) _ refl refl refl refl refl refl refl refl
+makes_rule = makes rule_text settle_rule_table refl (λ tree. refl) (λ tree. refl) refl (read rule_text) _ refl refl refl refl refl refl refl refl
 
 pub makes_of : (w : DeskTable) (old new : State) (count : ℕ) → Executes (create_table_text w) [] old new (Ok count) → CreatesTableOfShape old.now new.now (table_definition_at_tree w)
 makes_of TheDesk = makes_desk_row

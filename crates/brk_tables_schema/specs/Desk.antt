@@ -14,7 +14,7 @@ use Rattle.brk_sql.specs.Desk.{ProgramTables}
 use Rattle.brk_tables_schema.specs.Shapes.{desk_row_table, kept_table, broker_table, customer_table, account_table, permission_table, security_table}
 use Rattle.brk_tables_schema.specs.Shapes.{last_trade_table, charge_table, band_table, tax_rate_table, customer_tax_table, trade_table}
 use Rattle.brk_tables_schema.specs.Shapes.{trade_history_table, request_table, holding_table, summary_table, holding_history_table, settlement_table}
-use Rattle.brk_tables_schema.specs.Shapes.{cash_transaction_table, cash_move_table, rule_table}
+use Rattle.brk_tables_schema.specs.Shapes.{cash_transaction_table, cash_move_table, settle_rule_table}
 use Rattle.brk_tables_schema.specs.Cells.{DeskRow, RuleRow, desk_row_cells, kept_cells, broker_cells, customer_cells, account_cells, permission_cells}
 use Rattle.brk_tables_schema.specs.Cells.{security_cells, last_trade_cells, charge_cells, band_cells, tax_rate_cells, customer_tax_cells, trade_cells}
 use Rattle.brk_tables_schema.specs.Cells.{history_cells, request_cells, holding_cells, summary_cells, holding_history_cells, settlement_cells}
@@ -98,7 +98,7 @@ table_definition_at_tree HoldingHistory = holding_history_table
 table_definition_at_tree Settlements = settlement_table
 table_definition_at_tree CashRows = cash_transaction_table
 table_definition_at_tree CashMoves = cash_move_table
-table_definition_at_tree SettleRules = rule_table
+table_definition_at_tree SettleRules = settle_rule_table
 
 -- The definition of the table `w` with its rows at the tree `tree` has this tree.
 abbrev pub table_definition_has_tree : (w : DeskTable) (tree : ℕ) → (table_definition_at_tree w tree).tree ≡ tree

@@ -166,6 +166,6 @@ cash_move_table tree = table_without_checks (codes "CASH_MOVE") tree
 
 -- The definition of the table SETTLE_RULE, whose rows the database stores under the number `tree`:
 -- its columns, its primary key, and its UNIQUE constraints and foreign keys, if any.
-abbrev pub rule_table : ℕ → Table
-rule_table tree = table_without_checks (codes "SETTLE_RULE") tree (integer_column (codes "SR_ID") ∷ integer_column (codes "SR_DAY") ∷ [])
+abbrev pub settle_rule_table : ℕ → Table
+settle_rule_table tree = table_without_checks (codes "SETTLE_RULE") tree (integer_column (codes "SR_ID") ∷ integer_column (codes "SR_DAY") ∷ [])
     (Some 0) (0 ∷ []) ([]) ([])

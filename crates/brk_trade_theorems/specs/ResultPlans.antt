@@ -20,7 +20,8 @@ use Rattle.brk_book_theorems.specs.TradeReads.{commission_band_of_quantity, last
 -- ---- facts
 
 -- The first `n` checks of the result pass. The checks are, in this order: the trade is submitted, a
--- commission rate applies, and the summary is within its limit.
+-- commission rate applies, and the number of shares that the account holds in the security after
+-- the trade is within the limit of a holding summary.
 abbrev pub PassesFirstResultChecks : ℕ → ResultPlanFacts → Type 0
 PassesFirstResultChecks n found = first_refusal (take n (checks_before_reading_lots found)) ≡ None
 

@@ -10,7 +10,7 @@ use Rattle.sqlite_tied.specs.Compute.{everything}
 use Rattle.brk_sql.specs.Desk.{IsTableAt}
 use Rattle.brk_sql.proofs.Meant.{meant, inserts}
 use Rattle.brk_sql.proofs.Texts.{read}
-use Rattle.brk_tables_schema.specs.Shapes.{rule_table}
+use Rattle.brk_tables_schema.specs.Shapes.{settle_rule_table}
 
 abbrev pub statement : List ℕ
 statement = codes "INSERT INTO SETTLE_RULE (SR_ID, SR_DAY) VALUES (?1, ?2)"
@@ -18,6 +18,6 @@ statement = codes "INSERT INTO SETTLE_RULE (SR_ID, SR_DAY) VALUES (?1, ?2)"
 abbrev pub terms : List Term
 terms = col 0 0 ∷ lit Null ∷ col 0 1 ∷ []
 
-pub understood_as : (schema : Schema) (at tree : ℕ) → IsTableAt schema (rule_table tree) at → compiled schema statement ≡ Ok (meant (read statement) [] (Insert at (Values terms 3)))
+pub understood_as : (schema : Schema) (at tree : ℕ) → IsTableAt schema (settle_rule_table tree) at → compiled schema statement ≡ Ok (meant (read statement) [] (Insert at (Values terms 3)))
 unfolding everything
-understood_as schema at tree h = inserts schema statement (read statement) refl refl (codes "SETTLE_RULE") at (rule_table tree) h.named h.found _ _ _ refl refl
+understood_as schema at tree h = inserts schema statement (read statement) refl refl (codes "SETTLE_RULE") at (settle_rule_table tree) h.named h.found _ _ _ refl refl

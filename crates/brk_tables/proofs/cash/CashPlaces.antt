@@ -6,7 +6,7 @@ use Rattle.sqlite_value.proofs.OrderLemmas.{then-Equal}
 use Rattle.brk_model.specs.Tables.{Tables, CashRow, MoveRow}
 use Rattle.brk_model.specs.Keys.{cash_transaction_key, cash_move_key}
 use Rattle.brk_sql.proofs.Writes.{Place, IsRowidKey}
-use Rattle.brk_tables_schema.specs.Shapes.{cash_transaction_table, cash_move_table, rule_table}
+use Rattle.brk_tables_schema.specs.Shapes.{cash_transaction_table, cash_move_table, settle_rule_table}
 use Rattle.brk_tables_schema.specs.Cells.{RuleRow, cash_cells, move_cells, rule_cells}
 use Rattle.brk_tables_schema.specs.Desk.{DeskTable, CashRows, CashMoves, SettleRules, ordering_by_primary_key, rows_of_table, desk_tables, rule_key}
 use Rattle.brk_tables_schema.proofs.Order.{key_total}
@@ -19,7 +19,7 @@ cash_keyed tree r s x y e f = let a : column r 0 ≡ Int (pos x.trade) = cc in l
 pub move_keyed : IsRowidKey cash_move_table move_cells (ordering_by_primary_key CashMoves)
 move_keyed tree r s x y e f = let a : column r 0 ≡ Int (pos x.id) = cc in let b : column s 0 ≡ Int (pos y.id) = cc in rw (a, b) (ap is_eq (then-Equal _))
 
-pub rule_keyed : IsRowidKey rule_table rule_cells (ordering_by_primary_key SettleRules)
+pub rule_keyed : IsRowidKey settle_rule_table rule_cells (ordering_by_primary_key SettleRules)
 rule_keyed tree r s x y e f = let a : column r 0 ≡ Int (pos x.id) = cc in let b : column s 0 ≡ Int (pos y.id) = cc in rw (a, b) (ap is_eq (then-Equal _))
 
 pub cash_alone : (v : DeskTable) → v ≢ CashRows → (xs : List CashRow) (t : Tables) → rows_of_table v (record t { cash = xs }) ≡ rows_of_table v t

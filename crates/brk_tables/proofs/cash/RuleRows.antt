@@ -18,7 +18,7 @@ use Rattle.brk_sql.proofs.Meant.{meant, reads_or}
 use Rattle.brk_sql.proofs.Pick.{selection}
 use Rattle.brk_sql.proofs.Scoped.{column_is, heading_is}
 use Rattle.brk_sql.proofs.Texts.{read}
-use Rattle.brk_tables_schema.specs.Shapes.{rule_table}
+use Rattle.brk_tables_schema.specs.Shapes.{settle_rule_table}
 use Rattle.sqlite_ast.specs.declared.Shown.TheVariants.{One}
 use Rattle.sqlite_ast.specs.declared.Origin.TheVariants.{Table}
 use Rattle.sqlite_ast.specs.declared.Source.{Source, roll-Source}
@@ -92,20 +92,20 @@ names = codes "SR_ID" ∷ codes "SR_DAY" ∷ []
 abbrev after : ℕ → Carried → State
 after spent last = record (fresh 2 max_budget) { budget = max_budget - spent; last = last }
 
-module _ (schema : Schema) (at tree : ℕ) (h : IsTableAt schema (rule_table tree) at) where
-  abbrev found : slice_get schema.tables at ≡ Some (rule_table tree)
+module _ (schema : Schema) (at tree : ℕ) (h : IsTableAt schema (settle_rule_table tree) at) where
+  abbrev found : slice_get schema.tables at ≡ Some (settle_rule_table tree)
   found = h.found
 
   shows : result lower (outermost schema) (level_one (codes "SETTLE_RULE") at []) core (fresh 2 max_budget) ≡ Ok (columns, after 2 binary)
   unfolding sql_lowering_definitions
   shows =
       rw (
-        column_is schema at (rule_table tree) found (codes "SETTLE_RULE") [] [] true true (codes "SR_ID") 0 (integer_column (codes "SR_ID")) refl refl,
-        heading_is schema at (rule_table tree) found (codes "SETTLE_RULE") [] [] true true (e.Column None (codes "SR_ID")) (codes "SR_ID") (codes "SR_ID") 0
-            (integer_column (codes "SR_ID")) refl refl refl,
-        column_is schema at (rule_table tree) found (codes "SETTLE_RULE") [] [] true true (codes "SR_DAY") 1 (integer_column (codes "SR_DAY")) refl refl,
-        heading_is schema at (rule_table tree) found (codes "SETTLE_RULE") [] [] true true (e.Column None (codes "SR_DAY")) (codes "SR_DAY") (codes "SR_DAY") 1
-            (integer_column (codes "SR_DAY")) refl refl refl,
+        column_is schema at (settle_rule_table tree) found (codes "SETTLE_RULE") [] [] true true (codes "SR_ID") 0 (integer_column (codes "SR_ID")) refl refl,
+        heading_is schema at (settle_rule_table tree) found (codes "SETTLE_RULE") [] [] true true (e.Column None (codes "SR_ID")) (codes "SR_ID") (codes "SR_ID")
+            0 (integer_column (codes "SR_ID")) refl refl refl,
+        column_is schema at (settle_rule_table tree) found (codes "SETTLE_RULE") [] [] true true (codes "SR_DAY") 1 (integer_column (codes "SR_DAY")) refl refl,
+        heading_is schema at (settle_rule_table tree) found (codes "SETTLE_RULE") [] [] true true (e.Column None (codes "SR_DAY")) (codes "SR_DAY")
+            (codes "SR_DAY") 1 (integer_column (codes "SR_DAY")) refl refl refl,
       )
 
   matches : matching lower (outermost schema) (level_one (codes "SETTLE_RULE") at columns) core (after 2 binary)
@@ -116,7 +116,7 @@ module _ (schema : Schema) (at tree : ℕ) (h : IsTableAt schema (rule_table tre
   sorted : sorts lower (inside schema (level_one (codes "SETTLE_RULE") at columns) false) columns by (after 2 binary) ≡ Ok ((draft tree).order, after 3 nothing)
   unfolding sql_lowering_definitions
   sorted =
-      rw (column_is schema at (rule_table tree) found (codes "SETTLE_RULE") columns [] false true (codes "SR_ID") 0 (integer_column (codes "SR_ID")) refl refl)
+      rw (column_is schema at (settle_rule_table tree) found (codes "SETTLE_RULE") columns [] false true (codes "SR_ID") 0 (integer_column (codes "SR_ID")) refl refl)
 
   meaning_is : meaning schema select ≡ Ok ((draft tree, names, None ∷ Some Binary ∷ []), [])
   unfolding everything
