@@ -34,28 +34,28 @@ fn prove_command_and_key_meet_formats(command: &Command, key: Option<&Key>)
     }
 }
 
-/// Executes `command` at the clock reading `now` and, if it is accepted, commits it with its key in
-/// one transaction. Returns:
-///
-/// - `Done` with the reply, after the commit, if the command is accepted;
-/// - `Again` with the stored reply, if this same command was accepted before under `key`;
-/// - `Refused` with refusal 19, if another command was accepted before under `key`;
-/// - otherwise `Refused`, with the first reason in the order of the model's checks.
-///
-/// Fails with `Memory` or `Store` only; with `Store` also if the `sqlite` crate runs out of memory,
-/// a row that it reads is malformed, a row that another row requires does not exist, a lot has no
-/// shares, a number or a sum is out of range, or no number is left for a cash row; none of these
-/// closes the store. A refusal, a stored reply or a fault changes nothing in a store that is still
-/// open, and records no key.
-///
-/// A crash after the call exposes a state that a crash before the call could expose, or the tables
-/// after the command; after `Done` only the latter.
-///
-/// After a fault that closed the store, too, a crash may expose the command as committed. Retry
-/// after a fault: after `Store`, which may have closed the store, first drop it, and open and adopt
-/// the file again. Under one key a command is accepted at most once. A retry without a key may
-/// execute the command a second time: read the tables first, after `Store` in the reopened file.
-pub fn execute_and_commit_command<S: Alter>(
+// Executes `command` at the clock reading `now` and, if it is accepted, commits it with its key in
+// one transaction. Returns:
+//
+// - `Done` with the reply, after the commit, if the command is accepted;
+// - `Again` with the stored reply, if this same command was accepted before under `key`;
+// - `Refused` with refusal 19, if another command was accepted before under `key`;
+// - otherwise `Refused`, with the first reason in the order of the model's checks.
+//
+// Fails with `Memory` or `Store` only; with `Store` also if the `sqlite` crate runs out of memory,
+// a row that it reads is malformed, a row that another row requires does not exist, a lot has no
+// shares, a number or a sum is out of range, or no number is left for a cash row; none of these
+// closes the store. A refusal, a stored reply or a fault changes nothing in a store that is still
+// open, and records no key.
+//
+// A crash after the call exposes a state that a crash before the call could expose, or the tables
+// after the command; after `Done` only the latter.
+//
+// After a fault that closed the store, too, a crash may expose the command as committed. Retry
+// after a fault: after `Store`, which may have closed the store, first drop it, and open and adopt
+// the file again. Under one key a command is accepted at most once. A retry without a key may
+// execute the command a second time: read the tables first, after `Store` in the reopened file.
+pub(crate) fn execute_and_commit_command<S: Alter>(
     alloc: Global,
     store: &mut Store<S>,
     now: Stamp,
