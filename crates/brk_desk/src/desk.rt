@@ -3,13 +3,13 @@ use crate::booking::{CommandAnswer, execute_and_commit_command};
 use crate::call::{Call, Outcome};
 use brk_changes::{HoldingRow, MoveRow, TradeRow};
 use brk_commands::Command;
-use brk_explain_reads::{
-    read_account_details, read_broker_details, read_holding_details, read_trade_details,
-    visit_completed_trades_of_broker,
-};
 use brk_explain_rows::{AccountDetails, BrokerDetails, HoldingDetails, TradeDetails};
 use brk_lots::Lot;
 use brk_money::{Fault, Id, Planned, Stamp};
+use brk_queries::explanations::{
+    read_account_details, read_broker_details, read_holding_details, read_trade_details,
+    visit_completed_trades_of_broker,
+};
 use brk_queries::{StatementHead, read_statement_head};
 use brk_ref::{Key, Symbol};
 use brk_store::{Store, Visitor, WalkError};

@@ -4,3 +4,7 @@ pub mod Parties
 pub mod LookedUp
 pub mod Touched
 pub mod Volumes
+pub mod Earlier
+pub mod Found
+pub mod HoldingParts
+pub mod Skipping

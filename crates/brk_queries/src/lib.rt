@@ -1,9 +1,10 @@
 //! The answers to all queries except that for the estimate of an order, read from a store: each is
 //! a view of typed rows, or a refusal. Also the figures of an account's statement that are not
-//! rows.
+//! rows, and the facts of an explanation.
 #![tactic(auto)]
 
 pub mod accounts;
+pub mod explanations;
 pub mod head;
 pub mod lookups;
 pub mod lots;

@@ -1,4 +1,0 @@
-pub mod Earlier
-pub mod Found
-pub mod HoldingParts
-pub mod Skipping
