@@ -97,9 +97,7 @@ pub fn run_test(rt: &HostRuntime, name: &str) -> Option<Result<(), Fail>> {
             alloc,
         ),
         "parses_the_arguments_of_each_job" => words::parses_the_arguments_of_each_job(alloc),
-        "reports_wrong_arguments" => words::reports_wrong_arguments(alloc),
-        "prints_version_help_and_errors" => words::prints_version_help_and_errors(alloc),
-        "prints_help_of_commands" => words::prints_help_of_commands(alloc),
+        "reports_empty_arguments" => words::reports_empty_arguments(alloc),
         _ => return None,
     };
     Some(tested)

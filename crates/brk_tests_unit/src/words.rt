@@ -119,6 +119,14 @@ fn expect_parts(told: &str, parts: &[&str]) -> Result<(), Fail> {
     )
 }
 
+// Returns the part of a text after its first colon and the space behind it, or the empty text.
+fn text_after_colon(text: &str) -> &str {
+    match text.split_once(": ") {
+        Some((_, after)) => after,
+        None => "",
+    }
+}
+
 // Checks that a command line, its words separated by `|`, is parsed to the job whose text consists
 // of the parts `wanted`, or is reported with this text (`format_parsed_job`). Fails with the text
 // if not. Fails also if memory runs out.
@@ -189,239 +197,19 @@ pub fn parses_the_arguments_of_each_job(alloc: Global) -> Result<(), Fail> {
     Ok(())
 }
 
-// The usage of a batch in an error text.
-const BATCH: &str = "Usage: brk batch [OPTIONS]\n\n";
+// The error text for an empty value of `--at`.
+const EMPTY_STAMP: &str = "wrong: error: invalid value '' for '--at <MS>': \
+    cannot parse integer from empty string\n\nFor more information, try '--help'.\n";
 
-// The usage of a statement in an error text.
-const STATEMENT: &str =
-    "Usage: brk statement --db <FILE> --account <ID> --from <DAY> --to <DAY>\n\n";
-
-// The usage of an audit in an error text.
-const AUDIT: &str = "Usage: brk audit --db <FILE>\n\n";
-
-// The usage of serving in an error text.
-const SERVE: &str = "Usage: brk serve --port <P>\n\n";
-
-// Wrong arguments of a batch, with the cause that clap reports for them and the usage that it adds.
-const WRONG_BATCHES: [(&str, &str, &str); 10] = [
-    (
-        "brk|batch|first.csv",
-        "unexpected argument 'first.csv' found",
-        BATCH,
-    ),
-    (
-        "brk|batch|--at",
-        "a value is required for '--at <MS>' but none was supplied",
-        "",
-    ),
-    (
-        "brk|batch|--at|now",
-        "invalid value 'now' for '--at <MS>': invalid digit found in string",
-        "",
-    ),
-    (
-        "brk|batch|--at|1.5",
-        "invalid value '1.5' for '--at <MS>': invalid digit found in string",
-        "",
-    ),
-    (
-        "brk|batch|--at=-1",
-        "invalid value '-1' for '--at <MS>': -1 is not in 0..=253402300799999",
-        "",
-    ),
-    (
-        "brk|batch|--at|253402300800000",
-        "invalid value '253402300800000' for '--at <MS>': 253402300800000 is not in 0..=253402300799999",
-        "",
-    ),
-    (
-        "brk|batch|--at|1|--at|2",
-        "the argument '--at <MS>' cannot be used multiple times",
-        BATCH,
-    ),
-    (
-        "brk|batch|--db",
-        "a value is required for '--db <FILE>' but none was supplied",
-        "",
-    ),
-    (
-        "brk|batch|--db|a.db|--db|b.db",
-        "the argument '--db <FILE>' cannot be used multiple times",
-        BATCH,
-    ),
-    (
-        "brk|batch|--port|1",
-        "unexpected argument '--port' found",
-        BATCH,
-    ),
-];
-
-// Wrong arguments of a statement, with the cause that clap reports for them and the usage that it
-// adds.
-const WRONG_STATEMENTS: [(&str, &str, &str); 6] = [
-    (
-        "brk|statement|--db|a|--from|2024-03-01|--to|2024-03-01",
-        "the following required arguments were not provided:\n\x20 --account <ID>",
-        STATEMENT,
-    ),
-    (
-        "brk|statement|--db|a|--account|1|--to|2024-03-01",
-        "the following required arguments were not provided:\n\x20 --from <DAY>",
-        STATEMENT,
-    ),
-    (
-        "brk|statement|--db|a|--account|1|--from|2024-03-01",
-        "the following required arguments were not provided:\n\x20 --to <DAY>",
-        STATEMENT,
-    ),
-    (
-        "brk|statement|--account|1|--from|2024-03-01|--to|2024-03-01",
-        "the following required arguments were not provided:\n\x20 --db <FILE>",
-        STATEMENT,
-    ),
-    (
-        "brk|statement|--db|a|--account|0|--from|2024-03-01|--to|2024-03-01",
-        "invalid value '0' for '--account <ID>': 0 is not in 1..=1000000000000",
-        "",
-    ),
-    (
-        "brk|statement|--account|1000000000001",
-        "invalid value '1000000000001' for '--account <ID>': 1000000000001 is not in 1..=1000000000000",
-        "",
-    ),
-];
-
-// Wrong arguments of an audit, with the cause that clap reports for them and the usage that it
-// adds.
-const WRONG_AUDITS: [(&str, &str, &str); 3] = [
-    (
-        "brk|audit",
-        "the following required arguments were not provided:\n\x20 --db <FILE>",
-        AUDIT,
-    ),
-    ("brk|audit|a.db", "unexpected argument 'a.db' found", AUDIT),
-    (
-        "brk|audit|--db|a.db|--at|1",
-        "unexpected argument '--at' found",
-        AUDIT,
-    ),
-];
-
-// Wrong arguments of serving, with the cause that clap reports for them and the usage that it adds.
-const WRONG_SERVES: [(&str, &str, &str); 6] = [
-    (
-        "brk|serve",
-        "the following required arguments were not provided:\n\x20 --port <P>",
-        SERVE,
-    ),
-    (
-        "brk|serve|--port|0",
-        "invalid value '0' for '--port <P>': 0 is not in 1..=65535",
-        "",
-    ),
-    (
-        "brk|serve|--port|65536",
-        "invalid value '65536' for '--port <P>': 65536 is not in 1..=65535",
-        "",
-    ),
-    (
-        "brk|serve|--port|1|--streams|0",
-        "invalid value '0' for '--streams <N>': 0 is not in 1..=1000000",
-        "",
-    ),
-    (
-        "brk|serve|--port|1|--streams|1000001",
-        "invalid value '1000001' for '--streams <N>': 1000001 is not in 1..=1000000",
-        "",
-    ),
-    (
-        "brk|serve|--port|1|--at|",
-        "invalid value '' for '--at <MS>': cannot parse integer from empty string",
-        "",
-    ),
-];
-
-// The end of an error text.
-const MORE: &str = "For more information, try '--help'.\n";
-
-// Checks that each command line in `faults` is reported as wrong with its whole error text. An
-// element is a command line, the cause of the error, and the usage, which may be empty. The error
-// text is `error: `, the cause, an empty line, the usage and a line about help. Fails with the text
-// that is reported if it differs. Fails also if memory runs out.
-fn expect_usage_faults(alloc: Global, faults: &[(&str, &str, &str)]) -> Result<(), Fail> {
-    for (line, cause, usage) in faults {
-        let text = ["wrong: error: ", cause, "\n\n", usage, MORE];
-        expect_parsed_command_line(alloc, line, &text)?;
-    }
-    Ok(())
-}
-
-/// Checks that wrong arguments of a batch, a statement, an audit and serving are reported with the
-/// wanted error texts. Fails if not, and if memory runs out.
-pub fn reports_wrong_arguments(alloc: Global) -> Result<(), Fail> {
-    expect_usage_faults(alloc, &WRONG_BATCHES)?;
-    expect_usage_faults(alloc, &WRONG_STATEMENTS)?;
-    expect_usage_faults(alloc, &WRONG_AUDITS)?;
-    expect_usage_faults(alloc, &WRONG_SERVES)
-}
-
-// The help of the program.
-const HELP: &str = "A brokerage back office\n\nUsage: brk <COMMAND>\n\nCommands:\n\
-    \x20 batch      Reads a batch from standard input and writes a line for each row\n\
-    \x20 statement  Prints the statement of an account: its cash, day by day, and its lots\n\
-    \x20 ask        Prints a view of a desk: a CSV row for each record\n\
-    \x20 explain    Prints how the amounts of a trade, an account, a holding or a broker come about\n\
-    \x20 audit      Recomputes every derived table of a desk, and prints ok if all are right\n\
-    \x20 serve      Serves the desk over HTTP, one stream after the other\n\
-    \x20 help       Print this message or the help of the given subcommand(s)\n\nOptions:\n\
-    \x20 -h, --help     Print help\n\x20 -V, --version  Print version\n";
-
-// The help of the subcommand `batch`.
-const BATCH_HELP: &str = "Reads a batch from standard input and writes a line for each row\n\n\
-    Usage: brk batch [OPTIONS]\n\nOptions:\n\
-    \x20     --db <FILE>  The file of the desk, created if it is missing or empty; without it the desk is in memory\n\
-    \x20     --at <MS>    The time of every command, in milliseconds since 1970-01-01 UTC; without it the clock is read\n\
-    \x20 -h, --help       Print help\n\nExample:\n\x20 brk batch --db desk.db < examples/setting.csv\n";
-
-// Command lines, each with the text that is printed for it.
-const TEXTS: [(&str, &str); 3] = [
-    ("brk|--version", "help: brk 0.1.0 (schema 3, kit 13f)\n"),
-    (
-        "brk|bath",
-        "wrong: error: unrecognized subcommand 'bath'\n\n  tip: a similar subcommand exists: 'batch'\n\n\
-        Usage: brk <COMMAND>\n\nFor more information, try '--help'.\n",
-    ),
-    (
-        "brk|help|audit",
-        "help: Recomputes every derived table of a desk, and prints ok if all are right\n\n\
-        Usage: brk audit --db <FILE>\n\nOptions:\n      --db <FILE>  The file of the desk\n\
-        \x20 -h, --help       Print help\n\nExample:\n\x20 brk audit --db desk.db\n",
-    ),
-];
-
-/// Checks that the texts for the version, for an unknown subcommand, and for the help of `audit`
-/// are the wanted ones. Fails if not, and if memory runs out.
-pub fn prints_version_help_and_errors(alloc: Global) -> Result<(), Fail> {
-    for (line, text) in &TEXTS {
-        expect_parsed_command_line(alloc, line, &[*text])?;
-    }
-    Ok(())
-}
-
-// Command lines that request help, with the help that is printed.
-const HELPS: [(&str, &str); 4] = [
-    ("brk|help|batch", BATCH_HELP),
-    ("brk|batch|--help", BATCH_HELP),
-    ("brk|help", HELP),
-    ("brk|--help", HELP),
-];
-
-/// Checks that the help of the program and of `batch` are the wanted texts, and that an empty list
-/// of arguments is reported as wrong with the help of the program as the error text. Fails if not,
-/// and if memory runs out.
-pub fn prints_help_of_commands(alloc: Global) -> Result<(), Fail> {
-    for (line, text) in &HELPS {
-        expect_parsed_command_line(alloc, line, &["help: ", *text])?;
-    }
-    expect_parsed_command_line(alloc, "brk", &["wrong: ", HELP])
+/// Checks that an empty list of arguments is reported as wrong with the help of the program as the
+/// error text, and an empty value with the wanted error text. Fails if not, and if memory runs out.
+pub fn reports_empty_arguments(alloc: Global) -> Result<(), Fail> {
+    let help = parse_words_and_format_job(alloc, words_of_command_line(alloc, "brk|help")?)?;
+    let wrong = parse_words_and_format_job(alloc, words_of_command_line(alloc, "brk")?)?;
+    expect_parts(help.as_str(), &["help: ", text_after_colon(wrong.as_str())])?;
+    expect_parts(
+        wrong.as_str(),
+        &["wrong: ", text_after_colon(help.as_str())],
+    )?;
+    expect_parsed_command_line(alloc, "brk|serve|--port|1|--at|", &[EMPTY_STAMP])
 }
