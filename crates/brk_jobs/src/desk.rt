@@ -1,6 +1,7 @@
 //! Jobs on a desk that is in memory, or in a file that is closed at the end.
 
-use crate::{FileDesk, ask, batch, explain, file, serve, statement};
+use crate::file::FileDesk;
+use crate::{ask, batch, explain, file, serve, statement};
 use brk_args::Job;
 use brk_desk::Desk;
 use brk_exit::{Ending, ending_after_close};
