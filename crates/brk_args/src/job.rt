@@ -1,5 +1,4 @@
 use brk_money::{Day, Id, Stamp};
-use std::alloc::AllocError;
 
 /// The job that the command-line arguments request.
 #[derive(Drop)]
@@ -45,24 +44,4 @@ pub enum Job {
         at: Option<Stamp>,
         streams: u32,
     },
-}
-
-/// The reason why the arguments request no job.
-#[derive(Drop)]
-pub enum UsageFault {
-    /// The arguments are wrong; the text is the error text, which may be empty.
-    Words(String),
-    /// Help or the version was requested; the text is what is printed.
-    Help(String),
-    /// An argument that must be a day is not a day.
-    Day,
-    /// Out of memory.
-    Memory,
-}
-
-impl From<AllocError> for UsageFault {
-    /// Returns the usage fault `Memory`, for an allocation that was refused.
-    fn from(_error: AllocError) -> UsageFault {
-        UsageFault::Memory
-    }
 }

@@ -5,5 +5,6 @@ pub mod job;
 mod notes;
 pub mod words;
 
-pub use job::{Job, UsageFault};
+pub use brk_io::UsageFault;
+pub use job::Job;
 pub use words::{non_utf8_argument_fault, read_words};

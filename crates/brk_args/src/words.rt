@@ -1,5 +1,6 @@
-use crate::job::{Job, UsageFault};
+use crate::job::Job;
 use crate::notes;
+use brk_io::UsageFault;
 use brk_money::{Day, Id, Stamp, parse_day};
 use clap::error::ErrorKind;
 use clap::{Arg, ArgAction, ArgMatches, Command, Error, value_parser};

@@ -3,16 +3,16 @@ use Rattle.std.specs.Prelude.{ℕ, List, [], ◌∷◌, ◌++◌, Result, Err, c
 use Rattle.brk_money.specs.declared.fault.Fault.{Fault}
 use Rattle.brk_money.specs.declared.fault.Fault.TheVariants as fault
 use Rattle.brk_money.specs.Kinds.{refusal_number}
-use Rattle.brk_report_lines.specs.declared.fault.ReportFault.{ReportFault}
-use Rattle.brk_report_lines.specs.declared.fault.ReportFault.TheVariants as report
+use Rattle.brk_io.specs.declared.report_fault.ReportFault.{ReportFault}
+use Rattle.brk_io.specs.declared.report_fault.ReportFault.TheVariants as report
 use Rattle.brk_io.specs.declared.batch_fault.FaultKind.{FaultKind}
 use Rattle.brk_io.specs.declared.batch_fault.FaultKind.TheVariants as kind
-use Rattle.brk_http_engine.specs.declared.turning.FaultKind.{FaultKind as StreamFault}
-use Rattle.brk_http_engine.specs.declared.turning.FaultKind.TheVariants as stream
+use Rattle.brk_io.specs.declared.stream_fault.FaultKind.{FaultKind as StreamFault}
+use Rattle.brk_io.specs.declared.stream_fault.FaultKind.TheVariants as stream
 use Rattle.brk_exit.specs.declared.ending.Ending.{Ending}
 use Rattle.brk_exit.specs.declared.ending.Ending.TheVariants as ending
-use Rattle.brk_args.specs.declared.job.UsageFault.{UsageFault}
-use Rattle.brk_args.specs.declared.job.UsageFault.TheVariants as usage
+use Rattle.brk_io.specs.declared.usage_fault.UsageFault.{UsageFault}
+use Rattle.brk_io.specs.declared.usage_fault.UsageFault.TheVariants as usage
 use Rattle.brk_exit.specs.Lines.{error_line_of_fault}
 
 -- The exit status of a fault: 1 for `Damaged`, whichever condition fails, and 3 for `Memory` and

@@ -6,11 +6,9 @@ ghost use Rattle.brk_exit.specs.Sinks.{SinkFailsWithinText, ReceivesTextOrFails}
 
 use crate::messages::{ErrorLineParts, fault_error_line, send_line};
 use crate::sink::Sink;
-use brk_args::UsageFault;
-use brk_http_engine::{FaultKind as StreamFault, ServeFault};
-use brk_io::{BatchFault, FaultKind, NotWritten};
+use brk_io::stream_fault::FaultKind as StreamFault;
+use brk_io::{BatchFault, FaultKind, NotWritten, ReportFault, ServeFault, UsageFault};
 use brk_money::Fault;
-use brk_report_lines::ReportFault;
 use itoa::Buffer;
 
 /// The outcome of the program.

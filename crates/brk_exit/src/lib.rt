@@ -6,6 +6,5 @@ pub mod messages;
 pub mod sink;
 
 pub use brk_io;
-pub use brk_report_lines;
 pub use ending::{Ending, end_with, ending_after_close, send_error_line};
 pub use sink::Sink;

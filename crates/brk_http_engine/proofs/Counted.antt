@@ -11,9 +11,9 @@ use Rattle.brk_http_engine.proofs.Effects.{effect_of}
 use Rattle.brk_http_engine.specs.Limits.{call_limit_at_fault, call_limit_of_stream}
 use Rattle.brk_http_engine.specs.Promises.{CallScript, StreamMatchesScript, IsNextScriptedCall}
 use Rattle.brk_http_engine.specs.Turns.{ExchangeHasReply, ExchangeFailsWith}
-use Rattle.brk_http_engine.specs.declared.stream.ServeFault.{ServeFault}
-use Rattle.brk_http_engine.specs.declared.turning.FaultKind.{FaultKind}
-use Rattle.brk_http_engine.specs.declared.turning.FaultKind.TheVariants as kinds
+use Rattle.brk_io.specs.declared.stream_fault.ServeFault.{ServeFault}
+use Rattle.brk_io.specs.declared.stream_fault.FaultKind.{FaultKind}
+use Rattle.brk_io.specs.declared.stream_fault.FaultKind.TheVariants as kinds
 
 -- The number of calls of a script.
 abbrev call_count_of_script : CallScript → ℕ

@@ -13,9 +13,9 @@ use Rattle.brk_http_model.specs.Stream.{AreRepliesOfStream, AreFirstReplies, IsR
 use Rattle.brk_http_engine.proofs.Effects.{effect_of, effect_between}
 use Rattle.brk_http_engine.specs.Promises.{StreamRefinesModel, CallScript, StreamMatchesScript, IsNextScriptedCall}
 use Rattle.brk_http_engine.specs.Turns.{ExchangeHasReply, ExchangeFailsWith, IsStreamResult}
-use Rattle.brk_http_engine.specs.declared.stream.ServeFault.{ServeFault}
-use Rattle.brk_http_engine.specs.declared.turning.FaultKind.{FaultKind}
-use Rattle.brk_http_engine.specs.declared.turning.FaultKind.TheVariants as kinds
+use Rattle.brk_io.specs.declared.stream_fault.ServeFault.{ServeFault}
+use Rattle.brk_io.specs.declared.stream_fault.FaultKind.{FaultKind}
+use Rattle.brk_io.specs.declared.stream_fault.FaultKind.TheVariants as kinds
 use Rattle.brk_http_engine.proofs.Simulated as sim
 
 -- The change between two states of the desk, the clock and the writer.

@@ -14,8 +14,8 @@ use Rattle.brk_http_model.specs.Stream.{CallRelation, StreamState, Finished, Con
 use Rattle.brk_http_engine.proofs.Effects.{effect_of}
 use Rattle.brk_http_engine.specs.Turns.{ExchangeHasReply, ExchangeCompletesWith, ExchangeFailsWith, StreamFailsWith, IsStreamResult}
 use Rattle.brk_http_engine.specs.declared.turning.ExchangeResult.TheVariants as turn
-use Rattle.brk_http_engine.specs.declared.turning.FaultKind.{FaultKind}
-use Rattle.brk_http_engine.specs.declared.turning.FaultKind.TheVariants as kinds
+use Rattle.brk_io.specs.declared.stream_fault.FaultKind.{FaultKind}
+use Rattle.brk_io.specs.declared.stream_fault.FaultKind.TheVariants as kinds
 
 concat_push : (xs : List Text) (y : Text) → concat (xs ++ y ∷ []) ≡ concat xs ++ y
 concat_push [] y = append-nil y

@@ -2,9 +2,9 @@
 use Rattle.std.specs.Prelude.{ℕ, ◌+◌, Result, Ok, Err}
 use Rattle.brk_http_engine.specs.declared.turning.ExchangeResult.{ExchangeResult}
 use Rattle.brk_http_engine.specs.declared.turning.ExchangeResult.TheVariants as turn
-use Rattle.brk_http_engine.specs.declared.turning.FaultKind.{FaultKind}
-use Rattle.brk_http_engine.specs.declared.turning.FaultKind.TheVariants as kinds
-use Rattle.brk_http_engine.specs.declared.stream.ServeFault.{ServeFault}
+use Rattle.brk_io.specs.declared.stream_fault.FaultKind.{FaultKind}
+use Rattle.brk_io.specs.declared.stream_fault.FaultKind.TheVariants as kinds
+use Rattle.brk_io.specs.declared.stream_fault.ServeFault.{ServeFault}
 
 -- The greatest number of calls of the desk that the request at which this fault ended the stream
 -- makes: 0 if the reader failed, 1 if the writer failed or memory ran out.

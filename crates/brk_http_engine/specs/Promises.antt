@@ -5,7 +5,7 @@ use Rattle.brk_model.specs.Run.{Call, Outcome}
 use Rattle.brk_io.specs.Calls.{IsCallSequence}
 use Rattle.brk_io.specs.Span.{ClockAndWriterChange, environment_change_with_bases}
 use Rattle.brk_http_engine.specs.Turns.{IsStreamResult}
-use Rattle.brk_http_engine.specs.declared.stream.ServeFault.{ServeFault}
+use Rattle.brk_io.specs.declared.stream_fault.ServeFault.{ServeFault}
 use Rattle.brk_http_model.specs.Asked.{RequestParsers}
 use Rattle.brk_http_model.specs.Stream.{CallRelation}
 

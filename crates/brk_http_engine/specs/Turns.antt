@@ -19,9 +19,9 @@ use Rattle.brk_io.specs.Span.{IsUnchangedEnvironment, EnvironmentChange}
 use Rattle.brk_io.specs.Moments.{ClockReturnsMomentsInSequence}
 use Rattle.brk_http_engine.specs.declared.turning.ExchangeResult.{ExchangeResult}
 use Rattle.brk_http_engine.specs.declared.turning.ExchangeResult.TheVariants as turn
-use Rattle.brk_http_engine.specs.declared.turning.FaultKind.{FaultKind}
-use Rattle.brk_http_engine.specs.declared.turning.FaultKind.TheVariants as kinds
-use Rattle.brk_http_engine.specs.declared.stream.ServeFault.{ServeFault}
+use Rattle.brk_io.specs.declared.stream_fault.FaultKind.{FaultKind}
+use Rattle.brk_io.specs.declared.stream_fault.FaultKind.TheVariants as kinds
+use Rattle.brk_io.specs.declared.stream_fault.ServeFault.{ServeFault}
 
 -- After `n` replies the request at the front of `input` has the reply `reply`: the request was
 -- executed, or answered without a call of the desk because a check of it failed, or it could not be

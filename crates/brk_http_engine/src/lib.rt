@@ -14,7 +14,7 @@ mod stream;
 mod turning;
 
 pub use bodies::json_text_of_view;
+pub use brk_io::stream_fault::{FaultKind, ServeFault};
 pub use replying::fields_between_commas;
 pub use service::Service;
-pub use stream::{ServeFault, serve_requests};
-pub use turning::FaultKind;
+pub use stream::serve_requests;

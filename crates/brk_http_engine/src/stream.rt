@@ -8,20 +8,12 @@ ghost use Rattle.brk_http_engine.specs.Turns.{IsStreamResult};
 
 use crate::router::{RouteKind, new_router};
 use crate::service::Service;
-use crate::turning::{ExchangeResult, FaultKind, serve_next_request};
+use crate::turning::{ExchangeResult, serve_next_request};
 use brk_io::Clock;
+use brk_io::stream_fault::{FaultKind, ServeFault};
 use matchit::Router;
 use std::alloc::Global;
 use std::io::{Read, Write};
-
-/// A fault that ended a stream early, with the number of replies before it.
-#[derive(Clone, Copy, Debug, PartialEq, Eq)]
-pub struct ServeFault {
-    /// The number of requests that were answered before the fault.
-    pub done: u64,
-    /// The cause of the fault.
-    pub kind: FaultKind,
-}
 
 // Serves the requests of a stream, in order, until the input ends or a reply is the last of the
 // stream, at the latest after 1,000 requests, and returns the number of replies. The router must

@@ -17,6 +17,7 @@ use crate::service::Service;
 use brk_http_reader::{
     InputFault, NextRequest, RequestPositions, read_next_request, remove_front_bytes,
 };
+use brk_io::stream_fault::FaultKind;
 use brk_io::{Clock, write_all_bytes};
 use matchit::Router;
 use std::alloc::Global;
@@ -34,17 +35,6 @@ pub enum ExchangeResult {
     Open,
     /// The reply was the last of its stream.
     Closed,
-}
-
-/// The cause of a fault that ended a stream early.
-#[derive(Clone, Copy, Debug, PartialEq, Eq)]
-pub enum FaultKind {
-    /// The reader failed; an interrupted read is a failure too.
-    Read,
-    /// The writer failed, or accepted no byte.
-    Write,
-    /// Out of memory.
-    Memory,
 }
 
 // Returns true if the reply after `done` replies, which must be fewer than 1,000, is the last of

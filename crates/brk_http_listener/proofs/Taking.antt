@@ -2,9 +2,9 @@
 use Rattle.std.proofs.Common.{◌≡◌, ◌≢◌, ℕ, ◌+◌, ◌<◌, List, [], ◌∷◌, ◌++◌, length, None, Some, ap, subst, refl, arith}
 use Rattle.std.specs.Prelude.{Result, Ok, Err}
 use Rattle.std.proofs.lemmas.List.{length-append}
-use Rattle.brk_http_engine.specs.declared.stream.ServeFault.{ServeFault}
-use Rattle.brk_http_engine.specs.declared.turning.FaultKind.{FaultKind}
-use Rattle.brk_http_engine.specs.declared.turning.FaultKind.TheVariants as kinds
+use Rattle.brk_io.specs.declared.stream_fault.ServeFault.{ServeFault}
+use Rattle.brk_io.specs.declared.stream_fault.FaultKind.{FaultKind}
+use Rattle.brk_io.specs.declared.stream_fault.FaultKind.TheVariants as kinds
 use Rattle.brk_http_listener.specs.Listening.{AcceptRelation, AcceptHasResult, ServeEachStreamPost, MayAcceptNextStream, ListenerClockAndDesk, ServeRelation}
 use Rattle.brk_http_listener.specs.Listening.{StreamEnd, HandlesStream, HandlesStreamsInOrder}
 use Rattle.brk_http_listener.specs.declared.faults.AcceptFault.TheVariants.{Aborted, Failed}

@@ -1,8 +1,8 @@
 -- The streams of a listener, accepted and served in sequence, for any listener and any server of
 -- streams.
 use Rattle.std.specs.Prelude.{◌≡◌, ◌≢◌, ◌<◌, ℕ, List, [], ◌∷◌, Option, None, Some, Result, Ok, Err, length}
-use Rattle.brk_http_engine.specs.declared.stream.ServeFault.{ServeFault}
-use Rattle.brk_http_engine.specs.declared.turning.FaultKind.TheVariants.{Memory}
+use Rattle.brk_io.specs.declared.stream_fault.ServeFault.{ServeFault}
+use Rattle.brk_io.specs.declared.stream_fault.FaultKind.TheVariants.{Memory}
 use Rattle.brk_http_listener.specs.declared.faults.AcceptFault.{AcceptFault}
 use Rattle.brk_http_listener.specs.declared.faults.AcceptFault.TheVariants.{Aborted, Failed}
 use Rattle.brk_http_listener.specs.declared.faults.ListenFault.{ListenFault}

@@ -1,4 +1,4 @@
-use brk_http_engine::ServeFault;
+use brk_io::ServeFault;
 
 /// The reason why a listener returned no stream.
 #[derive(Clone, Copy, Debug, PartialEq, Eq)]

@@ -1,7 +1,7 @@
 ghost use Rattle.std.specs.Prelude.{ℕ, Result};
-ghost use Rattle.brk_http_engine.specs.declared.stream.ServeFault.{ServeFault};
+ghost use Rattle.brk_io.specs.declared.stream_fault.ServeFault.{ServeFault};
 
-use brk_http_engine::ServeFault;
+use brk_io::ServeFault;
 use std::alloc::Global;
 
 /// A server of accepted streams.

@@ -3,7 +3,7 @@ ghost use Rattle.brk_http_listener.specs.Listening.{ServeEachStreamPost};
 use crate::faults::{AcceptFault, ListenFault};
 use crate::listener::Listener;
 use crate::server::StreamServer;
-use brk_http_engine::FaultKind;
+use brk_io::stream_fault::FaultKind;
 use std::alloc::Global;
 
 // Accepts the next stream of a listener and serves it to its end. A stream that its peer broke off

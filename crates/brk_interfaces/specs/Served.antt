@@ -8,7 +8,7 @@ use Rattle.brk_desk.specs.declared.call.Call.{Call}
 use Rattle.brk_desk.specs.declared.call.Outcome.{Outcome}
 use Rattle.brk_http_model.specs.Stream.{most_requests_per_stream}
 use Rattle.brk_http_engine.specs.Limits.{call_limit_of_stream}
-use Rattle.brk_http_engine.specs.declared.stream.ServeFault.{ServeFault}
+use Rattle.brk_io.specs.declared.stream_fault.ServeFault.{ServeFault}
 use Rattle.brk_http_listener.specs.Listening.{ServeRelation}
 
 -- A stream that ended with the result `ended` changed the desk from the state `old` to the state

@@ -1,3 +1,4 @@
 pub mod Moments
 pub mod Span
 pub mod Calls
+pub mod Faults

@@ -1,11 +1,18 @@
 //! The environment of an engine, which executes the rows of a batch or of a stream: a clock,
-//! writing all bytes, and the reasons why a batch ended early.
+//! writing all bytes, and the reasons why a batch, a stream or a report ended early, or why
+//! arguments request no job.
 #![tactic(auto)]
 
 mod batch_fault;
 mod clock;
+pub mod report_fault;
+pub mod stream_fault;
+pub mod usage_fault;
 pub mod writing;
 
 pub use batch_fault::{BatchFault, FaultKind};
 pub use clock::Clock;
+pub use report_fault::{LinesFault, ReportFault};
+pub use stream_fault::ServeFault;
+pub use usage_fault::UsageFault;
 pub use writing::{NotWritten, write_all_bytes};

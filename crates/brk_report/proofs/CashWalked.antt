@@ -19,8 +19,8 @@ use Rattle.brk_store.specs.Walked.{WalkPost}
 use Rattle.brk_tables.specs.declared.views.walking.WalkError.{WalkError}
 use Rattle.brk_tables.specs.declared.views.walking.WalkError.TheVariants.{Failed, Cause}
 use Rattle.brk_report_lines.specs.Written.{FailsWithinFirstLines, line_with_line_feed}
-use Rattle.brk_report_lines.specs.declared.fault.LinesFault.{LinesFault}
-use Rattle.brk_report_lines.specs.declared.fault.LinesFault.TheVariants.{Desk, Write}
+use Rattle.brk_io.specs.declared.report_fault.LinesFault.{LinesFault}
+use Rattle.brk_io.specs.declared.report_fault.LinesFault.TheVariants.{Desk, Write}
 use Rattle.brk_report_lines.proofs.Composed.{appends_none, lines_parts, then_all}
 use Rattle.brk_report.specs.CashWalk.{lines_of_cash_row, lines_of_cash_rows, progress_after_cash_row, progress_after_cash_rows}
 use Rattle.brk_report.specs.StatementOutput.{IsLinesFaultOtherThanDamage}

@@ -27,10 +27,10 @@ use Rattle.brk_explain_rows.specs.declared.account_details.AccountDetails as acc
 use Rattle.brk_explain_rows.specs.declared.broker_details.BrokerDetails as broker_details
 use Rattle.brk_explain_rows.specs.declared.holding_details.HoldingDetails as holding_details
 use Rattle.brk_explain_rows.specs.declared.details.TradeDetails as trade_details
-use Rattle.brk_report_lines.specs.Faults.{report_fault_of_lines_fault}
+use Rattle.brk_io.specs.Faults.{report_fault_of_lines_fault}
 use Rattle.brk_report_lines.specs.Written.{FailsWithinLines}
-use Rattle.brk_report_lines.specs.declared.fault.LinesFault.{LinesFault}
-use Rattle.brk_report_lines.specs.declared.fault.LinesFault.TheVariants.{Desk, Write}
+use Rattle.brk_io.specs.declared.report_fault.LinesFault.{LinesFault}
+use Rattle.brk_io.specs.declared.report_fault.LinesFault.TheVariants.{Desk, Write}
 use Rattle.brk_explain_sums.specs.HoldingTexts.{lines_of_holding_details}
 use Rattle.brk_report.specs.ExplanationParts.{all_broker_lines, all_account_lines}
 use Rattle.brk_report.specs.LinesOutput.{WritesLinesOrRefuses}

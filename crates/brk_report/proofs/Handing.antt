@@ -9,8 +9,8 @@ use Rattle.brk_model.specs.Run.{IsCallFault}
 use Rattle.brk_model.specs.Statement.{text_of_lines}
 use Rattle.brk_model.specs.Tables.{Tables}
 use Rattle.brk_report_lines.specs.Written.{FailsWithinFirstLines, FailsWithinLines, WritesLines}
-use Rattle.brk_report_lines.specs.declared.fault.LinesFault.{LinesFault}
-use Rattle.brk_report_lines.specs.declared.fault.LinesFault.TheVariants.{Desk}
+use Rattle.brk_io.specs.declared.report_fault.LinesFault.{LinesFault}
+use Rattle.brk_io.specs.declared.report_fault.LinesFault.TheVariants.{Desk}
 use Rattle.brk_report.specs.CashWalk.{WritesCashLines, opening_and_cash_lines}
 use Rattle.brk_report.specs.StatementParts.{WritesCashAndClosingLines, cash_and_closing_lines}
 use Rattle.brk_report.specs.declared.statements.visitors.CashProgress.{CashProgress}

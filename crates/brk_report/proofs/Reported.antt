@@ -2,11 +2,11 @@
 use Rattle.std.proofs.Common.{◌≡◌, Result, Ok, Err, IfErr, sym, subst}
 use Rattle.std.specs.Prelude.{IsErrAnd}
 use Rattle.brk_money.specs.declared.refusal.Refusal.{Refusal}
-use Rattle.brk_report_lines.specs.Faults.{report_fault_of_lines_fault}
-use Rattle.brk_report_lines.specs.declared.fault.LinesFault.{LinesFault}
-use Rattle.brk_report_lines.specs.declared.fault.LinesFault.TheVariants.{Desk, Write}
-use Rattle.brk_report_lines.specs.declared.fault.ReportFault.{ReportFault}
-use Rattle.brk_report_lines.specs.declared.fault.ReportFault.TheVariants as report
+use Rattle.brk_io.specs.Faults.{report_fault_of_lines_fault}
+use Rattle.brk_io.specs.declared.report_fault.LinesFault.{LinesFault}
+use Rattle.brk_io.specs.declared.report_fault.LinesFault.TheVariants.{Desk, Write}
+use Rattle.brk_io.specs.declared.report_fault.ReportFault.{ReportFault}
+use Rattle.brk_io.specs.declared.report_fault.ReportFault.TheVariants as report
 use Rattle.brk_report.specs.StatementOutput.{IsLinesFaultOtherThanDamage, IsReportFaultOtherThanDamage}
 
 -- the result of a report that fails because writing its lines does

@@ -16,7 +16,7 @@ use Rattle.brk_store.specs.Walked.{WalkPost}
 use Rattle.brk_tables.specs.declared.views.walking.WalkError.{WalkError}
 use Rattle.brk_tables.specs.declared.views.walking.WalkError.TheVariants.{Failed, Cause}
 use Rattle.brk_report_lines.specs.Written.{FailsWithinLines, FailsWithinFirstLines, line_with_line_feed}
-use Rattle.brk_report_lines.specs.declared.fault.LinesFault.{LinesFault}
+use Rattle.brk_io.specs.declared.report_fault.LinesFault.{LinesFault}
 use Rattle.brk_report_lines.proofs.Composed.{appends_none, breaks_before, breaks_behind}
 use Rattle.brk_report.specs.WalkFaults.{fault_of_walk_error}
 use Rattle.brk_explain_columns.proofs.RunningRows.{rows_parts, total_after}

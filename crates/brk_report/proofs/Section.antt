@@ -15,8 +15,8 @@ use Rattle.brk_tables.specs.declared.views.walking.WalkError.{WalkError}
 use Rattle.brk_tables.specs.declared.views.walking.WalkError.TheVariants.{Failed, Cause}
 use Rattle.brk_report_lines.specs.Written.{FailsWithinLines, FailsWithinFirstLines, WritesLines, line_with_line_feed}
 use Rattle.brk_report.specs.StatementOutput.{IsLinesFaultOtherThanDamage}
-use Rattle.brk_report_lines.specs.declared.fault.LinesFault.{LinesFault}
-use Rattle.brk_report_lines.specs.declared.fault.LinesFault.TheVariants.{Desk, Write}
+use Rattle.brk_io.specs.declared.report_fault.LinesFault.{LinesFault}
+use Rattle.brk_io.specs.declared.report_fault.LinesFault.TheVariants.{Desk, Write}
 use Rattle.brk_report_lines.proofs.Composed.{appends_none, breaks_before, breaks_behind}
 use Rattle.brk_report.specs.WalkFaults.{fault_of_walk_error}
 

@@ -14,10 +14,10 @@ use Rattle.brk_model.specs.Tables.{AccountRow, Tables}
 use Rattle.brk_queries.specs.declared.head.StatementHead.{StatementHead}
 use Rattle.brk_report.specs.StatementParts.{all_statement_lines, statement_header_lines}
 use Rattle.brk_report.specs.StatementOutput.{AreStatementLines, WritesStatement}
-use Rattle.brk_report_lines.specs.Faults.{report_fault_of_lines_fault}
+use Rattle.brk_io.specs.Faults.{report_fault_of_lines_fault}
 use Rattle.brk_report_lines.specs.Written.{FailsWithinLines}
-use Rattle.brk_report_lines.specs.declared.fault.LinesFault.{LinesFault}
-use Rattle.brk_report_lines.specs.declared.fault.LinesFault.TheVariants.{Desk, Write}
+use Rattle.brk_io.specs.declared.report_fault.LinesFault.{LinesFault}
+use Rattle.brk_io.specs.declared.report_fault.LinesFault.TheVariants.{Desk, Write}
 use Rattle.brk_queries.specs.Heads.{IsStatementHeadOfAccount}
 
 pub passes_found : {X : Type 0} (p : X → Bool) (xs : List X) (x : X) → find p xs ≡ Some x → p x ≡ true

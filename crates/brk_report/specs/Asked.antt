@@ -13,8 +13,8 @@ use Rattle.brk_money.specs.Spelling.{Text}
 use Rattle.brk_money.specs.declared.fault.Fault.{Fault}
 use Rattle.brk_money.specs.declared.fault.Fault.TheVariants.{Memory}
 use Rattle.brk_money.specs.declared.refusal.Refusal.{Refusal}
-use Rattle.brk_report_lines.specs.declared.fault.ReportFault.{ReportFault}
-use Rattle.brk_report_lines.specs.declared.fault.ReportFault.TheVariants.{Refused, Desk, Write}
+use Rattle.brk_io.specs.declared.report_fault.ReportFault.{ReportFault}
+use Rattle.brk_io.specs.declared.report_fault.ReportFault.TheVariants.{Refused, Desk, Write}
 use Rattle.brk_view.specs.Views.{records_of_view}
 use Rattle.brk_view.specs.declared.view.View.{View}
 

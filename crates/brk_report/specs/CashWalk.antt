@@ -10,7 +10,7 @@ use Rattle.brk_model.specs.Statement.{cash_row_line, cash_row_total, text_of_lin
 use Rattle.brk_model.specs.Tables.{MoveRow, Tables}
 use Rattle.brk_report.specs.declared.statements.visitors.CashProgress.{CashProgress}
 use Rattle.brk_report_lines.specs.Written.{FailsWithinFirstLines}
-use Rattle.brk_report_lines.specs.declared.fault.LinesFault.{LinesFault}
+use Rattle.brk_io.specs.declared.report_fault.LinesFault.{LinesFault}
 
 -- The line of the opening amount `opening`, in cents, or no line if the Boolean is true, which
 -- means that this line is written already.

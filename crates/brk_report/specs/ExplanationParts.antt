@@ -12,7 +12,7 @@ use Rattle.brk_explain_rows.specs.Details.{abstract_priced_holding}
 use Rattle.brk_explain_rows.specs.declared.account_details.AccountDetails.{AccountDetails}
 use Rattle.brk_explain_rows.specs.declared.broker_details.BrokerDetails.{BrokerDetails}
 use Rattle.brk_report_lines.specs.Written.{FailsWithinFirstLines}
-use Rattle.brk_report_lines.specs.declared.fault.LinesFault.{LinesFault}
+use Rattle.brk_io.specs.declared.report_fault.LinesFault.{LinesFault}
 
 -- The result of writing `lines`, the first lines of a longer text. `Ok`: exactly `lines` were
 -- written, which is vacuous if the writer's content before is unknown, and the returned count is

@@ -11,8 +11,8 @@ use Rattle.brk_model.specs.Statement.{text_of_lines}
 use Rattle.brk_model.specs.Tables.{Tables}
 use Rattle.brk_report.specs.StatementOutput.{PreservesDesk, IsReportFaultOtherThanDamage, HoldsForStoredTables}
 use Rattle.brk_report_lines.specs.Written.{WritesProperPrefixOfLines, WritesLinesAndPartOfNext}
-use Rattle.brk_report_lines.specs.declared.fault.ReportFault.{ReportFault}
-use Rattle.brk_report_lines.specs.declared.fault.ReportFault.TheVariants.{Refused, Desk, Write}
+use Rattle.brk_io.specs.declared.report_fault.ReportFault.{ReportFault}
+use Rattle.brk_io.specs.declared.report_fault.ReportFault.TheVariants.{Refused, Desk, Write}
 
 -- The result of writing `told`, which is lines or a refusal. `Ok`: `told` is lines, and exactly
 -- these were written. `Refused`: `told` is this refusal; the output is not specified here. `Desk`:

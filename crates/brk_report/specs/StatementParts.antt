@@ -10,7 +10,7 @@ use Rattle.brk_model.specs.Tables.{Tables}
 use Rattle.brk_queries.specs.declared.head.StatementHead.{StatementHead}
 use Rattle.brk_report.specs.CashWalk.{opening_and_cash_lines}
 use Rattle.brk_report_lines.specs.Written.{FailsWithinLines}
-use Rattle.brk_report_lines.specs.declared.fault.LinesFault.{LinesFault}
+use Rattle.brk_io.specs.declared.report_fault.LinesFault.{LinesFault}
 
 -- The first three lines of a statement: the title with the id of `account`, its name `name`, and
 -- the first day `from` and the last day `to`.

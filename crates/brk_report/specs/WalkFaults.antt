@@ -1,8 +1,8 @@
 -- The fault of writing lines for a walk that failed.
 use Rattle.brk_tables.specs.declared.views.walking.WalkError.{WalkError}
 use Rattle.brk_tables.specs.declared.views.walking.WalkError.TheVariants.{Failed, Cause}
-use Rattle.brk_report_lines.specs.declared.fault.LinesFault.{LinesFault}
-use Rattle.brk_report_lines.specs.declared.fault.LinesFault.TheVariants.{Desk}
+use Rattle.brk_io.specs.declared.report_fault.LinesFault.{LinesFault}
+use Rattle.brk_io.specs.declared.report_fault.LinesFault.TheVariants.{Desk}
 
 -- The fault with which writing lines fails if its walk failed with this error: the fault of the
 -- desk for `Failed`, and the fault with which the visitor stopped the walk for `Cause`.

@@ -2,7 +2,7 @@
 
 ghost use Rattle.std.specs.Prelude.{◌≡◌, ◌+ℤ◌, Err, IfOk, OnErr, pos};
 ghost use Rattle.brk_money.specs.declared.fault.Fault.TheVariants as fault;
-ghost use Rattle.brk_report_lines.specs.declared.fault.LinesFault.TheVariants.{Desk};
+ghost use Rattle.brk_io.specs.declared.report_fault.LinesFault.TheVariants.{Desk};
 
 use brk_money::{Amount, Cents, Fault, Wide};
 use brk_report_lines::LinesFault;

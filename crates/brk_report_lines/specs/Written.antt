@@ -5,8 +5,8 @@ use Rattle.std.specs.Io.KnownBytes.{Appends}
 use Rattle.brk_money.specs.Spelling.{Text}
 use Rattle.brk_model.specs.Statement.{text_of_lines}
 use Rattle.brk_model.specs.Run.{IsCallFault}
-use Rattle.brk_report_lines.specs.declared.fault.LinesFault.{LinesFault}
-use Rattle.brk_report_lines.specs.declared.fault.LinesFault.TheVariants.{Desk, Write}
+use Rattle.brk_io.specs.declared.report_fault.LinesFault.{LinesFault}
+use Rattle.brk_io.specs.declared.report_fault.LinesFault.TheVariants.{Desk, Write}
 
 -- The bytes of `line`, followed by a line feed.
 abbrev pub line_with_line_feed : Text → Text

@@ -3,14 +3,13 @@
 
 pub mod columns;
 pub mod days;
-pub mod fault;
 pub mod head_lines;
 pub mod row_lines;
 pub mod writing;
 
+pub use brk_io::{LinesFault, ReportFault};
 pub use columns::{append_left_aligned, append_right_aligned};
 pub use days::{first_stamp_of_day, last_stamp_of_day};
-pub use fault::{LinesFault, ReportFault};
 pub use head_lines::{
     account_name_line, amount_line, first_and_last_day_line, row_counts_line, statement_title_line,
 };

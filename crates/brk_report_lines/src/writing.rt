@@ -4,8 +4,7 @@ ghost use Rattle.brk_model.specs.Run.{IsCallFault};
 ghost use Rattle.brk_model.specs.Statement.{text_of_lines};
 ghost use Rattle.brk_report_lines.specs.Written.{WritesLines, line_with_line_feed};
 
-use crate::fault::LinesFault;
-use brk_io::write_all_bytes;
+use brk_io::{LinesFault, write_all_bytes};
 use brk_money::Fault;
 use std::io::Write;
 

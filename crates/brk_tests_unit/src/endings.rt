@@ -1,7 +1,6 @@
 use crate::expect::expect_equal;
 use brk_args::UsageFault;
-use brk_exit::brk_io::{BatchFault, FaultKind};
-use brk_exit::brk_report_lines::ReportFault;
+use brk_exit::brk_io::{BatchFault, FaultKind, ReportFault};
 use brk_exit::{Ending, end_with};
 use brk_http_engine::{FaultKind as StreamFault, ServeFault};
 use brk_money::{Condition, Fault, Refusal};

@@ -20,7 +20,7 @@ use Rattle.brk_http_engine.proofs.Promised.{tells}
 use Rattle.brk_http_engine.specs.Limits.{call_limit_of_stream}
 use Rattle.brk_http_engine.specs.Promises.{StreamMatchesScript, ChangesOnlyByCalls}
 use Rattle.brk_http_engine.specs.Turns.{IsStreamResult}
-use Rattle.brk_http_engine.specs.declared.stream.ServeFault.{ServeFault}
+use Rattle.brk_io.specs.declared.stream_fault.ServeFault.{ServeFault}
 use Rattle.brk_interfaces.specs.CallOutcomes.{DeskCallHasOutcome}
 use Rattle.brk_http_model.specs.Asked.{model_parsers}
 

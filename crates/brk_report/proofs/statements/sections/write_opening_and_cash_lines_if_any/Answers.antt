@@ -3,7 +3,7 @@ use Rattle.sqlite.specs.Held.{state}
 use Rattle.sqlite.specs.State.{HasCleanDisk}
 use Rattle.brk_changes.specs.Rows.{abstract_move_row}
 use Rattle.brk_model.specs.Tables.{Tables}
-use Rattle.brk_report_lines.specs.declared.fault.LinesFault.{LinesFault}
+use Rattle.brk_io.specs.declared.report_fault.LinesFault.{LinesFault}
 use Rattle.brk_store.specs.Holds.{HoldsRows}
 use Rattle.brk_store.specs.Walked.{cash_rows_in_span}
 use Rattle.brk_report.specs.CashWalk.{WritesLinesOfCashWalk}

@@ -4,7 +4,7 @@ use Rattle.brk_explain_model.specs.BrokerLines.{trade_commission_line}
 use Rattle.brk_money.specs.declared.fault.Fault.TheVariants as fault
 use Rattle.brk_report.proofs.Handing.{nothing_yet, on_err, wants}
 use Rattle.brk_report_lines.specs.Written.{FailsWithinLines}
-use Rattle.brk_report_lines.specs.declared.fault.LinesFault.TheVariants.{Desk}
+use Rattle.brk_io.specs.declared.report_fault.LinesFault.TheVariants.{Desk}
 use Rattle.brk_report_lines.proofs.Composed.{appends_none}
 use Rattle.brk_report.proofs.explanations.visitors.TradeCommissionWriterVisitorTradeRowLinesFault.visit.Goals as goal
 

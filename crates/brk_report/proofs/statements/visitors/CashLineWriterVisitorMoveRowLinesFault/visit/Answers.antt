@@ -3,7 +3,7 @@ use Rattle.std.specs.Prelude.{nat_lt}
 use Rattle.brk_changes.specs.Rows.{abstract_move_row}
 use Rattle.brk_money.specs.declared.fault.Fault.TheVariants as fault
 use Rattle.brk_report_lines.specs.Written.{FailsWithinFirstLines}
-use Rattle.brk_report_lines.specs.declared.fault.LinesFault.TheVariants.{Desk}
+use Rattle.brk_io.specs.declared.report_fault.LinesFault.TheVariants.{Desk}
 use Rattle.brk_report_lines.proofs.Composed.{appends_none}
 use Rattle.brk_report.specs.CashWalk.{lines_of_cash_row}
 use Rattle.brk_report.specs.declared.statements.visitors.CashProgress.{CashProgress}

@@ -1,8 +1,8 @@
 -- The fault of a report whose lines could not be written.
-use Rattle.brk_report_lines.specs.declared.fault.LinesFault.{LinesFault}
-use Rattle.brk_report_lines.specs.declared.fault.LinesFault.TheVariants as lines
-use Rattle.brk_report_lines.specs.declared.fault.ReportFault.{ReportFault}
-use Rattle.brk_report_lines.specs.declared.fault.ReportFault.TheVariants.{Desk, Write}
+use Rattle.brk_io.specs.declared.report_fault.LinesFault.{LinesFault}
+use Rattle.brk_io.specs.declared.report_fault.LinesFault.TheVariants as lines
+use Rattle.brk_io.specs.declared.report_fault.ReportFault.{ReportFault}
+use Rattle.brk_io.specs.declared.report_fault.ReportFault.TheVariants.{Desk, Write}
 
 -- The fault with which a report fails if writing its lines failed with the given fault: `Desk` with
 -- the fault of the desk, or `Write`. It is never a refusal.

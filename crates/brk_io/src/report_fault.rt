@@ -1,5 +1,5 @@
 ghost use Rattle.std.specs.Prelude.{◌≡◌};
-ghost use Rattle.brk_report_lines.specs.Faults.{report_fault_of_lines_fault};
+ghost use Rattle.brk_io.specs.Faults.{report_fault_of_lines_fault};
 
 use brk_money::{Fault, Refusal};
 
