@@ -1,7 +1,7 @@
-use brk_clock::ProgramClock;
 use brk_desk::Desk;
 use brk_exit::Ending;
 use brk_interfaces::batches::run_batch;
+use brk_io::ProgramClock;
 use brk_money::Stamp;
 use sqlite::Alter;
 use std::io::{Read, Write};

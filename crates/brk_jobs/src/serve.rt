@@ -1,9 +1,9 @@
 //! The job that serves a desk to programs on the same machine.
 
-use brk_clock::ProgramClock;
 use brk_desk::Desk;
 use brk_exit::Ending;
 use brk_interfaces::http::{ListenFault, serve_on};
+use brk_io::ProgramClock;
 use brk_money::Stamp;
 use sqlite::Alter;
 use std::net::TcpListener;

@@ -1,8 +1,7 @@
 //! Tests of the program's clock.
 
 use crate::expect::expect_equal;
-use brk_clock::ProgramClock;
-use brk_exit::brk_io::Clock;
+use brk_exit::brk_io::{Clock, ProgramClock};
 use brk_money::Stamp;
 use std::io::{self, ErrorKind};
 use std::rt;

@@ -1,7 +1,7 @@
 ghost use Rattle.std.specs.Prelude.{◌≡◌};
-ghost use Rattle.brk_clock.specs.Readings.{ReturnsReading, program_clock, stamp_of_time};
+ghost use Rattle.brk_io.specs.Readings.{ReturnsReading, program_clock, stamp_of_time};
 
-use brk_io::Clock;
+use crate::clock::Clock;
 use brk_money::Stamp;
 use std::rt;
 use std::time::{SystemTime, UNIX_EPOCH};

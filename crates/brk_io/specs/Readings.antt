@@ -4,8 +4,8 @@ use Rattle.std.specs.Borrow.{Bor}
 use Rattle.std.specs.Time.{system_time_nanos}
 use Rattle.std.specs.declared.time.SystemTime.{SystemTime}
 use Rattle.brk_money.specs.Moments.{greatest_stamp}
-use Rattle.brk_clock.specs.declared.moments.ProgramClock.{ProgramClock}
-use Rattle.brk_clock.specs.declared.moments.ProgramClock.TheVariants as moments
+use Rattle.brk_io.specs.declared.program_clock.ProgramClock.{ProgramClock}
+use Rattle.brk_io.specs.declared.program_clock.ProgramClock.TheVariants as clocks
 
 -- The stamp of a time: its whole milliseconds since 1970-01-01 UTC, or the greatest stamp if the
 -- time is later than this stamp.
@@ -15,11 +15,11 @@ stamp_of_time time = min (system_time_nanos time / 1000000) greatest_stamp
 -- The clock of the program: one that always returns the given timestamp, or the clock `machine` of
 -- the machine if there is no timestamp.
 abbrev pub program_clock : {R : Type 0} → Bor R → Option ℕ → ProgramClock R
-program_clock machine (Some stamp) = moments.At stamp
-program_clock machine None = moments.Machine machine
+program_clock machine (Some stamp) = clocks.At stamp
+program_clock machine None = clocks.Machine machine
 
 -- The clock returned the reading `moment` and did not change. If the clock has a fixed timestamp,
 -- `moment` is this timestamp; which reading the machine's clock returns is not specified.
 abbrev pub ReturnsReading : {R : Type 0} → ProgramClock R → ℕ → ProgramClock R → Type 0
-ReturnsReading (moments.At stamp) moment new = (moment ≡ stamp) × (new ≡ moments.At stamp)
-ReturnsReading (moments.Machine machine) moment new = new ≡ moments.Machine machine
+ReturnsReading (clocks.At stamp) moment new = (moment ≡ stamp) × (new ≡ clocks.At stamp)
+ReturnsReading (clocks.Machine machine) moment new = new ≡ clocks.Machine machine
