@@ -15,10 +15,11 @@ use Rattle.brk_model.specs.Sheets.{sheets}
 use Rattle.brk_model.specs.Tables.{HoldingHistoryRow, Tables, trade_row}
 use Rattle.brk_lots.specs.Lots.{list_reversed_if_lifo, shares_of_lots}
 use Rattle.brk_lots.specs.Position.{IsPositionInAnyOrder}
-use Rattle.brk_lots.specs.Values.{closing_values_by_side, closing_values_of_deal}
-use Rattle.brk_lots.specs.Walks.{buy_value_by_side, cost_of_first_shares, touches_of_first_shares, sell_value_by_side}
+use Rattle.brk_lots.specs.Values.{closing_values_of_deal}
+use Rattle.brk_closing.specs.Values.{closing_values_by_side, buy_value_by_side, sell_value_by_side}
+use Rattle.brk_lots.specs.Walks.{cost_of_first_shares, touches_of_first_shares}
 use Rattle.brk_lots.specs.declared.lot.Lot.{Lot}
-use Rattle.brk_lots.specs.declared.values.Values.{Values}
+use Rattle.brk_closing.specs.declared.values.Values.{Values}
 use Rattle.brk_lots.proofs.Books.{count_fits}
 use Rattle.brk_lots.proofs.Closed.{values_are}
 use Rattle.brk_lots.proofs.Ends.{all_end, shares_end, walk_of}

@@ -10,7 +10,8 @@ use Rattle.brk_money.specs.declared.side.Side.TheVariants.{Buy, Sell}
 use Rattle.brk_model.specs.Shares.{signed_by_side}
 use Rattle.brk_model.specs.Tables.{Tables}
 use Rattle.brk_lots.specs.Lots.{share_of_lot, shares_of_lots, side_of_qty}
-use Rattle.brk_lots.specs.Walks.{buy_value_by_side, cost_of_first_shares, touches_of_first_shares, sell_value_by_side}
+use Rattle.brk_lots.specs.Walks.{cost_of_first_shares, touches_of_first_shares}
+use Rattle.brk_closing.specs.Values.{buy_value_by_side, sell_value_by_side}
 use Rattle.brk_lots.specs.declared.lot.Lot.{Lot}
 use Rattle.brk_lots.specs.declared.lot.Touch.{Touch}
 use Rattle.brk_lots.proofs.Runs.{length_run}

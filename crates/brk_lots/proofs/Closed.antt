@@ -7,15 +7,16 @@ use Rattle.brk_model.specs.Shares.{Share, Deal, closed_share_count_of_deal, buy_
 use Rattle.brk_lots.specs.declared.lot.Lot.{Lot}
 use Rattle.brk_lots.specs.Lots.{side_of_qty, shares_of_lots, list_reversed_if_lifo, abstract_touch}
 use Rattle.brk_lots.specs.Position.{IsPositionInAnyOrder, AreOpenedByOtherTrades}
-use Rattle.brk_lots.specs.Walks.{closed_share_count, touches_of_first_shares, cost_of_first_shares, buy_value_by_side, sell_value_by_side}
+use Rattle.brk_lots.specs.Walks.{closed_share_count, touches_of_first_shares, cost_of_first_shares}
+use Rattle.brk_closing.specs.Values.{buy_value_by_side, sell_value_by_side, closing_values_by_side}
 use Rattle.brk_lots.proofs.Runs.{cost}
 use Rattle.brk_lots.proofs.Walks.{touches_more}
 use Rattle.brk_lots.proofs.Changes.{cost_taken}
 use Rattle.brk_lots.proofs.Ends.{shares_end}
 use Rattle.brk_lots.proofs.Plain.{bought_is, sold_is}
 use Rattle.brk_lots.proofs.Upon.{met_closes, rows_are}
-use Rattle.brk_lots.specs.declared.values.Values.{Values}
-use Rattle.brk_lots.specs.Values.{closing_values_by_side, closing_values_of_deal}
+use Rattle.brk_closing.specs.declared.values.Values.{Values}
+use Rattle.brk_lots.specs.Values.{closing_values_of_deal}
 
 -- the shares that the walk takes cost what the shares that the deal closes cost
 paid_is : (d : Deal) (ls : List Lot) → IsPositionInAnyOrder ls

@@ -4,7 +4,7 @@ use Rattle.std.specs.Prelude.{flat_map}
 use Rattle.brk_model.specs.Derived.{deals_of_position}
 use Rattle.brk_model.specs.Records.{Trade}
 use Rattle.brk_model.specs.Shares.{Share, Deal, shares_after_deal, touch_of_lot}
-use Rattle.brk_model.specs.Tables.{HoldingHistoryRow, holding_history_over_deals, holding_history_rows_of_lot, rows_with_lot_touch}
+use Rattle.brk_model.specs.Tables.{holding_history_over_deals, holding_history_rows_of_lot, rows_with_lot_touch}
 use Rattle.brk_lots.specs.HistoryRows.{lot_rows_with_quantity_change, lot_history_rows_per_deal, has_quantity_change}
 
 by_deals : (lot : ℕ) (shares : List Share) (deals : List Deal) → holding_history_over_deals lot shares deals ≡ filter has_quantity_change (lot_history_rows_per_deal lot shares deals)

@@ -2,20 +2,16 @@
 use Rattle.std.specs.Prelude.{◌≡◌, ℕ, ◌+◌, ◌*◌, List}
 use Rattle.brk_money.specs.declared.side.Side.{Side}
 use Rattle.brk_model.specs.Shares.{Share, Deal, buy_value, sell_value}
-use Rattle.brk_lots.specs.Walks.{closed_share_count, touches_of_first_shares, cost_of_first_shares, buy_value_by_side, sell_value_by_side}
+use Rattle.brk_lots.specs.Walks.{closed_share_count, touches_of_first_shares, cost_of_first_shares}
 use Rattle.brk_lots.specs.declared.lot.Lot.{Lot}
 use Rattle.brk_lots.specs.declared.lot.Touch.{Touch}
-use Rattle.brk_lots.specs.declared.values.Values.{Values}
+use Rattle.brk_closing.specs.declared.values.Values.{Values}
+use Rattle.brk_closing.specs.Values.{closing_values_by_side}
 
 -- The buy value and the sell value, in cents, of the shares that the deal `d` closes in the
 -- position with the shares `shares`.
 abbrev pub closing_values_of_deal : Deal → List Share → Values
 closing_values_of_deal d shares = record { buy_value = buy_value d shares; sell_value = sell_value d shares }
-
--- The buy value and the sell value, in cents, of shares that a trade of the side `side` closes at
--- the value `closed` and that were opened at the value `opened`.
-abbrev pub closing_values_by_side : Side → ℕ → ℕ → Values
-closing_values_by_side side closed opened = record { buy_value = buy_value_by_side side closed opened; sell_value = sell_value_by_side side closed opened }
 
 -- The values `taken`, `over` and `worth` are the result of a trade of `qty` shares at `price` cents
 -- each on `side` that closes shares of the lots `ls`, if they have the other side, from the first

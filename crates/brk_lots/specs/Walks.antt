@@ -5,7 +5,6 @@ use Rattle.std.specs.Ordering.{int_eq}
 use Rattle.std.specs.Int.RustNames.{unsigned_abs}
 use Rattle.brk_money.specs.Kinds.{is_same_side}
 use Rattle.brk_money.specs.declared.side.Side.{Side}
-use Rattle.brk_money.specs.declared.side.Side.TheVariants.{Buy, Sell}
 use Rattle.brk_model.specs.Shares.{signed_by_side}
 use Rattle.brk_lots.specs.declared.lot.Lot.{Lot}
 use Rattle.brk_lots.specs.declared.lot.Touch.{Touch}
@@ -43,18 +42,6 @@ pub record IsResultOfClosingLots (side : Side) (qty : ℕ) (ls : List Lot) (take
   pub left : over + closed_share_count side qty ls ≡ qty
   pub rows : taken ≡ touches_of_first_shares (closed_share_count side qty ls) ls
   pub shares : cost ≡ cost_of_first_shares (closed_share_count side qty ls) ls
-
--- The buy value of closed shares, in cents: `traded`, their value at the trade's price, if the
--- trade is a purchase, and `opened`, their value at opening prices, if it is a sale.
-abbrev pub buy_value_by_side : Side → ℕ → ℕ → ℕ
-buy_value_by_side Buy traded opened = traded
-buy_value_by_side Sell traded opened = opened
-
--- The sell value of closed shares, in cents: `opened`, their value at opening prices, if the trade
--- is a purchase, and `traded`, their value at the trade's price, if it is a sale.
-abbrev pub sell_value_by_side : Side → ℕ → ℕ → ℕ
-sell_value_by_side Buy traded opened = opened
-sell_value_by_side Sell traded opened = traded
 
 -- The signed quantity of the lot `l` after the changes: the quantity after the first change of this
 -- lot in the list, or the quantity of `l` if no change is of this lot.

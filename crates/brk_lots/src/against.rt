@@ -11,7 +11,7 @@ ghost use Rattle.brk_lots.specs.Position.{AreOpenedByOtherTrades, IsPositionInAn
 ghost use Rattle.brk_lots.specs.Values.{closing_values_of_deal};
 
 use crate::closing::{ClosedLots, opened_lot};
-use crate::values::Values;
+use brk_closing::Values;
 use brk_money::{Amount, Id, Price, Qty, Side, Stamp};
 use std::alloc::Global;
 

@@ -10,8 +10,8 @@ ghost use Rattle.brk_lots.specs.Sources.{YieldsPosition, AreLotsOfFaithfulSource
 
 use crate::lot::{Lot, Touch, signed_qty};
 use crate::source::LotSource;
-use crate::values::Values;
 use crate::walk::close_lots_with_values;
+use brk_closing::Values;
 use brk_money::{Fault, Id, Price, Qty, Side, Stamp, Wide};
 use std::alloc::Global;
 

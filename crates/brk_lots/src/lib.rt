@@ -18,6 +18,7 @@ pub mod values;
 mod walk;
 
 pub use against::{effect_of_trade_closing_no_lot, is_trade_closing_lots, zero_closing_values};
+pub use brk_closing::Values;
 pub use closing::{ClosedLots, Closing, close, close_lots_and_open_rest};
 pub use deal::Deal;
 pub use end::PositionEnd;
@@ -25,4 +26,4 @@ pub use lot::{Lot, Touch, are_same_side};
 pub use position::Position;
 pub use replay::DealTouch;
 pub use source::LotSource;
-pub use values::{Values, estimate_closing_values};
+pub use values::estimate_closing_values;

@@ -1,46 +1,16 @@
 ghost use Rattle.std.specs.Prelude.{◌≡◌, ◌+◌, ◌≤◌, ℕ, List, Bool, drop, length, IfOk, IfErr};
-ghost use Rattle.brk_model.specs.Limits.{greatest_amount};
 ghost use Rattle.brk_model.specs.Shares.{touches_of_existing_lots};
 ghost use Rattle.brk_lots.specs.declared.lot.Lot.{Lot};
 ghost use Rattle.brk_lots.specs.Lots.{shares_of_lots};
 ghost use Rattle.brk_lots.specs.Position.{AreOpenedByOtherTrades};
 ghost use Rattle.brk_lots.specs.Sources.{YieldsPosition, AreLotsOfFaithfulSource};
-ghost use Rattle.brk_lots.specs.Values.{closing_values_by_side, closing_values_of_deal};
+ghost use Rattle.brk_lots.specs.Values.{closing_values_of_deal};
 
 use crate::rows::TouchDiscarder;
 use crate::source::LotSource;
 use crate::walk::close_lots_with_values;
-use brk_money::{Amount, Fault, Price, Qty, Side};
-
-/// Buy value and sell value of the shares that an order would close, in cents.
-#[derive(Clone, Copy, PartialEq, Eq)]
-pub struct Values {
-    pub buy_value: Amount,
-    pub sell_value: Amount,
-}
-
-// Returns the buy value and the sell value, in cents, of shares that a trade of the side closes at
-// the value `traded` and that were opened at the value `opened`: for a purchase the buy value is
-// `traded` and the sell value `opened`, and for a sale the reverse. `traded` and `opened` must be
-// at most the greatest `Amount`, 10^17 cents.
-pub(crate) fn closing_values(side: Side, traded: u64, opened: u64) -> Values
-    requires traded { traded ≤ greatest_amount }
-    requires opened { opened ≤ greatest_amount }
-    ensures { result ≡ closing_values_by_side side traded opened }
-{
-    let traded = Amount::new(traded).unwrap();
-    let opened = Amount::new(opened).unwrap();
-    match side {
-        Side::Buy => Values {
-            buy_value: traded,
-            sell_value: opened,
-        },
-        Side::Sell => Values {
-            buy_value: opened,
-            sell_value: traded,
-        },
-    }
-}
+use brk_closing::Values;
+use brk_money::{Fault, Price, Qty, Side};
 
 /// Returns the buy value and the sell value, in cents, of the shares that an order at `price` would
 /// close (Trade-Order). They are specified only over the lots of a position under the disk

@@ -10,7 +10,7 @@ ghost use Rattle.brk_lots.specs.Walks.{IsResultOfClosingLots, closed_share_count
 use crate::lot::are_same_side;
 use crate::rows::TouchReceiver;
 use crate::source::LotSource;
-use crate::values::{Values, closing_values};
+use brk_closing::{Values, shares_to_close, values_of_closed_shares};
 use brk_money::{Fault, Price, Qty, Side};
 
 // The quantity that closed no share (`left`), and the value at which the closed shares were opened,
@@ -70,7 +70,7 @@ fn close_lots_with_cost<L: LotSource, R: TouchReceiver>(
         if are_same_side(lot.side(), side) {
             break;
         }
-        let shares = lot.share_count().min(u64::from(left)) as u32;
+        let shares = shares_to_close(lot.share_count(), left);
         rows.add(lot.touch_closing_shares(shares))?;
         cost += u64::from(shares) * u64::from(lot.price.get());
         left -= shares;
@@ -113,9 +113,8 @@ pub(crate) fn close_lots_with_values<L: LotSource, R: TouchReceiver>(
 {
     let walked = close_lots_with_cost(source, side, qty, rows)?;
     let closed = qty.get() - walked.left;
-    let traded = u64::from(closed) * u64::from(price.get());
     Ok(CloseValues {
         left: walked.left,
-        values: closing_values(side, traded, walked.cost),
+        values: values_of_closed_shares(side, closed, price, walked.cost),
     })
 }

@@ -11,7 +11,7 @@ use Rattle.brk_model.specs.Orders.{deal_of_order, tax_on_deal, commission_by_ban
 use Rattle.brk_model.specs.Shares.{Share, Deal, buy_value, sell_value}
 use Rattle.brk_plans.specs.declared.estimate.Estimate.{Estimate}
 use Rattle.brk_trade.specs.declared.estimate.Terms.{Terms}
-use Rattle.brk_lots.specs.declared.values.Values.{Values}
+use Rattle.brk_closing.specs.declared.values.Values.{Values}
 use Rattle.brk_trade.specs.Estimates.{AreOrderTermsInBase, commission_from_terms, tax_on_gain_at_status}
 use Rattle.brk_lots.specs.Values.{closing_values_of_deal}
 use Rattle.brk_plans.specs.Replies.{estimate_from_model}

@@ -6,7 +6,7 @@ use Rattle.brk_lots.specs.Closing.{IsEffectOfDealOnLots}
 use Rattle.brk_lots.specs.Lots.{shares_of_lots}
 use Rattle.brk_lots.specs.declared.closing.ClosedLots.{ClosedLots}
 use Rattle.brk_lots.specs.declared.lot.Lot.{Lot}
-use Rattle.brk_lots.specs.declared.values.Values.{Values}
+use Rattle.brk_closing.specs.declared.values.Values.{Values}
 use Rattle.brk_model.specs.Shares.{Share, buy_value, buy_value_for_side, sell_value, sell_value_for_side}
 use Rattle.brk_model.specs.Tests.{RefusalCheck, first_refusal}
 use Rattle.brk_money.specs.Kinds.{side_of_trade_type}

@@ -2,7 +2,7 @@
 use Rattle.std.specs.Prelude.{ℕ, ◌+◌, ◌*◌, ◌&&◌, true, not, nat_lt, nat_abs, is_none, unwrap_or, if◌then◌else◌, ℤ, pos, ◌+ℤ◌, ◌-ℤ◌, List, [], ◌∷◌, ◌++◌, Option}
 use Rattle.std.specs.Option.{option_map_or}
 use Rattle.brk_trade.specs.Estimates.{tax_on_gain_at_status}
-use Rattle.brk_lots.specs.declared.values.Values.{Values}
+use Rattle.brk_closing.specs.declared.values.Values.{Values}
 use Rattle.brk_model.specs.Base.{is_withholding_status}
 use Rattle.brk_model.specs.Derived.{due_day_of_completion_stamp, signed_proceeds}
 use Rattle.brk_model.specs.Limits.{greatest_amount, greatest_price, greatest_qty, greatest_summary_quantity}

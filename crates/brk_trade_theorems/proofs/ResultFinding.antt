@@ -4,7 +4,7 @@ use Rattle.std.specs.Prelude.{is_some, is_none, nat_abs, nat_lt, option_map, unw
 use Rattle.std.specs.Option.{option_map_or}
 use Rattle.std.proofs.lemmas.Bool.{eqb-true}
 use Rattle.brk_lots.specs.Values.{closing_values_of_deal}
-use Rattle.brk_lots.specs.declared.values.Values.{Values}
+use Rattle.brk_closing.specs.declared.values.Values.{Values}
 use Rattle.brk_model.specs.Base as base_spec
 use Rattle.brk_model.specs.Base.{Base, commission_band_for_quantity, is_taxable_status, broker_id_of_account, broker_with_id, completed_trades}
 use Rattle.brk_model.specs.Base.{customer_id_of_account, exchange_of_security, has_last_status, last_status_change, security_name, security_with_symbol}
