@@ -13,9 +13,9 @@ use Rattle.brk_changes.specs.Schemas.{abstract_schema}
 use Rattle.brk_changes.specs.declared.schema.Schema as known
 use Rattle.brk_audit_theorems.specs.Passing.{PassesAudit}
 use Rattle.brk_book_theorems.proofs.Steps.{empty_books, empty_rows}
-use Rattle.brk_invariant_theorems.specs.Runs.{CallMeetsAuditFormats}
-use Rattle.brk_invariant_theorems.proofs.SoundRuns.{Both, keyed_both, run_both}
-use Rattle.brk_invariant_theorems.proofs.SoundSteps.{empty_sound}
+use Rattle.brk_audit_theorems.specs.Runs.{CallMeetsAuditFormats}
+use Rattle.brk_audit_theorems.proofs.SoundRuns.{Both, keyed_both, run_both}
+use Rattle.brk_audit_theorems.proofs.SoundSteps.{empty_sound}
 use Rattle.brk_store.specs.Holds.{HoldsRows}
 use Rattle.brk_store.specs.Audited.{Represents}
 use Rattle.brk_desk.specs.CrashBases.{CrashMayExposeBase}

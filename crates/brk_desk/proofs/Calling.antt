@@ -31,9 +31,9 @@ use Rattle.brk_trade_theorems.specs.Decisions.{DecidesCommand}
 use Rattle.brk_trade_theorems.specs.Plans.{PlanImplementsCommand}
 use Rattle.brk_book_theorems.specs.Steps.{base_after_command}
 use Rattle.brk_book_theorems.proofs.Keepers.{books_kept}
-use Rattle.brk_invariant_theorems.specs.InForm.{MeetsAuditFormats, IsWellFormedKey}
-use Rattle.brk_invariant_theorems.specs.Sound.{AuditInvariant}
-use Rattle.brk_invariant_theorems.proofs.SoundSteps.{keyed_sound}
+use Rattle.brk_audit_theorems.specs.InForm.{MeetsAuditFormats, IsWellFormedKey}
+use Rattle.brk_audit_theorems.specs.Sound.{AuditInvariant}
+use Rattle.brk_audit_theorems.proofs.SoundSteps.{keyed_sound}
 use Rattle.brk_store.specs.Holds.{IsDiskContentOfRows, HoldsRows, ApplyPost, ReadPost}
 use Rattle.brk_store.proofs.Sequences.{none_then, same_then}
 use Rattle.brk_desk.specs.CommandAnswers.{CommandAnswer, IsDoneResult, model_answer}

@@ -6,7 +6,7 @@ use Rattle.sqlite.specs.State.{HasCleanDisk}
 use Rattle.brk_model.specs.Adopted.{base_of_tables}
 use Rattle.brk_model.specs.Base.{Base, empty_base}
 use Rattle.brk_book_theorems.proofs.RunSums.{run_adds_up}
-use Rattle.brk_invariant_theorems.proofs.Adopted.{sound_passes}
+use Rattle.brk_audit_theorems.proofs.Adopted.{sound_passes}
 use Rattle.brk_desk.specs.Answers.{model_outcome}
 use Rattle.brk_desk.specs.Commands.{model_call}
 use Rattle.brk_store.specs.Audited.{Represents}

@@ -7,7 +7,7 @@ use Rattle.sqlite_trees.specs.Tree.{Trees}
 use Rattle.brk_model.specs.Commands as model_commands
 use Rattle.brk_model.specs.Keyed.{keyed_step}
 use Rattle.brk_model.specs.Sheets.{sheets}
-use Rattle.brk_invariant_theorems.specs.Runs.{CallMeetsAuditFormats}
+use Rattle.brk_audit_theorems.specs.Runs.{CallMeetsAuditFormats}
 use Rattle.brk_store.specs.Holds.{IsDiskContentOfRows, WasOpenAndIsUnchanged, CrashStatesSatisfy}
 use Rattle.brk_store.proofs.Sequences.{same_then}
 use Rattle.brk_desk.specs.CrashBases.{AcknowledgesNothing, CrashMayExposeBase}

@@ -24,8 +24,8 @@ use Rattle.brk_audit_theorems.proofs.Climbs.{list_all_true}
 use Rattle.brk_audit_theorems.proofs.UpgradedRows.{first_narrower, upgraded_rows, rows_upgraded_from, second_narrower}
 use Rattle.brk_audit_theorems.proofs.Passing.{passing_books}
 use Rattle.brk_book_theorems.specs.Books.{BooksInvariant}
-use Rattle.brk_invariant_theorems.specs.Sound.{AuditInvariant}
-use Rattle.brk_invariant_theorems.proofs.Adopted.{passing_sound}
+use Rattle.brk_audit_theorems.specs.Sound.{AuditInvariant}
+use Rattle.brk_audit_theorems.proofs.Adopted.{passing_sound}
 
 -- The name of the posting is UTF-8.
 abbrev HasUtf8Name : Posting → Type 0

@@ -12,7 +12,7 @@ use Rattle.brk_model.specs.Commands.{Command}
 use Rattle.brk_model.specs.Records.{Key}
 use Rattle.brk_model.specs.Keyed.{keyed_step}
 use Rattle.brk_model.specs.Run.{IsCallFault}
-use Rattle.brk_invariant_theorems.specs.InForm.{MeetsAuditFormats, IsWellFormedKey}
+use Rattle.brk_audit_theorems.specs.InForm.{MeetsAuditFormats, IsWellFormedKey}
 use Rattle.brk_store.specs.Audited.{Represents}
 use Rattle.brk_store.specs.Holds.{IsDiskContentOfRows, WasOpenAndIsUnchanged, CrashStatesSatisfy}
 use Rattle.brk_desk.specs.CommandAnswers.{CommandAnswer, IsNotDoneResult, IsDoneResult, model_answer}

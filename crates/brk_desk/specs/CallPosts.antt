@@ -26,7 +26,7 @@ use Rattle.brk_changes.specs.Schemas.{abstract_schema}
 use Rattle.brk_changes.specs.declared.schema.Schema as typed_schema
 use Rattle.brk_book_theorems.specs.Runs.{IsRunWithSumsAndTaxes}
 use Rattle.brk_audit_theorems.specs.Passing.{PassesAudit}
-use Rattle.brk_invariant_theorems.specs.Runs.{CallMeetsAuditFormats}
+use Rattle.brk_audit_theorems.specs.Runs.{CallMeetsAuditFormats}
 use Rattle.brk_store.specs.Audited.{AuditPost, AuditAnswerSatisfies, Represents}
 use Rattle.brk_store.specs.Holds.{IsDiskContentOfRows, HoldsRows, WasOpenAndIsUnchanged, CrashStatesSatisfy}
 use Rattle.brk_queries.specs.QueryResults.{model_query_result}

@@ -6,7 +6,7 @@ ghost use Rattle.std.specs.Option.{option_copied};
 ghost use Rattle.brk_commands.specs.Commands.{abstract_command};
 ghost use Rattle.brk_desk.specs.Keys.{optional_model_key};
 ghost use Rattle.brk_desk.specs.Booked.{CommandPost};
-ghost use Rattle.brk_invariant_theorems.specs.InForm.{MeetsAuditFormats, IsWellFormedKey};
+ghost use Rattle.brk_audit_theorems.specs.InForm.{MeetsAuditFormats, IsWellFormedKey};
 
 use crate::deciding::decide_command;
 use crate::formats::{prove_command_meets_audit_formats, prove_key_is_well_formed};

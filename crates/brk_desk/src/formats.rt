@@ -9,7 +9,7 @@ ghost use Rattle.brk_model.specs.Commands.{AddAccount, AddBand, AddBroker, AddCh
 ghost use Rattle.brk_orders.specs.Records.{movement_command, abstract_order, abstract_ticks, text_update_command};
 ghost use Rattle.brk_ref.specs.Records.{abstract_account, abstract_band, abstract_broker, abstract_charge, abstract_customer, abstract_customer_tax};
 ghost use Rattle.brk_ref.specs.Records.{abstract_key, abstract_listing, abstract_permission, abstract_tax_rate};
-ghost use Rattle.brk_invariant_theorems.specs.InForm.{MeetsAuditFormats, IsWellFormedKey, OrderMeetsAuditFormats, TickMeetsAuditFormats};
+ghost use Rattle.brk_audit_theorems.specs.InForm.{MeetsAuditFormats, IsWellFormedKey, OrderMeetsAuditFormats, TickMeetsAuditFormats};
 
 use brk_commands::Command;
 use brk_orders::{Direction, Movement, Order, Tick, Update};

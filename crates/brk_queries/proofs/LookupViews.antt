@@ -20,7 +20,7 @@ use Rattle.brk_model.specs.Queries.{TradesOfAccount, TradesOfSymbol, TradesWith}
 use Rattle.brk_model.specs.Sheets.{sheets}
 use Rattle.brk_model.specs.Tables.{AccountRow, HistoryRow, SecurityRow, SettlementRow, Tables, TradeRow, security_row, tables_of_base, trade_row}
 use Rattle.brk_model.specs.Views.{view_of_tables}
-use Rattle.brk_invariant_theorems.specs.Sound.{AuditInvariant}
+use Rattle.brk_audit_theorems.specs.Sound.{AuditInvariant}
 use Rattle.brk_book_theorems.specs.Books.{BooksInvariant}
 use Rattle.brk_book_theorems.proofs.Reading.{is_none-map}
 use Rattle.brk_book_theorems.proofs.TermReading.{reads_security}

@@ -15,7 +15,7 @@ use Rattle.brk_model.specs.Queries.{LotsTouched}
 use Rattle.brk_model.specs.Sheets.{sheets}
 use Rattle.brk_model.specs.Tables.{AccountRow, HoldingHistoryRow, Tables, TradeRow, tables_of_base}
 use Rattle.brk_model.specs.Views.{view_of_tables}
-use Rattle.brk_invariant_theorems.specs.Sound.{AuditInvariant}
+use Rattle.brk_audit_theorems.specs.Sound.{AuditInvariant}
 use Rattle.brk_book_theorems.specs.Books.{BooksInvariant}
 use Rattle.brk_view.specs.Lots.{AreTouchedLots, is_earlier_lot_change, stamped_lot_change, changes_of_touched_lots}
 use Rattle.brk_view.specs.Views.{records_of_view}

@@ -7,7 +7,7 @@ use Rattle.brk_model.specs.Queries as model
 use Rattle.brk_model.specs.Queries.{Query}
 use Rattle.brk_model.specs.Sheets.{sheets}
 use Rattle.brk_model.specs.Tables.{Tables}
-use Rattle.brk_invariant_theorems.specs.Sound.{AuditInvariant}
+use Rattle.brk_audit_theorems.specs.Sound.{AuditInvariant}
 use Rattle.brk_book_theorems.specs.Books.{BooksInvariant}
 use Rattle.brk_view.specs.Carried.{HasRowsOfQuery}
 use Rattle.brk_view.specs.Views.{records_of_view}

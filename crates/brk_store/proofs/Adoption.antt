@@ -33,8 +33,8 @@ use Rattle.brk_book_theorems.proofs.Steps.{empty_books, empty_rows}
 use Rattle.brk_audit_theorems.specs.Passing.{PassesAudit}
 use Rattle.brk_audit_theorems.proofs.UpgradedRows.{first_narrower, upgraded_rows, rows_upgraded_from, second_narrower}
 use Rattle.brk_audit_theorems.proofs.Passing.{passing_tables}
-use Rattle.brk_invariant_theorems.proofs.Adopted.{sound_passes}
-use Rattle.brk_invariant_theorems.proofs.SoundSteps.{empty_sound}
+use Rattle.brk_audit_theorems.proofs.Adopted.{sound_passes}
+use Rattle.brk_audit_theorems.proofs.SoundSteps.{empty_sound}
 use Rattle.brk_sql.specs.Desk.{HasNoWritingForeignKeysAt}
 use Rattle.brk_tables_schema.specs.Desk.{DeskTable}
 use Rattle.brk_tables_schema.specs.Made.{HasDeskTables, IsTableOfSchema}

@@ -22,7 +22,7 @@ use Rattle.brk_changes.specs.Schemas.{abstract_schema}
 use Rattle.brk_audit_theorems.specs.Passing.{PassesAudit}
 use Rattle.brk_audit_theorems.proofs.UpgradedRows.{first_narrower, upgraded_rows, second_narrower}
 use Rattle.brk_audit_theorems.proofs.Passing.{passing_books, passing_tables}
-use Rattle.brk_invariant_theorems.proofs.Adopted.{passing_sound, sound_passes}
+use Rattle.brk_audit_theorems.proofs.Adopted.{passing_sound, sound_passes}
 use Rattle.brk_tables.proofs.OneTables.{one_schema}
 use Rattle.brk_sql.proofs.Inside.{clean_before}
 use Rattle.brk_tables_schema.specs.Made.{HasDeskTablesInSchema}

@@ -30,7 +30,7 @@ use Rattle.brk_tables.specs.Upgrade.{PreservesTablesOutside}
 use Rattle.brk_tables_scan.specs.Schemas.{DatabaseHasSchema, TablesWithDeskNamesAreDeskTables, TablesWithSchemaNamesAreDeskTables}
 use Rattle.brk_book_theorems.specs.Books.{BooksInvariant}
 use Rattle.brk_audit_theorems.specs.Passing.{PassesAudit}
-use Rattle.brk_invariant_theorems.specs.Sound.{AuditInvariant}
+use Rattle.brk_audit_theorems.specs.Sound.{AuditInvariant}
 use Rattle.brk_store.specs.Holds.{IsDiskContentOfRows, HoldsRows, WasOpenAndIsUnchanged}
 
 -- ---- results of an audit

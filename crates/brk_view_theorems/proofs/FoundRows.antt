@@ -19,8 +19,8 @@ use Rattle.brk_audit_theorems.proofs.Again.{found_first}
 use Rattle.brk_audit_theorems.proofs.UpgradedBase.{IsShort, posted_once, short_rows}
 use Rattle.brk_audit_theorems.proofs.Climbs.{Climbs}
 use Rattle.brk_audit_theorems.proofs.Parts.{KeyParts, key_parts}
-use Rattle.brk_invariant_theorems.specs.Sound.{AuditInvariant}
-use Rattle.brk_invariant_theorems.proofs.FormKeys.{keys_of}
+use Rattle.brk_audit_theorems.specs.Sound.{AuditInvariant}
+use Rattle.brk_audit_theorems.proofs.FormKeys.{keys_of}
 use Rattle.brk_book_theorems.specs.Books.{BooksInvariant}
 use Rattle.brk_book_theorems.proofs.Bools.{numbers_back}
 use Rattle.brk_book_theorems.proofs.LotReading.{numbered_rise, rise_apart, rise_filter}

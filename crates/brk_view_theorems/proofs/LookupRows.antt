@@ -14,7 +14,7 @@ use Rattle.brk_model.specs.Lists.{sort_by}
 use Rattle.brk_model.specs.LookupView.{cash_record, is_cash_row_of_trade, trade_lookup_records, trade_lookup_view, settlement_record, trade_record}
 use Rattle.brk_model.specs.Sheets.{sheets, tables_sorted_by_key}
 use Rattle.brk_model.specs.Tables.{HistoryRow, TradeRow, tables_of_base_in_schema, tables_of_base}
-use Rattle.brk_invariant_theorems.specs.Sound.{AuditInvariant}
+use Rattle.brk_audit_theorems.specs.Sound.{AuditInvariant}
 use Rattle.brk_book_theorems.specs.Books.{BooksInvariant}
 use Rattle.brk_book_theorems.proofs.Order.{Splits}
 use Rattle.brk_book_theorems.proofs.Postings.{numbered_stay}

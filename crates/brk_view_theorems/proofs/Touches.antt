@@ -18,8 +18,8 @@ use Rattle.brk_lots.specs.HistoryRows.{lot_rows_with_quantity_change}
 use Rattle.brk_audit_theorems.proofs.Climbs.{Climbs}
 use Rattle.brk_audit_theorems.proofs.Members.{All-flat_map}
 use Rattle.brk_audit_theorems.proofs.Parts.{key_parts}
-use Rattle.brk_invariant_theorems.specs.Sound.{AuditInvariant}
-use Rattle.brk_invariant_theorems.proofs.FormKeys.{All-history, keys_of}
+use Rattle.brk_audit_theorems.specs.Sound.{AuditInvariant}
+use Rattle.brk_audit_theorems.proofs.FormKeys.{All-history, keys_of}
 use Rattle.brk_book_theorems.specs.Books.{BooksInvariant, HasDistinctLastStatusStamps}
 use Rattle.brk_book_theorems.proofs.LotReading.{IdsApart, numbered_rise, rise_apart}
 use Rattle.brk_book_theorems.proofs.Order.{Splits}

@@ -11,7 +11,7 @@ use Rattle.brk_model.specs.Sheets.{sheets, tables_sorted_by_key}
 use Rattle.brk_model.specs.Tables.{HistoryRow, TradeRow, tables_of_base, trade_row, tables_of_base_in_schema}
 use Rattle.brk_model.specs.Ways.{is_strictly_ascending}
 use Rattle.brk_audit_theorems.proofs.Again.{IsRead, reads}
-use Rattle.brk_invariant_theorems.specs.Sound.{AuditInvariant, BaseTradeAuditInvariant}
+use Rattle.brk_audit_theorems.specs.Sound.{AuditInvariant, BaseTradeAuditInvariant}
 use Rattle.brk_book_theorems.specs.Books.{BooksInvariant}
 use Rattle.brk_book_theorems.proofs.Order.{by_key-filter}
 use Rattle.brk_book_theorems.proofs.TradeReading.{trades_in_order}

@@ -15,8 +15,8 @@ use Rattle.brk_model.specs.Tables.{BrokerRow, RequestRow, Tables, tables_of_base
 use Rattle.brk_model.specs.VolumeView.{is_before_by_volume, sector_requests_of_broker, value_of_sector_requests_of_broker, broker_volume_view}
 use Rattle.brk_audit_theorems.proofs.Climbs.{Climbs, not_itself}
 use Rattle.brk_audit_theorems.proofs.Parts.{key_parts}
-use Rattle.brk_invariant_theorems.specs.Sound.{AuditInvariant}
-use Rattle.brk_invariant_theorems.proofs.FormKeys.{keys_of}
+use Rattle.brk_audit_theorems.specs.Sound.{AuditInvariant}
+use Rattle.brk_audit_theorems.proofs.FormKeys.{keys_of}
 use Rattle.brk_book_theorems.specs.Books.{BooksInvariant}
 use Rattle.brk_book_theorems.proofs.Bools.{same_text}
 use Rattle.brk_book_theorems.proofs.Order.{Splits, key_one_way, key_splits, key_total}

@@ -1,8 +1,16 @@
-//! Theorems: a view over the tables of a base, sorted by key as a store reads them, equals the
-//! specified view of the base. Proof-only: there is no code to call.
+//! Theorems about views and explanations: a view over the tables of a base, sorted by key as a store
+//! reads them, equals the specified view of the base; the totals that explanations print follow from
+//! the lines above them, and equal the numbers in the tables. Proof-only: there is no code to call.
 #![tactic(auto)]
 
+pub mod balances;
+pub mod brokers;
+pub mod closings;
+pub mod gains;
 pub mod lookups;
+pub mod replies;
+pub mod settlements;
+pub mod unchanged_figures;
 pub mod views;
 pub mod volumes;
 

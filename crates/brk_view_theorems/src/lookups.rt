@@ -7,7 +7,7 @@ ghost use Rattle.brk_model.specs.Lists.{all_distinct, contains_number};
 ghost use Rattle.brk_model.specs.LookupView.{is_cash_row_of_trade, trade_touches_lot, trade_lookup_view, touched_lots_of_oldest_trade};
 ghost use Rattle.brk_model.specs.Sheets.{sheets};
 ghost use Rattle.brk_model.specs.Tables.{TradeRow, tables_of_base};
-ghost use Rattle.brk_invariant_theorems.specs.Sound.{AuditInvariant};
+ghost use Rattle.brk_audit_theorems.specs.Sound.{AuditInvariant};
 ghost use Rattle.brk_book_theorems.specs.Books.{BooksInvariant};
 
 /// Proves that the view of the 20 oldest trades that pass a test, each with its settlement, cash

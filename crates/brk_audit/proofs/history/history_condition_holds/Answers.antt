@@ -8,7 +8,7 @@ use Rattle.brk_lots.specs.Chains.{abstract_deal_touch}
 use Rattle.brk_model.specs.Audit.{ConditionHolds, expected_tables}
 use Rattle.brk_model.specs.Keys.{holding_history_key, is_row_key_less}
 use Rattle.brk_model.specs.Tables.{Tables}
-use Rattle.brk_invariant_theorems.proofs.FormBack.{All-unmapped}
+use Rattle.brk_audit_theorems.proofs.FormBack.{All-unmapped}
 use Rattle.brk_book_theorems.proofs.Order.{Sorted}
 use Rattle.brk_audit_sums.specs.Completed.{completed_trade_rows}
 use Rattle.brk_audit.specs.Positions.{is_before_by_position}

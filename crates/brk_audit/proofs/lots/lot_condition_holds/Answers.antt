@@ -7,7 +7,7 @@ use Rattle.brk_changes.specs.Sheets.{abstract_sheets}
 use Rattle.brk_changes.specs.declared.holding_row.HoldingRow as code
 use Rattle.brk_model.specs.Audit.{ConditionHolds, expected_tables}
 use Rattle.brk_model.specs.Tables.{HoldingRow, Tables}
-use Rattle.brk_invariant_theorems.proofs.FormBack.{All-unmapped}
+use Rattle.brk_audit_theorems.proofs.FormBack.{All-unmapped}
 use Rattle.brk_book_theorems.proofs.Order.{Sorted}
 use Rattle.brk_audit_sums.specs.Completed.{completed_trade_rows}
 use Rattle.brk_audit.specs.Positions.{is_before_by_position}

@@ -5,7 +5,7 @@ use Rattle.std.specs.Prelude.{IfSome}
 use Rattle.brk_ref.specs.Records.{abstract_kept_row}
 use Rattle.brk_commands.specs.Commands.{abstract_command}
 use Rattle.brk_desk.specs.Keys.{optional_model_key}
-use Rattle.brk_invariant_theorems.specs.InForm.{MeetsAuditFormats, IsWellFormedKey}
+use Rattle.brk_audit_theorems.specs.InForm.{MeetsAuditFormats, IsWellFormedKey}
 use Rattle.brk_desk.proofs.Calling.{DecidesCommandOfNewKey, books_it, books_none, fails, known, refuses, repeats_or_fails, same_fault}
 use Rattle.brk_desk.proofs.Seen.{sought_some}
 use Rattle.brk_desk.proofs.booking.execute_and_commit_command.Goals as goal

@@ -6,7 +6,7 @@ use Rattle.brk_model.specs.Base.{Base}
 use Rattle.brk_model.specs.Sheets.{sheets}
 use Rattle.brk_model.specs.Tables.{Tables}
 use Rattle.brk_store.proofs.Sequences.{no_reads, one_read, reads_both, reads_failed, reads_retold, unchanged_after}
-use Rattle.brk_invariant_theorems.specs.Sound.{AuditInvariant}
+use Rattle.brk_audit_theorems.specs.Sound.{AuditInvariant}
 use Rattle.brk_book_theorems.specs.Books.{BooksInvariant}
 use Rattle.brk_view.specs.Lookup.{rows_of_looked_up_trade, table_rows_of_trade}
 use Rattle.brk_view.specs.declared.lookups.LookedUp.{LookedUp}

@@ -4,7 +4,7 @@ use Rattle.brk_changes.specs.Rows.{abstract_trade_row}
 use Rattle.brk_model.specs.Base.{Base}
 use Rattle.brk_model.specs.Sheets.{sheets}
 use Rattle.brk_store.specs.ReadSequences.{ReadSequencePost}
-use Rattle.brk_invariant_theorems.specs.Sound.{AuditInvariant}
+use Rattle.brk_audit_theorems.specs.Sound.{AuditInvariant}
 use Rattle.brk_book_theorems.specs.Books.{BooksInvariant}
 use Rattle.brk_view.specs.Lookup.{rows_of_looked_up_trade, table_rows_of_trade}
 use Rattle.brk_queries.proofs.lookups.read_settlement_cash_and_history_of_trades.Given as goal

@@ -1,0 +1,16 @@
+-- The commissions that the explanation of a broker prints.
+use Rattle.std.specs.Prelude.{◌≡◌, length, pos}
+use Rattle.brk_model.specs.Base.{Base}
+use Rattle.brk_model.specs.Sheets.{sheets}
+use Rattle.brk_model.specs.Tables.{BrokerRow}
+use Rattle.brk_explain_model.specs.BrokerLines.{completed_trades_of_broker}
+use Rattle.brk_explain_model.specs.Running.{running_totals}
+use Rattle.brk_view_theorems.specs.Balances.{last_number_or_default}
+
+-- The last printed running sum of the commissions of the completed trades of the broker's accounts,
+-- or 0 if there are none, is the commission total in the broker's row `b`, in cents. The number of
+-- printed trades is the trade count in the row.
+pub record PrintedBrokerMatchesTotals (base : Base) (b : BrokerRow) : Type 0 where
+  pub commissions : last_number_or_default (pos 0) (running_totals (λ u. pos u.commission) (pos 0) (completed_trades_of_broker (sheets base) b.id))
+      ≡ pos b.commissions
+  pub trades : pos (length (completed_trades_of_broker (sheets base) b.id)) ≡ b.trades

@@ -1,0 +1,26 @@
+//! Theorems: the totals that the explanation of a holding prints.
+
+ghost use Rattle.std.specs.Prelude.{◌≡◌, ℕ, Some, is_some, true};
+ghost use Rattle.brk_money.specs.Spelling.{Text};
+ghost use Rattle.brk_model.specs.Base.{Base, account_with_id, completed_trades, is_completed, security_with_symbol, trade_with_id};
+ghost use Rattle.brk_model.specs.Derived.{holding_summary_quantity};
+ghost use Rattle.brk_model.specs.Records.{Trade};
+ghost use Rattle.brk_model.specs.Sheets.{sheets};
+ghost use Rattle.brk_explain_model.specs.Holdings.{summary_quantity_in_symbol};
+ghost use Rattle.brk_book_theorems.specs.Books.{BooksInvariant};
+ghost use Rattle.brk_view_theorems.specs.Gains.{PrintedHoldingMatchesDeals, LotChangesSumToQuantity};
+
+/// Proves, for a base that satisfies the books invariant: the realised gain that the explanation of
+/// a holding prints equals the sum of the gains of its deals. The printed cost basis equals the
+/// cost basis of its lots, and equals realised gain + purchases + sales, where sales count below 0.
+/// The printed numbers of shares equal the quantity of the holding, as does its HOLDING_SUMMARY
+/// quantity, or 0 without a row, if the account and the security exist. The lot changes of a
+/// completed trade sum to its quantity, negated for a sale.
+pub fn printed_gains_match_the_deals()
+    ensures holding { (base : Base) (account : ℕ) (symbol : Text) → BooksInvariant base → PrintedHoldingMatchesDeals base account symbol }
+    ensures trade { (base : Base) (t : Trade) → BooksInvariant base → trade_with_id base t.id ≡ Some t → is_completed t ≡ true
+        → LotChangesSumToQuantity base t }
+    ensures quantity { (base : Base) (account : ℕ) (symbol : Text) → BooksInvariant base → is_some (account_with_id base account) ≡ true
+        → is_some (security_with_symbol base symbol) ≡ true
+        → summary_quantity_in_symbol (sheets base) account symbol ≡ holding_summary_quantity (completed_trades base) account symbol }
+{}
