@@ -1,14 +1,17 @@
--- Lookups in tables before an order, a cancel or a feed.
-use Rattle.std.specs.Prelude.{ℕ, ◌==◌, ◌&&◌, nat_le, List, filter, find, map, reverse, slice_get, Option, Some, None, option_map}
+-- Lookups in tables before an order, a cancel or a feed, and trades looked up by their ids.
+use Rattle.std.specs.Prelude.{◌≡◌, ℕ, ◌==◌, ◌&&◌, nat_le, List, filter, find, map, reverse, slice_get, Option, Some, None, option_map}
 use Rattle.std.specs.Prelude.{option_to_list, unwrap_or, if◌then◌else◌, ℤ, pos, bytes_eq, [], ◌∷◌, replicate}
 use Rattle.std.specs.Int.RustNames.{unsigned_abs}
 use Rattle.std.specs.Option.{option_map_or}
 use Rattle.brk_money.specs.Spelling.{Text}
 use Rattle.brk_money.specs.declared.trade_type.TradeType.{TradeType}
+use Rattle.brk_model.specs.Joins.{trade_row_with_id}
 use Rattle.brk_model.specs.Lists.{is_zero}
 use Rattle.brk_model.specs.Records.{Band, Permission}
 use Rattle.brk_model.specs.Keys.{number, rows_sorted_by_key}
 use Rattle.brk_model.specs.Shares.{Share}
+use Rattle.brk_changes.specs.Rows.{abstract_trade_row}
+use Rattle.brk_changes.specs.declared.trade_row.TradeRow as row
 use Rattle.brk_lots.specs.Lots.{side_of_qty}
 use Rattle.brk_lots.specs.declared.lot.Lot.{Lot}
 use Rattle.brk_model.specs.Tables.{Tables, HoldingRow, LastTradeRow, RequestRow, SummaryRow}
@@ -88,3 +91,8 @@ summary_quantity_or_zero row = option_map_or (λ r. r.qty) row (pos 0)
 -- `qty` is 0.
 abbrev pub summary_row_if_nonzero : ℕ → Text → ℤ → Option SummaryRow
 summary_row_if_nonzero account symbol qty = if is_zero qty then None else Some (record { account = account; symbol = symbol; qty = qty })
+
+-- The typed rows `trades` are the rows of the trades with the ids `ids` in the tables, in the order
+-- of `ids`. Each of these trades exists.
+abbrev pub AreTradesWithIds : Tables → List ℕ → List row.TradeRow → Type 0
+AreTradesWithIds t ids trades = map (λ r. Some (abstract_trade_row r)) trades ≡ map (trade_row_with_id t) ids

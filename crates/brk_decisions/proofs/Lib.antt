@@ -7,3 +7,5 @@ pub mod OrderFinds
 pub mod Ordering
 pub mod ResultReading
 pub mod Resulting
+pub mod UpdateFinds
+pub mod Updates

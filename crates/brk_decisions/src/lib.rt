@@ -19,6 +19,9 @@ mod result_finding;
 mod summary_finding;
 mod terms;
 mod tested;
+pub mod update;
+mod update_finding;
+mod update_texts;
 
 pub use cancel::decide_cancel;
 pub use estimate::compute_order_estimate;
@@ -28,3 +31,4 @@ pub use one_day::decide_one_day_settlement;
 pub use order::decide_order;
 pub use reference::decide_reference_record;
 pub use result::decide_result;
+pub use update::decide_update;

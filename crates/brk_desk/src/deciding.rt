@@ -9,12 +9,11 @@ ghost use Rattle.brk_store.specs.Holds.{ReadPost};
 use brk_commands::Command;
 use brk_decisions::{
     decide_cancel, decide_feed, decide_movement, decide_one_day_settlement, decide_order,
-    decide_reference_record, decide_result,
+    decide_reference_record, decide_result, decide_update,
 };
 use brk_money::{Planned, Stamp};
 use brk_store::Store;
 use brk_trade::Plan;
-use brk_update_decisions::decide_update;
 use sqlite::Alter;
 use std::alloc::Global;
 

@@ -25,7 +25,7 @@ use Rattle.brk_book_theorems.specs.Books.{BooksInvariant}
 use Rattle.brk_book_theorems.proofs.Reading.{is_none-map}
 use Rattle.brk_book_theorems.proofs.TermReading.{reads_security}
 use Rattle.brk_book_theorems.proofs.TradeReading.{reads_trade}
-use Rattle.brk_trade_theorems.specs.Corrections.{AreTradesWithIds}
+use Rattle.brk_book_theorems.specs.TradeReads.{AreTradesWithIds}
 use Rattle.brk_view.specs.Lookup.{AreRowsOfTrade, records_of_looked_up_trade, table_rows_of_trade}
 use Rattle.brk_view.specs.Views.{records_of_view}
 use Rattle.brk_view.specs.declared.lookups.LookedUp.{LookedUp}
@@ -37,7 +37,7 @@ use Rattle.brk_view_theorems.proofs.LookupRows.{same_lookup}
 use Rattle.brk_queries.specs.LookedUp.{HaveAllRowsOfTrades}
 use Rattle.brk_queries.specs.QueryResults.{AnswersQueryAsModel}
 use Rattle.brk_queries.proofs.Tested.{answered, carried_as, is_missing, is_there, refused}
-use Rattle.brk_update_decisions.proofs.TradesFound.{twice}
+use Rattle.brk_store.proofs.TradesFound.{twice}
 use Rattle.brk_queries.proofs.RecentViews.{account_missing, account_there}
 
 -- ---- one trade

@@ -9,12 +9,11 @@ ghost use Rattle.brk_model.specs.Run.{IsCallFault};
 ghost use Rattle.brk_store.specs.Holds.{ReadPost};
 ghost use Rattle.brk_store.specs.ReadSequences.{ReadSequencePost};
 
+use brk_changes::TradeRow;
 use brk_money::{Fault, Id, Planned, Refusal};
 use brk_orders::Span;
 use brk_ref::Symbol;
-use brk_store::Store;
-use brk_trade::TradeRow;
-use brk_update_decisions::read_trades_by_ids;
+use brk_store::{Store, read_trades_by_ids};
 use brk_view::{
     LookedUp, NamedTrades, View, create_looked_up_trade, lookup_account, lookup_ids, lookup_symbol,
     sort_trades_oldest_first,

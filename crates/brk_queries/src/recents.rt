@@ -9,9 +9,9 @@ ghost use Rattle.brk_model.specs.Queries.{RecentOf};
 ghost use Rattle.brk_model.specs.Run.{IsCallFault};
 ghost use Rattle.brk_store.specs.Holds.{ReadPost};
 
+use brk_changes::{HistoryRow, TradeRow};
 use brk_money::{Fault, Id, Planned, Refusal};
 use brk_store::Store;
-use brk_trade::{HistoryRow, TradeRow};
 use brk_view::{View, recent};
 use sqlite::Alter;
 use std::alloc::Global;

@@ -11,10 +11,10 @@ ghost use Rattle.brk_store.specs.Holds.{ReadPost};
 ghost use Rattle.brk_view.specs.Status.{rows_of_trade_status, trade_row_with_security};
 
 use crate::parties::read_account_status;
+use brk_changes::TradeRow;
 use brk_money::{Fault, Id, Planned, Refusal};
 use brk_ref::{Security, Symbol};
 use brk_store::Store;
-use brk_trade::TradeRow;
 use brk_view::{TradeStatus, View, status};
 use sqlite::Alter;
 use std::alloc::Global;

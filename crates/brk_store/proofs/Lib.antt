@@ -16,4 +16,5 @@ pub mod WalkedLists
 pub mod Walking
 pub mod Sequences
 pub mod ReadResults
+pub mod TradesFound
 pub mod MarketValues

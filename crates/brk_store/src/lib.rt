@@ -20,6 +20,7 @@ pub mod store;
 mod terms;
 mod trade_lists;
 mod trades;
+mod trades_by_id;
 mod trades_by_stamp;
 mod updates;
 mod upgrading;
@@ -29,6 +30,7 @@ pub mod walks;
 pub use brk_tables::views::{Visitor, WalkError};
 pub use pages::{LotPages, Page, Pages};
 pub use store::Store;
+pub use trades_by_id::read_trades_by_ids;
 pub use valuation::{
     ValuedSummaries, read_holding_summaries_and_value, read_holdings_value, require_last_price,
 };

@@ -56,7 +56,8 @@ use Rattle.brk_trade_theorems.proofs.TradePlanning.{refused_step, stamp_read}
 use Rattle.brk_book_theorems.proofs.TradeReading.{reads_trade}
 use Rattle.brk_book_theorems.proofs.Trades.{whole}
 use Rattle.brk_book_theorems.proofs.Volumes.{any-same}
-use Rattle.brk_trade_theorems.specs.Corrections.{CashTextsMatchTables, SettlementTextsMatchTables, AreTradesWithIds, SelectedTradesMatchTables}
+use Rattle.brk_book_theorems.specs.TradeReads.{AreTradesWithIds}
+use Rattle.brk_trade_theorems.specs.Corrections.{CashTextsMatchTables, SettlementTextsMatchTables, SelectedTradesMatchTables}
 use Rattle.brk_trade_theorems.specs.Corrections.{UpdateFactsMatchTables, SecurityHasName, PlanUpdatePrecondition, CashTextRow, SettlementTextRow}
 use Rattle.brk_trade_theorems.specs.Corrections.{cash_row_of_trade, cash_text_row_in_tables, cash_text_row_of_typed_row, settlement_text_row_in_tables}
 use Rattle.brk_trade_theorems.specs.Corrections.{settlement_text_row_of_typed_row, settlement_row_of_trade}

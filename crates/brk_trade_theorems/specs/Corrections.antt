@@ -15,14 +15,14 @@ use Rattle.brk_orders.specs.declared.update.Update as told
 use Rattle.brk_orders.specs.declared.update.Update.TheVariants as update
 use Rattle.brk_changes.specs.Changes.{tables_with_last_stamp}
 use Rattle.brk_changes.specs.Chosen.{first_twenty_completed_cash_trade_rows_of_symbol, first_twenty_completed_trade_rows_of_account}
-use Rattle.brk_changes.specs.Rows.{cash_type_text, abstract_trade_row}
-use Rattle.brk_changes.specs.declared.trade_row.TradeRow as row
+use Rattle.brk_changes.specs.Rows.{cash_type_text}
 use Rattle.brk_plans.specs.declared.corrected.TextUpdate.{TextUpdate}
 use Rattle.brk_plans.specs.declared.corrected.TextUpdate.TheVariants as corrected
 use Rattle.brk_plans.specs.declared.corrected.CashText.{CashText}
 use Rattle.brk_plans.specs.declared.corrected.SettlementText.{SettlementText}
 use Rattle.brk_book_theorems.specs.Books.{BooksInvariant}
 use Rattle.brk_book_theorems.specs.Steps.{base_after_command}
+use Rattle.brk_book_theorems.specs.TradeReads.{AreTradesWithIds}
 
 -- ---- facts
 
@@ -35,11 +35,6 @@ settlement_row_of_trade t trade = find (λ r. r.trade == trade) t.settlements
 -- `None` if there is none.
 abbrev pub cash_row_of_trade : Tables → ℕ → Option MoveRow
 cash_row_of_trade t trade = find (is_cash_row_of_trade trade) t.moves
-
--- The typed rows `trades` are the rows of the trades with the ids `ids` in the tables, in the order
--- of `ids`. Each of these trades exists.
-abbrev pub AreTradesWithIds : Tables → List ℕ → List row.TradeRow → Type 0
-AreTradesWithIds t ids trades = map (λ r. Some (abstract_trade_row r)) trades ≡ map (trade_row_with_id t) ids
 
 -- The type of the columns of a trade that a text update of settlements reads: its id, whether it is
 -- a cash trade, and its settlement text, or `None` if it has no settlement.

@@ -11,7 +11,7 @@ use Rattle.brk_model.specs.Joins.{trade_row_with_id}
 use Rattle.brk_model.specs.Queries.{TradesWith}
 use Rattle.brk_model.specs.Tables.{Tables}
 use Rattle.brk_store.proofs.Sequences.{none_read, read_with_reads}
-use Rattle.brk_trade_theorems.specs.Corrections.{AreTradesWithIds}
+use Rattle.brk_book_theorems.specs.TradeReads.{AreTradesWithIds}
 use Rattle.brk_view.specs.declared.view.View.{View}
 use Rattle.brk_queries.specs.LookedUp.{HaveAllRowsOfTrades}
 use Rattle.brk_queries.specs.QueryResults.{AnswersQueryAsModel}

@@ -1,0 +1,36 @@
+//! Reads of trades by their ids.
+
+ghost use Rattle.std.specs.Prelude.{◌≡◌, IfErr, MatchOption, is_none, true};
+ghost use Rattle.std.specs.List.{list_any};
+ghost use Rattle.brk_model.specs.Joins.{trade_row_with_id};
+ghost use Rattle.brk_model.specs.Run.{IsCallFault};
+ghost use Rattle.brk_store.specs.ReadSequences.{ReadSequencePost};
+ghost use Rattle.brk_book_theorems.specs.TradeReads.{AreTradesWithIds};
+
+use crate::Store;
+use brk_changes::TradeRow;
+use brk_money::{Fault, Id};
+use sqlite::Alter;
+use std::alloc::Global;
+
+/// Returns the trades with the ids `ids`, in the order of `ids`, or `None` if one of them does not
+/// exist. If the database is still open, it is unchanged. A crash after the call exposes only
+/// states that a crash before the call could expose. Fails with `Memory` or `Store` only.
+pub fn read_trades_by_ids<S: Alter>(
+    alloc: Global,
+    store: &mut Store<S>,
+    ids: &[Id],
+) -> Result<Option<Vec<TradeRow>>, Fault>
+    ensures read { ReadSequencePost S.Store store.old store.new result (λ found t.
+        MatchOption found (list_any (λ id. is_none (trade_row_with_id t id)) ids.now ≡ true) (λ trades. AreTradesWithIds t ids.now trades.items)) }
+    ensures fault { IfErr result IsCallFault }
+{
+    let mut trades = Vec::new(alloc);
+    for id in ids {
+        match store.trade(*id)? {
+            Some(trade) => trades.push(trade)?,
+            None => return Ok(None),
+        }
+    }
+    Ok(Some(trades))
+}

@@ -1,3 +1,0 @@
-mod Deciding
-pub mod Found
-pub mod TradesFound
