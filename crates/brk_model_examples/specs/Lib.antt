@@ -9,3 +9,4 @@ pub mod Crowds
 pub mod Sales
 pub mod Bought
 pub mod Rules
+pub mod Streams

@@ -1,9 +1,10 @@
-//! Worked examples of the model: the answers to batches over the empty base and a small setting,
-//! and the queries, statements and audits after them. Each is an equation that the checker computes
-//! from the specification.
+//! Worked examples of the model: the answers to batches over the empty base and a small setting, the
+//! queries, statements and audits after them, and streams of HTTP requests. Each is an equation that
+//! the checker computes from the specification.
 #![tactic(auto)]
 
 pub mod audits;
+pub mod checks;
 pub mod closings;
 pub mod crowds;
 pub mod forms;
@@ -16,6 +17,7 @@ pub mod rules;
 pub mod settling;
 pub mod statements;
 pub mod statuses;
+pub mod streams;
 pub mod tables;
 pub mod taxes;
 pub mod ties;

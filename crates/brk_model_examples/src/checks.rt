@@ -1,6 +1,6 @@
 //! Checks of requests: the end of a head, the length of a body, routes, lists of texts, and the
 //! order of the checks.
-#![tactic(auto, unfolding(crate::proofs::OnLiterals::web_on_literals))]
+#![tactic(auto, unfolding(crate::proofs::WebOnLiterals::web_on_literals))]
 
 ghost use Rattle.std.specs.Prelude.{◌≡◌, ◌∷◌, [], ℕ, Ok, Err, Some, None, codes};
 ghost use Rattle.brk_http_model.specs.Asked.{ResponseOnly, RequestDemand, model_parsers, demand_of_request};
@@ -11,7 +11,7 @@ ghost use Rattle.brk_http_model.specs.Replies.{FromProblem};
 ghost use Rattle.brk_http_model.specs.Routes.{ToRow, ToView, split_at_byte, route_of_target};
 ghost use Rattle.brk_http_model.specs.declared.head_end.HeadEnd.TheVariants.{At, Cut, Nothing, TooLong};
 ghost use Rattle.brk_http_model.specs.declared.problem.RequestProblem.TheVariants.{BadRequest, NotAllowed, NotFound, NotImplemented, TooLarge};
-ghost use Rattle.brk_http_examples.specs.Streams.{get_request, post_request};
+ghost use Rattle.brk_model_examples.specs.Streams.{get_request, post_request};
 
 /// Shows four heads that end with their first empty line, whose lines end with CR LF or with a line
 /// feed alone; one of them ends exactly at its limit. Empty input is `Nothing`, and other input

@@ -1,8 +1,8 @@
 //! Requests to the setting, and their replies.
-#![tactic(auto, unfolding(crate::proofs::OnLiterals::web_on_literals))]
+#![tactic(auto, unfolding(crate::proofs::WebOnLiterals::web_on_literals))]
 
 ghost use Rattle.std.specs.Prelude.{◌∷◌, [], codes};
-ghost use Rattle.brk_http_examples.specs.Streams.{HasRepliesInSetting, get_request, request_asking_to_close, post_request, expected_reply_bytes};
+ghost use Rattle.brk_model_examples.specs.Streams.{HasRepliesInSetting, get_request, request_asking_to_close, post_request, expected_reply_bytes};
 
 /// Shows the replies to a row with a key, to its retry under this key, which returns the stored
 /// reply, and to the row without a key, which is refused with `Exists` (15), since the first row
