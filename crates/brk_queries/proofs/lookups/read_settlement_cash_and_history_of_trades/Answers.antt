@@ -43,7 +43,9 @@ loop-trade-preserved g c =
     (λ _. AreAll trades rest (all ++ one ∷ []))
     (λ t p e base books sound s. popped (λ r. table_rows_of_trade t (abstract_trade_row r)) rows_of_looked_up_trade before rest trade all one _
     c.in-Some.ensures.items (p base books sound s) (e base books sound s))
-    c.loop-trade.invariant (one_read g.S.Store c.loop-trade.store c.read_settlement_cash_and_history_of_trade.new.store (Ok one) (HasAllRowsOfTrade (abstract_trade_row trade)) c.in_ok-one.ensures.read))
+    c.loop-trade.invariant
+    (one_read g.S.Store c.loop-trade.store c.read_settlement_cash_and_history_of_trade.new.store (Ok one) (HasAllRowsOfTrade (abstract_trade_row trade))
+    c.in_ok-one.ensures.read))
 
 pub returns-clause-read : goal.returns-clause-read
 returns-clause-read g c =

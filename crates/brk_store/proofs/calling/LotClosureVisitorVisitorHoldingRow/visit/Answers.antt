@@ -16,7 +16,11 @@ err_at m f x (Ok u) f' h = tt
 err_at m f x (Err e) f' h = h
 
 pub returns-clause-takes : goal.returns-clause-takes
-returns-clause-takes g c = ok_at g.F.FnMut _ c.args.item.now c.call.result _ (record { symbol = c.as_str.result; lot = _; same_symbol = c.as_str.ensures; same_lot = search rules; called = c.call.ensures })
+returns-clause-takes g c =
+    ok_at g.F.FnMut _ c.args.item.now c.call.result _
+    (record { symbol = c.as_str.result; lot = _; same_symbol = c.as_str.ensures; same_lot = search rules; called = c.call.ensures })
 
 pub returns-clause-stops : goal.returns-clause-stops
-returns-clause-stops g c = err_at g.F.FnMut _ c.args.item.now c.call.result _ (record { symbol = c.as_str.result; lot = _; same_symbol = c.as_str.ensures; same_lot = search rules; called = c.call.ensures })
+returns-clause-stops g c =
+    err_at g.F.FnMut _ c.args.item.now c.call.result _
+    (record { symbol = c.as_str.result; lot = _; same_symbol = c.as_str.ensures; same_lot = search rules; called = c.call.ensures })
