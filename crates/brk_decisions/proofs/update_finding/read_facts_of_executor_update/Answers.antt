@@ -7,7 +7,8 @@ use Rattle.brk_model.specs.Tables.{Tables}
 use Rattle.brk_changes.specs.declared.trade_row.TradeRow.{TradeRow}
 use Rattle.brk_orders.specs.declared.update.Update.TheVariants as update
 use Rattle.brk_store.proofs.Sequences.{reads_retold}
-use Rattle.brk_trade_theorems.specs.Corrections.{AreTradesWithIds, UpdateFactsMatchTables}
+use Rattle.brk_book_theorems.specs.TradeReads.{AreTradesWithIds}
+use Rattle.brk_trade_theorems.specs.Corrections.{UpdateFactsMatchTables}
 use Rattle.brk_plans.specs.declared.corrected.TextUpdate.{TextUpdate}
 use Rattle.brk_plans.specs.declared.corrected.TextUpdate.TheVariants.{Executors}
 use Rattle.brk_decisions.proofs.update_finding.read_facts_of_executor_update.Goals as goal
