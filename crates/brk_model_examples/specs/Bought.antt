@@ -4,7 +4,7 @@ use Rattle.brk_money.specs.Spelling.{Text}
 use Rattle.brk_money.specs.declared.trade_type.TradeType.TheVariants.{MarketBuy, MarketSell, StopLoss, LimitSell, LimitBuy}
 use Rattle.brk_money.specs.declared.status.Status.TheVariants.{Completed, Submitted}
 use Rattle.brk_money.specs.declared.tax_status.TaxStatus.TheVariants.{Withheld}
-use Rattle.brk_model.specs.Tables.{Tables, AccountRow, TradeRow, HoldingRow, SettlementRow, CashRow, MoveRow}
+use Rattle.brk_model.specs.Tables.{Tables, AccountRow, TradeRow, HoldingRow, SettlementRow, MoveRow}
 use Rattle.brk_model_examples.specs.Setting.{setting_base}
 
 -- The tables of the base `base_after_first_purchase` in the third schema, each sorted by key,

@@ -1,4 +1,4 @@
-use Rattle.std.proofs.Common.{◌≡◌, Bool, true, false, ℕ, ℤ, List, [], ◌∷◌, refl, inl, inr, ap, arith}
+use Rattle.std.proofs.Common.{◌≡◌, Bool, true, false, ℕ, List, [], ◌∷◌, refl, inl, inr, ap, arith}
 use Rattle.brk_model.specs.Tables.{MoveRow}
 use Rattle.brk_model_examples.proofs.OnLiterals.{model_on_literals}
 use Rattle.brk_model_examples.proofs.audits.audit_fails_for_invalid_movement_rows.Goals as goal
