@@ -86,7 +86,7 @@ def index(t, c):
     return [k for k, _ in TABLES[t][1]].index(c)
 
 def lst(xs):
-    return ' ∷ '.join(list(xs) + ['[]'])
+    return ' ∷ '.join([*map(str, xs), '[]'])
 
 def q(s):
     return f'codes "{s}"'
@@ -143,9 +143,6 @@ def equation(head, sql, limit=150):
 def col_is(t, c, shown, agg, alias):
     return f'column_is schema at ({shape(t)} tree) found ({q(TABLES[t][0])}) {shown} [] {agg} {alias} ({q(c)}) {index(t, c)} ({kind(t, c)} ({q(c)})) refl refl'
 
-def head_is(t, c):
-    return f'heading_is schema at ({shape(t)} tree) found ({q(TABLES[t][0])}) [] [] true true (e.Column None ({q(c)})) ({q(c)}) ({q(c)}) {index(t, c)} ({kind(t, c)} ({q(c)})) refl refl refl'
-
 def conj(parts):
     out = parts[0]
     for p in parts[1:]:
@@ -179,7 +176,7 @@ def test_lemmas(t, tests, shown, found_first):
     return out
 
 HEAD = '''-- Written by tools/tables.py: what {what} means.
-use Rattle.std.proofs.Common.{{◌≡◌, ◌⊎◌, ℕ, ◌-◌, pos, negsuc, List, [], ◌∷◌, ◌++◌, codes, true, false, Option, None, Some, Ok, Err, refl, slice_get}}
+use Rattle.std.proofs.Common.{{◌≡◌, ◌⊎◌, ℕ, ◌-◌, pos, negsuc, List, [], ◌∷◌, ◌++◌, codes, map, true, false, Option, None, Some, Ok, Err, refl, slice_get}}
 use Rattle.sqlite_value.specs.declared.keys.Collation.TheVariants.{{Binary}}
 use Rattle.sqlite.specs.declared.types.Value.TheVariants.{{Null, Int, Text}}
 use Rattle.sqlite_sql.specs.declared.ops.BinaryOp.TheVariants.{{Compare, Is}}
@@ -204,7 +201,8 @@ use Rattle.brk_sql.specs.Partly.{{sql_lowering_definitions}}
 use Rattle.brk_sql.specs.Desk.{{integer_column, text_column, nullable_integer_column, IsTableAt}}
 use Rattle.brk_sql.proofs.Meant.{{meant, inserts, updates_or, deletes_or, reads_or}}
 use Rattle.brk_sql.proofs.Pick.{{selection, whole_page}}
-use Rattle.brk_sql.proofs.Scoped.{{over_one, column_is, heading_is}}
+use Rattle.brk_sql.proofs.Scoped.{{over_one, column_is}}
+use Rattle.brk_sql.proofs.Asked.{{Ask, compares, lacks, single, also, name_of, IsAsked, IsPlain, MeansSelection, asks, asks_plainly}}
 use Rattle.brk_sql.proofs.Texts.{{read}}
 use Rattle.brk_tables_schema.specs.Shapes.{{{table}}}
 '''
@@ -349,34 +347,22 @@ understood_as schema at tree h = deletes_or schema statement (read statement) re
 ''')
     return text
 
-SELECT_HEAD = '''use Rattle.sqlite_ast.specs.declared.Shown.TheVariants.{One}
-use Rattle.sqlite_ast.specs.declared.Origin.TheVariants.{Table}
-use Rattle.sqlite_ast.specs.declared.Source.{Source, roll-Source}
-use Rattle.sqlite_ast.specs.declared.Core.{Core, roll-Core}
-use Rattle.sqlite_ast.specs.declared.Sort.{Sort, roll-Sort}
-use Rattle.sqlite_ast.specs.declared.Select as ast
-use Rattle.sqlite_resolve.specs.Program.{query as meaning}
-use Rattle.sqlite_draft.specs.Join.{chain}
-use Rattle.sqlite_resolve.specs.declared.scope.Output.{Output}
-use Rattle.sqlite_resolve.specs.declared.state.State.{State}
-use Rattle.sqlite_resolve.specs.declared.state.Carried.{Carried}
-use Rattle.sqlite_resolve.specs.Lowering.{fresh, max_budget, nothing}
-use Rattle.sqlite_resolve.specs.Expr.{lower}
-use Rattle.sqlite_resolve.specs.Order.{sorts}
-use Rattle.sqlite_resolve.specs.Body.{result, matching}
-use Rattle.sqlite_resolve.specs.Select.{outermost, inside}
-use Rattle.brk_sql.proofs.Selecting.{level_one, named_is, query_is}
-use Rattle.brk_sql.proofs.Looks.{no_returning}
-use Rattle.sqlite_resolve.specs.declared.compiled.Compiled.{Compiled}
-use Rattle.sqlite.specs.Listing.{understood}
-use Rattle.sqlite_ast.specs.declared.Statement.TheVariants as written
-use Rattle.brk_tables_scan.proofs.ShownColumns.{columns_shown}
-'''
+def asked_test(t, test):
+    """A test of WHERE by the number of its column"""
+    at = index(t, test[0])
+    return f'lacks {at}' if compare(test) == 'Is' else f'compares {compare(test)} {at} {test[1]}'
+
+def asked_tests(t, tests):
+    """The tests of WHERE, joined by AND from the left"""
+    out = f'single ({asked_test(t, tests[0])})'
+    for test in tests[1:]:
+        out = f'also ({out}) ({asked_test(t, test)})'
+    return out
 
 def select(folder, name, t, tests, order, limit=None, shown=None, offset=None):
     """order: [(column, falls)]; limit: a parameter's number or ('lit', n); shown: columns, and else all of them; offset: a
-    parameter's number."""
-    sql, cols, rowkey = TABLES[t]
+    parameter's number. What it means follows from `Asked` of brk_sql, by the numbers of the columns."""
+    sql, cols, _ = TABLES[t]
     names = shown or [c for c, _ in cols]
     text = f'SELECT {", ".join(names)} FROM {sql}'
     if tests:
@@ -391,52 +377,18 @@ def select(folder, name, t, tests, order, limit=None, shown=None, offset=None):
     off_e = 'None' if offset is None else f'Some (e.Parameter {offset})'
     off_t = 'lit (Int (pos 0))' if offset is None else f'col 0 {offset - 1}'
     b = lambda x: 'true' if x else 'false'
-    n1 = len(names)
-    n2 = n1 + (4 * len(tests) - 1 if tests else 0)
-    n3 = n2 + len(order)
-    carry = lambda c: 'nothing' if place(t, c) == 0 else 'binary'
-    last1 = carry(names[-1])
-    last2 = 'nothing' if tests else last1
-    last3 = carry(order[-1][0])
-    outs = lst(f'output ({q(c)}) {place(t, c)} {carry(c)}' for c in names)
-    shows = ',\n      '.join(x for c in names for x in (col_is(t, c, '[]', 'true', 'true'), head_is(t, c)))
-    sorts_l = ',\n      '.join(col_is(t, c, 'columns', 'false', 'true') for c, _ in order)
-    filt = f'Some ({test_expr(tests)})' if tests else 'None'
-    matches = f'rw ({", ".join(test_lemmas(t, tests, "columns", True))})' if tests else 'rw found'
-    cols_b = lst('None' if place(t, c) == 0 else 'Some Binary' for c in names)
-    # the read of a whole table shows all columns, by one lemma, and states once what its text is read as
-    is_read, reading_is, shown_by, opened = ['refl'] * 3, '', f'rw ({shows})', 'unfolding everything\n'
-    if folder == 'brk_tables_scan/proofs':
-        named = '(refl, refl, ' * n1 + 'tt' + ')' * n1
-        shown_by = f'columns_shown schema at ({shape(t)} tree) found ({q(sql)}) ({shape(t)} tree).columns {named} max_budget (max_budget - {n1 + 1}) refl core refl'
-        is_read, opened = ['is_read.0', 'is_read.1', 'is_read.2'], ''
-        reading_is = """is_read : (first statement ≡ Ok (read statement)) × ((read statement).formats ≡ []) × ((read statement).statement ≡ written.Select select)
-unfolding everything
-is_read = (refl, refl, refl)
-
-"""
-    body = SELECT_HEAD + f'''
+    write(folder, name, 'a SELECT', t, f'''
 abbrev pub statement : List ℕ
 statement = {codes_of(text)}
 
-abbrev pub source : Source
-source = roll-Source (record {{ is_left = false; origin = Table ({q(sql)}); alias = None; on = None; using = [] }})
-
-abbrev pub core : Core
-core = roll-Core (record {{
-  distinct = false;
-  shown = {lst(f'One (e.Column None ({q(c)})) None ({q(c)})' for c in names)};
-  from = source ∷ [];
-  filter = {filt};
-  group = [];
-  having = None;
-}})
-
-abbrev pub by : List Sort
-by = {lst(f'roll-Sort (record {{ key = e.Column None ({q(c)}); descending = {b(f)}; nulls_first = None }})' for c, f in order)}
-
-abbrev pub select : ast.Select
-select = ast.roll-Select (record {{ with = []; first = core; others = []; order = by; limit = {lim_e}; offset = {off_e} }})
+abbrev ask : Ask
+ask = record {{
+  shown = {lst(index(t, c) for c in names)};
+  tests = {f'Some ({asked_tests(t, tests)})' if tests else 'None'};
+  by = {lst(f'({index(t, c)}, {b(f)})' for c, f in order)};
+  limit = {lim_e};
+  offset = {off_e};
+}}
 
 abbrev pub terms : List Term
 terms = {test_terms(t, tests)}
@@ -450,57 +402,19 @@ order = {lst(f'(col 1 {place(t, c)}, record {{ collation = Binary; descending = 
 abbrev pub paging : Term × Term
 paging = ({lim_t}, {off_t})
 
-abbrev pub draft : ℕ → Draft
-draft tree = record {{ from = chain (Inner tree ∷ []); filter = terms; group = None; project = project; distinct = false; collations = []; order = order; limit = paging.0; offset = paging.1 }}
-
-abbrev binary : Carried
-binary = record {{ collation = Some Binary; is_written = false }}
-
-abbrev pub output : List ℕ → ℕ → Carried → Output
-output name place carried = record {{ name = name; is_alias = false; is_column = true; term = col 1 place; carried = carried }}
-
-abbrev pub columns : List Output
-columns = {outs}
-
 abbrev pub names : List (List ℕ)
-names = {lst(q(c) for c in names)}
+names = map (name_of ({shape(t)} 0)) ask.shown
 
-abbrev after : ℕ → Carried → State
-after spent last = record (fresh 2 max_budget) {{ budget = max_budget - spent; last = last }}
+is_asked : IsAsked {shape(t)} statement ask paging
+unfolding everything
+is_asked = record {{ reads = λ tree. (refl, refl, refl); sound = λ tree. refl; paged = λ schema tree. refl }}
 
-{reading_is}module _ (schema : Schema) (at tree : ℕ) (h : IsTableAt schema ({shape(t)} tree) at) where
-  abbrev found : slice_get schema.tables at ≡ Some ({shape(t)} tree)
-  found = h.found
+pub understood_as : MeansSelection {shape(t)} statement terms project order paging names
+understood_as = asks {shape(t)} statement ask paging is_asked
 
-  shows : result lower (outermost schema) (level_one ({q(sql)}) at []) core (fresh 2 max_budget) ≡ Ok (columns, after {n1} {last1})
-  unfolding sql_lowering_definitions
-  shows =
-      {shown_by}
-
-  matches : matching lower (outermost schema) (level_one ({q(sql)}) at columns) core (after {n1} {last1})
-      ≡ Ok (record {{ steps = Inner tree ∷ []; filter = terms }}, after {n2} {last2})
-  unfolding sql_lowering_definitions
-  matches = {matches}
-
-  sorted : sorts lower (inside schema (level_one ({q(sql)}) at columns) false) columns by (after {n2} {last2}) ≡ Ok ((draft tree).order, after {n3} {last3})
-  unfolding sql_lowering_definitions
-  sorted =
-      rw ({sorts_l})
-
-  meaning_is : meaning schema select ≡ Ok ((draft tree, names, {cols_b}), [])
-  unfolding everything
-  meaning_is = query_is schema select core source ({q(sql)}) paging _ refl refl refl refl refl refl
-      (named_is schema core source ({q(sql)}) at h.named refl refl refl refl columns (after {n1} {last1})
-      (record {{ steps = Inner tree ∷ []; filter = terms }}) (after {n2} {last2}) shows matches by _ (after {n3} {last3}) _ refl refl sorted)
-
-  pub understood_as : (compiled schema statement ≡ Ok (meant (read statement) [] (Select (record {{ lets = []; body = selection tree terms project order paging }}) names))) ⊎ (compiled schema statement ≡ Err Mismatch)
-  unfolding everything
-  understood_as = reads_or schema statement (read statement) {is_read[0]} {is_read[1]} select (draft tree) names ({cols_b}) {is_read[2]} meaning_is
-
-pub plain : (schema : Schema) (c : Compiled) → understood schema statement ≡ Ok c → c.returning ≡ None
-{opened}plain = no_returning statement (read statement) select {' '.join(is_read)}
-'''
-    write(folder, name, 'a SELECT', t, body)
+pub plain : IsPlain statement
+plain = asks_plainly {shape(t)} statement ask paging is_asked
+''')
     return text
 
 

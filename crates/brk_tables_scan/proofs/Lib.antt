@@ -22,7 +22,6 @@ pub mod AllSummaries
 pub mod AllTaxRates
 pub mod AllTradeHistory
 pub mod AllTrades
-pub mod ShownColumns
 pub mod Continued
 pub mod Defined
 pub mod Failing

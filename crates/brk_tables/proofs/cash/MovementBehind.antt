@@ -1,70 +1,26 @@
 -- Written by tools/tables.py: what a SELECT means.
-use Rattle.std.proofs.Common.{◌≡◌, ◌⊎◌, ℕ, ◌-◌, pos, List, [], ◌∷◌, codes, true, false, None, Some, Ok, Err, refl, slice_get}
+use Rattle.std.proofs.Common.{ℕ, pos, List, [], ◌∷◌, codes, map, false, Some, refl}
 use Rattle.sqlite_value.specs.declared.keys.Collation.TheVariants.{Binary}
 use Rattle.sqlite.specs.declared.types.Value.TheVariants.{Null, Int}
 use Rattle.sqlite_sql.specs.declared.ops.BinaryOp.TheVariants.{Is}
 use Rattle.sqlite_value.specs.declared.keys.Key.{Key}
 use Rattle.sqlite.specs.Term.{Term, lit, col, op2}
-use Rattle.sqlite.specs.Schema.{Schema}
-use Rattle.sqlite.specs.Command.TheVariants.{Select}
 use Rattle.sqlite_ast.specs.declared.Expr.TheVariants as e
-use Rattle.sqlite_ast.specs.declared.Binary.TheVariants as operator
-use Rattle.sqlite_resolve.specs.Compile.{compiled}
-use Rattle.sqlite_resolve.specs.declared.error.CompileError.TheVariants.{Mismatch}
-use Rattle.sqlite_draft.specs.declared.join.Step.TheVariants.{Inner}
-use Rattle.sqlite_draft.specs.declared.query.Draft.{Draft}
 use Rattle.sqlite_tied.specs.Compute.{everything}
-use Rattle.brk_sql.specs.Partly.{sql_lowering_definitions}
-use Rattle.brk_sql.specs.Desk.{integer_column, text_column, nullable_integer_column, IsTableAt}
-use Rattle.brk_sql.proofs.Meant.{meant, reads_or}
-use Rattle.brk_sql.proofs.Pick.{selection}
-use Rattle.brk_sql.proofs.Scoped.{column_is, heading_is}
-use Rattle.brk_sql.proofs.Texts.{read}
+use Rattle.brk_sql.proofs.Asked.{Ask, lacks, single, name_of, IsAsked, IsPlain, MeansSelection, asks, asks_plainly}
 use Rattle.brk_tables_schema.specs.Shapes.{cash_move_table}
-use Rattle.sqlite_ast.specs.declared.Shown.TheVariants.{One}
-use Rattle.sqlite_ast.specs.declared.Origin.TheVariants.{Table}
-use Rattle.sqlite_ast.specs.declared.Source.{Source, roll-Source}
-use Rattle.sqlite_ast.specs.declared.Core.{Core, roll-Core}
-use Rattle.sqlite_ast.specs.declared.Sort.{Sort, roll-Sort}
-use Rattle.sqlite_ast.specs.declared.Select as ast
-use Rattle.sqlite_resolve.specs.Program.{query as meaning}
-use Rattle.sqlite_draft.specs.Join.{chain}
-use Rattle.sqlite_resolve.specs.declared.scope.Output.{Output}
-use Rattle.sqlite_resolve.specs.declared.state.State.{State}
-use Rattle.sqlite_resolve.specs.declared.state.Carried.{Carried}
-use Rattle.sqlite_resolve.specs.Lowering.{fresh, max_budget, nothing}
-use Rattle.sqlite_resolve.specs.Expr.{lower}
-use Rattle.sqlite_resolve.specs.Order.{sorts}
-use Rattle.sqlite_resolve.specs.Body.{result, matching}
-use Rattle.sqlite_resolve.specs.Select.{outermost, inside}
-use Rattle.brk_sql.proofs.Selecting.{level_one, named_is, query_is}
-use Rattle.brk_sql.proofs.Looks.{no_returning}
-use Rattle.sqlite_resolve.specs.declared.compiled.Compiled.{Compiled}
-use Rattle.sqlite.specs.Listing.{understood}
 
 abbrev pub statement : List ℕ
 statement = codes "SELECT CM_ID, CM_CA_ID, CM_T_ID, CM_DTS, CM_AMT, CM_NAME FROM CASH_MOVE WHERE CM_T_ID IS NULL ORDER BY CM_ID LIMIT 1 OFFSET ?1"
 
-abbrev pub source : Source
-source = roll-Source (record { is_left = false; origin = Table (codes "CASH_MOVE"); alias = None; on = None; using = [] })
-
-abbrev pub core : Core
-core = roll-Core (record {
-  distinct = false;
-  shown = One (e.Column None (codes "CM_ID")) None (codes "CM_ID") ∷ One (e.Column None (codes "CM_CA_ID")) None (codes "CM_CA_ID")
-      ∷ One (e.Column None (codes "CM_T_ID")) None (codes "CM_T_ID") ∷ One (e.Column None (codes "CM_DTS")) None (codes "CM_DTS")
-      ∷ One (e.Column None (codes "CM_AMT")) None (codes "CM_AMT") ∷ One (e.Column None (codes "CM_NAME")) None (codes "CM_NAME") ∷ [];
-  from = source ∷ [];
-  filter = Some (e.Binary operator.Is (e.Column None (codes "CM_T_ID")) e.Null);
-  group = [];
-  having = None;
-})
-
-abbrev pub by : List Sort
-by = roll-Sort (record { key = e.Column None (codes "CM_ID"); descending = false; nulls_first = None }) ∷ []
-
-abbrev pub select : ast.Select
-select = ast.roll-Select (record { with = []; first = core; others = []; order = by; limit = Some (e.Integer (codes "1")); offset = Some (e.Parameter 1) })
+abbrev ask : Ask
+ask = record {
+  shown = 0 ∷ 1 ∷ 2 ∷ 3 ∷ 4 ∷ 5 ∷ [];
+  tests = Some (single (lacks 2));
+  by = (0, false) ∷ [];
+  limit = Some (e.Integer (codes "1"));
+  offset = Some (e.Parameter 1);
+}
 
 abbrev pub terms : List Term
 terms = op2 (Is Binary) (col 1 3) (lit Null) ∷ []
@@ -78,81 +34,15 @@ order = (col 1 0, record { collation = Binary; descending = false }) ∷ []
 abbrev pub paging : Term × Term
 paging = (lit (Int (pos 1)), col 0 0)
 
-abbrev pub draft : ℕ → Draft
-draft tree = record { from = chain (Inner tree ∷ []); filter = terms; group = None; project = project; distinct = false; collations = []; order = order; limit = paging.0; offset = paging.1 }
-
-abbrev binary : Carried
-binary = record { collation = Some Binary; is_written = false }
-
-abbrev pub output : List ℕ → ℕ → Carried → Output
-output name place carried = record { name = name; is_alias = false; is_column = true; term = col 1 place; carried = carried }
-
-abbrev pub columns : List Output
-columns = output (codes "CM_ID") 0 nothing ∷ output (codes "CM_CA_ID") 2 binary ∷ output (codes "CM_T_ID") 3 binary ∷ output (codes "CM_DTS") 4 binary
-    ∷ output (codes "CM_AMT") 5 binary ∷ output (codes "CM_NAME") 6 binary ∷ []
-
 abbrev pub names : List (List ℕ)
-names = codes "CM_ID" ∷ codes "CM_CA_ID" ∷ codes "CM_T_ID" ∷ codes "CM_DTS" ∷ codes "CM_AMT" ∷ codes "CM_NAME" ∷ []
+names = map (name_of (cash_move_table 0)) ask.shown
 
-abbrev after : ℕ → Carried → State
-after spent last = record (fresh 2 max_budget) { budget = max_budget - spent; last = last }
-
-module _ (schema : Schema) (at tree : ℕ) (h : IsTableAt schema (cash_move_table tree) at) where
-  abbrev found : slice_get schema.tables at ≡ Some (cash_move_table tree)
-  found = h.found
-
-  shows : result lower (outermost schema) (level_one (codes "CASH_MOVE") at []) core (fresh 2 max_budget) ≡ Ok (columns, after 6 binary)
-  unfolding sql_lowering_definitions
-  shows =
-      rw (
-        column_is schema at (cash_move_table tree) found (codes "CASH_MOVE") [] [] true true (codes "CM_ID") 0 (integer_column (codes "CM_ID")) refl refl,
-        heading_is schema at (cash_move_table tree) found (codes "CASH_MOVE") [] [] true true (e.Column None (codes "CM_ID")) (codes "CM_ID") (codes "CM_ID") 0
-            (integer_column (codes "CM_ID")) refl refl refl,
-        column_is schema at (cash_move_table tree) found (codes "CASH_MOVE") [] [] true true (codes "CM_CA_ID") 1 (integer_column (codes "CM_CA_ID")) refl refl,
-        heading_is schema at (cash_move_table tree) found (codes "CASH_MOVE") [] [] true true (e.Column None (codes "CM_CA_ID")) (codes "CM_CA_ID")
-            (codes "CM_CA_ID") 1 (integer_column (codes "CM_CA_ID")) refl refl refl,
-        column_is schema at (cash_move_table tree) found (codes "CASH_MOVE") [] [] true true (codes "CM_T_ID") 2 (nullable_integer_column (codes "CM_T_ID")) refl refl,
-        heading_is schema at (cash_move_table tree) found (codes "CASH_MOVE") [] [] true true (e.Column None (codes "CM_T_ID")) (codes "CM_T_ID")
-            (codes "CM_T_ID") 2 (nullable_integer_column (codes "CM_T_ID")) refl refl refl,
-        column_is schema at (cash_move_table tree) found (codes "CASH_MOVE") [] [] true true (codes "CM_DTS") 3 (integer_column (codes "CM_DTS")) refl refl,
-        heading_is schema at (cash_move_table tree) found (codes "CASH_MOVE") [] [] true true (e.Column None (codes "CM_DTS")) (codes "CM_DTS") (codes "CM_DTS") 3
-            (integer_column (codes "CM_DTS")) refl refl refl,
-        column_is schema at (cash_move_table tree) found (codes "CASH_MOVE") [] [] true true (codes "CM_AMT") 4 (integer_column (codes "CM_AMT")) refl refl,
-        heading_is schema at (cash_move_table tree) found (codes "CASH_MOVE") [] [] true true (e.Column None (codes "CM_AMT")) (codes "CM_AMT") (codes "CM_AMT") 4
-            (integer_column (codes "CM_AMT")) refl refl refl,
-        column_is schema at (cash_move_table tree) found (codes "CASH_MOVE") [] [] true true (codes "CM_NAME") 5 (text_column (codes "CM_NAME")) refl refl,
-        heading_is schema at (cash_move_table tree) found (codes "CASH_MOVE") [] [] true true (e.Column None (codes "CM_NAME")) (codes "CM_NAME")
-            (codes "CM_NAME") 5 (text_column (codes "CM_NAME")) refl refl refl,
-      )
-
-  matches : matching lower (outermost schema) (level_one (codes "CASH_MOVE") at columns) core (after 6 binary)
-      ≡ Ok (record { steps = Inner tree ∷ []; filter = terms }, after 9 nothing)
-  unfolding sql_lowering_definitions
-  matches = rw (
-    found,
-    column_is schema at (cash_move_table tree) found (codes "CASH_MOVE") columns [] false true (codes "CM_T_ID") 2
-        (nullable_integer_column (codes "CM_T_ID")) refl refl,
-    found,
-  )
-
-  sorted : sorts lower (inside schema (level_one (codes "CASH_MOVE") at columns) false) columns by (after 9 nothing) ≡ Ok ((draft tree).order, after 10 nothing)
-  unfolding sql_lowering_definitions
-  sorted =
-      rw (column_is schema at (cash_move_table tree) found (codes "CASH_MOVE") columns [] false true (codes "CM_ID") 0 (integer_column (codes "CM_ID")) refl refl)
-
-  meaning_is : meaning schema select ≡ Ok ((draft tree, names, None ∷ Some Binary ∷ Some Binary ∷ Some Binary ∷ Some Binary ∷ Some Binary ∷ []), [])
-  unfolding everything
-  meaning_is = query_is schema select core source (codes "CASH_MOVE") paging _ refl refl refl refl refl refl
-      (named_is schema core source (codes "CASH_MOVE") at h.named refl refl refl refl columns (after 6 binary)
-      (record { steps = Inner tree ∷ []; filter = terms }) (after 9 nothing) shows matches by _ (after 10 nothing) _ refl refl sorted)
-
-  pub understood_as : (compiled schema statement
-      ≡ Ok (meant (read statement) [] (Select (record { lets = []; body = selection tree terms project order paging }) names)))
-      ⊎ (compiled schema statement ≡ Err Mismatch)
-  unfolding everything
-  understood_as = reads_or schema statement (read statement) refl refl select (draft tree) names
-      (None ∷ Some Binary ∷ Some Binary ∷ Some Binary ∷ Some Binary ∷ Some Binary ∷ []) refl meaning_is
-
-pub plain : (schema : Schema) (c : Compiled) → understood schema statement ≡ Ok c → c.returning ≡ None
+is_asked : IsAsked cash_move_table statement ask paging
 unfolding everything
-plain = no_returning statement (read statement) select refl refl refl
+is_asked = record { reads = λ tree. (refl, refl, refl); sound = λ tree. refl; paged = λ schema tree. refl }
+
+pub understood_as : MeansSelection cash_move_table statement terms project order paging names
+understood_as = asks cash_move_table statement ask paging is_asked
+
+pub plain : IsPlain statement
+plain = asks_plainly cash_move_table statement ask paging is_asked

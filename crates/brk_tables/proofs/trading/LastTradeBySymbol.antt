@@ -1,70 +1,26 @@
 -- Written by tools/tables.py: what a SELECT means.
-use Rattle.std.proofs.Common.{◌≡◌, ◌⊎◌, ℕ, ◌-◌, pos, negsuc, List, [], ◌∷◌, codes, true, false, None, Some, Ok, Err, refl, slice_get}
+use Rattle.std.proofs.Common.{ℕ, pos, negsuc, List, [], ◌∷◌, codes, map, false, None, Some, refl}
 use Rattle.sqlite_value.specs.declared.keys.Collation.TheVariants.{Binary}
 use Rattle.sqlite.specs.declared.types.Value.TheVariants.{Int}
 use Rattle.sqlite_sql.specs.declared.ops.BinaryOp.TheVariants.{Compare}
 use Rattle.sqlite_sql.specs.declared.ops.CompareOp.TheVariants.{Eq}
 use Rattle.sqlite_value.specs.declared.keys.Key.{Key}
 use Rattle.sqlite.specs.Term.{Term, lit, col, op2}
-use Rattle.sqlite.specs.Schema.{Schema}
-use Rattle.sqlite.specs.Command.TheVariants.{Select}
-use Rattle.sqlite_ast.specs.declared.Expr.TheVariants as e
-use Rattle.sqlite_ast.specs.declared.Binary.TheVariants as operator
-use Rattle.sqlite_resolve.specs.Compile.{compiled}
-use Rattle.sqlite_resolve.specs.declared.error.CompileError.TheVariants.{Mismatch}
-use Rattle.sqlite_draft.specs.declared.join.Step.TheVariants.{Inner}
-use Rattle.sqlite_draft.specs.declared.query.Draft.{Draft}
 use Rattle.sqlite_tied.specs.Compute.{everything}
-use Rattle.brk_sql.specs.Partly.{sql_lowering_definitions}
-use Rattle.brk_sql.specs.Desk.{integer_column, text_column, IsTableAt}
-use Rattle.brk_sql.proofs.Meant.{meant, reads_or}
-use Rattle.brk_sql.proofs.Pick.{selection}
-use Rattle.brk_sql.proofs.Scoped.{column_is, heading_is}
-use Rattle.brk_sql.proofs.Texts.{read}
+use Rattle.brk_sql.proofs.Asked.{Ask, compares, single, name_of, IsAsked, IsPlain, MeansSelection, asks, asks_plainly}
 use Rattle.brk_tables_schema.specs.Shapes.{last_trade_table}
-use Rattle.sqlite_ast.specs.declared.Shown.TheVariants.{One}
-use Rattle.sqlite_ast.specs.declared.Origin.TheVariants.{Table}
-use Rattle.sqlite_ast.specs.declared.Source.{Source, roll-Source}
-use Rattle.sqlite_ast.specs.declared.Core.{Core, roll-Core}
-use Rattle.sqlite_ast.specs.declared.Sort.{Sort, roll-Sort}
-use Rattle.sqlite_ast.specs.declared.Select as ast
-use Rattle.sqlite_resolve.specs.Program.{query as meaning}
-use Rattle.sqlite_draft.specs.Join.{chain}
-use Rattle.sqlite_resolve.specs.declared.scope.Output.{Output}
-use Rattle.sqlite_resolve.specs.declared.state.State.{State}
-use Rattle.sqlite_resolve.specs.declared.state.Carried.{Carried}
-use Rattle.sqlite_resolve.specs.Lowering.{fresh, max_budget, nothing}
-use Rattle.sqlite_resolve.specs.Expr.{lower}
-use Rattle.sqlite_resolve.specs.Order.{sorts}
-use Rattle.sqlite_resolve.specs.Body.{result, matching}
-use Rattle.sqlite_resolve.specs.Select.{outermost, inside}
-use Rattle.brk_sql.proofs.Selecting.{level_one, named_is, query_is}
-use Rattle.brk_sql.proofs.Looks.{no_returning}
-use Rattle.sqlite_resolve.specs.declared.compiled.Compiled.{Compiled}
-use Rattle.sqlite.specs.Listing.{understood}
 
 abbrev pub statement : List ℕ
 statement = codes "SELECT LT_S_SYMB, LT_DTS, LT_PRICE, LT_VOL FROM LAST_TRADE WHERE LT_S_SYMB = ?1 ORDER BY LT_S_SYMB"
 
-abbrev pub source : Source
-source = roll-Source (record { is_left = false; origin = Table (codes "LAST_TRADE"); alias = None; on = None; using = [] })
-
-abbrev pub core : Core
-core = roll-Core (record {
-  distinct = false;
-  shown = One (e.Column None (codes "LT_S_SYMB")) None (codes "LT_S_SYMB") ∷ One (e.Column None (codes "LT_DTS")) None (codes "LT_DTS")
-      ∷ One (e.Column None (codes "LT_PRICE")) None (codes "LT_PRICE") ∷ One (e.Column None (codes "LT_VOL")) None (codes "LT_VOL") ∷ [];
-  from = source ∷ [];
-  filter = Some (e.Binary operator.Eq (e.Column None (codes "LT_S_SYMB")) (e.Parameter 1));
-  group = [];
-  having = None;
-})
-
-abbrev pub by : List Sort
-by = roll-Sort (record { key = e.Column None (codes "LT_S_SYMB"); descending = false; nulls_first = None }) ∷ []
-
-abbrev pub select : ast.Select
-select = ast.roll-Select (record { with = []; first = core; others = []; order = by; limit = None; offset = None })
+abbrev ask : Ask
+ask = record {
+  shown = 0 ∷ 1 ∷ 2 ∷ 3 ∷ [];
+  tests = Some (single (compares Eq 0 1));
+  by = (0, false) ∷ [];
+  limit = None;
+  offset = None;
+}
 
 abbrev pub terms : List Term
 terms = op2 (Compare Eq Binary) (col 1 1) (col 0 0) ∷ []
@@ -78,68 +34,15 @@ order = (col 1 1, record { collation = Binary; descending = false }) ∷ []
 abbrev pub paging : Term × Term
 paging = (lit (Int (negsuc 0)), lit (Int (pos 0)))
 
-abbrev pub draft : ℕ → Draft
-draft tree = record { from = chain (Inner tree ∷ []); filter = terms; group = None; project = project; distinct = false; collations = []; order = order; limit = paging.0; offset = paging.1 }
-
-abbrev binary : Carried
-binary = record { collation = Some Binary; is_written = false }
-
-abbrev pub output : List ℕ → ℕ → Carried → Output
-output name place carried = record { name = name; is_alias = false; is_column = true; term = col 1 place; carried = carried }
-
-abbrev pub columns : List Output
-columns = output (codes "LT_S_SYMB") 1 binary ∷ output (codes "LT_DTS") 2 binary ∷ output (codes "LT_PRICE") 3 binary ∷ output (codes "LT_VOL") 4 binary ∷ []
-
 abbrev pub names : List (List ℕ)
-names = codes "LT_S_SYMB" ∷ codes "LT_DTS" ∷ codes "LT_PRICE" ∷ codes "LT_VOL" ∷ []
+names = map (name_of (last_trade_table 0)) ask.shown
 
-abbrev after : ℕ → Carried → State
-after spent last = record (fresh 2 max_budget) { budget = max_budget - spent; last = last }
-
-module _ (schema : Schema) (at tree : ℕ) (h : IsTableAt schema (last_trade_table tree) at) where
-  abbrev found : slice_get schema.tables at ≡ Some (last_trade_table tree)
-  found = h.found
-
-  shows : result lower (outermost schema) (level_one (codes "LAST_TRADE") at []) core (fresh 2 max_budget) ≡ Ok (columns, after 4 binary)
-  unfolding sql_lowering_definitions
-  shows =
-      rw (
-        column_is schema at (last_trade_table tree) found (codes "LAST_TRADE") [] [] true true (codes "LT_S_SYMB") 0 (text_column (codes "LT_S_SYMB")) refl refl,
-        heading_is schema at (last_trade_table tree) found (codes "LAST_TRADE") [] [] true true (e.Column None (codes "LT_S_SYMB")) (codes "LT_S_SYMB")
-            (codes "LT_S_SYMB") 0 (text_column (codes "LT_S_SYMB")) refl refl refl,
-        column_is schema at (last_trade_table tree) found (codes "LAST_TRADE") [] [] true true (codes "LT_DTS") 1 (integer_column (codes "LT_DTS")) refl refl,
-        heading_is schema at (last_trade_table tree) found (codes "LAST_TRADE") [] [] true true (e.Column None (codes "LT_DTS")) (codes "LT_DTS") (codes "LT_DTS")
-            1 (integer_column (codes "LT_DTS")) refl refl refl,
-        column_is schema at (last_trade_table tree) found (codes "LAST_TRADE") [] [] true true (codes "LT_PRICE") 2 (integer_column (codes "LT_PRICE")) refl refl,
-        heading_is schema at (last_trade_table tree) found (codes "LAST_TRADE") [] [] true true (e.Column None (codes "LT_PRICE")) (codes "LT_PRICE")
-            (codes "LT_PRICE") 2 (integer_column (codes "LT_PRICE")) refl refl refl,
-        column_is schema at (last_trade_table tree) found (codes "LAST_TRADE") [] [] true true (codes "LT_VOL") 3 (integer_column (codes "LT_VOL")) refl refl,
-        heading_is schema at (last_trade_table tree) found (codes "LAST_TRADE") [] [] true true (e.Column None (codes "LT_VOL")) (codes "LT_VOL") (codes "LT_VOL")
-            3 (integer_column (codes "LT_VOL")) refl refl refl,
-      )
-
-  matches : matching lower (outermost schema) (level_one (codes "LAST_TRADE") at columns) core (after 4 binary)
-      ≡ Ok (record { steps = Inner tree ∷ []; filter = terms }, after 7 nothing)
-  unfolding sql_lowering_definitions
-  matches = rw (found, column_is schema at (last_trade_table tree) found (codes "LAST_TRADE") columns [] false true (codes "LT_S_SYMB") 0 (text_column (codes "LT_S_SYMB")) refl refl, found)
-
-  sorted : sorts lower (inside schema (level_one (codes "LAST_TRADE") at columns) false) columns by (after 7 nothing) ≡ Ok ((draft tree).order, after 8 binary)
-  unfolding sql_lowering_definitions
-  sorted =
-      rw (column_is schema at (last_trade_table tree) found (codes "LAST_TRADE") columns [] false true (codes "LT_S_SYMB") 0 (text_column (codes "LT_S_SYMB")) refl refl)
-
-  meaning_is : meaning schema select ≡ Ok ((draft tree, names, Some Binary ∷ Some Binary ∷ Some Binary ∷ Some Binary ∷ []), [])
-  unfolding everything
-  meaning_is = query_is schema select core source (codes "LAST_TRADE") paging _ refl refl refl refl refl refl
-      (named_is schema core source (codes "LAST_TRADE") at h.named refl refl refl refl columns (after 4 binary)
-      (record { steps = Inner tree ∷ []; filter = terms }) (after 7 nothing) shows matches by _ (after 8 binary) _ refl refl sorted)
-
-  pub understood_as : (compiled schema statement
-      ≡ Ok (meant (read statement) [] (Select (record { lets = []; body = selection tree terms project order paging }) names)))
-      ⊎ (compiled schema statement ≡ Err Mismatch)
-  unfolding everything
-  understood_as = reads_or schema statement (read statement) refl refl select (draft tree) names (Some Binary ∷ Some Binary ∷ Some Binary ∷ Some Binary ∷ []) refl meaning_is
-
-pub plain : (schema : Schema) (c : Compiled) → understood schema statement ≡ Ok c → c.returning ≡ None
+is_asked : IsAsked last_trade_table statement ask paging
 unfolding everything
-plain = no_returning statement (read statement) select refl refl refl
+is_asked = record { reads = λ tree. (refl, refl, refl); sound = λ tree. refl; paged = λ schema tree. refl }
+
+pub understood_as : MeansSelection last_trade_table statement terms project order paging names
+understood_as = asks last_trade_table statement ask paging is_asked
+
+pub plain : IsPlain statement
+plain = asks_plainly last_trade_table statement ask paging is_asked

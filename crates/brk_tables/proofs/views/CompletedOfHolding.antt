@@ -1,72 +1,26 @@
 -- Written by tools/tables.py: what a SELECT means.
-use Rattle.std.proofs.Common.{◌≡◌, ◌⊎◌, ℕ, ◌-◌, pos, negsuc, List, [], ◌∷◌, codes, true, false, None, Some, Ok, Err, refl, slice_get}
+use Rattle.std.proofs.Common.{ℕ, pos, negsuc, List, [], ◌∷◌, codes, map, false, None, Some, refl}
 use Rattle.sqlite_value.specs.declared.keys.Collation.TheVariants.{Binary}
 use Rattle.sqlite.specs.declared.types.Value.TheVariants.{Int}
 use Rattle.sqlite_sql.specs.declared.ops.BinaryOp.TheVariants.{Compare}
 use Rattle.sqlite_sql.specs.declared.ops.CompareOp.TheVariants.{Eq}
 use Rattle.sqlite_value.specs.declared.keys.Key.{Key}
 use Rattle.sqlite.specs.Term.{Term, lit, col, op2}
-use Rattle.sqlite.specs.Schema.{Schema}
-use Rattle.sqlite.specs.Command.TheVariants.{Select}
-use Rattle.sqlite_ast.specs.declared.Expr.TheVariants as e
-use Rattle.sqlite_ast.specs.declared.Binary.TheVariants as operator
-use Rattle.sqlite_resolve.specs.Compile.{compiled}
-use Rattle.sqlite_resolve.specs.declared.error.CompileError.TheVariants.{Mismatch}
-use Rattle.sqlite_draft.specs.declared.join.Step.TheVariants.{Inner}
-use Rattle.sqlite_draft.specs.declared.query.Draft.{Draft}
 use Rattle.sqlite_tied.specs.Compute.{everything}
-use Rattle.brk_sql.specs.Partly.{sql_lowering_definitions}
-use Rattle.brk_sql.specs.Desk.{integer_column, text_column, IsTableAt}
-use Rattle.brk_sql.proofs.Meant.{meant, reads_or}
-use Rattle.brk_sql.proofs.Pick.{selection}
-use Rattle.brk_sql.proofs.Scoped.{column_is, heading_is}
-use Rattle.brk_sql.proofs.Texts.{read}
+use Rattle.brk_sql.proofs.Asked.{Ask, compares, single, also, name_of, IsAsked, IsPlain, MeansSelection, asks, asks_plainly}
 use Rattle.brk_tables_schema.specs.Shapes.{trade_table}
-use Rattle.sqlite_ast.specs.declared.Shown.TheVariants.{One}
-use Rattle.sqlite_ast.specs.declared.Origin.TheVariants.{Table}
-use Rattle.sqlite_ast.specs.declared.Source.{Source, roll-Source}
-use Rattle.sqlite_ast.specs.declared.Core.{Core, roll-Core}
-use Rattle.sqlite_ast.specs.declared.Sort.{Sort, roll-Sort}
-use Rattle.sqlite_ast.specs.declared.Select as ast
-use Rattle.sqlite_resolve.specs.Program.{query as meaning}
-use Rattle.sqlite_draft.specs.Join.{chain}
-use Rattle.sqlite_resolve.specs.declared.scope.Output.{Output}
-use Rattle.sqlite_resolve.specs.declared.state.State.{State}
-use Rattle.sqlite_resolve.specs.declared.state.Carried.{Carried}
-use Rattle.sqlite_resolve.specs.Lowering.{fresh, max_budget, nothing}
-use Rattle.sqlite_resolve.specs.Expr.{lower}
-use Rattle.sqlite_resolve.specs.Order.{sorts}
-use Rattle.sqlite_resolve.specs.Body.{result, matching}
-use Rattle.sqlite_resolve.specs.Select.{outermost, inside}
-use Rattle.brk_sql.proofs.Selecting.{level_one, named_is, query_is}
-use Rattle.brk_sql.proofs.Looks.{no_returning}
-use Rattle.sqlite_resolve.specs.declared.compiled.Compiled.{Compiled}
-use Rattle.sqlite.specs.Listing.{understood}
 
 abbrev pub statement : List ℕ
 statement = codes "SELECT T_ID FROM TRADE WHERE T_CA_ID = ?1 AND T_S_SYMB = ?2 AND T_ST_ID = ?3 ORDER BY T_DTS, T_ID"
 
-abbrev pub source : Source
-source = roll-Source (record { is_left = false; origin = Table (codes "TRADE"); alias = None; on = None; using = [] })
-
-abbrev pub core : Core
-core = roll-Core (record {
-  distinct = false;
-  shown = One (e.Column None (codes "T_ID")) None (codes "T_ID") ∷ [];
-  from = source ∷ [];
-  filter = Some (e.Binary operator.And
-      (e.Binary operator.And (e.Binary operator.Eq (e.Column None (codes "T_CA_ID")) (e.Parameter 1))
-      (e.Binary operator.Eq (e.Column None (codes "T_S_SYMB")) (e.Parameter 2))) (e.Binary operator.Eq (e.Column None (codes "T_ST_ID")) (e.Parameter 3)));
-  group = [];
-  having = None;
-})
-
-abbrev pub by : List Sort
-by = roll-Sort (record { key = e.Column None (codes "T_DTS"); descending = false; nulls_first = None })
-    ∷ roll-Sort (record { key = e.Column None (codes "T_ID"); descending = false; nulls_first = None }) ∷ []
-
-abbrev pub select : ast.Select
-select = ast.roll-Select (record { with = []; first = core; others = []; order = by; limit = None; offset = None })
+abbrev ask : Ask
+ask = record {
+  shown = 0 ∷ [];
+  tests = Some (also (also (single (compares Eq 8 1)) (compares Eq 5 2)) (compares Eq 2 3));
+  by = (1, false) ∷ (0, false) ∷ [];
+  limit = None;
+  offset = None;
+}
 
 abbrev pub terms : List Term
 terms = op2 (Compare Eq Binary) (col 1 9) (col 0 0) ∷ op2 (Compare Eq Binary) (col 1 6) (col 0 1) ∷ op2 (Compare Eq Binary) (col 1 3) (col 0 2) ∷ []
@@ -80,73 +34,15 @@ order = (col 1 2, record { collation = Binary; descending = false }) ∷ (col 1 
 abbrev pub paging : Term × Term
 paging = (lit (Int (negsuc 0)), lit (Int (pos 0)))
 
-abbrev pub draft : ℕ → Draft
-draft tree = record { from = chain (Inner tree ∷ []); filter = terms; group = None; project = project; distinct = false; collations = []; order = order; limit = paging.0; offset = paging.1 }
-
-abbrev binary : Carried
-binary = record { collation = Some Binary; is_written = false }
-
-abbrev pub output : List ℕ → ℕ → Carried → Output
-output name place carried = record { name = name; is_alias = false; is_column = true; term = col 1 place; carried = carried }
-
-abbrev pub columns : List Output
-columns = output (codes "T_ID") 0 nothing ∷ []
-
 abbrev pub names : List (List ℕ)
-names = codes "T_ID" ∷ []
+names = map (name_of (trade_table 0)) ask.shown
 
-abbrev after : ℕ → Carried → State
-after spent last = record (fresh 2 max_budget) { budget = max_budget - spent; last = last }
-
-module _ (schema : Schema) (at tree : ℕ) (h : IsTableAt schema (trade_table tree) at) where
-  abbrev found : slice_get schema.tables at ≡ Some (trade_table tree)
-  found = h.found
-
-  shows : result lower (outermost schema) (level_one (codes "TRADE") at []) core (fresh 2 max_budget) ≡ Ok (columns, after 1 nothing)
-  unfolding sql_lowering_definitions
-  shows =
-      rw (
-        column_is schema at (trade_table tree) found (codes "TRADE") [] [] true true (codes "T_ID") 0 (integer_column (codes "T_ID")) refl refl,
-        heading_is schema at (trade_table tree) found (codes "TRADE") [] [] true true (e.Column None (codes "T_ID")) (codes "T_ID") (codes "T_ID") 0
-            (integer_column (codes "T_ID")) refl refl refl,
-      )
-
-  matches : matching lower (outermost schema) (level_one (codes "TRADE") at columns) core (after 1 nothing)
-      ≡ Ok (record { steps = Inner tree ∷ []; filter = terms }, after 12 nothing)
-  unfolding sql_lowering_definitions
-  matches = rw (
-    found,
-    column_is schema at (trade_table tree) found (codes "TRADE") columns [] false true (codes "T_CA_ID") 8 (integer_column (codes "T_CA_ID"))
-        refl refl,
-    found,
-    column_is schema at (trade_table tree) found (codes "TRADE") columns [] false true (codes "T_S_SYMB") 5 (text_column (codes "T_S_SYMB"))
-        refl refl,
-    found,
-    column_is schema at (trade_table tree) found (codes "TRADE") columns [] false true (codes "T_ST_ID") 2 (text_column (codes "T_ST_ID"))
-        refl refl,
-    found,
-  )
-
-  sorted : sorts lower (inside schema (level_one (codes "TRADE") at columns) false) columns by (after 12 nothing) ≡ Ok ((draft tree).order, after 14 nothing)
-  unfolding sql_lowering_definitions
-  sorted =
-      rw (
-        column_is schema at (trade_table tree) found (codes "TRADE") columns [] false true (codes "T_DTS") 1 (integer_column (codes "T_DTS")) refl refl,
-        column_is schema at (trade_table tree) found (codes "TRADE") columns [] false true (codes "T_ID") 0 (integer_column (codes "T_ID")) refl refl,
-      )
-
-  meaning_is : meaning schema select ≡ Ok ((draft tree, names, None ∷ []), [])
-  unfolding everything
-  meaning_is = query_is schema select core source (codes "TRADE") paging _ refl refl refl refl refl refl
-      (named_is schema core source (codes "TRADE") at h.named refl refl refl refl columns (after 1 nothing)
-      (record { steps = Inner tree ∷ []; filter = terms }) (after 12 nothing) shows matches by _ (after 14 nothing) _ refl refl sorted)
-
-  pub understood_as : (compiled schema statement
-      ≡ Ok (meant (read statement) [] (Select (record { lets = []; body = selection tree terms project order paging }) names)))
-      ⊎ (compiled schema statement ≡ Err Mismatch)
-  unfolding everything
-  understood_as = reads_or schema statement (read statement) refl refl select (draft tree) names (None ∷ []) refl meaning_is
-
-pub plain : (schema : Schema) (c : Compiled) → understood schema statement ≡ Ok c → c.returning ≡ None
+is_asked : IsAsked trade_table statement ask paging
 unfolding everything
-plain = no_returning statement (read statement) select refl refl refl
+is_asked = record { reads = λ tree. (refl, refl, refl); sound = λ tree. refl; paged = λ schema tree. refl }
+
+pub understood_as : MeansSelection trade_table statement terms project order paging names
+understood_as = asks trade_table statement ask paging is_asked
+
+pub plain : IsPlain statement
+plain = asks_plainly trade_table statement ask paging is_asked
