@@ -202,7 +202,7 @@ use Rattle.brk_sql.specs.Desk.{{integer_column, text_column, nullable_integer_co
 use Rattle.brk_sql.proofs.Meant.{{meant, inserts, updates_or, deletes_or, reads_or}}
 use Rattle.brk_sql.proofs.Pick.{{selection, whole_page}}
 use Rattle.brk_sql.proofs.Scoped.{{over_one, column_is}}
-use Rattle.brk_sql.proofs.Asked.{{Ask, compares, lacks, single, also, name_of, IsAsked, IsPlain, MeansSelection, asks, asks_plainly}}
+use Rattle.brk_sql.proofs.Asked.{{Ask, compares, lacks, single, also, IsAsked, IsPlain, asks_plainly}}
 use Rattle.brk_sql.proofs.Texts.{{read}}
 use Rattle.brk_tables_schema.specs.Shapes.{{{table}}}
 '''
@@ -381,7 +381,7 @@ def select(folder, name, t, tests, order, limit=None, shown=None, offset=None):
 abbrev pub statement : List ℕ
 statement = {codes_of(text)}
 
-abbrev ask : Ask
+abbrev pub ask : Ask
 ask = record {{
   shown = {lst(index(t, c) for c in names)};
   tests = {f'Some ({asked_tests(t, tests)})' if tests else 'None'};
@@ -390,27 +390,12 @@ ask = record {{
   offset = {off_e};
 }}
 
-abbrev pub terms : List Term
-terms = {test_terms(t, tests)}
-
-abbrev pub project : List Term
-project = {lst(f'col 1 {place(t, c)}' for c in names)}
-
-abbrev pub order : List (Term × Key)
-order = {lst(f'(col 1 {place(t, c)}, record {{ collation = Binary; descending = {b(f)} }})' for c, f in order)}
-
 abbrev pub paging : Term × Term
 paging = ({lim_t}, {off_t})
 
-abbrev pub names : List (List ℕ)
-names = map (name_of ({shape(t)} 0)) ask.shown
-
-is_asked : IsAsked {shape(t)} statement ask paging
+pub is_asked : IsAsked {shape(t)} statement ask paging
 unfolding everything
 is_asked = record {{ reads = λ tree. (refl, refl, refl); sound = λ tree. refl; paged = λ schema tree. refl }}
-
-pub understood_as : MeansSelection {shape(t)} statement terms project order paging names
-understood_as = asks {shape(t)} statement ask paging is_asked
 
 pub plain : IsPlain statement
 plain = asks_plainly {shape(t)} statement ask paging is_asked
@@ -982,14 +967,10 @@ use Rattle.brk_tables_scan.proofs.Keyed.{{{', '.join(d[0] + '_once' for d in DAT
 """
     for d in DATA:
         n = whole_name(d)
-        at = lambda c: 0 if d[6] and c == d[7][0][0] else [k[0] for k in d[7]].index(c) + 1
-        lets = ''.join(f'let p{i} : column a {at(c)} ≡ {cell_at(d, c, "x")} = cc in let q{i} : column b {at(c)} ≡ {cell_at(d, c, "y")} = cc in ' for i, c in enumerate(key_columns(d)))
-        rws = ', '.join(f'p{i}, q{i}' for i, c in enumerate(key_columns(d)))
         out += f"""
 pub {d[0]}_shown : (old new : State) (rows : List Row) → Shown {n}.statement [] old new rows → ShowsAllRows {d[2]} rows old.now
 {d[0]}_shown old new rows shown =
-    shows_all {d[2]} (key_total {d[4]}) {d[0]}_once {n}.statement (read {n}.statement) {n}.project {n}.order {n}.names {n}.understood_as (λ tree r. refl)
-    (λ tree a b x y e f. {lets}rw ({rws}) refl) old new rows shown
+    shows_all {d[2]} (key_total {d[4]}) {d[0]}_once {n}.statement {n}.ask.shown {n}.ask.by {n}.is_asked (λ tree r. refl) (λ tree x y. refl) old new rows shown
 """
     save('crates/brk_tables_scan/proofs/Shown.antt', out)
 

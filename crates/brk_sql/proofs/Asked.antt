@@ -610,13 +610,6 @@ pub record IsAsked (shape : ℕ → Table) (text : List ℕ) (ask : Ask) (page :
   pub sound : (tree : ℕ) → is_sound (shape tree) ask ≡ true
   pub paged : (schema : Schema) (tree : ℕ) → paging schema (select_of (shape tree) ask) ≡ Ok page
 
--- over each schema that has the table the text means this selection, or the typing refuses it
-abbrev pub MeansSelection : (ℕ → Table) → List ℕ → List Term → List Term → List (Term × Key) → Term × Term → List Name → Type 0
-MeansSelection shape text terms project order page names =
-    (schema : Schema) (at tree : ℕ) → IsTableAt schema (shape tree) at
-    → (compiled schema text ≡ Ok (meant (read text) [] (Select (record { lets = []; body = selection tree terms project order page }) names)))
-    ⊎ (compiled schema text ≡ Err Mismatch)
-
 -- a text has no RETURNING, whatever the schema is
 abbrev pub IsPlain : List ℕ → Type 0
 IsPlain text = (schema : Schema) (c : Compiled) → understood schema text ≡ Ok c → c.returning ≡ None

@@ -9,7 +9,7 @@ use Rattle.brk_model.specs.Records.{Kept}
 use Rattle.brk_model.specs.Keys.{kept_key}
 use Rattle.brk_sql.specs.Desk.{ChangesTablesBy, TablesSatisfy}
 use Rattle.brk_sql.specs.Model.{ExecutesStatement}
-use Rattle.brk_sql.proofs.Looks.{tells_rising}
+use Rattle.brk_sql.proofs.Told.{told_rising}
 use Rattle.brk_sql.proofs.Texts.{read}
 use Rattle.brk_sql.proofs.Values.{cast_int, cast_null}
 use Rattle.brk_sql.proofs.Writes.{inserts_as}
@@ -33,12 +33,6 @@ pub tells_kept : (old new : State) (batch : List ℕ) (row : ℕ) (rows : List R
     → Shown KeptByKey.statement (Words batch ∷ natural_as_value row ∷ []) old new rows
     → TablesSatisfy desk_tables (λ t. rows ≡ map kept_cells (filter (λ r. bytes_eq r.key.batch batch && (r.key.row == row)) t.kept)) old.now
 tells_kept old new batch row rows shown =
-    tells_rising desk_tables KeptRows KeptByKey.statement (Words batch ∷ natural_as_value row ∷ []) (read KeptByKey.statement) KeptByKey.terms KeptByKey.project
-    KeptByKey.order KeptByKey.paging KeptByKey.names KeptByKey.understood_as
-    (λ (r : Kept). bytes_eq r.key.batch batch && (r.key.row == row)) (λ tree r x e. let a0 : column r 1 ≡ Words x.key.batch = cc in
-    let a1 : column r 2 ≡ natural_as_value x.key.row = cc in
-    rw (a0, a1, same_text x.key.batch batch, same_number x.key.row row) (ap (λ c. bytes_eq x.key.batch batch && c) (and_true _))) kept_cells
-    (λ tree r x e. e) (ordering_by_primary_key KeptRows) (key_total kept_key)
-    (λ tree a b x y e f. let p0 : column a 1 ≡ Words x.key.batch = cc in let q0 : column b 1 ≡ Words y.key.batch = cc in
-    let p1 : column a 2 ≡ natural_as_value x.key.row = cc in let q1 : column b 2 ≡ natural_as_value y.key.row = cc in rw (p0, q0, p1, q1) refl) old new rows
-    shown (λ x y. refl)
+    told_rising desk_tables KeptRows KeptByKey.statement KeptByKey.ask KeptByKey.paging KeptByKey.is_asked (Words batch ∷ natural_as_value row ∷ [])
+    (λ (r : Kept). bytes_eq r.key.batch batch && (r.key.row == row)) (λ tree x. rw (same_text x.key.batch batch, same_number x.key.row row) refl)
+    kept_cells (λ x. refl) (ordering_by_primary_key KeptRows) (key_total kept_key) (λ tree x y. refl) old new rows shown (λ x y. refl)

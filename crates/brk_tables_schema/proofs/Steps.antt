@@ -14,7 +14,7 @@ use Rattle.brk_sql.specs.Model.{ExecutesStatement}
 use Rattle.brk_sql.proofs.Texts.{read}
 use Rattle.brk_sql.proofs.Values.{cast_int, cast_null, cast_whole}
 use Rattle.brk_sql.proofs.Writes.{Place, updates_as}
-use Rattle.brk_sql.proofs.Looks.{tells_rising}
+use Rattle.brk_sql.proofs.Told.{told_rising}
 use Rattle.brk_tables_schema.specs.Cells.{DeskRow, natural_as_value, desk_row_cells}
 use Rattle.brk_tables_schema.specs.Desk.{DeskTable, TheDesk, RecordOfTable, desk_tables, desk_rows, rule_rows, desk_key, primary_key_of_record, ordering_by_primary_key, rows_of_table}
 use Rattle.brk_changes.specs.Changes.{tables_with_last_stamp}
@@ -55,6 +55,6 @@ sets_last old new stamp ran = λ t tree h.
 
 pub tells_last : (old new : State) (rows : List Row) → Shown DeskRows.statement [] old new rows → TablesSatisfy desk_tables (λ t. rows ≡ map desk_row_cells (desk_rows third_schema t.last)) old.now
 tells_last old new rows shown = λ t tree h.
-    tells_rising desk_tables TheDesk DeskRows.statement [] (read DeskRows.statement) DeskRows.terms DeskRows.project DeskRows.order DeskRows.paging DeskRows.names DeskRows.understood_as
-    (λ _. true) (λ tree r x e. refl) desk_row_cells (λ tree r x e. e) (ordering_by_primary_key TheDesk) (key_total desk_key)
-    (λ tree a b x y e f. let p : column a 0 ≡ natural_as_value x.id = cc in let q : column b 0 ≡ natural_as_value y.id = cc in rw (p, q) refl) old new rows shown (λ x y. refl) t tree h
+    told_rising desk_tables TheDesk DeskRows.statement DeskRows.ask DeskRows.paging DeskRows.is_asked []
+    (λ _. true) (λ tree x. refl)
+    desk_row_cells (λ x. refl) (ordering_by_primary_key TheDesk) (key_total desk_key) (λ tree x y. refl) old new rows shown (λ x y. refl) t tree h

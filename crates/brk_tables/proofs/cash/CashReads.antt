@@ -14,7 +14,7 @@ use Rattle.brk_model.specs.Keys.{cash_move_key}
 use Rattle.brk_sql.specs.Desk.{TablesSatisfy}
 use Rattle.brk_sql.proofs.Answer.{limited_map}
 use Rattle.brk_sql.proofs.Decode.{filter_true}
-use Rattle.brk_sql.proofs.Looks.{tells_rising, tells_falling}
+use Rattle.brk_sql.proofs.Told.{told_rising, told_falling}
 use Rattle.brk_sql.proofs.Texts.{read}
 use Rattle.brk_tables_schema.specs.Cells.{natural_as_value, optional_natural_as_value, move_cells, rule_cells}
 use Rattle.brk_tables_schema.specs.Desk.{CashMoves, SettleRules, desk_tables, ordering_by_primary_key, rule_key, rule_rows}
@@ -27,20 +27,17 @@ use Rattle.brk_tables.proofs.cash.RuleRows
 
 pub tells_last_move : (old new : State) (rows : List Row) → Shown LastMove.statement [] old new rows → TablesSatisfy desk_tables (λ t. rows ≡ map move_cells (take 1 (reverse t.moves))) old.now
 tells_last_move old new rows shown = λ t tree h.
-    tells_falling desk_tables CashMoves LastMove.statement [] (read LastMove.statement) LastMove.terms LastMove.project LastMove.order LastMove.paging LastMove.names LastMove.understood_as
-    (λ _. true) (λ tree r x e. refl) move_cells (λ tree r x e. e)
-    (λ x y. ordering_by_primary_key CashMoves y x) (back_total (key_total cash_move_key))
-    (λ tree a b x y e f. let p : column a 0 ≡ natural_as_value x.id = cc in let q : column b 0 ≡ natural_as_value y.id = cc in rw (p, q) refl) old new rows shown (λ x y. refl) t tree h
+    told_falling desk_tables CashMoves LastMove.statement LastMove.ask LastMove.paging LastMove.is_asked []
+    (λ _. true) (λ tree x. refl)
+    move_cells (λ x. refl) (λ x y. ordering_by_primary_key CashMoves y x) (back_total (key_total cash_move_key)) (λ tree x y. refl) old new rows shown (λ x y. refl) t tree h
     ∙ ap (λ xs. take 1 (map move_cells (reverse xs))) (filter_true t.moves) ∙ limited_map move_cells (Some 1) (reverse t.moves)
 
 pub tells_move : (old new : State) (trade : ℕ) (rows : List Row) → Shown MoveByTrade.statement (natural_as_value trade ∷ []) old new rows
     → TablesSatisfy desk_tables (λ t. rows ≡ map move_cells (filter (is_cash_row_of_trade trade) t.moves)) old.now
 tells_move old new trade rows shown =
-    tells_rising desk_tables CashMoves MoveByTrade.statement (natural_as_value trade ∷ []) (read MoveByTrade.statement) MoveByTrade.terms MoveByTrade.project
-    MoveByTrade.order MoveByTrade.paging MoveByTrade.names MoveByTrade.understood_as
-    (is_cash_row_of_trade trade) (λ tree r x e. let a : column r 3 ≡ optional_natural_as_value x.trade = cc in rw (a, same_maybe x.trade trade) (and_true _))
-    move_cells (λ tree r x e. e) (ordering_by_primary_key CashMoves) (key_total cash_move_key)
-    (λ tree a b x y e f. let p : column a 0 ≡ natural_as_value x.id = cc in let q : column b 0 ≡ natural_as_value y.id = cc in rw (p, q) refl) old new rows shown (λ x y. refl)
+    told_rising desk_tables CashMoves MoveByTrade.statement MoveByTrade.ask MoveByTrade.paging MoveByTrade.is_asked (natural_as_value trade ∷ [])
+    (is_cash_row_of_trade trade) (λ tree x. same_maybe x.trade trade)
+    move_cells (λ x. refl) (ordering_by_primary_key CashMoves) (key_total cash_move_key) (λ tree x y. refl) old new rows shown (λ x y. refl)
 
 -- whether a column that may be null is
 null_or : (o : Option ℕ) → is_true (binary (Is Binary) (optional_natural_as_value o) Null) ≡ is_none o
@@ -52,16 +49,14 @@ null_or (Some n) = refl
 pub tells_movement : (old new : State) (skipped : ℕ) (rows : List Row) → Shown MovementBehind.statement (natural_as_value skipped ∷ []) old new rows
     → TablesSatisfy desk_tables (λ t. rows ≡ map move_cells (take 1 (drop skipped (filter (λ r. is_none r.trade) t.moves)))) old.now
 tells_movement old new skipped rows shown = λ t tree h.
-    tells_rising desk_tables CashMoves MovementBehind.statement (natural_as_value skipped ∷ []) (read MovementBehind.statement) MovementBehind.terms
-    MovementBehind.project MovementBehind.order MovementBehind.paging MovementBehind.names MovementBehind.understood_as
-    (λ r. is_none r.trade) (λ tree r x e. let a : column r 3 ≡ optional_natural_as_value x.trade = cc in rw (a, null_or x.trade) (and_true _)) move_cells
-    (λ tree r x e. e) (ordering_by_primary_key CashMoves) (key_total cash_move_key)
-    (λ tree a b x y e f. let p : column a 0 ≡ natural_as_value x.id = cc in let q : column b 0 ≡ natural_as_value y.id = cc in rw (p, q) refl) old new rows shown (λ x y. refl) t tree h
+    told_rising desk_tables CashMoves MovementBehind.statement MovementBehind.ask MovementBehind.paging MovementBehind.is_asked (natural_as_value skipped ∷ [])
+    (λ r. is_none r.trade) (λ tree x. null_or x.trade)
+    move_cells (λ x. refl) (ordering_by_primary_key CashMoves) (key_total cash_move_key) (λ tree x y. refl) old new rows shown (λ x y. refl) t tree h
     ∙ ap (take 1) (drop-map move_cells skipped (filter (λ r. is_none r.trade) t.moves)) ∙ limited_map move_cells (Some 1) (drop skipped (filter (λ r. is_none r.trade) t.moves))
 
 pub tells_rule : (old new : State) (rows : List Row) → Shown RuleRows.statement [] old new rows → TablesSatisfy desk_tables (λ t. rows ≡ map rule_cells (rule_rows t.rule)) old.now
 tells_rule old new rows shown = λ t tree h.
-    tells_rising desk_tables SettleRules RuleRows.statement [] (read RuleRows.statement) RuleRows.terms RuleRows.project RuleRows.order RuleRows.paging RuleRows.names RuleRows.understood_as
-    (λ _. true) (λ tree r x e. refl) rule_cells (λ tree r x e. e) (ordering_by_primary_key SettleRules) (key_total rule_key)
-    (λ tree a b x y e f. let p : column a 0 ≡ natural_as_value x.id = cc in let q : column b 0 ≡ natural_as_value y.id = cc in rw (p, q) refl) old new rows shown (λ x y. refl) t tree h
+    told_rising desk_tables SettleRules RuleRows.statement RuleRows.ask RuleRows.paging RuleRows.is_asked []
+    (λ _. true) (λ tree x. refl)
+    rule_cells (λ x. refl) (ordering_by_primary_key SettleRules) (key_total rule_key) (λ tree x y. refl) old new rows shown (λ x y. refl) t tree h
     ∙ ap (map rule_cells) (filter_true (rule_rows t.rule))

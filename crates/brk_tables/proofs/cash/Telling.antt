@@ -7,7 +7,7 @@ use Rattle.brk_model.specs.Tables.{TradeRow}
 use Rattle.brk_model.specs.Keys.{cash_transaction_key, trade_key}
 use Rattle.brk_sql.specs.Desk.{TablesSatisfy}
 use Rattle.brk_sql.proofs.Decode.{filter_true}
-use Rattle.brk_sql.proofs.Looks.{tells_rising}
+use Rattle.brk_sql.proofs.Told.{told_rising}
 use Rattle.brk_sql.proofs.Texts.{read}
 use Rattle.brk_tables_schema.specs.Cells.{natural_as_value, cash_cells}
 use Rattle.brk_tables_schema.specs.Desk.{CashRows, Trades, desk_tables, ordering_by_primary_key}
@@ -19,11 +19,9 @@ use Rattle.brk_tables.proofs.cash.CashByTrade
 -- all cash rows
 pub tells_cash : (old new : State) (rows : List Row) → Shown CashByTrade.statement [] old new rows → TablesSatisfy desk_tables (λ t. rows ≡ map cash_cells t.cash) old.now
 tells_cash old new rows shown = λ t tree h.
-    tells_rising desk_tables CashRows CashByTrade.statement [] (read CashByTrade.statement) CashByTrade.terms CashByTrade.project CashByTrade.order
-    CashByTrade.paging CashByTrade.names CashByTrade.understood_as
-    (λ _. true) (λ tree r x e. refl) cash_cells (λ tree r x e. e) (ordering_by_primary_key CashRows) (key_total cash_transaction_key)
-    (λ tree a b x y e f. let p : column a 0 ≡ natural_as_value x.trade = ap (λ row. column row 0) e in
-    let q : column b 0 ≡ natural_as_value y.trade = ap (λ row. column row 0) f in rw (p, q) refl) old new rows shown (λ x y. refl) t tree h
+    told_rising desk_tables CashRows CashByTrade.statement CashByTrade.ask CashByTrade.paging CashByTrade.is_asked []
+    (λ _. true) (λ tree x. refl)
+    cash_cells (λ x. refl) (ordering_by_primary_key CashRows) (key_total cash_transaction_key) (λ tree x y. refl) old new rows shown (λ x y. refl) t tree h
     ∙ ap (map cash_cells) (filter_true t.cash)
 
 -- the account alone
@@ -33,9 +31,6 @@ account_cells r = natural_as_value r.account ∷ []
 pub tells_account : (old new : State) (trade : ℕ) (rows : List Row) → Shown AccountOfTrade.statement (natural_as_value trade ∷ []) old new rows
     → TablesSatisfy desk_tables (λ t. rows ≡ map account_cells (filter (λ r. r.id == trade) t.trades)) old.now
 tells_account old new trade rows shown =
-    tells_rising desk_tables Trades AccountOfTrade.statement (natural_as_value trade ∷ []) (read AccountOfTrade.statement) AccountOfTrade.terms
-    AccountOfTrade.project AccountOfTrade.order AccountOfTrade.paging AccountOfTrade.names AccountOfTrade.understood_as
-    (λ (r : TradeRow). r.id == trade) (λ tree r x e. let a : column r 0 ≡ natural_as_value x.id = ap (λ row. column row 0) e in rw (a, same_number x.id trade) (and_true _)) account_cells
-    (λ tree r x e. let a : column r 9 ≡ natural_as_value x.account = ap (λ row. column row 8) e in rw a refl) (ordering_by_primary_key Trades) (key_total trade_key)
-    (λ tree a b x y e f. let p : column a 0 ≡ natural_as_value x.id = ap (λ row. column row 0) e in
-    let q : column b 0 ≡ natural_as_value y.id = ap (λ row. column row 0) f in rw (p, q) refl) old new rows shown (λ x y. refl)
+    told_rising desk_tables Trades AccountOfTrade.statement AccountOfTrade.ask AccountOfTrade.paging AccountOfTrade.is_asked (natural_as_value trade ∷ [])
+    (λ (r : TradeRow). r.id == trade) (λ tree x. same_number x.id trade)
+    account_cells (λ x. refl) (ordering_by_primary_key Trades) (key_total trade_key) (λ tree x y. refl) old new rows shown (λ x y. refl)

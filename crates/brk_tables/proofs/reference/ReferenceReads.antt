@@ -11,7 +11,7 @@ use Rattle.brk_model.specs.Records.{Permission, Charge, Band, TaxRate, CustomerT
 use Rattle.brk_model.specs.Tables.{SecurityRow}
 use Rattle.brk_model.specs.Keys.{permission_key, security_key, charge_key, band_key, tax_rate_key, customer_tax_key}
 use Rattle.brk_sql.specs.Desk.{TablesSatisfy}
-use Rattle.brk_sql.proofs.Looks.{tells_rising}
+use Rattle.brk_sql.proofs.Told.{told_rising}
 use Rattle.brk_sql.proofs.Texts.{read}
 use Rattle.brk_tables_schema.specs.Cells.{natural_as_value, permission_cells, security_cells, charge_cells, band_cells, tax_rate_cells, customer_tax_cells}
 use Rattle.brk_tables_schema.specs.Desk.{Permissions, Securities, Charges, Bands, TaxRates, CustomerTaxes, desk_tables, ordering_by_primary_key}
@@ -25,96 +25,60 @@ use Rattle.brk_tables.proofs.reference.CustomerTaxByKey
 use Rattle.brk_tables.proofs.reference.BandsFor
 use Rattle.brk_tables.proofs.reference.CustomerTaxesOf
 
-three_tests : (a b c : Bool) → (a && (b && (c && true))) ≡ (a && b && c)
-three_tests true true c = and_true c
-three_tests true false c = refl
+three_tests : (a b c : Bool) → (a && (b && c)) ≡ (a && b && c)
+three_tests true b c = refl
 three_tests false b c = refl
 
 pub tells_permission : (old new : State) (account : ℕ) (tax_id : List ℕ) (rows : List Row)
     → Shown PermissionByKey.statement (natural_as_value account ∷ Words tax_id ∷ []) old new rows
     → TablesSatisfy desk_tables (λ t. rows ≡ map permission_cells (filter (λ r. (r.account == account) && bytes_eq r.tax_id tax_id) t.permissions)) old.now
 tells_permission old new account tax_id rows shown =
-    tells_rising desk_tables Permissions PermissionByKey.statement (natural_as_value account ∷ Words tax_id ∷ []) (read PermissionByKey.statement)
-    PermissionByKey.terms PermissionByKey.project PermissionByKey.order PermissionByKey.paging PermissionByKey.names PermissionByKey.understood_as
-    (λ (r : Permission). (r.account == account) && bytes_eq r.tax_id tax_id) (λ tree r x e. let a0 : column r 1 ≡ natural_as_value x.account = cc in
-    let a1 : column r 2 ≡ Words x.tax_id = cc in
-    rw (a0, a1, same_number x.account account, same_text x.tax_id tax_id) (ap (λ c. (x.account == account) && c) (and_true _))) permission_cells
-    (λ tree r x e. e) (ordering_by_primary_key Permissions) (key_total permission_key)
-    (λ tree a b x y e f. let p0 : column a 1 ≡ natural_as_value x.account = cc in let q0 : column b 1 ≡ natural_as_value y.account = cc in
-    let p1 : column a 2 ≡ Words x.tax_id = cc in let q1 : column b 2 ≡ Words y.tax_id = cc in rw (p0, q0, p1, q1) refl) old new rows shown (λ x y. refl)
+    told_rising desk_tables Permissions PermissionByKey.statement PermissionByKey.ask PermissionByKey.paging PermissionByKey.is_asked (natural_as_value account ∷ Words tax_id ∷ [])
+    (λ (r : Permission). (r.account == account) && bytes_eq r.tax_id tax_id) (λ tree x. rw (same_number x.account account, same_text x.tax_id tax_id) refl)
+    permission_cells (λ x. refl) (ordering_by_primary_key Permissions) (key_total permission_key) (λ tree x y. refl) old new rows shown (λ x y. refl)
 
 pub tells_security : (old new : State) (symbol : List ℕ) (rows : List Row) → Shown SecurityBySymbol.statement (Words symbol ∷ []) old new rows
     → TablesSatisfy desk_tables (λ t. rows ≡ map security_cells (filter (λ r. bytes_eq r.symbol symbol) t.securities)) old.now
 tells_security old new symbol rows shown =
-    tells_rising desk_tables Securities SecurityBySymbol.statement (Words symbol ∷ []) (read SecurityBySymbol.statement) SecurityBySymbol.terms
-    SecurityBySymbol.project SecurityBySymbol.order SecurityBySymbol.paging SecurityBySymbol.names SecurityBySymbol.understood_as
-    (λ (r : SecurityRow). bytes_eq r.symbol symbol) (λ tree r x e. let a0 : column r 1 ≡ Words x.symbol = cc in rw (a0, same_text x.symbol symbol) (and_true _))
-    security_cells (λ tree r x e. e) (ordering_by_primary_key Securities) (key_total security_key)
-    (λ tree a b x y e f. let p0 : column a 1 ≡ Words x.symbol = cc in let q0 : column b 1 ≡ Words y.symbol = cc in rw (p0, q0) refl) old new rows shown (λ x y. refl)
+    told_rising desk_tables Securities SecurityBySymbol.statement SecurityBySymbol.ask SecurityBySymbol.paging SecurityBySymbol.is_asked (Words symbol ∷ [])
+    (λ (r : SecurityRow). bytes_eq r.symbol symbol) (λ tree x. same_text x.symbol symbol)
+    security_cells (λ x. refl) (ordering_by_primary_key Securities) (key_total security_key) (λ tree x y. refl) old new rows shown (λ x y. refl)
 
 pub tells_charge : (old new : State) (kind : TradeType) (tier : ℕ) (rows : List Row)
     → Shown ChargeByKey.statement (Words (trade_type_code kind) ∷ natural_as_value tier ∷ []) old new rows
     → TablesSatisfy desk_tables (λ t. rows ≡ map charge_cells (filter (λ r. is_same_trade_type r.kind kind && (r.tier == tier)) t.charges)) old.now
 tells_charge old new kind tier rows shown =
-    tells_rising desk_tables Charges ChargeByKey.statement (Words (trade_type_code kind) ∷ natural_as_value tier ∷ []) (read ChargeByKey.statement)
-    ChargeByKey.terms ChargeByKey.project ChargeByKey.order ChargeByKey.paging ChargeByKey.names ChargeByKey.understood_as
-    (λ (r : Charge). is_same_trade_type r.kind kind && (r.tier == tier)) (λ tree r x e. let a0 : column r 1 ≡ Words (trade_type_code x.kind) = cc in
-    let a1 : column r 2 ≡ natural_as_value x.tier = cc in
-    rw (a0, a1, same_code x.kind kind, same_number x.tier tier) (ap (λ c. is_same_trade_type x.kind kind && c) (and_true _))) charge_cells (λ tree r x e. e)
-    (ordering_by_primary_key Charges) (key_total charge_key)
-    (λ tree a b x y e f. let p0 : column a 1 ≡ Words (trade_type_code x.kind) = cc in let q0 : column b 1 ≡ Words (trade_type_code y.kind) = cc in
-    let p1 : column a 2 ≡ natural_as_value x.tier = cc in let q1 : column b 2 ≡ natural_as_value y.tier = cc in rw (p0, q0, p1, q1) refl) old new rows shown
-    (λ x y. refl)
+    told_rising desk_tables Charges ChargeByKey.statement ChargeByKey.ask ChargeByKey.paging ChargeByKey.is_asked (Words (trade_type_code kind) ∷ natural_as_value tier ∷ [])
+    (λ (r : Charge). is_same_trade_type r.kind kind && (r.tier == tier)) (λ tree x. rw (same_code x.kind kind, same_number x.tier tier) refl)
+    charge_cells (λ x. refl) (ordering_by_primary_key Charges) (key_total charge_key) (λ tree x y. refl) old new rows shown (λ x y. refl)
 
 pub tells_tax_rate : (old new : State) (id : ℕ) (rows : List Row) → Shown TaxRateById.statement (natural_as_value id ∷ []) old new rows
     → TablesSatisfy desk_tables (λ t. rows ≡ map tax_rate_cells (filter (λ r. r.id == id) t.tax_rates)) old.now
 tells_tax_rate old new id rows shown =
-    tells_rising desk_tables TaxRates TaxRateById.statement (natural_as_value id ∷ []) (read TaxRateById.statement) TaxRateById.terms TaxRateById.project
-    TaxRateById.order TaxRateById.paging TaxRateById.names TaxRateById.understood_as
-    (λ (r : TaxRate). r.id == id) (λ tree r x e. let a0 : column r 0 ≡ natural_as_value x.id = cc in rw (a0, same_number x.id id) (and_true _)) tax_rate_cells
-    (λ tree r x e. e) (ordering_by_primary_key TaxRates) (key_total tax_rate_key)
-    (λ tree a b x y e f. let p0 : column a 0 ≡ natural_as_value x.id = cc in let q0 : column b 0 ≡ natural_as_value y.id = cc in rw (p0, q0) refl) old new rows shown (λ x y. refl)
+    told_rising desk_tables TaxRates TaxRateById.statement TaxRateById.ask TaxRateById.paging TaxRateById.is_asked (natural_as_value id ∷ [])
+    (λ (r : TaxRate). r.id == id) (λ tree x. same_number x.id id)
+    tax_rate_cells (λ x. refl) (ordering_by_primary_key TaxRates) (key_total tax_rate_key) (λ tree x y. refl) old new rows shown (λ x y. refl)
 
 pub tells_customer_tax : (old new : State) (customer : ℕ) (tax : ℕ) (rows : List Row)
     → Shown CustomerTaxByKey.statement (natural_as_value customer ∷ natural_as_value tax ∷ []) old new rows
     → TablesSatisfy desk_tables (λ t. rows ≡ map customer_tax_cells (filter (λ r. (r.customer == customer) && (r.tax == tax)) t.customer_taxes)) old.now
 tells_customer_tax old new customer tax rows shown =
-    tells_rising desk_tables CustomerTaxes CustomerTaxByKey.statement (natural_as_value customer ∷ natural_as_value tax ∷ []) (read CustomerTaxByKey.statement)
-    CustomerTaxByKey.terms CustomerTaxByKey.project CustomerTaxByKey.order CustomerTaxByKey.paging CustomerTaxByKey.names CustomerTaxByKey.understood_as
-    (λ (r : CustomerTax). (r.customer == customer) && (r.tax == tax)) (λ tree r x e. let a0 : column r 1 ≡ natural_as_value x.customer = cc in
-    let a1 : column r 2 ≡ natural_as_value x.tax = cc in
-    rw (a0, a1, same_number x.customer customer, same_number x.tax tax) (ap (λ c. (x.customer == customer) && c) (and_true _))) customer_tax_cells
-    (λ tree r x e. e) (ordering_by_primary_key CustomerTaxes) (key_total customer_tax_key)
-    (λ tree a b x y e f. let p0 : column a 1 ≡ natural_as_value x.customer = cc in let q0 : column b 1 ≡ natural_as_value y.customer = cc in
-    let p1 : column a 2 ≡ natural_as_value x.tax = cc in let q1 : column b 2 ≡ natural_as_value y.tax = cc in rw (p0, q0, p1, q1) refl) old new rows shown
-    (λ x y. refl)
+    told_rising desk_tables CustomerTaxes CustomerTaxByKey.statement CustomerTaxByKey.ask CustomerTaxByKey.paging CustomerTaxByKey.is_asked (natural_as_value customer ∷ natural_as_value tax ∷ [])
+    (λ (r : CustomerTax). (r.customer == customer) && (r.tax == tax)) (λ tree x. rw (same_number x.customer customer, same_number x.tax tax) refl)
+    customer_tax_cells (λ x. refl) (ordering_by_primary_key CustomerTaxes) (key_total customer_tax_key) (λ tree x y. refl) old new rows shown (λ x y. refl)
 
 pub tells_bands : (old new : State) (tier : ℕ) (kind : TradeType) (exchange : List ℕ) (rows : List Row)
     → Shown BandsFor.statement (natural_as_value tier ∷ Words (trade_type_code kind) ∷ Words exchange ∷ []) old new rows
     → TablesSatisfy desk_tables
     (λ t. rows ≡ map band_cells (filter (λ r. (r.tier == tier) && is_same_trade_type r.kind kind && bytes_eq r.exchange exchange) t.bands)) old.now
 tells_bands old new tier kind exchange rows shown =
-    tells_rising desk_tables Bands BandsFor.statement (natural_as_value tier ∷ Words (trade_type_code kind) ∷ Words exchange ∷ []) (read BandsFor.statement)
-    BandsFor.terms BandsFor.project BandsFor.order BandsFor.paging BandsFor.names BandsFor.understood_as
-    (λ (r : Band). (r.tier == tier) && is_same_trade_type r.kind kind && bytes_eq r.exchange exchange)
-    (λ tree r x e. let a0 : column r 1 ≡ natural_as_value x.tier = cc in let a1 : column r 2 ≡ Words (trade_type_code x.kind) = cc in
-    let a2 : column r 3 ≡ Words x.exchange = cc in
-    rw (a0, a1, a2, same_number x.tier tier, same_code x.kind kind, same_text x.exchange exchange)
-    (three_tests (x.tier == tier) (is_same_trade_type x.kind kind) (bytes_eq x.exchange exchange))) band_cells (λ tree r x e. e)
-    (ordering_by_primary_key Bands) (key_total band_key)
-    (λ tree a b x y e f. let p0 : column a 1 ≡ natural_as_value x.tier = cc in let q0 : column b 1 ≡ natural_as_value y.tier = cc in
-    let p1 : column a 2 ≡ Words (trade_type_code x.kind) = cc in let q1 : column b 2 ≡ Words (trade_type_code y.kind) = cc in
-    let p2 : column a 3 ≡ Words x.exchange = cc in let q2 : column b 3 ≡ Words y.exchange = cc in let p3 : column a 4 ≡ natural_as_value x.from_qty = cc in
-    let q3 : column b 4 ≡ natural_as_value y.from_qty = cc in rw (p0, q0, p1, q1, p2, q2, p3, q3) refl) old new rows shown (λ x y. refl)
+    told_rising desk_tables Bands BandsFor.statement BandsFor.ask BandsFor.paging BandsFor.is_asked (natural_as_value tier ∷ Words (trade_type_code kind) ∷ Words exchange ∷ [])
+    (λ (r : Band). (r.tier == tier) && is_same_trade_type r.kind kind && bytes_eq r.exchange exchange) (λ tree x. rw (same_number x.tier tier, same_code x.kind kind, same_text x.exchange exchange) (three_tests (x.tier == tier) (is_same_trade_type x.kind kind) (bytes_eq x.exchange exchange)))
+    band_cells (λ x. refl) (ordering_by_primary_key Bands) (key_total band_key) (λ tree x y. refl) old new rows shown (λ x y. refl)
 
 pub tells_customer_taxes : (old new : State) (customer : ℕ) (rows : List Row) → Shown CustomerTaxesOf.statement (natural_as_value customer ∷ []) old new rows
     → TablesSatisfy desk_tables (λ t. rows ≡ map customer_tax_cells (filter (λ r. r.customer == customer) t.customer_taxes)) old.now
 tells_customer_taxes old new customer rows shown =
-    tells_rising desk_tables CustomerTaxes CustomerTaxesOf.statement (natural_as_value customer ∷ []) (read CustomerTaxesOf.statement) CustomerTaxesOf.terms
-    CustomerTaxesOf.project CustomerTaxesOf.order CustomerTaxesOf.paging CustomerTaxesOf.names CustomerTaxesOf.understood_as
-    (λ (r : CustomerTax). r.customer == customer) (λ tree r x e. let a0 : column r 1 ≡ natural_as_value x.customer = cc in
-    rw (a0, same_number x.customer customer) (and_true _)) customer_tax_cells (λ tree r x e. e) (ordering_by_primary_key CustomerTaxes)
-    (key_total customer_tax_key)
-    (λ tree a b x y e f. let p0 : column a 1 ≡ natural_as_value x.customer = cc in let q0 : column b 1 ≡ natural_as_value y.customer = cc in
-    let p1 : column a 2 ≡ natural_as_value x.tax = cc in let q1 : column b 2 ≡ natural_as_value y.tax = cc in rw (p0, q0, p1, q1) refl) old new rows shown
-    (λ x y. refl)
+    told_rising desk_tables CustomerTaxes CustomerTaxesOf.statement CustomerTaxesOf.ask CustomerTaxesOf.paging CustomerTaxesOf.is_asked (natural_as_value customer ∷ [])
+    (λ (r : CustomerTax). r.customer == customer) (λ tree x. same_number x.customer customer)
+    customer_tax_cells (λ x. refl) (ordering_by_primary_key CustomerTaxes) (key_total customer_tax_key) (λ tree x y. refl) old new rows shown (λ x y. refl)

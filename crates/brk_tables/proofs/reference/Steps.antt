@@ -14,7 +14,7 @@ use Rattle.brk_sql.specs.Model.{ExecutesStatement}
 use Rattle.brk_sql.proofs.Texts.{read}
 use Rattle.brk_sql.proofs.Values.{cast_int}
 use Rattle.brk_sql.proofs.Writes.{inserts_as}
-use Rattle.brk_sql.proofs.Looks.{tells_rising}
+use Rattle.brk_sql.proofs.Told.{told_rising}
 use Rattle.brk_tables_schema.specs.Cells.{natural_as_value, broker_cells, customer_cells, account_cells}
 use Rattle.brk_tables_schema.specs.Desk.{Brokers, Customers, Accounts, desk_tables, ordering_by_primary_key}
 use Rattle.brk_changes.specs.Changes.{tables_with_broker, tables_with_customer, tables_with_account}
@@ -70,44 +70,34 @@ adds_account old new a ran =
 pub tells_broker : (old new : State) (id : ℕ) (rows : List Row) → Shown BrokerById.statement (natural_as_value id ∷ []) old new rows
     → TablesSatisfy desk_tables (λ t. rows ≡ map broker_cells (filter (λ r. r.id == id) t.brokers)) old.now
 tells_broker old new id rows shown =
-    tells_rising desk_tables Brokers BrokerById.statement (natural_as_value id ∷ []) (read BrokerById.statement) BrokerById.terms BrokerById.project
-    BrokerById.order BrokerById.paging BrokerById.names BrokerById.understood_as
-    (λ (r : BrokerRow). r.id == id) (λ tree r x e. let a : column r 0 ≡ natural_as_value x.id = cc in rw (a, same_number x.id id) (and_true _)) broker_cells
-    (λ tree r x e. e) (ordering_by_primary_key Brokers) (key_total broker_key)
-    (λ tree a b x y e f. let p : column a 0 ≡ natural_as_value x.id = cc in let q : column b 0 ≡ natural_as_value y.id = cc in rw (p, q) refl) old new rows shown (λ x y. refl)
+    told_rising desk_tables Brokers BrokerById.statement BrokerById.ask BrokerById.paging BrokerById.is_asked (natural_as_value id ∷ [])
+    (λ (r : BrokerRow). r.id == id) (λ tree x. same_number x.id id)
+    broker_cells (λ x. refl) (ordering_by_primary_key Brokers) (key_total broker_key) (λ tree x y. refl) old new rows shown (λ x y. refl)
 
 pub tells_customer : (old new : State) (id : ℕ) (rows : List Row) → Shown CustomerById.statement (natural_as_value id ∷ []) old new rows
     → TablesSatisfy desk_tables (λ t. rows ≡ map customer_cells (filter (λ r. r.id == id) t.customers)) old.now
 tells_customer old new id rows shown =
-    tells_rising desk_tables Customers CustomerById.statement (natural_as_value id ∷ []) (read CustomerById.statement) CustomerById.terms CustomerById.project
-    CustomerById.order CustomerById.paging CustomerById.names CustomerById.understood_as
-    (λ (r : Customer). r.id == id) (λ tree r x e. let a : column r 0 ≡ natural_as_value x.id = cc in rw (a, same_number x.id id) (and_true _)) customer_cells
-    (λ tree r x e. e) (ordering_by_primary_key Customers) (key_total customer_key)
-    (λ tree a b x y e f. let p : column a 0 ≡ natural_as_value x.id = cc in let q : column b 0 ≡ natural_as_value y.id = cc in rw (p, q) refl) old new rows shown (λ x y. refl)
+    told_rising desk_tables Customers CustomerById.statement CustomerById.ask CustomerById.paging CustomerById.is_asked (natural_as_value id ∷ [])
+    (λ (r : Customer). r.id == id) (λ tree x. same_number x.id id)
+    customer_cells (λ x. refl) (ordering_by_primary_key Customers) (key_total customer_key) (λ tree x y. refl) old new rows shown (λ x y. refl)
 
 pub tells_tax_id : (old new : State) (tax_id : List ℕ) (rows : List Row) → Shown CustomerByTaxId.statement (Words tax_id ∷ []) old new rows
     → TablesSatisfy desk_tables (λ t. rows ≡ map customer_cells (filter (λ r. bytes_eq r.tax_id tax_id) t.customers)) old.now
 tells_tax_id old new tax_id rows shown =
-    tells_rising desk_tables Customers CustomerByTaxId.statement (Words tax_id ∷ []) (read CustomerByTaxId.statement) CustomerByTaxId.terms
-    CustomerByTaxId.project CustomerByTaxId.order CustomerByTaxId.paging CustomerByTaxId.names CustomerByTaxId.understood_as
-    (λ (r : Customer). bytes_eq r.tax_id tax_id) (λ tree r x e. let a : column r 3 ≡ Words x.tax_id = cc in rw (a, same_text x.tax_id tax_id) (and_true _))
-    customer_cells (λ tree r x e. e) (ordering_by_primary_key Customers) (key_total customer_key)
-    (λ tree a b x y e f. let p : column a 0 ≡ natural_as_value x.id = cc in let q : column b 0 ≡ natural_as_value y.id = cc in rw (p, q) refl) old new rows shown (λ x y. refl)
+    told_rising desk_tables Customers CustomerByTaxId.statement CustomerByTaxId.ask CustomerByTaxId.paging CustomerByTaxId.is_asked (Words tax_id ∷ [])
+    (λ (r : Customer). bytes_eq r.tax_id tax_id) (λ tree x. same_text x.tax_id tax_id)
+    customer_cells (λ x. refl) (ordering_by_primary_key Customers) (key_total customer_key) (λ tree x y. refl) old new rows shown (λ x y. refl)
 
 pub tells_account : (old new : State) (id : ℕ) (rows : List Row) → Shown AccountById.statement (natural_as_value id ∷ []) old new rows
     → TablesSatisfy desk_tables (λ t. rows ≡ map account_cells (filter (λ r. r.id == id) t.accounts)) old.now
 tells_account old new id rows shown =
-    tells_rising desk_tables Accounts AccountById.statement (natural_as_value id ∷ []) (read AccountById.statement) AccountById.terms AccountById.project
-    AccountById.order AccountById.paging AccountById.names AccountById.understood_as
-    (λ (r : AccountRow). r.id == id) (λ tree r x e. let a : column r 0 ≡ natural_as_value x.id = cc in rw (a, same_number x.id id) (and_true _)) account_cells
-    (λ tree r x e. e) (ordering_by_primary_key Accounts) (key_total account_key)
-    (λ tree a b x y e f. let p : column a 0 ≡ natural_as_value x.id = cc in let q : column b 0 ≡ natural_as_value y.id = cc in rw (p, q) refl) old new rows shown (λ x y. refl)
+    told_rising desk_tables Accounts AccountById.statement AccountById.ask AccountById.paging AccountById.is_asked (natural_as_value id ∷ [])
+    (λ (r : AccountRow). r.id == id) (λ tree x. same_number x.id id)
+    account_cells (λ x. refl) (ordering_by_primary_key Accounts) (key_total account_key) (λ tree x y. refl) old new rows shown (λ x y. refl)
 
 pub tells_accounts : (old new : State) (customer : ℕ) (rows : List Row) → Shown AccountsOfCustomer.statement (natural_as_value customer ∷ []) old new rows
     → TablesSatisfy desk_tables (λ t. rows ≡ map account_cells (filter (λ r. r.customer == customer) t.accounts)) old.now
 tells_accounts old new customer rows shown =
-    tells_rising desk_tables Accounts AccountsOfCustomer.statement (natural_as_value customer ∷ []) (read AccountsOfCustomer.statement) AccountsOfCustomer.terms
-    AccountsOfCustomer.project AccountsOfCustomer.order AccountsOfCustomer.paging AccountsOfCustomer.names AccountsOfCustomer.understood_as
-    (λ (r : AccountRow). r.customer == customer) (λ tree r x e. let a : column r 2 ≡ natural_as_value x.customer = cc in
-    rw (a, same_number x.customer customer) (and_true _)) account_cells (λ tree r x e. e) (ordering_by_primary_key Accounts) (key_total account_key)
-    (λ tree a b x y e f. let p : column a 0 ≡ natural_as_value x.id = cc in let q : column b 0 ≡ natural_as_value y.id = cc in rw (p, q) refl) old new rows shown (λ x y. refl)
+    told_rising desk_tables Accounts AccountsOfCustomer.statement AccountsOfCustomer.ask AccountsOfCustomer.paging AccountsOfCustomer.is_asked (natural_as_value customer ∷ [])
+    (λ (r : AccountRow). r.customer == customer) (λ tree x. same_number x.customer customer)
+    account_cells (λ x. refl) (ordering_by_primary_key Accounts) (key_total account_key) (λ tree x y. refl) old new rows shown (λ x y. refl)

@@ -22,7 +22,7 @@ use Rattle.brk_sql.proofs.Pick.{passes}
 use Rattle.brk_tables_schema.specs.Shapes.{holding_table}
 use Rattle.brk_sql.specs.Desk.{TablesSatisfy}
 use Rattle.brk_sql.proofs.Decode.{text_in}
-use Rattle.brk_sql.proofs.Looks.{tells_rising, tells_sorted}
+use Rattle.brk_sql.proofs.Told.{told_rising, told_sorted}
 use Rattle.brk_sql.proofs.Texts.{read}
 use Rattle.brk_tables_schema.specs.Cells.{natural_as_value, holding_cells, summary_cells}
 use Rattle.brk_tables_schema.specs.Desk.{Holdings, Summaries, desk_tables, ordering_by_primary_key}
@@ -64,28 +64,13 @@ page_map f n xs = ap (take page_size) (drop-map f n xs) ∙ limited_map f (Some 
 abbrev is_held : ℕ → List ℕ → HoldingRow → Bool
 is_held account symbol r = (r.account == account) && bytes_eq r.symbol symbol
 
-held_test : (account skipped : ℕ) (symbol : List ℕ) (terms : List Term) → terms ≡ OldestLots.terms → (tree : ℕ) (r : Row) (x : HoldingRow)
-    → cells_in_column_order (holding_table tree) r ≡ holding_cells x
-    → passes (natural_as_value account ∷ Words symbol ∷ natural_as_value skipped ∷ []) terms r ≡ is_held account symbol x
-held_test account skipped symbol terms is tree r x e =
-    let a0 : column r 2 ≡ natural_as_value x.account = ap (λ row. column row 1) e in
-    let a1 : column r 3 ≡ Words x.symbol = ap (λ row. column row 2) e in
-    rw (is, a0, a1, same_number x.account account, same_text x.symbol symbol) (ap (λ c. (x.account == account) && c) (and_true _))
-
 pub tells_oldest : (old new : State) (account skipped : ℕ) (symbol : List ℕ) (rows : List Row)
     → Shown OldestLots.statement (natural_as_value account ∷ Words symbol ∷ natural_as_value skipped ∷ []) old new rows
     → TablesSatisfy desk_tables (λ t. rows ≡ map holding_cells (page_after_skipped skipped (lots_oldest_first (filter (is_held account symbol) t.holdings)))) old.now
 tells_oldest old new account skipped symbol rows shown = λ t tree h.
-    tells_sorted desk_tables Holdings OldestLots.statement (natural_as_value account ∷ Words symbol ∷ natural_as_value skipped ∷ []) (read OldestLots.statement)
-    OldestLots.terms OldestLots.project OldestLots.order OldestLots.paging OldestLots.names OldestLots.understood_as
-    (is_held account symbol) (held_test account skipped symbol OldestLots.terms refl) holding_cells (λ tree r x e. e) (ordering_by_key lot_age_key) (key_total lot_age_key)
-    (λ tree a b x y e f.
-    let p0 : column a 4 ≡ natural_as_value x.stamp = ap (λ row. column row 3) e in
-    let q0 : column b 4 ≡ natural_as_value y.stamp = ap (λ row. column row 3) f in
-    let p1 : column a 0 ≡ natural_as_value x.trade = ap (λ row. column row 0) e in
-    let q1 : column b 0 ≡ natural_as_value y.trade = ap (λ row. column row 0) f in
-    rw (p0, q0, p1, q1) refl)
-    old new rows shown (λ x y e. second (value_cmp (natural_as_value x.stamp) (natural_as_value y.stamp)) _ e) t tree h
+    told_sorted desk_tables Holdings OldestLots.statement OldestLots.ask OldestLots.paging OldestLots.is_asked (natural_as_value account ∷ Words symbol ∷ natural_as_value skipped ∷ [])
+    (is_held account symbol) (λ tree x. rw (same_number x.account account, same_text x.symbol symbol) refl)
+    holding_cells (λ x. refl) (ordering_by_key lot_age_key) (key_total lot_age_key) (λ tree x y. refl) old new rows shown (λ x y e. second (value_cmp (natural_as_value x.stamp) (natural_as_value y.stamp)) _ e) t tree h
     ∙ page_map holding_cells skipped (sort_by (ordering_by_key lot_age_key) (filter (is_held account symbol) t.holdings))
     ∙ ap (λ (xs : List HoldingRow). map holding_cells (page_after_skipped skipped xs)) (sym (sorted lot_age_key (filter (is_held account symbol) t.holdings)))
 
@@ -107,16 +92,9 @@ pub tells_newest : (old new : State) (account skipped : ℕ) (symbol : List ℕ)
     → TablesSatisfy desk_tables (λ t. rows ≡ map holding_cells (page_after_skipped skipped (reverse (lots_oldest_first (filter (is_held account symbol) t.holdings))))) old.now
 tells_newest old new account skipped symbol rows shown = λ t tree h.
     let held = filter (is_held account symbol) t.holdings in
-    tells_sorted desk_tables Holdings NewestLots.statement (natural_as_value account ∷ Words symbol ∷ natural_as_value skipped ∷ []) (read NewestLots.statement)
-    NewestLots.terms NewestLots.project NewestLots.order NewestLots.paging NewestLots.names NewestLots.understood_as
-    (is_held account symbol) (held_test account skipped symbol NewestLots.terms refl) holding_cells (λ tree r x e. e) (flipped (ordering_by_key lot_age_key)) (back_total (key_total lot_age_key))
-    (λ tree a b x y e f.
-    let p0 : column a 4 ≡ natural_as_value x.stamp = ap (λ row. column row 3) e in
-    let q0 : column b 4 ≡ natural_as_value y.stamp = ap (λ row. column row 3) f in
-    let p1 : column a 0 ≡ natural_as_value x.trade = ap (λ row. column row 0) e in
-    let q1 : column b 0 ≡ natural_as_value y.trade = ap (λ row. column row 0) f in
-    rw (p0, q0, p1, q1) refl)
-    old new rows shown (λ x y e. ap is_eq ((key_total holding_key).antisymm x y) ∙ reversed_eq (ordering_by_primary_key Holdings y x)
+    told_sorted desk_tables Holdings NewestLots.statement NewestLots.ask NewestLots.paging NewestLots.is_asked (natural_as_value account ∷ Words symbol ∷ natural_as_value skipped ∷ [])
+    (is_held account symbol) (λ tree x. rw (same_number x.account account, same_text x.symbol symbol) refl)
+    holding_cells (λ x. refl) (flipped (ordering_by_key lot_age_key)) (back_total (key_total lot_age_key)) (λ tree x y. refl) old new rows shown (λ x y e. ap is_eq ((key_total holding_key).antisymm x y) ∙ reversed_eq (ordering_by_primary_key Holdings y x)
     ∙ second (value_cmp (natural_as_value y.stamp) (natural_as_value x.stamp)) _ e) t tree h
     ∙ page_map holding_cells skipped (sort_by (flipped (ordering_by_key lot_age_key)) held)
     ∙ ap (λ (xs : List HoldingRow). map holding_cells (page_after_skipped skipped xs))
@@ -128,29 +106,13 @@ tells_newest old new account skipped symbol rows shown = λ t tree h.
 pub tells_summaries : (old new : State) (account : ℕ) (rows : List Row) → Shown SummariesOf.statement (natural_as_value account ∷ []) old new rows
     → TablesSatisfy desk_tables (λ t. rows ≡ map summary_cells (filter (λ r. r.account == account) t.summaries)) old.now
 tells_summaries old new account rows shown =
-    tells_rising desk_tables Summaries SummariesOf.statement (natural_as_value account ∷ []) (read SummariesOf.statement) SummariesOf.terms SummariesOf.project
-    SummariesOf.order SummariesOf.paging SummariesOf.names SummariesOf.understood_as
-    (λ (r : SummaryRow). r.account == account) (λ tree r x e. let a0 : column r 1 ≡ natural_as_value x.account = cc in
-    rw (a0, same_number x.account account) (and_true _)) summary_cells (λ tree r x e. e) (ordering_by_primary_key Summaries) (key_total summary_key)
-    (λ tree a b x y e f.
-    let p0 : column a 1 ≡ natural_as_value x.account = cc in
-    let q0 : column b 1 ≡ natural_as_value y.account = cc in
-    let p1 : column a 2 ≡ Words x.symbol = cc in
-    let q1 : column b 2 ≡ Words y.symbol = cc in
-    rw (p0, q0, p1, q1) refl) old new rows shown (λ x y. refl)
+    told_rising desk_tables Summaries SummariesOf.statement SummariesOf.ask SummariesOf.paging SummariesOf.is_asked (natural_as_value account ∷ [])
+    (λ (r : SummaryRow). r.account == account) (λ tree x. same_number x.account account)
+    summary_cells (λ x. refl) (ordering_by_primary_key Summaries) (key_total summary_key) (λ tree x y. refl) old new rows shown (λ x y. refl)
 
 pub tells_summary : (old new : State) (account : ℕ) (symbol : List ℕ) (rows : List Row) → Shown SummaryOf.statement (natural_as_value account ∷ Words symbol ∷ []) old new rows
     → TablesSatisfy desk_tables (λ t. rows ≡ map summary_cells (filter (λ r. (r.account == account) && bytes_eq r.symbol symbol) t.summaries)) old.now
 tells_summary old new account symbol rows shown =
-    tells_rising desk_tables Summaries SummaryOf.statement (natural_as_value account ∷ Words symbol ∷ []) (read SummaryOf.statement) SummaryOf.terms
-    SummaryOf.project SummaryOf.order SummaryOf.paging SummaryOf.names SummaryOf.understood_as
-    (λ (r : SummaryRow). (r.account == account) && bytes_eq r.symbol symbol)
-    (λ tree r x e. let a0 : column r 1 ≡ natural_as_value x.account = cc in let a1 : column r 2 ≡ Words x.symbol = cc in
-    rw (a0, a1, same_number x.account account, same_text x.symbol symbol) (ap (λ c. (x.account == account) && c) (and_true _)))
-    summary_cells (λ tree r x e. e) (ordering_by_primary_key Summaries) (key_total summary_key)
-    (λ tree a b x y e f.
-    let p0 : column a 1 ≡ natural_as_value x.account = cc in
-    let q0 : column b 1 ≡ natural_as_value y.account = cc in
-    let p1 : column a 2 ≡ Words x.symbol = cc in
-    let q1 : column b 2 ≡ Words y.symbol = cc in
-    rw (p0, q0, p1, q1) refl) old new rows shown (λ x y. refl)
+    told_rising desk_tables Summaries SummaryOf.statement SummaryOf.ask SummaryOf.paging SummaryOf.is_asked (natural_as_value account ∷ Words symbol ∷ [])
+    (λ (r : SummaryRow). (r.account == account) && bytes_eq r.symbol symbol) (λ tree x. rw (same_number x.account account, same_text x.symbol symbol) refl)
+    summary_cells (λ x. refl) (ordering_by_primary_key Summaries) (key_total summary_key) (λ tree x y. refl) old new rows shown (λ x y. refl)

@@ -19,7 +19,7 @@ use Rattle.brk_model.specs.Tables.{HistoryRow, TradeRow}
 use Rattle.brk_sql.specs.Desk.{TablesSatisfy}
 use Rattle.brk_sql.proofs.Answer.{limited_map}
 use Rattle.brk_sql.proofs.Decode.{text_in}
-use Rattle.brk_sql.proofs.Looks.{tells_rising, tells_sorted}
+use Rattle.brk_sql.proofs.Told.{told_rising, told_sorted}
 use Rattle.brk_sql.proofs.Texts.{read}
 use Rattle.brk_tables_schema.specs.Cells.{natural_as_value, history_cells, trade_cells}
 use Rattle.brk_tables_schema.specs.Desk.{Trades, TradeHistory, desk_tables, ordering_by_primary_key}
@@ -35,16 +35,9 @@ use Rattle.brk_tables.proofs.trading.LastTenOfAccount
 pub tells_history : (old new : State) (trade : ℕ) (rows : List Row) → Shown HistoryOf.statement (natural_as_value trade ∷ []) old new rows
     → TablesSatisfy desk_tables (λ t. rows ≡ map history_cells (filter (λ r. r.trade == trade) t.history)) old.now
 tells_history old new trade rows shown =
-    tells_rising desk_tables TradeHistory HistoryOf.statement (natural_as_value trade ∷ []) (read HistoryOf.statement) HistoryOf.terms HistoryOf.project
-    HistoryOf.order HistoryOf.paging HistoryOf.names HistoryOf.understood_as
-    (λ (r : HistoryRow). r.trade == trade) (λ tree r x e. let a : column r 1 ≡ natural_as_value x.trade = cc in rw (a, same_number x.trade trade) (and_true _))
-    history_cells (λ tree r x e. e) (ordering_by_primary_key TradeHistory) (key_total history_key)
-    (λ tree a b x y e f.
-    let p0 : column a 1 ≡ natural_as_value x.trade = ap (λ row. column row 0) e in
-    let q0 : column b 1 ≡ natural_as_value y.trade = ap (λ row. column row 0) f in
-    let p1 : column a 2 ≡ Words (trade_status_code x.status) = ap (λ row. column row 1) e in
-    let q1 : column b 2 ≡ Words (trade_status_code y.status) = ap (λ row. column row 1) f in
-    rw (p0, q0, p1, q1) refl) old new rows shown (λ x y. refl)
+    told_rising desk_tables TradeHistory HistoryOf.statement HistoryOf.ask HistoryOf.paging HistoryOf.is_asked (natural_as_value trade ∷ [])
+    (λ (r : HistoryRow). r.trade == trade) (λ tree x. same_number x.trade trade)
+    history_cells (λ x. refl) (ordering_by_primary_key TradeHistory) (key_total history_key) (λ tree x y. refl) old new rows shown (λ x y. refl)
 
 -- ---- the most recent trades first
 
@@ -98,33 +91,17 @@ same_id x y e = ap is_eq ((key_total trade_key).antisymm x y) ∙ turned (orderi
 pub tells_last_ten : (old new : State) (account : ℕ) (rows : List Row) → Shown LastTenOfAccount.statement (natural_as_value account ∷ []) old new rows
     → TablesSatisfy desk_tables (λ t. rows ≡ map trade_cells (take 10 (trade_rows_recent_first (trade_rows_of_account t account)))) old.now
 tells_last_ten old new account rows shown = λ t tree h.
-    tells_sorted desk_tables Trades LastTenOfAccount.statement (natural_as_value account ∷ []) (read LastTenOfAccount.statement) LastTenOfAccount.terms
-    LastTenOfAccount.project LastTenOfAccount.order LastTenOfAccount.paging LastTenOfAccount.names LastTenOfAccount.understood_as
-    (λ (r : TradeRow). r.account == account) (λ tree r x e. let a : column r 9 ≡ natural_as_value x.account = ap (λ row. column row 8) e in rw (a, same_number x.account account) (and_true _))
-    trade_cells (λ tree r x e. e) falling (back_total (key_total trade_age))
-    (λ tree a b x y e f.
-    let p0 : column a 2 ≡ natural_as_value x.stamp = ap (λ row. column row 1) e in
-    let q0 : column b 2 ≡ natural_as_value y.stamp = ap (λ row. column row 1) f in
-    let p1 : column a 0 ≡ natural_as_value x.id = ap (λ row. column row 0) e in
-    let q1 : column b 0 ≡ natural_as_value y.id = ap (λ row. column row 0) f in
-    rw (p0, q0, p1, q1) refl)
-    old new rows shown (λ x y e. same_id x y (second (value_cmp (natural_as_value y.stamp) (natural_as_value x.stamp)) _ e)) t tree h
+    told_sorted desk_tables Trades LastTenOfAccount.statement LastTenOfAccount.ask LastTenOfAccount.paging LastTenOfAccount.is_asked (natural_as_value account ∷ [])
+    (λ (r : TradeRow). r.account == account) (λ tree x. same_number x.account account)
+    trade_cells (λ x. refl) falling (back_total (key_total trade_age)) (λ tree x y. refl) old new rows shown (λ x y e. same_id x y (second (value_cmp (natural_as_value y.stamp) (natural_as_value x.stamp)) _ e)) t tree h
     ∙ limited_map trade_cells (Some 10) (sort_by falling (trade_rows_of_account t account))
     ∙ ap (λ rs. map trade_cells (take 10 rs)) (sym (recent_are (trade_rows_of_account t account)))
 
 pub tells_last_fifty : (old new : State) (account : ℕ) (rows : List Row) → Shown LastFiftyOfAccount.statement (natural_as_value account ∷ []) old new rows
     → TablesSatisfy desk_tables (λ t. rows ≡ map trade_cells (take 50 (trade_rows_recent_first (trade_rows_of_account t account)))) old.now
 tells_last_fifty old new account rows shown = λ t tree h.
-    tells_sorted desk_tables Trades LastFiftyOfAccount.statement (natural_as_value account ∷ []) (read LastFiftyOfAccount.statement) LastFiftyOfAccount.terms
-    LastFiftyOfAccount.project LastFiftyOfAccount.order LastFiftyOfAccount.paging LastFiftyOfAccount.names LastFiftyOfAccount.understood_as
-    (λ (r : TradeRow). r.account == account) (λ tree r x e. let a : column r 9 ≡ natural_as_value x.account = ap (λ row. column row 8) e in rw (a, same_number x.account account) (and_true _))
-    trade_cells (λ tree r x e. e) falling (back_total (key_total trade_age))
-    (λ tree a b x y e f.
-    let p0 : column a 2 ≡ natural_as_value x.stamp = ap (λ row. column row 1) e in
-    let q0 : column b 2 ≡ natural_as_value y.stamp = ap (λ row. column row 1) f in
-    let p1 : column a 0 ≡ natural_as_value x.id = ap (λ row. column row 0) e in
-    let q1 : column b 0 ≡ natural_as_value y.id = ap (λ row. column row 0) f in
-    rw (p0, q0, p1, q1) refl)
-    old new rows shown (λ x y e. same_id x y (second (value_cmp (natural_as_value y.stamp) (natural_as_value x.stamp)) _ e)) t tree h
+    told_sorted desk_tables Trades LastFiftyOfAccount.statement LastFiftyOfAccount.ask LastFiftyOfAccount.paging LastFiftyOfAccount.is_asked (natural_as_value account ∷ [])
+    (λ (r : TradeRow). r.account == account) (λ tree x. same_number x.account account)
+    trade_cells (λ x. refl) falling (back_total (key_total trade_age)) (λ tree x y. refl) old new rows shown (λ x y e. same_id x y (second (value_cmp (natural_as_value y.stamp) (natural_as_value x.stamp)) _ e)) t tree h
     ∙ limited_map trade_cells (Some 50) (sort_by falling (trade_rows_of_account t account))
     ∙ ap (λ rs. map trade_cells (take 50 rs)) (sym (recent_are (trade_rows_of_account t account)))

@@ -1,19 +1,16 @@
 -- Written by tools/tables.py: what a SELECT means.
-use Rattle.std.proofs.Common.{ℕ, pos, negsuc, List, [], ◌∷◌, codes, map, false, None, Some, refl}
-use Rattle.sqlite_value.specs.declared.keys.Collation.TheVariants.{Binary}
+use Rattle.std.proofs.Common.{ℕ, pos, negsuc, List, [], ◌∷◌, codes, false, None, Some, refl}
 use Rattle.sqlite.specs.declared.types.Value.TheVariants.{Int}
-use Rattle.sqlite_sql.specs.declared.ops.BinaryOp.TheVariants.{Compare}
 use Rattle.sqlite_sql.specs.declared.ops.CompareOp.TheVariants.{Eq, Ge}
-use Rattle.sqlite_value.specs.declared.keys.Key.{Key}
-use Rattle.sqlite.specs.Term.{Term, lit, col, op2}
+use Rattle.sqlite.specs.Term.{Term, lit}
 use Rattle.sqlite_tied.specs.Compute.{everything}
-use Rattle.brk_sql.proofs.Asked.{Ask, compares, single, also, name_of, IsAsked, IsPlain, MeansSelection, asks, asks_plainly}
+use Rattle.brk_sql.proofs.Asked.{Ask, compares, single, also, IsAsked, IsPlain, asks_plainly}
 use Rattle.brk_tables_schema.specs.Shapes.{request_table}
 
 abbrev pub statement : List ℕ
 statement = codes "SELECT TR_T_ID, TR_TT_ID, TR_S_SYMB, TR_QTY, TR_BID_PRICE, TR_B_ID FROM TRADE_REQUEST WHERE TR_S_SYMB = ?1 AND TR_TT_ID = ?2 AND TR_BID_PRICE >= ?3 ORDER BY TR_T_ID"
 
-abbrev ask : Ask
+abbrev pub ask : Ask
 ask = record {
   shown = 0 ∷ 1 ∷ 2 ∷ 3 ∷ 4 ∷ 5 ∷ [];
   tests = Some (also (also (single (compares Eq 2 1)) (compares Eq 1 2)) (compares Ge 4 3));
@@ -22,27 +19,12 @@ ask = record {
   offset = None;
 }
 
-abbrev pub terms : List Term
-terms = op2 (Compare Eq Binary) (col 1 3) (col 0 0) ∷ op2 (Compare Eq Binary) (col 1 2) (col 0 1) ∷ op2 (Compare Ge Binary) (col 1 5) (col 0 2) ∷ []
-
-abbrev pub project : List Term
-project = col 1 0 ∷ col 1 2 ∷ col 1 3 ∷ col 1 4 ∷ col 1 5 ∷ col 1 6 ∷ []
-
-abbrev pub order : List (Term × Key)
-order = (col 1 0, record { collation = Binary; descending = false }) ∷ []
-
 abbrev pub paging : Term × Term
 paging = (lit (Int (negsuc 0)), lit (Int (pos 0)))
 
-abbrev pub names : List (List ℕ)
-names = map (name_of (request_table 0)) ask.shown
-
-is_asked : IsAsked request_table statement ask paging
+pub is_asked : IsAsked request_table statement ask paging
 unfolding everything
 is_asked = record { reads = λ tree. (refl, refl, refl); sound = λ tree. refl; paged = λ schema tree. refl }
-
-pub understood_as : MeansSelection request_table statement terms project order paging names
-understood_as = asks request_table statement ask paging is_asked
 
 pub plain : IsPlain statement
 plain = asks_plainly request_table statement ask paging is_asked

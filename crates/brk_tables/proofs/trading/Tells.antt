@@ -15,7 +15,7 @@ use Rattle.brk_model.specs.Keys.{trade_key, request_key, last_trade_key}
 use Rattle.brk_sql.specs.Desk.{TablesSatisfy}
 use Rattle.brk_sql.proofs.Answer.{limited_map}
 use Rattle.brk_sql.proofs.Decode.{filter_true}
-use Rattle.brk_sql.proofs.Looks.{tells_rising, tells_falling}
+use Rattle.brk_sql.proofs.Told.{told_rising, told_falling}
 use Rattle.brk_sql.proofs.Texts.{read}
 use Rattle.brk_tables_schema.specs.Cells.{natural_as_value, trade_cells, request_cells, last_trade_cells}
 use Rattle.brk_tables_schema.specs.Desk.{Trades, Requests, LastTrades, desk_tables, ordering_by_primary_key}
@@ -32,11 +32,9 @@ use Rattle.brk_tables.proofs.trading.LastTradeBySymbol
 pub tells_trade : (old new : State) (id : ℕ) (rows : List Row) → Shown TradeById.statement (natural_as_value id ∷ []) old new rows
     → TablesSatisfy desk_tables (λ t. rows ≡ map trade_cells (filter (λ r. r.id == id) t.trades)) old.now
 tells_trade old new id rows shown =
-    tells_rising desk_tables Trades TradeById.statement (natural_as_value id ∷ []) (read TradeById.statement) TradeById.terms TradeById.project TradeById.order
-    TradeById.paging TradeById.names TradeById.understood_as
-    (λ (r : TradeRow). r.id == id) (λ tree r x e. let a : column r 0 ≡ natural_as_value x.id = cc in rw (a, same_number x.id id) (and_true _)) trade_cells
-    (λ tree r x e. e) (ordering_by_primary_key Trades) (key_total trade_key)
-    (λ tree a b x y e f. let p : column a 0 ≡ natural_as_value x.id = cc in let q : column b 0 ≡ natural_as_value y.id = cc in rw (p, q) refl) old new rows shown (λ x y. refl)
+    told_rising desk_tables Trades TradeById.statement TradeById.ask TradeById.paging TradeById.is_asked (natural_as_value id ∷ [])
+    (λ (r : TradeRow). r.id == id) (λ tree x. same_number x.id id)
+    trade_cells (λ x. refl) (ordering_by_primary_key Trades) (key_total trade_key) (λ tree x y. refl) old new rows shown (λ x y. refl)
 
 abbrev pub id_cells : ℕ → Row
 id_cells n = natural_as_value n ∷ []
@@ -44,11 +42,9 @@ id_cells n = natural_as_value n ∷ []
 pub tells_last_id : (old new : State) (rows : List Row) → Shown LastTradeId.statement [] old new rows
     → TablesSatisfy desk_tables (λ t. rows ≡ map id_cells (map (λ r. r.id) (take 1 (reverse t.trades)))) old.now
 tells_last_id old new rows shown = λ t tree h.
-    tells_falling desk_tables Trades LastTradeId.statement [] (read LastTradeId.statement) LastTradeId.terms LastTradeId.project LastTradeId.order
-    LastTradeId.paging LastTradeId.names LastTradeId.understood_as
-    (λ _. true) (λ tree r x e. refl) (λ (r : TradeRow). id_cells r.id) (λ tree r x e. let a : column r 0 ≡ natural_as_value x.id = cc in rw a refl)
-    (λ x y. ordering_by_primary_key Trades y x) (back_total (key_total trade_key))
-    (λ tree a b x y e f. let p : column a 0 ≡ natural_as_value x.id = cc in let q : column b 0 ≡ natural_as_value y.id = cc in rw (p, q) refl) old new rows shown (λ x y. refl) t tree h
+    told_falling desk_tables Trades LastTradeId.statement LastTradeId.ask LastTradeId.paging LastTradeId.is_asked []
+    (λ _. true) (λ tree x. refl)
+    (λ (r : TradeRow). id_cells r.id) (λ x. refl) (λ x y. ordering_by_primary_key Trades y x) (back_total (key_total trade_key)) (λ tree x y. refl) old new rows shown (λ x y. refl) t tree h
     ∙ ap (λ xs. take 1 (map (λ (r : TradeRow). id_cells r.id) (reverse xs))) (filter_true t.trades)
     ∙ limited_map (λ (r : TradeRow). id_cells r.id) (Some 1) (reverse t.trades) ∙ twice (take 1 (reverse t.trades))
   where
@@ -67,53 +63,29 @@ at_market Canceled = refl
 pub tells_submitted : (old new : State) (rows : List Row) → Shown SubmittedTrades.statement (Words (trade_status_code Submitted) ∷ []) old new rows
     → TablesSatisfy desk_tables (λ t. rows ≡ map trade_cells (filter (λ r. is_same_trade_status r.status Submitted) t.trades)) old.now
 tells_submitted old new rows shown =
-    tells_rising desk_tables Trades SubmittedTrades.statement (Words (trade_status_code Submitted) ∷ []) (read SubmittedTrades.statement) SubmittedTrades.terms
-    SubmittedTrades.project SubmittedTrades.order SubmittedTrades.paging SubmittedTrades.names SubmittedTrades.understood_as
-    (λ (r : TradeRow). is_same_trade_status r.status Submitted)
-    (λ tree r x e. let a : column r 3 ≡ Words (trade_status_code x.status) = ap (λ row. column row 2) e in
-    rw (a, same_text (trade_status_code x.status) (trade_status_code Submitted), at_market x.status) (and_true _))
-    trade_cells (λ tree r x e. e) (ordering_by_primary_key Trades) (key_total trade_key)
-    (λ tree a b x y e f. let p : column a 0 ≡ natural_as_value x.id = cc in let q : column b 0 ≡ natural_as_value y.id = cc in rw (p, q) refl) old new rows shown (λ x y. refl)
+    told_rising desk_tables Trades SubmittedTrades.statement SubmittedTrades.ask SubmittedTrades.paging SubmittedTrades.is_asked (Words (trade_status_code Submitted) ∷ [])
+    (λ (r : TradeRow). is_same_trade_status r.status Submitted) (λ tree x. rw (same_text (trade_status_code x.status) (trade_status_code Submitted), at_market x.status) refl)
+    trade_cells (λ x. refl) (ordering_by_primary_key Trades) (key_total trade_key) (λ tree x y. refl) old new rows shown (λ x y. refl)
 
 pub tells_requests_above : (old new : State) (symbol : List ℕ) (kind : TradeType) (price : ℕ) (rows : List Row)
     → Shown RequestsAbove.statement (Words symbol ∷ Words (trade_type_code kind) ∷ natural_as_value price ∷ []) old new rows
     → TablesSatisfy desk_tables (λ t. rows ≡ map request_cells (filter (λ r. bytes_eq r.symbol symbol && (is_same_trade_type r.kind kind && nat_le price r.bid)) t.requests)) old.now
 tells_requests_above old new symbol kind price rows shown =
-    tells_rising desk_tables Requests RequestsAbove.statement (Words symbol ∷ Words (trade_type_code kind) ∷ natural_as_value price ∷ [])
-    (read RequestsAbove.statement) RequestsAbove.terms RequestsAbove.project RequestsAbove.order RequestsAbove.paging RequestsAbove.names
-    RequestsAbove.understood_as
-    (λ (r : RequestRow). bytes_eq r.symbol symbol && (is_same_trade_type r.kind kind && nat_le price r.bid))
-    (λ tree r x e.
-    let a3 : column r 3 ≡ Words x.symbol = cc in
-    let a2 : column r 2 ≡ Words (trade_type_code x.kind) = cc in
-    let a5 : column r 5 ≡ natural_as_value x.bid = cc in
-    rw (a3, a2, a5, same_text x.symbol symbol, same_code x.kind kind, at_least x.bid price)
-    (ap (λ c. bytes_eq x.symbol symbol && (is_same_trade_type x.kind kind && c)) (and_true _)))
-    request_cells (λ tree r x e. e) (ordering_by_primary_key Requests) (key_total request_key)
-    (λ tree a b x y e f. let p : column a 0 ≡ natural_as_value x.trade = cc in let q : column b 0 ≡ natural_as_value y.trade = cc in rw (p, q) refl) old new rows shown (λ x y. refl)
+    told_rising desk_tables Requests RequestsAbove.statement RequestsAbove.ask RequestsAbove.paging RequestsAbove.is_asked (Words symbol ∷ Words (trade_type_code kind) ∷ natural_as_value price ∷ [])
+    (λ (r : RequestRow). bytes_eq r.symbol symbol && (is_same_trade_type r.kind kind && nat_le price r.bid)) (λ tree x. rw (same_text x.symbol symbol, same_code x.kind kind, at_least x.bid price) refl)
+    request_cells (λ x. refl) (ordering_by_primary_key Requests) (key_total request_key) (λ tree x y. refl) old new rows shown (λ x y. refl)
 
 pub tells_requests_below : (old new : State) (symbol : List ℕ) (kind : TradeType) (price : ℕ) (rows : List Row)
     → Shown RequestsBelow.statement (Words symbol ∷ Words (trade_type_code kind) ∷ natural_as_value price ∷ []) old new rows
     → TablesSatisfy desk_tables (λ t. rows ≡ map request_cells (filter (λ r. bytes_eq r.symbol symbol && (is_same_trade_type r.kind kind && nat_le r.bid price)) t.requests)) old.now
 tells_requests_below old new symbol kind price rows shown =
-    tells_rising desk_tables Requests RequestsBelow.statement (Words symbol ∷ Words (trade_type_code kind) ∷ natural_as_value price ∷ [])
-    (read RequestsBelow.statement) RequestsBelow.terms RequestsBelow.project RequestsBelow.order RequestsBelow.paging RequestsBelow.names
-    RequestsBelow.understood_as
-    (λ (r : RequestRow). bytes_eq r.symbol symbol && (is_same_trade_type r.kind kind && nat_le r.bid price))
-    (λ tree r x e.
-    let a3 : column r 3 ≡ Words x.symbol = cc in
-    let a2 : column r 2 ≡ Words (trade_type_code x.kind) = cc in
-    let a5 : column r 5 ≡ natural_as_value x.bid = cc in
-    rw (a3, a2, a5, same_text x.symbol symbol, same_code x.kind kind, at_most x.bid price)
-    (ap (λ c. bytes_eq x.symbol symbol && (is_same_trade_type x.kind kind && c)) (and_true _)))
-    request_cells (λ tree r x e. e) (ordering_by_primary_key Requests) (key_total request_key)
-    (λ tree a b x y e f. let p : column a 0 ≡ natural_as_value x.trade = cc in let q : column b 0 ≡ natural_as_value y.trade = cc in rw (p, q) refl) old new rows shown (λ x y. refl)
+    told_rising desk_tables Requests RequestsBelow.statement RequestsBelow.ask RequestsBelow.paging RequestsBelow.is_asked (Words symbol ∷ Words (trade_type_code kind) ∷ natural_as_value price ∷ [])
+    (λ (r : RequestRow). bytes_eq r.symbol symbol && (is_same_trade_type r.kind kind && nat_le r.bid price)) (λ tree x. rw (same_text x.symbol symbol, same_code x.kind kind, at_most x.bid price) refl)
+    request_cells (λ x. refl) (ordering_by_primary_key Requests) (key_total request_key) (λ tree x y. refl) old new rows shown (λ x y. refl)
 
 pub tells_last_trade : (old new : State) (symbol : List ℕ) (rows : List Row) → Shown LastTradeBySymbol.statement (Words symbol ∷ []) old new rows
     → TablesSatisfy desk_tables (λ t. rows ≡ map last_trade_cells (filter (λ r. bytes_eq r.symbol symbol) t.last_trades)) old.now
 tells_last_trade old new symbol rows shown =
-    tells_rising desk_tables LastTrades LastTradeBySymbol.statement (Words symbol ∷ []) (read LastTradeBySymbol.statement) LastTradeBySymbol.terms
-    LastTradeBySymbol.project LastTradeBySymbol.order LastTradeBySymbol.paging LastTradeBySymbol.names LastTradeBySymbol.understood_as
-    (λ (r : LastTradeRow). bytes_eq r.symbol symbol) (λ tree r x e. let a : column r 1 ≡ Words x.symbol = cc in rw (a, same_text x.symbol symbol) (and_true _))
-    last_trade_cells (λ tree r x e. e) (ordering_by_primary_key LastTrades) (key_total last_trade_key)
-    (λ tree a b x y e f. let p : column a 1 ≡ Words x.symbol = cc in let q : column b 1 ≡ Words y.symbol = cc in rw (p, q) refl) old new rows shown (λ x y. refl)
+    told_rising desk_tables LastTrades LastTradeBySymbol.statement LastTradeBySymbol.ask LastTradeBySymbol.paging LastTradeBySymbol.is_asked (Words symbol ∷ [])
+    (λ (r : LastTradeRow). bytes_eq r.symbol symbol) (λ tree x. same_text x.symbol symbol)
+    last_trade_cells (λ x. refl) (ordering_by_primary_key LastTrades) (key_total last_trade_key) (λ tree x y. refl) old new rows shown (λ x y. refl)

@@ -20,7 +20,7 @@ use Rattle.brk_model.specs.Tables.{SettlementRow, TradeRow}
 use Rattle.brk_sql.specs.Desk.{TablesSatisfy}
 use Rattle.brk_sql.proofs.Answer.{limited_map}
 use Rattle.brk_sql.proofs.Decode.{text_in}
-use Rattle.brk_sql.proofs.Looks.{tells_rising, tells_sorted}
+use Rattle.brk_sql.proofs.Told.{told_rising, told_sorted}
 use Rattle.brk_sql.proofs.Texts.{read}
 use Rattle.brk_tables_schema.specs.Cells.{natural_as_value, flag_as_value, trade_cells, settlement_cells}
 use Rattle.brk_tables_schema.specs.Desk.{Trades, Settlements, desk_tables, ordering_by_primary_key}
@@ -79,25 +79,9 @@ pub tells_completed_of_account : (old new : State) (account first last : ℕ) (r
     → TablesSatisfy desk_tables (λ t. rows ≡ map trade_cells (first_twenty_completed_trade_rows_of_account account first last t)) old.now
 tells_completed_of_account old new account first last rows shown = λ t tree h.
     let test : TradeRow → Bool = λ r. is_same_trade_status r.status Completed && ((r.account == account) && row_stamp_is_between first last r) in
-    tells_sorted desk_tables Trades CompletedOfAccount.statement
-    (Words (trade_status_code Completed) ∷ natural_as_value account ∷ natural_as_value first ∷ natural_as_value last ∷ [])
-    (read CompletedOfAccount.statement)
-    CompletedOfAccount.terms CompletedOfAccount.project CompletedOfAccount.order CompletedOfAccount.paging CompletedOfAccount.names CompletedOfAccount.understood_as
-    test
-    (λ tree r x e.
-    let a3 : column r 3 ≡ Words (trade_status_code x.status) = ap (λ row. column row 2) e in
-    let a9 : column r 9 ≡ natural_as_value x.account = ap (λ row. column row 8) e in
-    let a2 : column r 2 ≡ natural_as_value x.stamp = ap (λ row. column row 1) e in
-    rw (a3, a9, a2, same_text (trade_status_code x.status) (trade_status_code Completed), is_done x.status, same_number x.account account, at_least x.stamp first, at_most x.stamp last)
-    (ap (λ c. is_same_trade_status x.status Completed && ((x.account == account) && (nat_le first x.stamp && c))) (and_true _)))
-    trade_cells (λ tree r x e. e) (ordering_by_key trade_age) (key_total trade_age)
-    (λ tree a b x y e f.
-    let p0 : column a 2 ≡ natural_as_value x.stamp = ap (λ row. column row 1) e in
-    let q0 : column b 2 ≡ natural_as_value y.stamp = ap (λ row. column row 1) f in
-    let p1 : column a 0 ≡ natural_as_value x.id = ap (λ row. column row 0) e in
-    let q1 : column b 0 ≡ natural_as_value y.id = ap (λ row. column row 0) f in
-    rw (p0, q0, p1, q1) refl)
-    old new rows shown (λ x y e. second (value_cmp (natural_as_value x.stamp) (natural_as_value y.stamp)) _ e) t tree h
+    told_sorted desk_tables Trades CompletedOfAccount.statement CompletedOfAccount.ask CompletedOfAccount.paging CompletedOfAccount.is_asked (Words (trade_status_code Completed) ∷ natural_as_value account ∷ natural_as_value first ∷ natural_as_value last ∷ [])
+    test (λ tree x. rw (same_text (trade_status_code x.status) (trade_status_code Completed), is_done x.status, same_number x.account account, at_least x.stamp first, at_most x.stamp last) refl)
+    trade_cells (λ x. refl) (ordering_by_key trade_age) (key_total trade_age) (λ tree x y. refl) old new rows shown (λ x y e. second (value_cmp (natural_as_value x.stamp) (natural_as_value y.stamp)) _ e) t tree h
     ∙ limited_map trade_cells (Some 20) (sort_by (ordering_by_key trade_age) (filter test t.trades))
     ∙ ap (λ rs. map trade_cells (take 20 rs)) (sym (oldest_are (filter test t.trades)))
 
@@ -106,40 +90,9 @@ pub tells_completed_cash_of_symbol : (old new : State) (symbol : List ℕ) (firs
     → TablesSatisfy desk_tables (λ t. rows ≡ map trade_cells (first_twenty_completed_cash_trade_rows_of_symbol symbol first last t)) old.now
 tells_completed_cash_of_symbol old new symbol first last rows shown = λ t tree h.
     let test : TradeRow → Bool = λ r. is_same_trade_status r.status Completed && ((r.is_cash && bytes_eq r.symbol symbol) && row_stamp_is_between first last r) in
-    tells_sorted desk_tables Trades CompletedCashOfSymbol.statement
-    (Words (trade_status_code Completed) ∷ flag_as_value true ∷ Words symbol ∷ natural_as_value first ∷ natural_as_value last ∷ [])
-    (read CompletedCashOfSymbol.statement)
-    CompletedCashOfSymbol.terms CompletedCashOfSymbol.project CompletedCashOfSymbol.order CompletedCashOfSymbol.paging CompletedCashOfSymbol.names CompletedCashOfSymbol.understood_as
-    test
-    (λ tree r x e.
-    let a3 : column r 3 ≡ Words (trade_status_code x.status) = ap (λ row. column row 2) e in
-    let a5 : column r 5 ≡ flag_as_value x.is_cash = ap (λ row. column row 4) e in
-    let a6 : column r 6 ≡ Words x.symbol = ap (λ row. column row 5) e in
-    let a2 : column r 2 ≡ natural_as_value x.stamp = ap (λ row. column row 1) e in
-    rw (
-      a3,
-      a5,
-      a6,
-      a2,
-      same_text (trade_status_code x.status) (trade_status_code Completed),
-      is_done x.status,
-      same_number (cond x.is_cash 1 0) 1,
-      is_set
-          x.is_cash,
-      same_text x.symbol symbol,
-      at_least x.stamp first,
-      at_most x.stamp last,
-    )
-    (ap (λ c. is_same_trade_status x.status Completed && (x.is_cash && (bytes_eq x.symbol symbol && (nat_le first x.stamp && c)))) (and_true _)
-    ∙ ap (λ c. is_same_trade_status x.status Completed && c) (and_assoc x.is_cash (bytes_eq x.symbol symbol) (row_stamp_is_between first last x))))
-    trade_cells (λ tree r x e. e) (ordering_by_key trade_age) (key_total trade_age)
-    (λ tree a b x y e f.
-    let p0 : column a 2 ≡ natural_as_value x.stamp = ap (λ row. column row 1) e in
-    let q0 : column b 2 ≡ natural_as_value y.stamp = ap (λ row. column row 1) f in
-    let p1 : column a 0 ≡ natural_as_value x.id = ap (λ row. column row 0) e in
-    let q1 : column b 0 ≡ natural_as_value y.id = ap (λ row. column row 0) f in
-    rw (p0, q0, p1, q1) refl)
-    old new rows shown (λ x y e. second (value_cmp (natural_as_value x.stamp) (natural_as_value y.stamp)) _ e) t tree h
+    told_sorted desk_tables Trades CompletedCashOfSymbol.statement CompletedCashOfSymbol.ask CompletedCashOfSymbol.paging CompletedCashOfSymbol.is_asked (Words (trade_status_code Completed) ∷ flag_as_value true ∷ Words symbol ∷ natural_as_value first ∷ natural_as_value last ∷ [])
+    test (λ tree x. rw (same_text (trade_status_code x.status) (trade_status_code Completed), is_done x.status, same_number (cond x.is_cash 1 0) 1, is_set x.is_cash, same_text x.symbol symbol, at_least x.stamp first, at_most x.stamp last) (ap (λ c. is_same_trade_status x.status Completed && c) (and_assoc x.is_cash (bytes_eq x.symbol symbol) (row_stamp_is_between first last x))))
+    trade_cells (λ x. refl) (ordering_by_key trade_age) (key_total trade_age) (λ tree x y. refl) old new rows shown (λ x y e. second (value_cmp (natural_as_value x.stamp) (natural_as_value y.stamp)) _ e) t tree h
     ∙ limited_map trade_cells (Some 20) (sort_by (ordering_by_key trade_age) (filter test t.trades))
     ∙ ap (λ rs. map trade_cells (take 20 rs)) (sym (oldest_are (filter test t.trades)))
 
@@ -148,8 +101,6 @@ tells_completed_cash_of_symbol old new symbol first last rows shown = λ t tree 
 pub tells_settlement : (old new : State) (trade : ℕ) (rows : List Row) → Shown SettlementByTrade.statement (natural_as_value trade ∷ []) old new rows
     → TablesSatisfy desk_tables (λ t. rows ≡ map settlement_cells (filter (λ r. r.trade == trade) t.settlements)) old.now
 tells_settlement old new trade rows shown =
-    tells_rising desk_tables Settlements SettlementByTrade.statement (natural_as_value trade ∷ []) (read SettlementByTrade.statement) SettlementByTrade.terms
-    SettlementByTrade.project SettlementByTrade.order SettlementByTrade.paging SettlementByTrade.names SettlementByTrade.understood_as
-    (λ (r : SettlementRow). r.trade == trade) (λ tree r x e. let a : column r 0 ≡ natural_as_value x.trade = cc in
-    rw (a, same_number x.trade trade) (and_true _)) settlement_cells (λ tree r x e. e) (ordering_by_primary_key Settlements) (key_total settlement_key)
-    (λ tree a b x y e f. let p : column a 0 ≡ natural_as_value x.trade = cc in let q : column b 0 ≡ natural_as_value y.trade = cc in rw (p, q) refl) old new rows shown (λ x y. refl)
+    told_rising desk_tables Settlements SettlementByTrade.statement SettlementByTrade.ask SettlementByTrade.paging SettlementByTrade.is_asked (natural_as_value trade ∷ [])
+    (λ (r : SettlementRow). r.trade == trade) (λ tree x. same_number x.trade trade)
+    settlement_cells (λ x. refl) (ordering_by_primary_key Settlements) (key_total settlement_key) (λ tree x y. refl) old new rows shown (λ x y. refl)

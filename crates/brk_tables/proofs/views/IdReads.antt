@@ -12,7 +12,7 @@ use Rattle.brk_model.specs.Joins.{trade_rows_oldest_first}
 use Rattle.brk_model.specs.Keys.{account_key}
 use Rattle.brk_model.specs.Tables.{AccountRow, TradeRow}
 use Rattle.brk_sql.specs.Desk.{TablesSatisfy}
-use Rattle.brk_sql.proofs.Looks.{tells_rising, tells_sorted}
+use Rattle.brk_sql.proofs.Told.{told_rising, told_sorted}
 use Rattle.brk_sql.proofs.Texts.{read}
 use Rattle.brk_tables_schema.specs.Cells.{natural_as_value}
 use Rattle.brk_tables_schema.specs.Desk.{Accounts, Trades, desk_tables, ordering_by_primary_key}
@@ -37,13 +37,9 @@ as_they_are (n ∷ ns) = ap (λ l. n ∷ l) (as_they_are ns)
 pub tells_accounts_of_broker : (old new : State) (broker : ℕ) (rows : List Row) → Shown AccountsOfBroker.statement (natural_as_value broker ∷ []) old new rows
     → TablesSatisfy desk_tables (λ t. rows ≡ map id_cells (map (λ r. r.id) (filter (λ r. r.broker == broker) t.accounts))) old.now
 tells_accounts_of_broker old new broker rows shown = λ t tree h.
-    tells_rising desk_tables Accounts AccountsOfBroker.statement (natural_as_value broker ∷ []) (read AccountsOfBroker.statement) AccountsOfBroker.terms
-    AccountsOfBroker.project AccountsOfBroker.order AccountsOfBroker.paging AccountsOfBroker.names AccountsOfBroker.understood_as
-    (λ (r : AccountRow). r.broker == broker) (λ tree r x e. let a : column r 3 ≡ natural_as_value x.broker = ap (λ row. column row 2) e in rw (a, same_number x.broker broker) (and_true _))
-    (λ (r : AccountRow). id_cells r.id) (λ tree r x e. let a : column r 0 ≡ natural_as_value x.id = ap (λ row. column row 0) e in rw a refl)
-    (ordering_by_primary_key Accounts) (key_total account_key)
-    (λ tree a b x y e f. let p : column a 0 ≡ natural_as_value x.id = ap (λ row. column row 0) e in
-    let q : column b 0 ≡ natural_as_value y.id = ap (λ row. column row 0) f in rw (p, q) refl) old new rows shown (λ x y. refl) t tree h
+    told_rising desk_tables Accounts AccountsOfBroker.statement AccountsOfBroker.ask AccountsOfBroker.paging AccountsOfBroker.is_asked (natural_as_value broker ∷ [])
+    (λ (r : AccountRow). r.broker == broker) (λ tree x. same_number x.broker broker)
+    (λ (r : AccountRow). id_cells r.id) (λ x. refl) (ordering_by_primary_key Accounts) (key_total account_key) (λ tree x y. refl) old new rows shown (λ x y. refl) t tree h
     ∙ twice (λ (r : AccountRow). r.id) (filter (λ (r : AccountRow). r.broker == broker) t.accounts)
 
 -- a code is that of what is completed where the status is
@@ -62,23 +58,8 @@ pub tells_completed_of_holding : (old new : State) (account : ℕ) (symbol : Lis
     (filter (λ r. (r.account == account) && (bytes_eq r.symbol symbol && is_same_trade_status r.status Completed)) t.trades)))) old.now
 tells_completed_of_holding old new account symbol rows shown = λ t tree h.
     let test : TradeRow → Bool = λ r. (r.account == account) && (bytes_eq r.symbol symbol && is_same_trade_status r.status Completed) in
-    tells_sorted desk_tables Trades CompletedOfHolding.statement (natural_as_value account ∷ Words symbol ∷ Words (trade_status_code Completed) ∷ []) (read CompletedOfHolding.statement)
-    CompletedOfHolding.terms CompletedOfHolding.project CompletedOfHolding.order CompletedOfHolding.paging CompletedOfHolding.names CompletedOfHolding.understood_as
-    test
-    (λ tree r x e.
-    let a9 : column r 9 ≡ natural_as_value x.account = ap (λ row. column row 8) e in
-    let a6 : column r 6 ≡ Words x.symbol = ap (λ row. column row 5) e in
-    let a3 : column r 3 ≡ Words (trade_status_code x.status) = ap (λ row. column row 2) e in
-    rw (a9, a6, a3, same_number x.account account, same_text x.symbol symbol, same_text (trade_status_code x.status) (trade_status_code Completed), is_done x.status)
-    (ap (λ c. (x.account == account) && (bytes_eq x.symbol symbol && c)) (and_true _)))
-    (λ (r : TradeRow). id_cells r.id) (λ tree r x e. let a : column r 0 ≡ natural_as_value x.id = ap (λ row. column row 0) e in rw a refl)
-    rising (key_total trade_age)
-    (λ tree a b x y e f.
-    let p0 : column a 2 ≡ natural_as_value x.stamp = ap (λ row. column row 1) e in
-    let q0 : column b 2 ≡ natural_as_value y.stamp = ap (λ row. column row 1) f in
-    let p1 : column a 0 ≡ natural_as_value x.id = ap (λ row. column row 0) e in
-    let q1 : column b 0 ≡ natural_as_value y.id = ap (λ row. column row 0) f in
-    rw (p0, q0, p1, q1) refl)
-    old new rows shown (λ x y e. second (value_cmp (natural_as_value x.stamp) (natural_as_value y.stamp)) _ e) t tree h
+    told_sorted desk_tables Trades CompletedOfHolding.statement CompletedOfHolding.ask CompletedOfHolding.paging CompletedOfHolding.is_asked (natural_as_value account ∷ Words symbol ∷ Words (trade_status_code Completed) ∷ [])
+    test (λ tree x. rw (same_number x.account account, same_text x.symbol symbol, same_text (trade_status_code x.status) (trade_status_code Completed), is_done x.status) refl)
+    (λ (r : TradeRow). id_cells r.id) (λ x. refl) rising (key_total trade_age) (λ tree x y. refl) old new rows shown (λ x y e. second (value_cmp (natural_as_value x.stamp) (natural_as_value y.stamp)) _ e) t tree h
     ∙ ap (map (λ (r : TradeRow). id_cells r.id)) (sym (oldest_are (filter test t.trades)))
     ∙ twice (λ (r : TradeRow). r.id) (trade_rows_oldest_first (filter test t.trades))

@@ -10,7 +10,7 @@ use Rattle.brk_model.specs.Tables.{BrokerRow, HoldingHistoryRow}
 use Rattle.brk_sql.specs.Desk.{TablesSatisfy}
 use Rattle.brk_sql.specs.Rows.{cells_in_column_order}
 use Rattle.brk_sql.proofs.Decode.{filter_true}
-use Rattle.brk_sql.proofs.Looks.{tells_rising}
+use Rattle.brk_sql.proofs.Told.{told_rising}
 use Rattle.brk_sql.proofs.Pick.{sorted_by}
 use Rattle.brk_sql.proofs.Texts.{read}
 use Rattle.brk_tables_schema.specs.Cells.{natural_as_value, broker_cells, holding_history_cells, request_cells}
@@ -39,36 +39,29 @@ by_lot params tree a b x y e f =
 pub tells_changes_by : (old new : State) (trade : ℕ) (rows : List Row) → Shown ChangesBy.statement (natural_as_value trade ∷ []) old new rows
     → TablesSatisfy desk_tables (λ t. rows ≡ map holding_history_cells (filter (λ r. r.trade == trade) t.holding_history)) old.now
 tells_changes_by old new trade rows shown =
-    tells_rising desk_tables HoldingHistory ChangesBy.statement (natural_as_value trade ∷ []) (read ChangesBy.statement) ChangesBy.terms ChangesBy.project
-    ChangesBy.order ChangesBy.paging ChangesBy.names ChangesBy.understood_as
-    (λ (r : HoldingHistoryRow). r.trade == trade) (λ tree r x e. let a : column r 2 ≡ natural_as_value x.trade = ap (λ row. column row 1) e in
-    rw (a, same_number x.trade trade) (and_true _)) holding_history_cells (λ tree r x e. e)
-    (ordering_by_primary_key HoldingHistory) (key_total holding_history_key) (by_lot (natural_as_value trade ∷ [])) old new rows shown (λ x y. refl)
+    told_rising desk_tables HoldingHistory ChangesBy.statement ChangesBy.ask ChangesBy.paging ChangesBy.is_asked (natural_as_value trade ∷ [])
+    (λ (r : HoldingHistoryRow). r.trade == trade) (λ tree x. same_number x.trade trade)
+    holding_history_cells (λ x. refl) (ordering_by_primary_key HoldingHistory) (key_total holding_history_key) (λ tree x y. refl) old new rows shown (λ x y. refl)
 
 pub tells_changes_of : (old new : State) (lot : ℕ) (rows : List Row) → Shown ChangesOf.statement (natural_as_value lot ∷ []) old new rows
     → TablesSatisfy desk_tables (λ t. rows ≡ map holding_history_cells (filter (λ r. r.lot == lot) t.holding_history)) old.now
 tells_changes_of old new lot rows shown =
-    tells_rising desk_tables HoldingHistory ChangesOf.statement (natural_as_value lot ∷ []) (read ChangesOf.statement) ChangesOf.terms ChangesOf.project
-    ChangesOf.order ChangesOf.paging ChangesOf.names ChangesOf.understood_as
-    (λ (r : HoldingHistoryRow). r.lot == lot) (λ tree r x e. let a : column r 1 ≡ natural_as_value x.lot = ap (λ row. column row 0) e in
-    rw (a, same_number x.lot lot) (and_true _)) holding_history_cells (λ tree r x e. e)
-    (ordering_by_primary_key HoldingHistory) (key_total holding_history_key) (by_lot (natural_as_value lot ∷ [])) old new rows shown (λ x y. refl)
+    told_rising desk_tables HoldingHistory ChangesOf.statement ChangesOf.ask ChangesOf.paging ChangesOf.is_asked (natural_as_value lot ∷ [])
+    (λ (r : HoldingHistoryRow). r.lot == lot) (λ tree x. same_number x.lot lot)
+    holding_history_cells (λ x. refl) (ordering_by_primary_key HoldingHistory) (key_total holding_history_key) (λ tree x y. refl) old new rows shown (λ x y. refl)
 
 -- ---- brokers, and all requests
 
 pub tells_brokers_named : (old new : State) (name : List ℕ) (rows : List Row) → Shown BrokersNamed.statement (Words name ∷ []) old new rows
     → TablesSatisfy desk_tables (λ t. rows ≡ map broker_cells (filter (λ r. bytes_eq r.name name) t.brokers)) old.now
 tells_brokers_named old new name rows shown =
-    tells_rising desk_tables Brokers BrokersNamed.statement (Words name ∷ []) (read BrokersNamed.statement) BrokersNamed.terms BrokersNamed.project
-    BrokersNamed.order BrokersNamed.paging BrokersNamed.names BrokersNamed.understood_as
-    (λ (r : BrokerRow). bytes_eq r.name name) (λ tree r x e. let a : column r 2 ≡ Words x.name = ap (λ row. column row 1) e in
-    rw (a, same_text x.name name) (and_true _)) broker_cells (λ tree r x e. e) (ordering_by_primary_key Brokers) (key_total broker_key)
-    (λ tree a b x y e f. let p : column a 0 ≡ natural_as_value x.id = cc in let q : column b 0 ≡ natural_as_value y.id = cc in rw (p, q) refl) old new rows shown (λ x y. refl)
+    told_rising desk_tables Brokers BrokersNamed.statement BrokersNamed.ask BrokersNamed.paging BrokersNamed.is_asked (Words name ∷ [])
+    (λ (r : BrokerRow). bytes_eq r.name name) (λ tree x. same_text x.name name)
+    broker_cells (λ x. refl) (ordering_by_primary_key Brokers) (key_total broker_key) (λ tree x y. refl) old new rows shown (λ x y. refl)
 
 pub tells_requests : (old new : State) (rows : List Row) → Shown RequestsByTrade.statement [] old new rows → TablesSatisfy desk_tables (λ t. rows ≡ map request_cells t.requests) old.now
 tells_requests old new rows shown = λ t tree h.
-    tells_rising desk_tables Requests RequestsByTrade.statement [] (read RequestsByTrade.statement) RequestsByTrade.terms RequestsByTrade.project
-    RequestsByTrade.order RequestsByTrade.paging RequestsByTrade.names RequestsByTrade.understood_as
-    (λ _. true) (λ tree r x e. refl) request_cells (λ tree r x e. e) (ordering_by_primary_key Requests) (key_total request_key)
-    (λ tree a b x y e f. let p : column a 0 ≡ natural_as_value x.trade = cc in let q : column b 0 ≡ natural_as_value y.trade = cc in rw (p, q) refl) old new rows shown (λ x y. refl) t tree h
+    told_rising desk_tables Requests RequestsByTrade.statement RequestsByTrade.ask RequestsByTrade.paging RequestsByTrade.is_asked []
+    (λ _. true) (λ tree x. refl)
+    request_cells (λ x. refl) (ordering_by_primary_key Requests) (key_total request_key) (λ tree x y. refl) old new rows shown (λ x y. refl) t tree h
     ∙ ap (map request_cells) (filter_true t.requests)

@@ -16,7 +16,7 @@ use Rattle.brk_model.specs.Tables.{TradeRow}
 use Rattle.brk_sql.specs.Desk.{TablesSatisfy}
 use Rattle.brk_sql.specs.Rows.{cells_in_column_order}
 use Rattle.brk_sql.proofs.Answer.{limited_map}
-use Rattle.brk_sql.proofs.Looks.{tells_sorted}
+use Rattle.brk_sql.proofs.Told.{told_sorted}
 use Rattle.brk_sql.proofs.Pick.{sorted_by}
 use Rattle.brk_sql.proofs.Texts.{read}
 use Rattle.brk_tables_schema.specs.Cells.{natural_as_value, trade_cells}
@@ -79,16 +79,9 @@ pub tells_twenty_of_account : (old new : State) (account first last : ℕ) (rows
 tells_twenty_of_account old new account first last rows shown = λ t tree h.
     let test : TradeRow → Bool = λ r. (r.account == account) && row_stamp_is_between first last r in
     let params : Row = natural_as_value account ∷ natural_as_value first ∷ natural_as_value last ∷ [] in
-    tells_sorted desk_tables Trades TwentyOfAccount.statement params (read TwentyOfAccount.statement)
-    TwentyOfAccount.terms TwentyOfAccount.project TwentyOfAccount.order TwentyOfAccount.paging TwentyOfAccount.names TwentyOfAccount.understood_as
-    test
-    (λ tree r x e.
-    let a9 : column r 9 ≡ natural_as_value x.account = ap (λ row. column row 8) e in
-    let a2 : column r 2 ≡ natural_as_value x.stamp = ap (λ row. column row 1) e in
-    rw (a9, a2, same_number x.account account, at_least x.stamp first, at_most x.stamp last)
-    (ap (λ c. (x.account == account) && (nat_le first x.stamp && c)) (and_true _)))
-    trade_cells (λ tree r x e. e) rising (key_total trade_age) (by_age params)
-    old new rows shown (λ x y e. second (value_cmp (natural_as_value x.stamp) (natural_as_value y.stamp)) _ e) t tree h
+    told_sorted desk_tables Trades TwentyOfAccount.statement TwentyOfAccount.ask TwentyOfAccount.paging TwentyOfAccount.is_asked params
+    test (λ tree x. rw (same_number x.account account, at_least x.stamp first, at_most x.stamp last) refl)
+    trade_cells (λ x. refl) rising (key_total trade_age) (λ tree x y. refl) old new rows shown (λ x y e. second (value_cmp (natural_as_value x.stamp) (natural_as_value y.stamp)) _ e) t tree h
     ∙ first_shown 20 (filter test t.trades)
 
 pub tells_twenty_of_symbol : (old new : State) (symbol : List ℕ) (first last : ℕ) (rows : List Row)
@@ -97,16 +90,9 @@ pub tells_twenty_of_symbol : (old new : State) (symbol : List ℕ) (first last :
 tells_twenty_of_symbol old new symbol first last rows shown = λ t tree h.
     let test : TradeRow → Bool = λ r. bytes_eq r.symbol symbol && row_stamp_is_between first last r in
     let params : Row = Words symbol ∷ natural_as_value first ∷ natural_as_value last ∷ [] in
-    tells_sorted desk_tables Trades TwentyOfSymbol.statement params (read TwentyOfSymbol.statement)
-    TwentyOfSymbol.terms TwentyOfSymbol.project TwentyOfSymbol.order TwentyOfSymbol.paging TwentyOfSymbol.names TwentyOfSymbol.understood_as
-    test
-    (λ tree r x e.
-    let a6 : column r 6 ≡ Words x.symbol = ap (λ row. column row 5) e in
-    let a2 : column r 2 ≡ natural_as_value x.stamp = ap (λ row. column row 1) e in
-    rw (a6, a2, same_text x.symbol symbol, at_least x.stamp first, at_most x.stamp last)
-    (ap (λ c. bytes_eq x.symbol symbol && (nat_le first x.stamp && c)) (and_true _)))
-    trade_cells (λ tree r x e. e) rising (key_total trade_age) (by_age params)
-    old new rows shown (λ x y e. second (value_cmp (natural_as_value x.stamp) (natural_as_value y.stamp)) _ e) t tree h
+    told_sorted desk_tables Trades TwentyOfSymbol.statement TwentyOfSymbol.ask TwentyOfSymbol.paging TwentyOfSymbol.is_asked params
+    test (λ tree x. rw (same_text x.symbol symbol, at_least x.stamp first, at_most x.stamp last) refl)
+    trade_cells (λ x. refl) rising (key_total trade_age) (λ tree x y. refl) old new rows shown (λ x y e. second (value_cmp (natural_as_value x.stamp) (natural_as_value y.stamp)) _ e) t tree h
     ∙ first_shown 20 (filter test t.trades)
 
 -- ---- at or after a stamp
@@ -126,15 +112,8 @@ pub tells_first_since : (old new : State) (account first : ℕ) (rows : List Row
 tells_first_since old new account first rows shown = λ t tree h.
     let test : TradeRow → Bool = λ r. (r.account == account) && nat_le first r.stamp in
     let params : Row = natural_as_value account ∷ natural_as_value first ∷ [] in
-    tells_sorted desk_tables Trades FirstSince.statement params (read FirstSince.statement)
-    FirstSince.terms FirstSince.project FirstSince.order FirstSince.paging FirstSince.names FirstSince.understood_as
-    test
-    (λ tree r x e.
-    let a9 : column r 9 ≡ natural_as_value x.account = ap (λ row. column row 8) e in
-    let a2 : column r 2 ≡ natural_as_value x.stamp = ap (λ row. column row 1) e in
-    rw (a9, a2, same_number x.account account, at_least x.stamp first)
-    (ap (λ c. (x.account == account) && c) (and_true _)))
-    trade_cells (λ tree r x e. e) rising (key_total trade_age) (by_age params)
-    old new rows shown (λ x y e. second (value_cmp (natural_as_value x.stamp) (natural_as_value y.stamp)) _ e) t tree h
+    told_sorted desk_tables Trades FirstSince.statement FirstSince.ask FirstSince.paging FirstSince.is_asked params
+    test (λ tree x. rw (same_number x.account account, at_least x.stamp first) refl)
+    trade_cells (λ x. refl) rising (key_total trade_age) (λ tree x y. refl) old new rows shown (λ x y e. second (value_cmp (natural_as_value x.stamp) (natural_as_value y.stamp)) _ e) t tree h
     ∙ first_shown 1 (filter test t.trades)
     ∙ ap (λ (rs : List TradeRow). map trade_cells (take 1 (trade_rows_oldest_first rs))) (filter_twice (λ (r : TradeRow). nat_le first r.stamp) (λ (r : TradeRow). r.account == account) t.trades)

@@ -9,7 +9,7 @@ use Rattle.sqlite.specs.State.{State, Shown, Begins}
 use Rattle.brk_model.specs.Tables.{HoldingRow}
 use Rattle.brk_model.specs.Keys.{KeyPart, rows_sorted_by_key, insert_row_by_key}
 use Rattle.brk_sql.specs.Desk.{TablesSatisfy}
-use Rattle.brk_sql.proofs.Looks.{tells_sorted}
+use Rattle.brk_sql.proofs.Told.{told_sorted}
 use Rattle.brk_tables.proofs.views.Starts.{tells_start}
 use Rattle.brk_sql.proofs.Texts.{read}
 use Rattle.brk_tables_schema.specs.Cells.{natural_as_value, holding_cells}
@@ -34,25 +34,13 @@ second Greater b h = absurd (let f = h in cc)
 pub tells_lots_by_symbol : (old new : State) (account : ℕ) (rows : List Row) → Shown LotsBySymbol.statement (natural_as_value account ∷ []) old new rows
     → TablesSatisfy desk_tables (λ t. rows ≡ map holding_cells (account_lots_by_symbol account t)) old.now
 tells_lots_by_symbol old new account rows shown = λ t tree h.
-    tells_sorted desk_tables Holdings LotsBySymbol.statement (natural_as_value account ∷ []) (read LotsBySymbol.statement) LotsBySymbol.terms
-    LotsBySymbol.project LotsBySymbol.order LotsBySymbol.paging LotsBySymbol.names LotsBySymbol.understood_as
-    (λ (r : HoldingRow). r.account == account)
-    (λ tree r x e. let a0 : column r 2 ≡ natural_as_value x.account = ap (λ row. column row 1) e in rw (a0, same_number x.account account) (and_true _))
-    holding_cells (λ tree r x e. e) (ordering_by_key lot_sort_key) (key_total lot_sort_key)
-    (λ tree a b x y e f.
-    let p0 : column a 3 ≡ Words x.symbol = ap (λ row. column row 2) e in
-    let q0 : column b 3 ≡ Words y.symbol = ap (λ row. column row 2) f in
-    let p1 : column a 4 ≡ natural_as_value x.stamp = ap (λ row. column row 3) e in
-    let q1 : column b 4 ≡ natural_as_value y.stamp = ap (λ row. column row 3) f in
-    let p2 : column a 0 ≡ natural_as_value x.trade = ap (λ row. column row 0) e in
-    let q2 : column b 0 ≡ natural_as_value y.trade = ap (λ row. column row 0) f in
-    rw (p0, q0, p1, q1, p2, q2) refl)
-    old new rows shown (λ x y e. second (value_cmp (natural_as_value x.stamp) (natural_as_value y.stamp)) _ (second (value_cmp (Words x.symbol) (Words y.symbol)) _ e)) t tree h
+    told_sorted desk_tables Holdings LotsBySymbol.statement LotsBySymbol.ask LotsBySymbol.paging LotsBySymbol.is_asked (natural_as_value account ∷ [])
+    (λ (r : HoldingRow). r.account == account) (λ tree x. same_number x.account account)
+    holding_cells (λ x. refl) (ordering_by_key lot_sort_key) (key_total lot_sort_key) (λ tree x y. refl) old new rows shown (λ x y e. second (value_cmp (natural_as_value x.stamp) (natural_as_value y.stamp)) _ (second (value_cmp (Words x.symbol) (Words y.symbol)) _ e)) t tree h
     ∙ ap (map holding_cells) (sym (sorted lot_sort_key (filter (λ (r : HoldingRow). r.account == account) t.holdings)))
 
 pub lots_start : (s : State) (account : ℕ) (rows : List Row) → IsTrue s.is_open → Begins LotsBySymbol.statement (natural_as_value account ∷ []) s rows
     → TablesSatisfy desk_tables (λ t. (tail : List Row) × (rows ++ tail ≡ map holding_cells (account_lots_by_symbol account t))) s.now
 lots_start s account rows up begins =
-    tells_start desk_tables Holdings LotsBySymbol.statement (natural_as_value account ∷ []) (read LotsBySymbol.statement) LotsBySymbol.terms
-    LotsBySymbol.project LotsBySymbol.order LotsBySymbol.paging LotsBySymbol.names LotsBySymbol.understood_as s rows begins up
+    tells_start desk_tables Holdings LotsBySymbol.statement LotsBySymbol.ask LotsBySymbol.paging LotsBySymbol.is_asked (natural_as_value account ∷ []) s rows begins up
     (λ t all. all ≡ map holding_cells (account_lots_by_symbol account t)) (λ all. tells_lots_by_symbol s s account all)

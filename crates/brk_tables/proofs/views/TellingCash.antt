@@ -5,7 +5,7 @@ use Rattle.sqlite_value.specs.Order.{Row, column, value_cmp}
 use Rattle.sqlite_tied.proofs.RuleLemmas.{and_true}
 use Rattle.sqlite.specs.State.{State, Shown, Begins}
 use Rattle.brk_sql.specs.Desk.{TablesSatisfy}
-use Rattle.brk_sql.proofs.Looks.{tells_sorted}
+use Rattle.brk_sql.proofs.Told.{told_sorted}
 use Rattle.brk_tables.proofs.views.Starts.{tells_start}
 use Rattle.brk_sql.proofs.Texts.{read}
 use Rattle.brk_tables_schema.specs.Cells.{natural_as_value, move_cells}
@@ -22,28 +22,14 @@ pub tells_cash_between : (old new : State) (account from to : ℕ) (rows : List 
     → Shown CashBetween.statement (natural_as_value account ∷ natural_as_value from ∷ natural_as_value to ∷ []) old new rows
     → TablesSatisfy desk_tables (λ t. rows ≡ map move_cells (account_cash_rows_between account from to t)) old.now
 tells_cash_between old new account from to rows shown = λ t tree h.
-    tells_sorted desk_tables CashMoves CashBetween.statement (natural_as_value account ∷ natural_as_value from ∷ natural_as_value to ∷ [])
-    (read CashBetween.statement) CashBetween.terms CashBetween.project CashBetween.order CashBetween.paging CashBetween.names CashBetween.understood_as
-    (is_account_cash_row_between account from to)
-    (λ tree r x e.
-    let a0 : column r 2 ≡ natural_as_value x.account = ap (λ row. column row 1) e in
-    let a1 : column r 4 ≡ natural_as_value x.stamp = ap (λ row. column row 3) e in
-    rw (a0, a1, same_number x.account account, at_least x.stamp from, at_most x.stamp to) (ap (λ c. (x.account == account) && (nat_le from x.stamp && c)) (and_true _)))
-    move_cells (λ tree r x e. e) (ordering_by_key cash_sort_key) (key_total cash_sort_key)
-    (λ tree a b x y e f.
-    let p0 : column a 4 ≡ natural_as_value x.stamp = ap (λ row. column row 3) e in
-    let q0 : column b 4 ≡ natural_as_value y.stamp = ap (λ row. column row 3) f in
-    let p1 : column a 0 ≡ natural_as_value x.id = ap (λ row. column row 0) e in
-    let q1 : column b 0 ≡ natural_as_value y.id = ap (λ row. column row 0) f in
-    rw (p0, q0, p1, q1) refl)
-    old new rows shown (λ x y e. second (value_cmp (natural_as_value x.stamp) (natural_as_value y.stamp)) _ e) t tree h
+    told_sorted desk_tables CashMoves CashBetween.statement CashBetween.ask CashBetween.paging CashBetween.is_asked (natural_as_value account ∷ natural_as_value from ∷ natural_as_value to ∷ [])
+    (is_account_cash_row_between account from to) (λ tree x. rw (same_number x.account account, at_least x.stamp from, at_most x.stamp to) refl)
+    move_cells (λ x. refl) (ordering_by_key cash_sort_key) (key_total cash_sort_key) (λ tree x y. refl) old new rows shown (λ x y e. second (value_cmp (natural_as_value x.stamp) (natural_as_value y.stamp)) _ e) t tree h
     ∙ ap (map move_cells) (sym (sorted cash_sort_key (filter (is_account_cash_row_between account from to) t.moves)))
 
 pub cash_start : (s : State) (account from to : ℕ) (rows : List Row) → IsTrue s.is_open
     → Begins CashBetween.statement (natural_as_value account ∷ natural_as_value from ∷ natural_as_value to ∷ []) s rows
     → TablesSatisfy desk_tables (λ t. (tail : List Row) × (rows ++ tail ≡ map move_cells (account_cash_rows_between account from to t))) s.now
 cash_start s account from to rows up begins =
-    tells_start desk_tables CashMoves CashBetween.statement (natural_as_value account ∷ natural_as_value from ∷ natural_as_value to ∷ [])
-    (read CashBetween.statement) CashBetween.terms CashBetween.project CashBetween.order CashBetween.paging CashBetween.names CashBetween.understood_as s
-    rows begins up
+    tells_start desk_tables CashMoves CashBetween.statement CashBetween.ask CashBetween.paging CashBetween.is_asked (natural_as_value account ∷ natural_as_value from ∷ natural_as_value to ∷ []) s rows begins up
     (λ t all. all ≡ map move_cells (account_cash_rows_between account from to t)) (λ all. tells_cash_between s s account from to all)

@@ -10,7 +10,7 @@ use Rattle.brk_money.specs.declared.status.Status.{Status}
 use Rattle.brk_money.specs.declared.status.Status.TheVariants.{Completed, Active, Submitted, Pending, Canceled}
 use Rattle.brk_model.specs.Tables.{TradeRow}
 use Rattle.brk_sql.specs.Desk.{TablesSatisfy}
-use Rattle.brk_sql.proofs.Looks.{tells_sorted}
+use Rattle.brk_sql.proofs.Told.{told_sorted}
 use Rattle.brk_sql.proofs.Texts.{read}
 use Rattle.brk_tables_schema.specs.Cells.{natural_as_value, trade_cells}
 use Rattle.brk_tables_schema.specs.Desk.{Trades, desk_tables}
@@ -33,24 +33,13 @@ is_done Canceled = refl
 pub tells_completed_by_age : (old new : State) (rows : List Row) → Shown CompletedByAge.statement (Words (trade_status_code Completed) ∷ []) old new rows
     → TablesSatisfy desk_tables (λ t. rows ≡ map trade_cells (completed_trades_by_stamp_and_id t)) old.now
 tells_completed_by_age old new rows shown = λ t tree h.
-    tells_sorted desk_tables Trades CompletedByAge.statement (Words (trade_status_code Completed) ∷ []) (read CompletedByAge.statement) CompletedByAge.terms
-    CompletedByAge.project CompletedByAge.order CompletedByAge.paging CompletedByAge.names CompletedByAge.understood_as
-    (λ (r : TradeRow). is_same_trade_status r.status Completed)
-    (λ tree r x e. let a3 : column r 3 ≡ Words (trade_status_code x.status) = ap (λ row. column row 2) e in
-    rw (a3, same_text (trade_status_code x.status) (trade_status_code Completed), is_done x.status) (and_true _))
-    trade_cells (λ tree r x e. e) (ordering_by_key stamp_and_id_key) (key_total stamp_and_id_key)
-    (λ tree a b x y e f.
-    let p0 : column a 2 ≡ natural_as_value x.stamp = ap (λ row. column row 1) e in
-    let q0 : column b 2 ≡ natural_as_value y.stamp = ap (λ row. column row 1) f in
-    let p1 : column a 0 ≡ natural_as_value x.id = ap (λ row. column row 0) e in
-    let q1 : column b 0 ≡ natural_as_value y.id = ap (λ row. column row 0) f in
-    rw (p0, q0, p1, q1) refl)
-    old new rows shown (λ x y e. second (value_cmp (natural_as_value x.stamp) (natural_as_value y.stamp)) _ e) t tree h
+    told_sorted desk_tables Trades CompletedByAge.statement CompletedByAge.ask CompletedByAge.paging CompletedByAge.is_asked (Words (trade_status_code Completed) ∷ [])
+    (λ (r : TradeRow). is_same_trade_status r.status Completed) (λ tree x. rw (same_text (trade_status_code x.status) (trade_status_code Completed), is_done x.status) refl)
+    trade_cells (λ x. refl) (ordering_by_key stamp_and_id_key) (key_total stamp_and_id_key) (λ tree x y. refl) old new rows shown (λ x y e. second (value_cmp (natural_as_value x.stamp) (natural_as_value y.stamp)) _ e) t tree h
     ∙ ap (map trade_cells) (sym (sorted stamp_and_id_key (filter (λ (r : TradeRow). is_same_trade_status r.status Completed) t.trades)))
 
 pub completed_start : (s : State) (rows : List Row) → IsTrue s.is_open → Begins CompletedByAge.statement (Words (trade_status_code Completed) ∷ []) s rows
     → TablesSatisfy desk_tables (λ t. (tail : List Row) × (rows ++ tail ≡ map trade_cells (completed_trades_by_stamp_and_id t))) s.now
 completed_start s rows up begins =
-    tells_start desk_tables Trades CompletedByAge.statement (Words (trade_status_code Completed) ∷ []) (read CompletedByAge.statement) CompletedByAge.terms
-    CompletedByAge.project CompletedByAge.order CompletedByAge.paging CompletedByAge.names CompletedByAge.understood_as s rows begins up
+    tells_start desk_tables Trades CompletedByAge.statement CompletedByAge.ask CompletedByAge.paging CompletedByAge.is_asked (Words (trade_status_code Completed) ∷ []) s rows begins up
     (λ t all. all ≡ map trade_cells (completed_trades_by_stamp_and_id t)) (λ all. tells_completed_by_age s s all)
