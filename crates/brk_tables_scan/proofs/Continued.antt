@@ -1,5 +1,5 @@
 -- Steps of a decoding, one after the other, are one step.
-use Rattle.std.proofs.Common.{◌≡◌, ◌⊎◌, Bool, true, false, inl, inr}
+use Rattle.std.proofs.Common.{Bool, inl, inr}
 use Rattle.std.specs.Prelude.{◌&&◌}
 use Rattle.brk_tables_scan.specs.Decoded.{ContinuesDecoding}
 use Rattle.brk_tables_scan.proofs.Formless.{first_fails, last_fails}
