@@ -6,8 +6,7 @@ use Rattle.sqlite_value.specs.declared.value.Value.TheVariants.{Null}
 use Rattle.sqlite_value.specs.declared.keys.Collation.TheVariants.{Binary}
 use Rattle.sqlite_sql.specs.declared.ops.BinaryOp.TheVariants.{Is}
 use Rattle.sqlite_sql.specs.Ops.{binary, is_true}
-use Rattle.sqlite_value.specs.Order.{Row, column, value_cmp}
-use Rattle.sqlite_tied.proofs.RuleLemmas.{and_true}
+use Rattle.sqlite_value.specs.Order.{Row, value_cmp}
 use Rattle.sqlite.specs.State.{State, Shown}
 use Rattle.brk_model.specs.LookupView.{is_cash_row_of_trade}
 use Rattle.brk_model.specs.Keys.{cash_move_key}
@@ -15,7 +14,6 @@ use Rattle.brk_sql.specs.Desk.{TablesSatisfy}
 use Rattle.brk_sql.proofs.Answer.{limited_map}
 use Rattle.brk_sql.proofs.Decode.{filter_true}
 use Rattle.brk_sql.proofs.Told.{told_rising, told_falling}
-use Rattle.brk_sql.proofs.Texts.{read}
 use Rattle.brk_tables_schema.specs.Cells.{natural_as_value, optional_natural_as_value, move_cells, rule_cells}
 use Rattle.brk_tables_schema.specs.Desk.{CashMoves, SettleRules, desk_tables, ordering_by_primary_key, rule_key, rule_rows}
 use Rattle.brk_tables_schema.proofs.Order.{key_total}

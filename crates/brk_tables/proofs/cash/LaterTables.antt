@@ -1,5 +1,5 @@
 -- The tables that a schema lacks are made, the number is set, and the rows are turned.
-use Rattle.std.proofs.Common.{◌≡◌, ◌≢◌, ◌⊎◌, ◌∙◌, inl, inr, ℕ, List, [], ◌∷◌, ◌++◌, map, Bool, true, false, not, refl, sym, ap, subst}
+use Rattle.std.proofs.Common.{◌≡◌, ◌≢◌, ◌∙◌, inl, inr, ℕ, List, [], ◌∷◌, map, Bool, true, false, not, refl, sym, ap, subst}
 use Rattle.std.specs.List.{AllByRecursion}
 use Rattle.sqlite_rules.specs.Lists.{Has}
 use Rattle.sqlite_rules.proofs.ListLemmas.{all_has, all_from, has_kept, has_filtered}
@@ -8,17 +8,17 @@ use Rattle.sqlite_schema.specs.declared.schema.Table.{Table}
 use Rattle.sqlite.specs.Effect.{Database}
 use Rattle.brk_model.specs.Schemas.{Schema}
 use Rattle.brk_model.specs.Tables.{Tables}
-use Rattle.brk_sql.specs.Desk.{HasTables, HasSelectedTables, HasNoWritingForeignKeysAt, CreatesEachTable, PreservesUnrelatedTables, ChangesTablesBy}
+use Rattle.brk_sql.specs.Desk.{HasNoWritingForeignKeysAt, CreatesEachTable, ChangesTablesBy}
 use Rattle.brk_sql.proofs.Founded.{Among, OrIn, all_left}
-use Rattle.brk_sql.proofs.Grown.{Grown, grown_each, all_there}
-use Rattle.brk_tables_schema.specs.Desk.{DeskTable, CashMoves, all_tables, desk_tables, desk_tables_of_schema, schema_has_table, rows_of_table_in_schema, table_definition_at_tree}
-use Rattle.brk_tables_schema.specs.Made.{IsTableOfSchema, LacksOtherDeskTables}
+use Rattle.brk_sql.proofs.Grown.{grown_each, all_there}
+use Rattle.brk_tables_schema.specs.Desk.{DeskTable, CashMoves, all_tables, desk_tables_of_schema, schema_has_table, rows_of_table_in_schema, table_definition_at_tree}
+use Rattle.brk_tables_schema.specs.Made.{IsTableOfSchema}
 use Rattle.brk_tables_schema.proofs.Which.{all_listed, split}
 use Rattle.brk_tables_schema.specs.Desk.{tables_of_later_schemas}
 use Rattle.brk_tables.specs.UpgradeStatements.{SetsSchemaNumberToThree}
-use Rattle.brk_tables.specs.Upgrade.{AddsTablesOfLaterSchemas, PreservesTablesOutside, UpgradesTables, HasUpgradedTables, tables_with_cash_transactions_moved}
+use Rattle.brk_tables.specs.Upgrade.{AddsTablesOfLaterSchemas, UpgradesTables, HasUpgradedTables, tables_with_cash_transactions_moved}
 use Rattle.brk_tables.proofs.cash.Numbered.{upgraded_is}
-use Rattle.brk_model.specs.Upgraded.{tables_with_merged_cash_rows, tables_upgraded_from_schema}
+use Rattle.brk_model.specs.Upgraded.{tables_upgraded_from_schema}
 
 -- ---- each table is of a schema, or of a later one
 

@@ -1,14 +1,12 @@
 -- What the reads of the upgrade show of the tables.
 use Rattle.std.proofs.Common.{◌≡◌, ℕ, List, [], ◌∷◌, true, map, filter, ◌==◌, refl, ap, ◌∙◌}
-use Rattle.sqlite_value.specs.Order.{Row, column}
-use Rattle.sqlite_tied.proofs.RuleLemmas.{and_true}
+use Rattle.sqlite_value.specs.Order.{Row}
 use Rattle.sqlite.specs.State.{State, Shown}
 use Rattle.brk_model.specs.Tables.{TradeRow}
 use Rattle.brk_model.specs.Keys.{cash_transaction_key, trade_key}
 use Rattle.brk_sql.specs.Desk.{TablesSatisfy}
 use Rattle.brk_sql.proofs.Decode.{filter_true}
 use Rattle.brk_sql.proofs.Told.{told_rising}
-use Rattle.brk_sql.proofs.Texts.{read}
 use Rattle.brk_tables_schema.specs.Cells.{natural_as_value, cash_cells}
 use Rattle.brk_tables_schema.specs.Desk.{CashRows, Trades, desk_tables, ordering_by_primary_key}
 use Rattle.brk_tables_schema.proofs.Order.{key_total}

@@ -1,18 +1,17 @@
 -- What is read and written one after another.
-use Rattle.std.proofs.Common.{◌≡◌, ◌∙◌, ℕ, List, [], ◌∷◌, map, take, get_or, length, ◌+◌, ◌<◌, Option, Some, None, option_map, Ok, inl, refl, sym, ap, subst}
+use Rattle.std.proofs.Common.{◌≡◌, ℕ, List, [], take, get_or, length, ◌+◌, ◌<◌, Option, Some, None, option_map, Ok, inl, refl, sym, ap, subst}
 use Rattle.std.proofs.Math.Nat.{le_refl}
 use Rattle.std.specs.Option.{option_map_or}
 use Rattle.sqlite.specs.Effect.{Database}
 use Rattle.sqlite.specs.State.{State}
 use Rattle.brk_money.specs.declared.fault.Fault.{Fault}
 use Rattle.brk_sql.specs.Model.{IsTransactionStep}
-use Rattle.brk_model.specs.Adopted.{posting_of_cash_transaction_row}
 use Rattle.brk_model.specs.Joins.{trade_row_with_id}
-use Rattle.brk_model.specs.Tables.{Tables, CashRow, MoveRow, TradeRow, cash_move_row}
+use Rattle.brk_model.specs.Tables.{Tables, CashRow, MoveRow, TradeRow}
 use Rattle.brk_changes.specs.Changes.{tables_with_cash_row}
 use Rattle.brk_sql.specs.Desk.{HasTables, TablesSatisfy, ChangesTablesBy}
 use Rattle.brk_sql.proofs.Strangers.{spares_then}
-use Rattle.brk_tables_schema.specs.Desk.{DeskTable, desk_tables}
+use Rattle.brk_tables_schema.specs.Desk.{desk_tables}
 use Rattle.brk_tables.specs.UpgradeStatements.{tables_without_cash_transactions}
 use Rattle.brk_tables.specs.Upgrade.{cash_transactions_by_stamp, tables_with_cash_rows_numbered_from, tables_with_cash_transactions_moved, tables_with_numbered_cash_row}
 use Rattle.brk_tables.proofs.cash.Numbered.{one_more}

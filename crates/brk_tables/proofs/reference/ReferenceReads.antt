@@ -1,9 +1,8 @@
 -- What the reads of further records of reference data tell of the tables.
-use Rattle.std.proofs.Common.{◌≡◌, ℕ, List, [], ◌∷◌, Bool, true, false, map, filter, ◌==◌, ◌&&◌, refl, ap}
+use Rattle.std.proofs.Common.{◌≡◌, ℕ, List, [], ◌∷◌, Bool, true, false, map, filter, ◌==◌, ◌&&◌, refl}
 use Rattle.std.specs.Prelude.{bytes_eq}
 use Rattle.sqlite_value.specs.declared.value.Value.TheVariants.{Text as Words}
-use Rattle.sqlite_value.specs.Order.{Row, column}
-use Rattle.sqlite_tied.proofs.RuleLemmas.{and_true}
+use Rattle.sqlite_value.specs.Order.{Row}
 use Rattle.sqlite.specs.State.{State, Shown}
 use Rattle.brk_money.specs.Kinds.{trade_type_code, is_same_trade_type}
 use Rattle.brk_money.specs.declared.trade_type.TradeType.{TradeType}
@@ -12,7 +11,6 @@ use Rattle.brk_model.specs.Tables.{SecurityRow}
 use Rattle.brk_model.specs.Keys.{permission_key, security_key, charge_key, band_key, tax_rate_key, customer_tax_key}
 use Rattle.brk_sql.specs.Desk.{TablesSatisfy}
 use Rattle.brk_sql.proofs.Told.{told_rising}
-use Rattle.brk_sql.proofs.Texts.{read}
 use Rattle.brk_tables_schema.specs.Cells.{natural_as_value, permission_cells, security_cells, charge_cells, band_cells, tax_rate_cells, customer_tax_cells}
 use Rattle.brk_tables_schema.specs.Desk.{Permissions, Securities, Charges, Bands, TaxRates, CustomerTaxes, desk_tables, ordering_by_primary_key}
 use Rattle.brk_tables_schema.proofs.Order.{key_total}

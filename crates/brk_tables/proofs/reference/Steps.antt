@@ -2,8 +2,7 @@
 use Rattle.std.proofs.Common.{◌≡◌, ℕ, pos, List, [], ◌∷◌, map, filter, ◌==◌, refl}
 use Rattle.std.specs.Prelude.{bytes_eq}
 use Rattle.sqlite_value.specs.declared.value.Value.TheVariants.{Null, Int, Text as Words}
-use Rattle.sqlite_value.specs.Order.{Row, column}
-use Rattle.sqlite_tied.proofs.RuleLemmas.{and_true}
+use Rattle.sqlite_value.specs.Order.{Row}
 use Rattle.sqlite.specs.State.{State, Shown}
 use Rattle.brk_money.specs.Kinds.{tax_status_number}
 use Rattle.brk_model.specs.Records.{Broker, Customer, Account}

@@ -6,28 +6,20 @@ use Rattle.std.specs.List.{AllByRecursion}
 use Rattle.std.specs.Prelude.{bytes_eq, drop, take}
 use Rattle.std.specs.Ordering.{ordering_reverse, ordering_then}
 use Rattle.sqlite_value.specs.declared.value.Value.TheVariants.{Text as Words}
-use Rattle.sqlite_value.specs.Order.{Row, column, value_cmp}
+use Rattle.sqlite_value.specs.Order.{Row, value_cmp}
 use Rattle.sqlite_keyed.specs.Lists.{sort_by}
-use Rattle.sqlite_rules.specs.Edit.{id_in}
-use Rattle.sqlite_tied.proofs.RuleLemmas.{and_true}
 use Rattle.sqlite.specs.State.{State, Shown}
 use Rattle.brk_model.specs.Tables.{HoldingRow, SummaryRow}
-use Rattle.sqlite_sql.specs.Term.{Term}
 use Rattle.sqlite_trees.specs.Tree.{IsAscending}
 use Rattle.sqlite_keyed.proofs.ListLemmas.{ascending-filter}
 use Rattle.brk_model.specs.Keys.{KeyPart, rows_sorted_by_key, insert_row_by_key, holding_key, summary_key}
-use Rattle.brk_sql.specs.Rows.{IsStrictlyAscending, cells_in_column_order}
+use Rattle.brk_sql.specs.Rows.{IsStrictlyAscending}
 use Rattle.brk_sql.proofs.Answer.{limited_map}
-use Rattle.brk_sql.proofs.Pick.{passes}
-use Rattle.brk_tables_schema.specs.Shapes.{holding_table}
 use Rattle.brk_sql.specs.Desk.{TablesSatisfy}
-use Rattle.brk_sql.proofs.Decode.{text_in}
 use Rattle.brk_sql.proofs.Told.{told_rising, told_sorted}
-use Rattle.brk_sql.proofs.Texts.{read}
 use Rattle.brk_tables_schema.specs.Cells.{natural_as_value, holding_cells, summary_cells}
 use Rattle.brk_tables_schema.specs.Desk.{Holdings, Summaries, desk_tables, ordering_by_primary_key}
 use Rattle.brk_tables_schema.specs.Order.{ordering_by_key}
-use Rattle.brk_tables_schema.proofs.Back.{number_in}
 use Rattle.brk_tables_schema.proofs.Order.{key_total, inserted}
 use Rattle.brk_tables_schema.proofs.Tests.{same_number, same_text}
 use Rattle.brk_changes.specs.Rows.{lot_age_key, lots_oldest_first}

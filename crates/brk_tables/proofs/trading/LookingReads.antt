@@ -6,28 +6,21 @@ use Rattle.std.specs.Cmp.Lexicographic.{slice_cmp}
 use Rattle.std.specs.Ordering.{is_gt, ordering_reverse, ordering_then}
 use Rattle.std.proofs.lemmas.Bool.Decides.{nat_tests}
 use Rattle.std.proofs.lemmas.Cmp.{back_total}
-use Rattle.sqlite_value.specs.declared.value.Value.TheVariants.{Text as Words}
-use Rattle.sqlite_value.specs.Order.{Row, column, value_cmp}
+use Rattle.sqlite_value.specs.Order.{Row, value_cmp}
 use Rattle.sqlite_keyed.specs.Lists.{insert_sorted, sort_by}
-use Rattle.sqlite_tied.proofs.RuleLemmas.{and_true}
 use Rattle.sqlite.specs.State.{State, Shown}
-use Rattle.brk_money.specs.Kinds.{trade_status_code}
 use Rattle.brk_model.specs.Joins.{trade_rows_recent_first, trade_rows_of_account}
 use Rattle.brk_model.specs.Keys.{KeyPart, history_key, is_key_less, number, trade_key}
 use Rattle.brk_model.specs.Lists as model
 use Rattle.brk_model.specs.Tables.{HistoryRow, TradeRow}
 use Rattle.brk_sql.specs.Desk.{TablesSatisfy}
 use Rattle.brk_sql.proofs.Answer.{limited_map}
-use Rattle.brk_sql.proofs.Decode.{text_in}
 use Rattle.brk_sql.proofs.Told.{told_rising, told_sorted}
-use Rattle.brk_sql.proofs.Texts.{read}
 use Rattle.brk_tables_schema.specs.Cells.{natural_as_value, history_cells, trade_cells}
 use Rattle.brk_tables_schema.specs.Desk.{Trades, TradeHistory, desk_tables, ordering_by_primary_key}
 use Rattle.brk_tables_schema.specs.Order.{ordering_by_key, key_values}
-use Rattle.brk_tables_schema.proofs.Back.{number_in}
 use Rattle.brk_tables_schema.proofs.Order.{inserted, key_total}
 use Rattle.brk_tables_schema.proofs.Tests.{same_number}
-use Rattle.brk_tables_schema.proofs.TradingBack.{status_at, status_back}
 use Rattle.brk_tables.proofs.trading.HistoryOf
 use Rattle.brk_tables.proofs.trading.LastFiftyOfAccount
 use Rattle.brk_tables.proofs.trading.LastTenOfAccount

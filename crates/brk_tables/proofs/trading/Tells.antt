@@ -3,8 +3,7 @@ use Rattle.std.proofs.Common.{◌≡◌, ℕ, List, [], ◌∷◌, true, Some, m
 use Rattle.std.specs.Prelude.{◌&&◌, bytes_eq, nat_le}
 use Rattle.std.proofs.lemmas.Cmp.{back_total}
 use Rattle.sqlite_value.specs.declared.value.Value.TheVariants.{Text as Words}
-use Rattle.sqlite_value.specs.Order.{Row, column}
-use Rattle.sqlite_tied.proofs.RuleLemmas.{and_true}
+use Rattle.sqlite_value.specs.Order.{Row}
 use Rattle.sqlite.specs.State.{State, Shown}
 use Rattle.brk_money.specs.Kinds.{is_same_trade_status, is_same_trade_type, trade_status_code, trade_type_code}
 use Rattle.brk_money.specs.declared.status.Status.{Status}
@@ -16,7 +15,6 @@ use Rattle.brk_sql.specs.Desk.{TablesSatisfy}
 use Rattle.brk_sql.proofs.Answer.{limited_map}
 use Rattle.brk_sql.proofs.Decode.{filter_true}
 use Rattle.brk_sql.proofs.Told.{told_rising, told_falling}
-use Rattle.brk_sql.proofs.Texts.{read}
 use Rattle.brk_tables_schema.specs.Cells.{natural_as_value, trade_cells, request_cells, last_trade_cells}
 use Rattle.brk_tables_schema.specs.Desk.{Trades, Requests, LastTrades, desk_tables, ordering_by_primary_key}
 use Rattle.brk_tables_schema.proofs.Compared.{at_least, at_most}

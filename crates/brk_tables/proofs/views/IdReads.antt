@@ -2,8 +2,7 @@
 use Rattle.std.proofs.Common.{◌≡◌, ◌∙◌, ℕ, List, [], ◌∷◌, Bool, ◌&&◌, ◌==◌, map, filter, refl, sym, ap}
 use Rattle.std.specs.Prelude.{bytes_eq}
 use Rattle.sqlite_value.specs.declared.value.Value.TheVariants.{Text as Words}
-use Rattle.sqlite_value.specs.Order.{Row, column, value_cmp}
-use Rattle.sqlite_tied.proofs.RuleLemmas.{and_true}
+use Rattle.sqlite_value.specs.Order.{Row, value_cmp}
 use Rattle.sqlite.specs.State.{State, Shown}
 use Rattle.brk_money.specs.Kinds.{is_same_trade_status, trade_status_code}
 use Rattle.brk_money.specs.declared.status.Status.{Status}
@@ -13,7 +12,6 @@ use Rattle.brk_model.specs.Keys.{account_key}
 use Rattle.brk_model.specs.Tables.{AccountRow, TradeRow}
 use Rattle.brk_sql.specs.Desk.{TablesSatisfy}
 use Rattle.brk_sql.proofs.Told.{told_rising, told_sorted}
-use Rattle.brk_sql.proofs.Texts.{read}
 use Rattle.brk_tables_schema.specs.Cells.{natural_as_value}
 use Rattle.brk_tables_schema.specs.Desk.{Accounts, Trades, desk_tables, ordering_by_primary_key}
 use Rattle.brk_tables_schema.proofs.Order.{key_total}

@@ -2,20 +2,15 @@
 use Rattle.std.proofs.Common.{◌≡◌, ◌∙◌, ℕ, List, [], ◌∷◌, true, map, filter, ◌==◌, refl, ap}
 use Rattle.std.specs.Prelude.{bytes_eq}
 use Rattle.sqlite_value.specs.declared.value.Value.TheVariants.{Text as Words}
-use Rattle.sqlite_value.specs.Order.{Row, column}
-use Rattle.sqlite_tied.proofs.RuleLemmas.{and_true}
+use Rattle.sqlite_value.specs.Order.{Row}
 use Rattle.sqlite.specs.State.{State, Shown}
 use Rattle.brk_model.specs.Keys.{broker_key, holding_history_key, request_key}
 use Rattle.brk_model.specs.Tables.{BrokerRow, HoldingHistoryRow}
 use Rattle.brk_sql.specs.Desk.{TablesSatisfy}
-use Rattle.brk_sql.specs.Rows.{cells_in_column_order}
 use Rattle.brk_sql.proofs.Decode.{filter_true}
 use Rattle.brk_sql.proofs.Told.{told_rising}
-use Rattle.brk_sql.proofs.Pick.{sorted_by}
-use Rattle.brk_sql.proofs.Texts.{read}
 use Rattle.brk_tables_schema.specs.Cells.{natural_as_value, broker_cells, holding_history_cells, request_cells}
 use Rattle.brk_tables_schema.specs.Desk.{Brokers, HoldingHistory, Requests, desk_tables, ordering_by_primary_key}
-use Rattle.brk_tables_schema.specs.Shapes.{holding_history_table}
 use Rattle.brk_tables_schema.proofs.Order.{key_total}
 use Rattle.brk_tables_schema.proofs.Tests.{same_number, same_text}
 use Rattle.brk_tables.proofs.views.BrokersNamed
@@ -24,17 +19,6 @@ use Rattle.brk_tables.proofs.views.ChangesOf
 use Rattle.brk_tables.proofs.views.RequestsByTrade
 
 -- ---- what trades made of lots
-
--- both statements have one order, which is that of the key
-by_lot : (params : Row) (tree : ℕ) (a b : Row) (x y : HoldingHistoryRow) → cells_in_column_order (holding_history_table tree) a ≡ holding_history_cells x
-    → cells_in_column_order (holding_history_table tree) b ≡ holding_history_cells y
-    → sorted_by params ChangesBy.order a b ≡ ordering_by_primary_key HoldingHistory x y
-by_lot params tree a b x y e f =
-    let p0 : column a 1 ≡ natural_as_value x.lot = ap (λ row. column row 0) e in
-    let q0 : column b 1 ≡ natural_as_value y.lot = ap (λ row. column row 0) f in
-    let p1 : column a 2 ≡ natural_as_value x.trade = ap (λ row. column row 1) e in
-    let q1 : column b 2 ≡ natural_as_value y.trade = ap (λ row. column row 1) f in
-    rw (p0, q0, p1, q1) refl
 
 pub tells_changes_by : (old new : State) (trade : ℕ) (rows : List Row) → Shown ChangesBy.statement (natural_as_value trade ∷ []) old new rows
     → TablesSatisfy desk_tables (λ t. rows ≡ map holding_history_cells (filter (λ r. r.trade == trade) t.holding_history)) old.now

@@ -4,9 +4,8 @@ use Rattle.std.specs.Prelude.{bytes_eq, nat_le, nat_lt}
 use Rattle.std.specs.Ordering.{ordering_then}
 use Rattle.std.proofs.lemmas.Bool.Decides.{nat_tests}
 use Rattle.sqlite_value.specs.declared.value.Value.TheVariants.{Text as Words}
-use Rattle.sqlite_value.specs.Order.{Row, column, value_cmp}
+use Rattle.sqlite_value.specs.Order.{Row, value_cmp}
 use Rattle.sqlite_keyed.specs.Lists.{sort_by}
-use Rattle.sqlite_tied.proofs.RuleLemmas.{and_true}
 use Rattle.sqlite.specs.State.{State, Shown}
 use Rattle.brk_model.specs.Joins.{trade_rows_oldest_first, trade_rows_of_account}
 use Rattle.brk_model.specs.Keys.{KeyPart, number, rows_sorted_by_key, insert_row_by_key}
@@ -14,15 +13,11 @@ use Rattle.brk_model.specs.Lists as model
 use Rattle.brk_model.specs.LookupView.{row_stamp_is_between}
 use Rattle.brk_model.specs.Tables.{TradeRow}
 use Rattle.brk_sql.specs.Desk.{TablesSatisfy}
-use Rattle.brk_sql.specs.Rows.{cells_in_column_order}
 use Rattle.brk_sql.proofs.Answer.{limited_map}
 use Rattle.brk_sql.proofs.Told.{told_sorted}
-use Rattle.brk_sql.proofs.Pick.{sorted_by}
-use Rattle.brk_sql.proofs.Texts.{read}
 use Rattle.brk_tables_schema.specs.Cells.{natural_as_value, trade_cells}
 use Rattle.brk_tables_schema.specs.Desk.{Trades, desk_tables}
 use Rattle.brk_tables_schema.specs.Order.{ordering_by_key}
-use Rattle.brk_tables_schema.specs.Shapes.{trade_table}
 use Rattle.brk_tables_schema.proofs.Compared.{at_least, at_most}
 use Rattle.brk_tables_schema.proofs.Order.{key_total, inserted}
 use Rattle.brk_tables_schema.proofs.Tests.{same_number, same_text}
@@ -56,16 +51,6 @@ pub second : (a b : Ordering) → is_eq (ordering_then a b) ≡ true → is_eq b
 second Less b h = absurd (let f = h in cc)
 second Equal b h = h
 second Greater b h = absurd (let f = h in cc)
-
--- the three statements have one order, which is that of these moments
-by_age : (params : Row) (tree : ℕ) (a b : Row) (x y : TradeRow) → cells_in_column_order (trade_table tree) a ≡ trade_cells x
-    → cells_in_column_order (trade_table tree) b ≡ trade_cells y → sorted_by params TwentyOfAccount.order a b ≡ rising x y
-by_age params tree a b x y e f =
-    let p0 : column a 2 ≡ natural_as_value x.stamp = ap (λ row. column row 1) e in
-    let q0 : column b 2 ≡ natural_as_value y.stamp = ap (λ row. column row 1) f in
-    let p1 : column a 0 ≡ natural_as_value x.id = ap (λ row. column row 0) e in
-    let q1 : column b 0 ≡ natural_as_value y.id = ap (λ row. column row 0) f in
-    rw (p0, q0, p1, q1) refl
 
 -- the first of those that are shown are the first of those that there are
 first_shown : (n : ℕ) (rows : List TradeRow) → take n (map trade_cells (sort_by rising rows)) ≡ map trade_cells (take n (trade_rows_oldest_first rows))

@@ -1,6 +1,6 @@
 -- Rows that were given first are those of a whole answer, so what is told of answers is told of
 -- them.
-use Rattle.std.proofs.Common.{◌≡◌, ℕ, List, [], ◌++◌, map, refl, sym, subst, ◌∙◌, IsTrue}
+use Rattle.std.proofs.Common.{ℕ, List, [], ◌++◌, map, refl, sym, subst, ◌∙◌, IsTrue}
 use Rattle.sqlite_value.specs.Order.{Row}
 use Rattle.sqlite_sql.specs.Term.{Term}
 use Rattle.sqlite_schema.specs.declared.command.Command.TheVariants.{Select}

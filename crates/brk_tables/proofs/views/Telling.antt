@@ -2,16 +2,14 @@
 use Rattle.std.proofs.Common.{◌≡◌, ℕ, List, [], ◌∷◌, ◌++◌, true, IsTrue, map, filter, ◌==◌, Ordering, Less, Equal, Greater, is_eq, refl, sym, ap, ◌∙◌}
 use Rattle.std.specs.Ordering.{ordering_then}
 use Rattle.sqlite_value.specs.declared.value.Value.TheVariants.{Text as Words}
-use Rattle.sqlite_value.specs.Order.{Row, column, value_cmp}
+use Rattle.sqlite_value.specs.Order.{Row, value_cmp}
 use Rattle.sqlite_keyed.specs.Lists.{sort_by}
-use Rattle.sqlite_tied.proofs.RuleLemmas.{and_true}
 use Rattle.sqlite.specs.State.{State, Shown, Begins}
 use Rattle.brk_model.specs.Tables.{HoldingRow}
 use Rattle.brk_model.specs.Keys.{KeyPart, rows_sorted_by_key, insert_row_by_key}
 use Rattle.brk_sql.specs.Desk.{TablesSatisfy}
 use Rattle.brk_sql.proofs.Told.{told_sorted}
 use Rattle.brk_tables.proofs.views.Starts.{tells_start}
-use Rattle.brk_sql.proofs.Texts.{read}
 use Rattle.brk_tables_schema.specs.Cells.{natural_as_value, holding_cells}
 use Rattle.brk_tables_schema.specs.Desk.{Holdings, desk_tables}
 use Rattle.brk_tables_schema.specs.Order.{ordering_by_key}

@@ -1,13 +1,10 @@
 -- What the statement of a walk over cash rows tells of the tables.
-use Rattle.std.proofs.Common.{◌≡◌, ℕ, List, [], ◌∷◌, ◌++◌, IsTrue, ◌&&◌, ◌==◌, map, filter, refl, sym, ap, ◌∙◌}
-use Rattle.std.specs.Prelude.{nat_le}
-use Rattle.sqlite_value.specs.Order.{Row, column, value_cmp}
-use Rattle.sqlite_tied.proofs.RuleLemmas.{and_true}
+use Rattle.std.proofs.Common.{◌≡◌, ℕ, List, [], ◌∷◌, ◌++◌, IsTrue, map, filter, refl, sym, ap, ◌∙◌}
+use Rattle.sqlite_value.specs.Order.{Row, value_cmp}
 use Rattle.sqlite.specs.State.{State, Shown, Begins}
 use Rattle.brk_sql.specs.Desk.{TablesSatisfy}
 use Rattle.brk_sql.proofs.Told.{told_sorted}
 use Rattle.brk_tables.proofs.views.Starts.{tells_start}
-use Rattle.brk_sql.proofs.Texts.{read}
 use Rattle.brk_tables_schema.specs.Cells.{natural_as_value, move_cells}
 use Rattle.brk_tables_schema.specs.Desk.{CashMoves, desk_tables}
 use Rattle.brk_tables_schema.specs.Order.{ordering_by_key}

@@ -2,8 +2,7 @@
 use Rattle.std.proofs.Common.{◌≡◌, ◌∙◌, List, [], ◌∷◌, ◌++◌, IsTrue, map, filter, refl, sym, ap}
 use Rattle.std.specs.Prelude.{bytes_eq}
 use Rattle.sqlite_value.specs.declared.value.Value.TheVariants.{Text as Words}
-use Rattle.sqlite_value.specs.Order.{Row, column, value_cmp}
-use Rattle.sqlite_tied.proofs.RuleLemmas.{and_true}
+use Rattle.sqlite_value.specs.Order.{Row, value_cmp}
 use Rattle.sqlite.specs.State.{State, Shown, Begins}
 use Rattle.brk_money.specs.Kinds.{is_same_trade_status, trade_status_code}
 use Rattle.brk_money.specs.declared.status.Status.{Status}
@@ -11,7 +10,6 @@ use Rattle.brk_money.specs.declared.status.Status.TheVariants.{Completed, Active
 use Rattle.brk_model.specs.Tables.{TradeRow}
 use Rattle.brk_sql.specs.Desk.{TablesSatisfy}
 use Rattle.brk_sql.proofs.Told.{told_sorted}
-use Rattle.brk_sql.proofs.Texts.{read}
 use Rattle.brk_tables_schema.specs.Cells.{natural_as_value, trade_cells}
 use Rattle.brk_tables_schema.specs.Desk.{Trades, desk_tables}
 use Rattle.brk_tables_schema.specs.Order.{ordering_by_key}

@@ -1,4 +1,4 @@
-use Rattle.std.proofs.Common.{◌≡◌, ◌∙◌, List, Ok, ap, refl, sym, subst, get_or, take, ◌+◌}
+use Rattle.std.proofs.Common.{◌≡◌, ◌∙◌, List, Ok, refl, subst, get_or, take, ◌+◌}
 use Rattle.std.proofs.lemmas.List.{take_all}
 use Rattle.sqlite.specs.Held.{state}
 use Rattle.brk_money.specs.declared.fault.Fault.{Fault}

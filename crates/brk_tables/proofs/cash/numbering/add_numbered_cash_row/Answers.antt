@@ -1,4 +1,4 @@
-use Rattle.std.proofs.Common.{◌≡◌, Option, Some, Ok, option_map, sym, subst, rules}
+use Rattle.std.proofs.Common.{◌≡◌, Option, Some, Ok, option_map, subst, rules}
 use Rattle.std.specs.Prelude.{string_bytes}
 use Rattle.sqlite.specs.Held.{state}
 use Rattle.brk_money.specs.declared.fault.Fault.{Fault}

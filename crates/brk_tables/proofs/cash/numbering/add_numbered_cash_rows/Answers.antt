@@ -1,4 +1,4 @@
-use Rattle.std.proofs.Common.{◌≡◌, ◌∙◌, ◌+◌, ◌<◌, ℕ, List, Ok, Some, ap, map, length, get_or, refl, sym, subst, take, arith, rules}
+use Rattle.std.proofs.Common.{◌≡◌, ◌∙◌, ◌+◌, ◌<◌, ℕ, List, Ok, ap, map, length, get_or, refl, sym, subst, take, arith, rules}
 use Rattle.std.proofs.lemmas.List.{take_all, length-map, get_or-map}
 use Rattle.sqlite.specs.Held.{state}
 use Rattle.brk_money.specs.declared.fault.Fault.{Fault}

@@ -1,4 +1,4 @@
-use Rattle.std.proofs.Common.{◌≡◌, ◌∙◌, ap, rules}
+use Rattle.std.proofs.Common.{◌∙◌, ap, rules}
 use Rattle.brk_model.specs.Lists.{sort_by_key}
 use Rattle.brk_tables.proofs.cash.InOrder.{in_turn}
 use Rattle.brk_tables.proofs.cash.ordering.sort_cash_transactions_by_stamp.Goals as goal
