@@ -10,7 +10,7 @@ use Rattle.brk_exit.specs.declared.ending.Ending.TheVariants as ending
 use Rattle.brk_io.specs.declared.usage_fault.UsageFault.{UsageFault}
 use Rattle.brk_io.specs.declared.usage_fault.UsageFault.TheVariants as usage
 use Rattle.brk_money.specs.Spelling.{Text}
-use Rattle.brk_jobs.specs.BatchText.{PrintsBatchOfJob}
+use Rattle.brk_jobs.specs.BatchText.{CompletesBatchOfJob, PrintsBatchOfJob}
 use Rattle.brk_jobs.specs.Jobs.{InputAndOutput}
 use Rattle.brk_jobs.specs.Places.{CloseRelation, DeskPlace, InFile, InFileOrNewFile, InMemory, OpenRelation, RunsJob}
 use Rattle.brk_jobs.specs.declared.jobs.Place.{Place}
@@ -35,5 +35,6 @@ abbrev pub AnswersRequest : {S R : Type 0} → Ghosts S → OpenRelation S → O
     → Type 0
 AnswersRequest g creates opens closes machine (Ok job) io end =
     RunsJob g creates opens closes machine job io end × PrintsBatchOfJob machine job io.input io end
+    × CompletesBatchOfJob g creates closes job io.input io end
 AnswersRequest g creates opens closes machine (Err (usage.Help text)) io end = WritesHelpText text io.before io.after end
 AnswersRequest g creates opens closes machine (Err fault) io end = (end ≡ ending.Usage fault) × (io.after ≡ io.before)

@@ -1,5 +1,5 @@
 ghost use Rattle.std.specs.Prelude.{◌≡◌};
-ghost use Rattle.brk_jobs.specs.BatchText.{PrintsBatchOfJob};
+ghost use Rattle.brk_jobs.specs.BatchText.{CompletesBatchOfJob, PrintsBatchOfJob};
 ghost use Rattle.brk_jobs.specs.Places.{ExecutesJobAt, PrintsOkAfterAudit, RunsJob, place_of_job, place_of_optional_path};
 ghost use Rattle.brk_jobs.specs.Requested.{AnswersRequest, WritesHelpText, abstract_place};
 
@@ -118,6 +118,10 @@ pub fn execute_job<S: Alter, F: DeskFiles<Desk = Store<S>>, R: Read + Drop, W: W
     // `Done` after a batch without a file, at a fixed time, means that exactly the text of the batch
     // on an empty brokerage was written.
     ensures printed { PrintsBatchOfJob rt.entry job.now (R.remaining input)
+        (record { input = R.remaining input; before = W.contents output.old.output; after = W.contents output.new.output }) result }
+    // `Done` after a batch with a file, at a fixed time, means that exactly the text of the batch
+    // from any base that the file represented was written.
+    ensures completed { CompletesBatchOfJob S.Store F.opens_or_creates F.closes job.now (R.remaining input)
         (record { input = R.remaining input; before = W.contents output.old.output; after = W.contents output.new.output }) result }
 {
     let ending = execute_job_at_place(rt, files, job, input, output);
