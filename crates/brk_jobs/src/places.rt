@@ -34,6 +34,7 @@ pub trait DeskFiles {
 }
 
 /// The files of the machine.
+#[derive(Clone, Copy)]
 pub struct MachineFiles<'a> {
     rt: &'a HostRuntime,
 }
