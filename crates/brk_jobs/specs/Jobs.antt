@@ -116,7 +116,7 @@ pub record ServesListener {S R : Type 0} (g : Ghosts S) (machine : Bor R) (at : 
   pub later : ProgramClock R
   pub ended : end ≡ ending_of_serving result
   pub served : IsSomeDeskRun g old new
-  pub taken : ServeEachStreamPost {X = TcpStream} (λ _ _ _. Unit {0}) (DeskServesStream g) streams
+  pub taken : ServeEachStreamPost {X = TcpStream} (λ _ _ _. Unit {0}) (DeskServesStream g ReturnsReading) streams
       (record { listener = first; clock = program_clock machine at; desk = old }) result (record { listener = last; clock = later; desk = new })
 
 -- The job served its streams (`ServesListener`), or its port could not be opened, and the desk is
