@@ -1,9 +1,12 @@
 -- What a run of calls comes to: a base in order, sums of rows, and the taxes of its results.
-use Rattle.std.proofs.Common.{◌≡◌, ℕ, Bool, true, false, cond, List, [], ◌∷◌, refl, sym, subst, ap, Option, Some, None}
+use Rattle.std.proofs.Common.{◌≡◌, ℕ, Bool, true, false, cond, List, [], ◌∷◌, map, refl, sym, subst, ap, Option, Some, None}
+use Rattle.brk_lots.specs.Lots.{abstract_lot}
 use Rattle.brk_money.specs.declared.refusal.Refusal.{Refusal}
 use Rattle.brk_money.specs.declared.refusal.Refusal.TheVariants.{KeyReused}
 use Rattle.brk_money.specs.Spelling.{Text}
-use Rattle.brk_model.specs.Base.{Base, trade_with_id}
+use Rattle.brk_model.specs.Base.{Base, completed_trades, trade_with_id}
+use Rattle.brk_model.specs.Derived.{deals_of_position, shares_of_position}
+use Rattle.brk_model.specs.Shares.{lots_of_shares, replay}
 use Rattle.brk_model.specs.Commands.{Again, Answer, Command, CompleteTrade, Done, Refused, Reply}
 use Rattle.brk_model.specs.Keyed.{answer_and_base_of_step, base_with_stored_reply, stored_row_with_optional_key, answer_and_base_by_stored_row, keyed_step}
 use Rattle.brk_model.specs.Records.{Kept, Key, Trade}
@@ -15,11 +18,12 @@ use Rattle.brk_model.specs.Tests.{stamp_of_next_command, refusal_of_command}
 use Rattle.std.specs.Prelude.{bytes_eq}
 use Rattle.brk_book_theorems.specs.Books.{BooksInvariant}
 use Rattle.brk_book_theorems.specs.Steps.{base_after_command}
+use Rattle.brk_book_theorems.specs.TradeReads.{lots_of_position}
 use Rattle.brk_book_theorems.specs.Runs.{TradeRowHasTax, CompletedTradeHasTax, IsRunWithSumsAndTaxes, RecordsTaxOfResult, RecordsTaxesOfResults, tax_at_completion}
 use Rattle.brk_book_theorems.proofs.AddingUp.{sums_add_up}
 use Rattle.brk_book_theorems.proofs.ResultKeeping.{result_named}
 use Rattle.brk_book_theorems.proofs.RunKeeping.{run_books}
-use Rattle.brk_book_theorems.proofs.RunLaws.{result_taxed, run_taxes, taxed_kept, taxed_row}
+use Rattle.brk_book_theorems.proofs.RunLaws.{costs_sum, lots_spelled, result_taxed, run_taxes, taxed_kept, taxed_row}
 
 -- ---- a call that was done
 
@@ -90,8 +94,13 @@ taxes_stand base (call ∷ calls) (outcome ∷ outcomes) after books r =
 
 -- ---- all of it
 
+replayed_lots : (base : Base) (account : ℕ) (symbol : Text) → BooksInvariant base
+    → map abstract_lot (lots_of_position (sheets base) account symbol) ≡ lots_of_shares (replay (deals_of_position (completed_trades base) account symbol))
+unfolding shares_of_position
+replayed_lots base account symbol books = lots_spelled base account symbol books
+
 pub run_adds_up : (base : Base) (calls : List (ℕ × Call)) (outcomes : List Outcome) (after : Base) → BooksInvariant base → Run base calls outcomes after
     → IsRunWithSumsAndTaxes base calls outcomes after
 run_adds_up base calls outcomes after books r =
     let order : BooksInvariant after = run_books base calls outcomes after books r in
-    record { run = r; order = order; sums = sums_add_up after order; taxes = taxes_stand base calls outcomes after books r }
+    record { run = r; order = order; sums = sums_add_up after order; taxes = taxes_stand base calls outcomes after books r; lots = λ account symbol. replayed_lots after account symbol order; costs = λ account symbol. costs_sum after account symbol order }

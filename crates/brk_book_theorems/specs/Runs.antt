@@ -1,18 +1,23 @@
 -- Properties of whole runs of calls.
-use Rattle.std.specs.Prelude.{◌≡◌, ⊤, ℕ, true, List, ◌∷◌, Some}
+use Rattle.std.specs.Prelude.{◌+ℤ◌, ◌≡◌, ⊤, ℕ, true, List, [], ◌∷◌, Some, map}
+use Rattle.brk_lots.specs.Books.{cost_basis_of_lots, purchase_value_minus_sale_value, realised_gain_sum}
+use Rattle.brk_lots.specs.Lots.{abstract_lot}
+use Rattle.brk_money.specs.Spelling.{Text}
 use Rattle.brk_model.specs.Base.{Base, completed_trades, is_completed, trade_with_id}
 use Rattle.brk_model.specs.Commands.{CompleteTrade, Done}
-use Rattle.brk_model.specs.Derived.{shares_of_position}
+use Rattle.brk_model.specs.Derived.{deals_of_position, shares_of_position}
 use Rattle.brk_model.specs.Joins.{trade_row_with_id}
 use Rattle.brk_model.specs.Orders.{tax_on_deal}
 use Rattle.brk_model.specs.Records.{Trade}
 use Rattle.brk_model.specs.Results.{deal_of_result}
 use Rattle.brk_model.specs.Run.{IsOutcomeOfCall, Call, Did, Do, Outcome, Run}
+use Rattle.brk_model.specs.Shares.{lots_of_shares, replay}
 use Rattle.brk_model.specs.Sheets.{sheets}
 use Rattle.brk_model.specs.Tables.{Tables, TradeRow}
 use Rattle.brk_model.specs.Tests.{stamp_of_next_command}
 use Rattle.brk_book_theorems.specs.Books.{BooksInvariant}
 use Rattle.brk_book_theorems.specs.Sums.{TableSumsMatchTheirRows}
+use Rattle.brk_book_theorems.specs.TradeReads.{lots_of_position}
 
 -- The trade with the id `id` exists in the base, is completed, and has the tax `tax`, in cents.
 pub record CompletedTradeHasTax (id tax : ℕ) (base : Base) : Type 0 where
@@ -52,11 +57,27 @@ RecordsTaxesOfResults later base (call ∷ calls) (outcome ∷ outcomes) =
     × ((mid : Base) × IsOutcomeOfCall base call.0 call.1 outcome mid × RecordsTaxesOfResults later mid calls outcomes)
 RecordsTaxesOfResults later base calls outcomes = ⊤
 
+-- For each account and symbol, the lots in the tables of the base are those that remain if the
+-- completed trades are replayed over single shares, in the order of their completion.
+abbrev pub LotsAreReplayedShares : Base → Type 0
+LotsAreReplayedShares base = (account : ℕ) (symbol : Text)
+    → map abstract_lot (lots_of_position (sheets base) account symbol) ≡ lots_of_shares (replay (deals_of_position (completed_trades base) account symbol))
+
+-- For each account and symbol, the cost of the open lots, in cents, is the realised gains plus the
+-- value of the purchases minus the value of the sales.
+abbrev pub LotCostsMatchDeals : Base → Type 0
+LotCostsMatchDeals base = (account : ℕ) (symbol : Text)
+    → cost_basis_of_lots (lots_of_position (sheets base) account symbol)
+    ≡ realised_gain_sum (deals_of_position (completed_trades base) account symbol) []
+    +ℤ purchase_value_minus_sale_value (deals_of_position (completed_trades base) account symbol)
+
 -- The calls can have these outcomes and lead from `base` to `after`. The base `after` satisfies the
--- books invariant, the sums in its tables match their rows, and the row of the trade of each
--- accepted result has the tax of its completion.
+-- books invariant, the sums in its tables match their rows, the row of the trade of each accepted
+-- result has the tax of its completion, and the lots and their cost follow from the trades.
 pub record IsRunWithSumsAndTaxes (base : Base) (calls : List (ℕ × Call)) (outcomes : List Outcome) (after : Base) : Type 0 where
   pub run : Run base calls outcomes after
   pub order : BooksInvariant after
   pub sums : TableSumsMatchTheirRows (sheets after)
   pub taxes : RecordsTaxesOfResults (sheets after) base calls outcomes
+  pub lots : LotsAreReplayedShares after
+  pub costs : LotCostsMatchDeals after

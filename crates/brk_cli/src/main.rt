@@ -1,9 +1,9 @@
 //! The program `brk`: a brokerage desk at the command line.
 #![tactic(auto)]
 
-use brk_args::{UsageFault, non_utf8_argument_fault};
+use brk_args::{Job, UsageFault, non_utf8_argument_fault, read_words};
 use brk_exit::{Ending, end_with};
-use brk_jobs::execute_requested_job;
+use brk_jobs::{MachineFiles, PipeWriter, execute_requested_job};
 use std::alloc::AllocError;
 use std::env;
 use std::io::ErrorKind;
@@ -24,14 +24,23 @@ fn command_line_arguments(rt: &HostRuntime) -> Result<Vec<String>, UsageFault> {
     }
 }
 
+// Returns the job that the command-line arguments request (`read_words`). Fails if they cannot be
+// read, or request none.
+fn requested_job(rt: &HostRuntime) -> Result<Job, UsageFault> {
+    read_words(command_line_arguments(rt)?)
+}
+
 // Executes the job that the command-line arguments request, from standard input to standard output,
-// and returns the outcome (`execute_requested_job`), or `Usage` with the fault if the arguments
-// cannot be read.
+// and returns the outcome (`execute_requested_job`).
 fn execute_command_line(rt: &HostRuntime) -> Ending {
-    match command_line_arguments(rt) {
-        Ok(words) => execute_requested_job(rt, words, rt.reader(), &mut rt.stdout()),
-        Err(fault) => Ending::Usage(fault),
-    }
+    let mut output = PipeWriter::new(rt.stdout());
+    execute_requested_job(
+        rt,
+        &MachineFiles::new(rt),
+        requested_job(rt),
+        rt.reader(),
+        &mut output,
+    )
 }
 
 // Runs the program: executes its job, writes the error line of the outcome, if it has one, to

@@ -1,7 +1,7 @@
 -- The guarantees of a stream: for any desk, and for the bases that the desk represents.
 use Rattle.std.specs.Prelude.{◌≡◌, ◌≤◌, ℕ, List, [], ◌∷◌, Result, length}
 use Rattle.brk_money.specs.Spelling.{Text}
-use Rattle.brk_model.specs.Run.{Call, Outcome}
+use Rattle.brk_model.specs.Run.{Ask, Call, Do, Outcome}
 use Rattle.brk_io.specs.Calls.{IsCallSequence}
 use Rattle.brk_io.specs.Span.{ClockAndWriterChange, environment_change_with_bases}
 use Rattle.brk_http_engine.specs.Turns.{IsStreamResult}
@@ -13,6 +13,23 @@ use Rattle.brk_http_model.specs.Stream.{CallRelation}
 abbrev pub ChangesOnlyByCalls : {D : Type 0} → CallRelation D → ℕ → D → D → Type 0
 ChangesOnlyByCalls acts most old new =
     (calls : List (ℕ × Call)) × (outcomes : List Outcome) × IsCallSequence acts old calls outcomes new × (length calls ≤ most)
+
+-- What a call at the clock reading `now` reads of the clock: a command reads it once, and `now` is
+-- this reading; a query does not read it.
+abbrev pub ReadsClockForCall : {C : Type 0} → (C → ℕ → C → Type 0) → C → ℕ → Call → C → Type 0
+ReadsClockForCall gives clock now (Do command key) later = gives clock now later
+ReadsClockForCall gives clock now (Ask query) later = later ≡ clock
+
+-- The clock changed from `clock` to `later` by what the calls read of it, in order
+-- (`ReadsClockForCall`), and by nothing else.
+abbrev pub ReadsClockForCalls : {C : Type 0} → (C → ℕ → C → Type 0) → C → List (ℕ × Call) → C → Type 0
+ReadsClockForCalls gives clock [] later = later ≡ clock
+ReadsClockForCalls {C} gives clock (call ∷ calls) later =
+    (mid : C) × ReadsClockForCall gives clock call.0 call.1 mid × ReadsClockForCalls gives mid calls later
+
+-- The relation of a call of a desk, with what it reads of the clock: a state is a desk and a clock.
+abbrev pub CallWithClock : {D C : Type 0} → CallRelation D → (C → ℕ → C → Type 0) → CallRelation (D × C)
+CallWithClock acts gives old now call outcome new = acts old.0 now call outcome new.0 × ReadsClockForCall gives old.1 now call new.1
 
 -- The type of a pair: a list of calls with their timestamps, and the list of their outcomes.
 abbrev pub CallScript : Type 0

@@ -3,7 +3,7 @@ ghost use Rattle.std.specs.List.{list_all};
 ghost use Rattle.brk_http_model.specs.Stream.{most_requests_per_stream};
 ghost use Rattle.brk_http_engine.specs.Rows.{is_nonempty, all_router_rows};
 ghost use Rattle.brk_http_engine.specs.Limits.{call_limit_of_stream};
-ghost use Rattle.brk_http_engine.specs.Promises.{ChangesOnlyByCalls};
+ghost use Rattle.brk_http_engine.specs.Promises.{CallWithClock, ChangesOnlyByCalls};
 ghost use Rattle.brk_http_engine.specs.Turns.{IsStreamResult};
 
 use crate::router::{RouteKind, new_router};
@@ -37,8 +37,8 @@ fn serve_with_router<R: Read + Drop, W: Write, C: Clock, D: Service>(
     ensures few { IfOk result (λ count. count ≤ most_requests_per_stream) }
     ensures early { IfErr result (λ fault. fault.done < most_requests_per_stream) }
     // The desk changed only by its calls: at most one for each reply, and one more after a fault of
-    // memory or of the writer.
-    ensures called { ChangesOnlyByCalls D.acts (call_limit_of_stream result) desk.old desk.new }
+    // memory or of the writer. The clock was read once for each command, and not otherwise.
+    ensures called { ChangesOnlyByCalls (CallWithClock D.acts C.gives) (call_limit_of_stream result) (desk.old, clock.old) (desk.new, clock.new) }
     // For a reader whose content is specified, the calls, the replies and the result follow from
     // its requests (`IsStreamResult`).
     ensures gives { IfSome (R.remaining reader) (λ input. IsStreamResult D.forms D.acts C.gives input
@@ -86,8 +86,8 @@ pub fn serve_requests<R: Read + Drop, W: Write, C: Clock, D: Service>(
     ensures few { IfOk result (λ count. count ≤ most_requests_per_stream) }
     ensures early { IfErr result (λ fault. fault.done < most_requests_per_stream) }
     // The desk changed only by its calls: at most one for each reply, and one more after a fault of
-    // memory or of the writer.
-    ensures called { ChangesOnlyByCalls D.acts (call_limit_of_stream result) desk.old desk.new }
+    // memory or of the writer. The clock was read once for each command, and not otherwise.
+    ensures called { ChangesOnlyByCalls (CallWithClock D.acts C.gives) (call_limit_of_stream result) (desk.old, clock.old) (desk.new, clock.new) }
     // For a reader whose content is specified, the calls, the replies and the result follow from
     // its requests (`IsStreamResult`).
     ensures gives { IfSome (R.remaining reader) (λ input. IsStreamResult D.forms D.acts C.gives input

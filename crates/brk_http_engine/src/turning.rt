@@ -6,7 +6,7 @@ ghost use Rattle.brk_http_model.specs.Stream.{most_requests_per_stream};
 ghost use Rattle.httparse.specs.Spans.{IsWithin};
 ghost use Rattle.brk_http_reader.specs.FirstRequests.{request_at_positions};
 ghost use Rattle.brk_http_engine.specs.Limits.{call_limit_of_exchange};
-ghost use Rattle.brk_http_engine.specs.Promises.{ChangesOnlyByCalls};
+ghost use Rattle.brk_http_engine.specs.Promises.{CallWithClock, ChangesOnlyByCalls};
 ghost use Rattle.brk_http_engine.specs.Turns.{ExecutesRequest, ExchangeFailsWith, ExchangeCompletesWith};
 
 use crate::acting::execute_call_of_request;
@@ -86,7 +86,7 @@ fn execute_and_format_reply<C: Clock, D: Service>(
     requires method { IsWithin (length buffer.now) places.method }
     requires target { IsWithin (length buffer.now) places.target }
     requires body { IsWithin (length buffer.now) places.body }
-    ensures called { ChangesOnlyByCalls D.acts 1 desk.old desk.new }
+    ensures called { ChangesOnlyByCalls (CallWithClock D.acts C.gives) 1 (desk.old, clock.old) (desk.new, clock.new) }
     // If the stream continues after the reply, fewer than 1,000 requests are answered so far.
     ensures open { IfOk result (λ draft. draft.closes ≡ Bool.false → done + 1 < most_requests_per_stream) }
     ensures ok { (old : Option (List ℕ)) (new : Option (List ℕ))
@@ -139,7 +139,7 @@ pub fn serve_next_request<R: Read, W: Write, C: Clock, D: Service>(
     requires named { list_all is_nonempty D.forms.views ≡ Bool.true }
 
     // At most one call of the desk; at `Open` fewer than 1,000 requests are answered so far.
-    ensures called { ChangesOnlyByCalls D.acts (call_limit_of_exchange result) desk.old desk.new }
+    ensures called { ChangesOnlyByCalls (CallWithClock D.acts C.gives) (call_limit_of_exchange result) (desk.old, clock.old) (desk.new, clock.new) }
     ensures open { result ≡ Ok ExchangeResult.Open → done + 1 < most_requests_per_stream }
 
     // If the content of the reader is specified: the request, its reply, and what was written.

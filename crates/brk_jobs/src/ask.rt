@@ -1,3 +1,7 @@
+ghost use Rattle.std.specs.Prelude.{None, map, string_bytes};
+ghost use Rattle.brk_jobs.specs.Jobs.{WritesView};
+ghost use Rattle.brk_model.specs.Ask as model;
+
 use crate::borrowed::bytes_of_arguments;
 use crate::pipe::PipeWriter;
 use brk_desk::Desk;
@@ -19,12 +23,14 @@ pub(crate) fn execute_ask_job<S: Alter, W: Write>(
     view: &str,
     arguments: &[String],
     form: Form,
-    output: &mut W,
-) -> Ending {
+    output: &mut PipeWriter<W>,
+) -> Ending
+    ensures { WritesView S.Store form (model.parse_query view.now (map string_bytes arguments.now)) desk.old desk.new
+        (record { input = None; before = W.contents output.old.output; after = W.contents output.new.output }) result }
+{
     let Ok(arguments) = bytes_of_arguments(alloc, arguments) else {
         return Ending::Open(Fault::Memory);
     };
-    let mut pipe = PipeWriter::new(output);
-    let written = parse_query_and_write_view(alloc, desk, view, &arguments, form, &mut pipe);
-    pipe.ending_after_write(written)
+    let written = parse_query_and_write_view(alloc, desk, view, &arguments, form, output);
+    output.ending_after_write(written)
 }

@@ -1,3 +1,6 @@
+ghost use Rattle.std.specs.Prelude.{◌≡◌, IfOk, map, string_bytes};
+ghost use Rattle.brk_ref.specs.Fields.{texts_of_fields};
+
 use std::alloc::{AllocError, Global};
 
 /// Returns the bytes of the arguments `texts` as borrowed slices, in order. Fails only if memory
@@ -5,7 +8,9 @@ use std::alloc::{AllocError, Global};
 pub fn bytes_of_arguments<'a>(
     alloc: Global,
     texts: &'a [String],
-) -> Result<Vec<&'a [u8]>, AllocError> {
+) -> Result<Vec<&'a [u8]>, AllocError>
+    ensures { IfOk result (λ all. texts_of_fields all.items ≡ map string_bytes texts.now) }
+{
     let mut all = Vec::new(alloc);
     for text in texts {
         all.push(text.as_str().as_bytes())?;

@@ -1,7 +1,11 @@
 //! Jobs on a desk that is in memory, or in a file that is closed at the end.
 
-use crate::file::FileDesk;
-use crate::{ask, batch, explain, file, serve, statement};
+ghost use Rattle.brk_jobs.specs.Jobs.{ExecutesJob};
+ghost use Rattle.brk_jobs.specs.Places.{ExecutesJobInMemory, ExecutesJobOnOpened};
+
+use crate::pipe::PipeWriter;
+use crate::places::DeskFiles;
+use crate::{ask, batch, explain, serve, statement};
 use brk_args::Job;
 use brk_desk::Desk;
 use brk_exit::{Ending, ending_after_close};
@@ -20,8 +24,11 @@ fn execute_job_at_desk<R: Read + Drop, W: Write, S: Alter>(
     desk: &mut Desk<S>,
     job: &Job,
     input: R,
-    output: &mut W,
-) -> Ending {
+    output: &mut PipeWriter<W>,
+) -> Ending
+    ensures { ExecutesJob S.Store rt.entry job.now desk.old desk.new
+        (record { input = R.remaining input; before = W.contents output.old.output; after = W.contents output.new.output }) result }
+{
     match job {
         Job::Batch { db: _, at } => batch::execute_batch_job(rt, *at, input, output, desk),
         Job::Statement {
@@ -60,15 +67,17 @@ fn execute_job_at_desk<R: Read + Drop, W: Write, S: Alter>(
 }
 
 // Executes a job on the desk of a store, and returns the outcome of the job
-// (`execute_job_at_desk`) and the store. No other function over stores of any type is called with a
-// store over files in this crate, because each such call takes the prover some twenty seconds.
+// (`execute_job_at_desk`) and the store.
 fn execute_job_at_store<R: Read + Drop, W: Write, S: Alter>(
     rt: &HostRuntime,
     store: Store<S>,
     job: &Job,
     input: R,
-    output: &mut W,
-) -> (Ending, Store<S>) {
+    output: &mut PipeWriter<W>,
+) -> (Ending, Store<S>)
+    ensures { ExecutesJob S.Store rt.entry job.now store result.1
+        (record { input = R.remaining input; before = W.contents output.old.output; after = W.contents output.new.output }) result.0 }
+{
     let mut desk = Desk::new(store);
     let ending = execute_job_at_desk(rt, &mut desk, job, input, output);
     (ending, desk.into_store())
@@ -77,17 +86,26 @@ fn execute_job_at_store<R: Read + Drop, W: Write, S: Alter>(
 /// Executes a job on the desk in a file that was opened, closes the file and returns the outcome of
 /// the job; if it is `Done` and the file cannot be closed, `Open` with the fault of the close. If
 /// the file could not be opened, executes nothing and returns `Open` with the fault.
-pub(crate) fn execute_job_and_close_desk_file<R: Read + Drop, W: Write>(
+pub(crate) fn execute_job_and_close_desk_file<
+    S: Alter,
+    F: DeskFiles<Desk = Store<S>>,
+    R: Read + Drop,
+    W: Write,
+>(
     rt: &HostRuntime,
-    opened: Result<FileDesk, Fault>,
+    files: &F,
+    opened: Result<Store<S>, Fault>,
     job: &Job,
     input: R,
-    output: &mut W,
-) -> Ending {
+    output: &mut PipeWriter<W>,
+) -> Ending
+    ensures { ExecutesJobOnOpened S.Store F.closes rt.entry job.now opened
+        (record { input = R.remaining input; before = W.contents output.old.output; after = W.contents output.new.output }) result }
+{
     match opened {
         Ok(store) => {
             let (ending, store) = execute_job_at_store(rt, store, job, input, output);
-            ending_after_close(ending, file::close_desk_file(store))
+            ending_after_close(ending, files.close(store))
         }
         Err(fault) => Ending::Open(fault),
     }
@@ -99,8 +117,11 @@ pub(crate) fn execute_job_on_new_desk_in_memory<R: Read + Drop, W: Write>(
     rt: &HostRuntime,
     job: &Job,
     input: R,
-    output: &mut W,
-) -> Ending {
+    output: &mut PipeWriter<W>,
+) -> Ending
+    ensures { ExecutesJobInMemory rt.entry job.now
+        (record { input = R.remaining input; before = W.contents output.old.output; after = W.contents output.new.output }) result }
+{
     let Ok(conn) = Connection::open_in_memory(rt.alloc()) else {
         return Ending::Open(Fault::Store);
     };

@@ -1,3 +1,7 @@
+ghost use Rattle.std.specs.Prelude.{None, map, string_bytes};
+ghost use Rattle.brk_jobs.specs.Jobs.{WritesExplanation};
+ghost use Rattle.brk_explain_model.specs.Explain as model;
+
 use crate::borrowed::bytes_of_arguments;
 use crate::pipe::PipeWriter;
 use brk_desk::Desk;
@@ -17,17 +21,19 @@ pub(crate) fn execute_explain_job<S: Alter, W: Write>(
     alloc: Global,
     desk: &mut Desk<S>,
     words: &[String],
-    output: &mut W,
-) -> Ending {
+    output: &mut PipeWriter<W>,
+) -> Ending
+    ensures { WritesExplanation S.Store (model.read_explain_request (map string_bytes words.now)) desk.old desk.new
+        (record { input = None; before = W.contents output.old.output; after = W.contents output.new.output }) result }
+{
     let Ok(words) = bytes_of_arguments(alloc, words) else {
         return Ending::Open(Fault::Memory);
     };
     let what = match parse_explain_request(alloc, &words) {
         Ok(Ok(what)) => what,
         Ok(Err(refusal)) => return Ending::Report(ReportFault::Refused(refusal)),
-        Err(fault) => return Ending::Open(fault),
+        Err(_) => return Ending::Open(Fault::Memory),
     };
-    let mut pipe = PipeWriter::new(output);
-    let written = write_explanation(alloc, desk, &what, &mut pipe);
-    pipe.ending_after_write(written)
+    let written = write_explanation(alloc, desk, &what, output);
+    output.ending_after_write(written)
 }

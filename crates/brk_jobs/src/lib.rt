@@ -9,8 +9,11 @@ mod desk;
 mod explain;
 pub mod file;
 pub mod jobs;
-mod pipe;
+pub mod pipe;
+pub mod places;
 mod serve;
 mod statement;
 
-pub use jobs::execute_requested_job;
+pub use jobs::{execute_job, execute_requested_job};
+pub use pipe::PipeWriter;
+pub use places::{DeskFiles, MachineFiles};

@@ -1,5 +1,8 @@
 //! A writer that records whether the reader of its pipe has closed the pipe.
 
+ghost use Rattle.std.specs.Prelude.{◌≡◌, false};
+ghost use Rattle.brk_jobs.specs.Endings.{ending_of_report};
+
 use brk_exit::Ending;
 use brk_report::ReportFault;
 use std::io;
@@ -8,24 +11,40 @@ use std::io::{ErrorKind, Write};
 /// A writer that passes the bytes on to another writer, and records whether a write failed because
 /// the reader of the pipe had closed it.
 #[derive(Drop)]
-pub(crate) struct PipeWriter<'a, W> {
-    output: &'a mut W,
+pub struct PipeWriter<W> {
+    output: W,
     is_closed: bool,
 }
 
-impl<'a, W> PipeWriter<'a, W> {
+impl<W> PipeWriter<W> {
     /// Returns a writer that passes the bytes on to `output`, and has recorded no closed pipe.
-    pub(crate) fn new(output: &'a mut W) -> PipeWriter<'a, W> {
+    pub fn new(output: W) -> PipeWriter<W>
+        ensures output { result.output ≡ output }
+        ensures open { result.is_closed ≡ false }
+    {
         PipeWriter {
             output,
             is_closed: false,
         }
     }
 
+    /// Returns the writer to which the bytes were passed on.
+    pub fn into_output(self) -> W
+        ensures { result ≡ self.output }
+    {
+        let PipeWriter {
+            output,
+            is_closed: _,
+        } = self;
+        output
+    }
+
     /// Returns the outcome of a job that wrote a text to this writer with the result `written`:
     /// `Done`, `ClosedPipe` if the writer failed and its pipe was closed, and otherwise `Report`
     /// with the refusal or the fault.
-    pub(crate) fn ending_after_write(&self, written: Result<(), ReportFault>) -> Ending {
+    pub(crate) fn ending_after_write(&self, written: Result<(), ReportFault>) -> Ending
+        ensures { result ≡ ending_of_report self.now.is_closed written }
+    {
         match written {
             Ok(()) => Ending::Done,
             Err(ReportFault::Write) if self.is_closed => Ending::ClosedPipe,
@@ -34,7 +53,9 @@ impl<'a, W> PipeWriter<'a, W> {
     }
 }
 
-impl<W: Write> Write for PipeWriter<'_, W> {
+impl<W: Write> Write for PipeWriter<W> {
+    ghost contents = { λ p. W.contents p.output };
+
     /// Writes the bytes to the other writer and returns the result of this write. If it failed
     /// because the pipe is closed, records that.
     fn write(&mut self, bytes: &[u8]) -> io::Result<usize> {

@@ -1,3 +1,6 @@
+ghost use Rattle.std.specs.Prelude.{None};
+ghost use Rattle.brk_jobs.specs.Jobs.{WritesStatementOfAccount};
+
 use brk_desk::Desk;
 use brk_exit::Ending;
 use brk_money::{Day, Id};
@@ -17,7 +20,10 @@ pub(crate) fn execute_statement_job<S: Alter, W: Write>(
     from: Day,
     to: Day,
     output: &mut W,
-) -> Ending {
+) -> Ending
+    ensures { WritesStatementOfAccount S.Store account from to desk.old desk.new
+        (record { input = None; before = W.contents output.old; after = W.contents output.new }) result }
+{
     match statement(alloc, desk, account, from, to, output) {
         Ok(()) => Ending::Done,
         Err(fault) => Ending::Report(fault),

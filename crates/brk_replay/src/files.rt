@@ -4,8 +4,9 @@
 
 use crate::failed::OutOfMemory;
 use crate::replay::append_escaped_lines_with_prefix;
+use brk_args::read_words;
 use brk_exit::end_with;
-use brk_jobs::execute_requested_job;
+use brk_jobs::{MachineFiles, PipeWriter, execute_requested_job};
 use sqlite::Connection;
 use std::alloc::{AllocError, Global};
 use std::fs;
@@ -31,16 +32,17 @@ fn run_program(
     input: &[u8],
 ) -> Result<(), OutOfMemory> {
     let alloc = rt.alloc();
-    let mut printed = Vec::new(alloc);
+    let mut output = PipeWriter::new(Vec::new(alloc));
     let mut errors = Vec::new(alloc);
     let ending = execute_requested_job(
         rt,
-        program_name_and_arguments(alloc, words)?,
+        &MachineFiles::new(rt),
+        read_words(program_name_and_arguments(alloc, words)?),
         input,
-        &mut printed,
+        &mut output,
     );
     let status = end_with(&ending, &mut errors);
-    append_escaped_lines_with_prefix(out, "> ", &printed)?;
+    append_escaped_lines_with_prefix(out, "> ", &output.into_output())?;
     append_escaped_lines_with_prefix(out, "> ! ", &errors)?;
     writeln!(out, "> = {status}")?;
     Ok(())

@@ -61,7 +61,7 @@ impl<C: Clock, S: Alter> StreamServer for SocketServer<C, S> {
 
     type Desk = Desk<S>;
 
-    ghost serves = { DeskServesStream S.Store };
+    ghost serves = { DeskServesStream S.Store C.gives };
 
     /// Serves the requests of a TCP stream, and returns the number of replies. Fails with the fault
     /// that ended the stream, `Read`, `Write` or `Memory`, and the number of replies before it.

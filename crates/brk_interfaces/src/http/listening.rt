@@ -34,7 +34,7 @@ pub fn serve_on<L: Listener<Stream = TcpStream>, C: Clock, S: Alter>(
     // At `Ok` exactly `streams` streams were handled, and none of them ended because memory ran
     // out. `Stream` has the fault of the last stream, whose kind is `Memory`. `Net` is returned
     // only after a failed accept.
-    ensures taken { ServeEachStreamPost L.accepts (DeskServesStream S.Store) streams (record { listener = listener.old; clock = clock.old; desk = desk.old })
+    ensures taken { ServeEachStreamPost L.accepts (DeskServesStream S.Store C.gives) streams (record { listener = listener.old; clock = clock.old; desk = desk.old })
         result (record { listener = listener.new; clock = clock.new; desk = desk.new }) }
 {
     serve_each_stream::<L, SocketServer<C, S>>(alloc, listener, streams, clock, desk)

@@ -9,7 +9,7 @@ ghost use Rattle.brk_http_model.specs.Asked.{model_parsers};
 ghost use Rattle.brk_model.specs.Run.{IsOutcomeOfCall};
 ghost use Rattle.brk_http_model.specs.Stream.{most_requests_per_stream};
 ghost use Rattle.brk_http_engine.specs.Limits.{call_limit_of_stream};
-ghost use Rattle.brk_http_engine.specs.Promises.{StreamRefinesModel, StreamMatchesScript};
+ghost use Rattle.brk_http_engine.specs.Promises.{ReadsClockForCalls, StreamRefinesModel, StreamMatchesScript};
 ghost use Rattle.sqlite.specs.Held.{state};
 ghost use Rattle.sqlite.specs.State.{HasCleanDisk};
 
@@ -59,6 +59,10 @@ pub fn serve_stream<R: Read + Drop, W: Write, C: Clock, S: Alter>(
         × (length calls ≤ call_limit_of_stream result)
         × IfSome (R.remaining reader) (λ input. StreamMatchesScript model_parsers C.gives input (map model_call calls, map model_outcome outcomes)
         (record { clock = clock.old; later = clock.new; old = W.contents writer.old; new = W.contents writer.new }) result) }
+    // For any stream, each command is called at a reading of the clock, in order, and the clock is
+    // not read otherwise.
+    ensures reads_clock { (calls : List (ℕ × made.Call)) × (outcomes : List came.Outcome) × IsRunWithOutcomes S.Store desk.old desk.new calls outcomes
+        × (length calls ≤ call_limit_of_stream result) × ReadsClockForCalls C.gives clock.old (map model_call calls) clock.new }
     // Under the disk assumption, for every base that the desk represented before the stream, the
     // outcomes equal those of the model from this base, and the desk represents the base after
     // them. Vacuous for a reader whose content is not specified.

@@ -1,10 +1,11 @@
 use Rattle.std.proofs.Common.{refl}
+use Rattle.brk_http_engine.specs.Promises.{CallWithClock}
 use Rattle.brk_http_engine.proofs.Called.{not_called}
 use Rattle.brk_http_engine.proofs.StreamLemmas.{unstarted}
 use Rattle.brk_http_engine.proofs.stream.serve_requests.Goals as goal
 
 pub returns-in-Err-clause-called : goal.returns-in-Err-clause-called
-returns-in-Err-clause-called g c = not_called g.D.Service.acts _ _ _ refl
+returns-in-Err-clause-called g c = not_called (CallWithClock g.D.Service.acts g.C.Clock.gives) _ _ _ refl
 
 pub returns-in-Err-clause-gives : goal.returns-in-Err-clause-gives
 returns-in-Err-clause-gives g c =

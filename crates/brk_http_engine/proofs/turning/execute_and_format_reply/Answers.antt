@@ -1,6 +1,7 @@
 use Rattle.std.proofs.Common.{refl}
 use Rattle.brk_http_model.specs.Replies.{reply_text}
 use Rattle.brk_http_engine.specs.Codes.{response_in_model}
+use Rattle.brk_http_engine.specs.Promises.{CallWithClock}
 use Rattle.brk_http_engine.proofs.Called.{not_called, responds_called}
 use Rattle.brk_http_engine.proofs.turning.execute_and_format_reply.Goals as goal
 
@@ -20,10 +21,10 @@ returns-clause-after g c = λ old new is.
     )
 
 pub returns-in_default-clause-called : goal.returns-in_default-clause-called
-returns-in_default-clause-called g c = not_called g.D.Service.acts _ _ _ refl
+returns-in_default-clause-called g c = not_called (CallWithClock g.D.Service.acts g.C.Clock.gives) _ _ _ refl
 
 pub returns-in-Ok-reply_text-clause-called : goal.returns-in-Ok-reply_text-clause-called
-returns-in-Ok-reply_text-clause-called g c = responds_called g.D.Service.acts _ _ _ c.execute_call_of_request-told.ensures.0 _ c.execute_call_of_request-told.ensures.2
+returns-in-Ok-reply_text-clause-called g c = responds_called g.D.Service.acts g.C.Clock.gives _ _ _ _ _ c.execute_call_of_request-told.ensures.0 _ c.execute_call_of_request-told.ensures.1 c.execute_call_of_request-told.ensures.2
 
 pub returns-clause-called : goal.returns-clause-called
-returns-clause-called g c = responds_called g.D.Service.acts _ _ _ c.execute_call_of_request-told.ensures.0 _ c.execute_call_of_request-told.ensures.2
+returns-clause-called g c = responds_called g.D.Service.acts g.C.Clock.gives _ _ _ _ _ c.execute_call_of_request-told.ensures.0 _ c.execute_call_of_request-told.ensures.1 c.execute_call_of_request-told.ensures.2

@@ -1,5 +1,6 @@
 use Rattle.std.proofs.Common.{ap, Err, None, refl}
 use Rattle.std.proofs.KnownBytes.{Appends-nil}
+use Rattle.brk_http_engine.specs.Promises.{CallWithClock}
 use Rattle.brk_http_engine.proofs.Called.{not_called}
 use Rattle.brk_http_engine.proofs.TurnLemmas.{request_closed, request_failed, request_open, request_unwritten}
 use Rattle.brk_http_engine.proofs.turning.serve_next_request.Goals as goal
@@ -32,19 +33,19 @@ returns-clause-ok g c =
     request_open g.D.Service.forms g.D.Service.acts g.C.Clock.gives c.args.done _ _ _ c.in-Whole.places _ _ _ _ found acted c.if-draft.false wrote _ c.remove_front_bytes.ensures
 
 pub returns-in-Err-Read-clause-called : goal.returns-in-Err-Read-clause-called
-returns-in-Err-Read-clause-called g c = not_called g.D.Service.acts _ _ _ refl
+returns-in-Err-Read-clause-called g c = not_called (CallWithClock g.D.Service.acts g.C.Clock.gives) _ _ _ refl
 
 pub returns-in-Err-Memory-clause-called : goal.returns-in-Err-Memory-clause-called
-returns-in-Err-Memory-clause-called g c = not_called g.D.Service.acts _ _ _ refl
+returns-in-Err-Memory-clause-called g c = not_called (CallWithClock g.D.Service.acts g.C.Clock.gives) _ _ _ refl
 
 pub returns-in-Ended-clause-called : goal.returns-in-Ended-clause-called
-returns-in-Ended-clause-called g c = not_called g.D.Service.acts _ _ _ refl
+returns-in-Ended-clause-called g c = not_called (CallWithClock g.D.Service.acts g.C.Clock.gives) _ _ _ refl
 
 pub returns-in_default-clause-called : goal.returns-in_default-clause-called
-returns-in_default-clause-called g c = not_called g.D.Service.acts _ _ _ refl
+returns-in_default-clause-called g c = not_called (CallWithClock g.D.Service.acts g.C.Clock.gives) _ _ _ refl
 
 pub returns-in-Ok-write_all_bytes-clause-called : goal.returns-in-Ok-write_all_bytes-clause-called
-returns-in-Ok-write_all_bytes-clause-called g c = not_called g.D.Service.acts _ _ _ refl
+returns-in-Ok-write_all_bytes-clause-called g c = not_called (CallWithClock g.D.Service.acts g.C.Clock.gives) _ _ _ refl
 
 pub returns-in-Broken-clause-called : goal.returns-in-Broken-clause-called
-returns-in-Broken-clause-called g c = not_called g.D.Service.acts _ _ _ refl
+returns-in-Broken-clause-called g c = not_called (CallWithClock g.D.Service.acts g.C.Clock.gives) _ _ _ refl

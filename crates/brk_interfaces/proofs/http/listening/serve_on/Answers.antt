@@ -6,5 +6,5 @@ use Rattle.brk_interfaces.proofs.http.listening.serve_on.Goals as goal
 
 pub returns-clause-served : goal.returns-clause-served
 returns-clause-served g c =
-    listens_by g.L.Listener.accepts (DeskServesStream g.S.Store) (λ old new. IsSomeDeskRun g.S.Store old new) (not_run g.S.Store) (run_then g.S.Store)
+    listens_by g.L.Listener.accepts (DeskServesStream g.S.Store g.C.Clock.gives) (λ old new. IsSomeDeskRun g.S.Store old new) (not_run g.S.Store) (run_then g.S.Store)
     (λ clock desk stream ended later after h. record { calls = h.calls; outcomes = h.outcomes; run = h.run }) _ _ _ _ c.serve_each_stream.ensures

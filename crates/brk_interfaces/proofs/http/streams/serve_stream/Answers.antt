@@ -7,7 +7,7 @@ use Rattle.brk_http_engine.proofs.Promised.{keeps}
 use Rattle.brk_interfaces.specs.CallOutcomes.{DeskCallHasOutcome}
 use Rattle.brk_http_model.specs.Asked.{model_parsers}
 use Rattle.brk_interfaces.proofs.http.Acted.{earlier, steps}
-use Rattle.brk_interfaces.proofs.http.Serving.{tells_run}
+use Rattle.brk_interfaces.proofs.http.Serving.{reads_clock, tells_run}
 use Rattle.brk_interfaces.proofs.http.streams.serve_stream.Goals as goal
 
 if_known : (input : Option (List ℕ)) {P Q : List ℕ → Type 0} → ((text : List ℕ) → P text → Q text) → IfSome input P → IfSome input Q
@@ -34,3 +34,7 @@ returns-clause-refines_model g c =
       new =
           g.W.Write.contents c.serve_requests.new.writer;
     }) c.serve_requests.result h) c.serve_requests.ensures.gives
+
+pub returns-clause-reads_clock : goal.returns-clause-reads_clock
+returns-clause-reads_clock g c =
+    reads_clock g.S.Store g.C.Clock.gives _ c.args.desk.now c.serve_requests.new.desk c.args.clock.now c.serve_requests.new.clock c.serve_requests.ensures.called
