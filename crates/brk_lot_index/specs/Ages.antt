@@ -1,5 +1,5 @@
 -- The ages of lots, and what an index of them covers.
-use Rattle.std.specs.Prelude.{◌≡◌, ◌⊎◌, ◌==◌, ◌&&◌, ◌+◌, ◌*◌, ◌%◌, ◌^◌, ℕ, Bool, true, false, List, [], ◌∷◌, Option, Some, None, bytes_eq, find, fold, nat_eq, reverse, if◌then◌else◌, ◌≤◌, length, drop, take}
+use Rattle.std.specs.Prelude.{◌≡◌, ◌⊎◌, ◌==◌, ◌&&◌, ◌+◌, ◌*◌, ◌%◌, ◌^◌, ℕ, Bool, true, false, List, [], ◌∷◌, Option, Some, None, bytes_eq, find, fold, nat_eq, reverse, if◌then◌else◌, ◌≤◌, length, drop, take, filter, nat_lt}
 use Rattle.std.specs.declared.alloc.Global.{Global}
 use Rattle.std.specs.HashMap.{get}
 use Rattle.std.specs.declared.collections.VecDeque.{VecDeque}
@@ -91,3 +91,24 @@ value_if test (Some x) = if test x then Some x else None
 abbrev pub lot_of_age : List HoldingRow → ℕ → Text → LotAge → Option HoldingRow
 lot_of_age rows account symbol a =
     value_if (λ r. (r.account == account) && (bytes_eq r.symbol symbol && (r.stamp == a.stamp))) (find (λ r. r.trade == a.trade) rows)
+
+-- True if the lot of the age `a` is closed after that of the age `b`: the newest first if `lifo`,
+-- otherwise the oldest first. True for every age if there is no `b`.
+abbrev pub is_closed_after : Bool → Option LotAge → LotAge → Bool
+is_closed_after lifo None a = true
+is_closed_after true (Some b) a = is_older a b
+is_closed_after false (Some b) a = is_older b a
+
+-- The rows of the lots that are closed after the lot of the age `after`.
+abbrev pub rows_closed_after : Bool → Option LotAge → List HoldingRow → List HoldingRow
+rows_closed_after lifo after rows = filter (λ r. is_closed_after lifo after (age_of_row r)) rows
+
+-- The row of the lot of the age `a`, if it is a lot of `account` in the security `symbol` that is
+-- closed after the lot of the age `after`.
+abbrev pub lot_of_later_age : List HoldingRow → ℕ → Text → Bool → Option LotAge → LotAge → Option HoldingRow
+lot_of_later_age rows account symbol lifo after a = if is_closed_after lifo after a then lot_of_age rows account symbol a else None
+
+-- The ids of the trades of the rows ascend.
+abbrev pub RisesByTrade : List HoldingRow → Type 0
+RisesByTrade [] = Unit {0}
+RisesByTrade (x ∷ xs) = AllByRecursion (λ y. nat_lt x.trade y.trade ≡ true) xs × RisesByTrade xs

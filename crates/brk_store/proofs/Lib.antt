@@ -18,4 +18,4 @@ pub mod Sequences
 pub mod ReadResults
 pub mod TradesFound
 pub mod MarketValues
-pub mod Indexed
+pub mod Covered

@@ -1,6 +1,6 @@
 use Rattle.std.proofs.Common.{rules}
 use Rattle.brk_store.proofs.Ending.{read_is_over}
-use Rattle.brk_store.proofs.Indexed.{read_keeps_index}
+use Rattle.brk_store.proofs.Covered.{read_keeps_index}
 use Rattle.brk_store.proofs.store.Store.requests_at_or_above.Goals as goal
 
 pub returns-clause-read : goal.returns-clause-read
