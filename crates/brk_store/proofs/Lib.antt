@@ -19,3 +19,5 @@ pub mod ReadResults
 pub mod TradesFound
 pub mod MarketValues
 pub mod Covered
+pub mod ByAges
+pub mod ByIndex
