@@ -1,6 +1,6 @@
 //! The index, and the changes of it.
 
-ghost use Rattle.std.specs.Prelude.{◌≡◌, IfOk, OnOk, MatchOption, map, option_map, slice_get, []};
+ghost use Rattle.std.specs.Prelude.{◌≡◌, ◌==◌, ℕ, drop, false, IfOk, OnOk, MatchOption, map, option_map, slice_get, []};
 ghost use Rattle.std.specs.Option.{option_copied};
 ghost use Rattle.std.specs.VecDeque.{deque_len};
 ghost use Rattle.brk_changes.specs.Changes.{tables_after_changes};
@@ -124,6 +124,30 @@ impl LotIndex {
         Ok(())
     }
 
+    /// Takes the ages with the number of the position of an account in a security out of the index.
+    pub fn take(&mut self, account: Id, symbol: &Symbol) -> Option<VecDeque<LotAge>>
+        ensures taken { ages_in result ≡ lots_at self.old (position_number account symbol.now) }
+        ensures others { (number : ℕ) → (position_number account symbol.now == number) ≡ false → lots_at self.new number ≡ lots_at self.old number }
+    {
+        self.positions.remove(&number_of_position(account, symbol))
+    }
+
+    /// Puts ages back at the number of the position of an account in a security. Fails if the
+    /// memory is refused; the index is then not specified.
+    pub fn put(
+        &mut self,
+        account: Id,
+        symbol: &Symbol,
+        ages: VecDeque<LotAge>,
+    ) -> Result<(), AllocError>
+        ensures put { OnOk result (lots_at self.new (position_number account symbol.now) ≡ ages.items) }
+        ensures others { OnOk result ((number : ℕ) → (position_number account symbol.now == number) ≡ false → lots_at self.new number ≡ lots_at self.old number) }
+    {
+        self.positions
+            .insert(number_of_position(account, symbol), ages)?;
+        Ok(())
+    }
+
     /// Returns the lots of the position of an account in a security, and perhaps of other
     /// positions, the oldest first, or `None` if there are none.
     pub fn lots(&self, account: Id, symbol: &Symbol) -> Option<&VecDeque<LotAge>>
@@ -144,5 +168,16 @@ pub fn age_in_closing_order(ages: &VecDeque<LotAge>, lifo: bool, place: usize) -
     match ages.len().checked_sub(place) {
         Some(left) if left > 0 => ages.get(left - 1).copied(),
         _ => None,
+    }
+}
+
+/// Drops the first age in the order of closing: the last one if `lifo`, otherwise the first one.
+pub fn drop_first_age(ages: &mut VecDeque<LotAge>, lifo: bool)
+    ensures { in_closing_order lifo ages.new.items ≡ drop 1 (in_closing_order lifo ages.old.items) }
+{
+    if lifo {
+        let _last = ages.pop_back();
+    } else {
+        let _first = ages.pop_front();
     }
 }

@@ -64,10 +64,10 @@ last_of : {X : Type 0} (x : X) (xs : List X) → (ys : List X) × (y : X) × (x 
 last_of x [] = ([], x, refl)
 last_of x (z ∷ zs) = let k = last_of z zs in (x ∷ k.0, k.1, ap (λ l. x ∷ l) k.2)
 
-joined : (as bs : List HoldingRow) (x : HoldingRow) (ys : List HoldingRow) → as ++ ((bs ++ x ∷ []) ++ ys) ≡ (as ++ bs) ++ x ∷ ys
+joined : (fs bs : List HoldingRow) (x : HoldingRow) (ys : List HoldingRow) → fs ++ ((bs ++ x ∷ []) ++ ys) ≡ (fs ++ bs) ++ x ∷ ys
 joined [] [] x ys = refl
 joined [] (b ∷ bs) x ys = ap (λ l. b ∷ l) (joined [] bs x ys)
-joined (a ∷ as) bs x ys = ap (λ l. a ∷ l) (joined as bs x ys)
+joined (a ∷ fs) bs x ys = ap (λ l. a ∷ l) (joined fs bs x ys)
 
 taken : (xs : List HoldingRow) (n m : ℕ) → m ≡ min n (length xs) → take n xs ≡ take m xs
 taken [] zero m e = let k : m ≡ 0 = omega arith in sym (ap (λ (j : ℕ). take j []) k)
