@@ -112,3 +112,8 @@ lot_of_later_age rows account symbol lifo after a = if is_closed_after lifo afte
 abbrev pub RisesByTrade : List HoldingRow → Type 0
 RisesByTrade [] = Unit {0}
 RisesByTrade (x ∷ xs) = AllByRecursion (λ y. nat_lt x.trade y.trade ≡ true) xs × RisesByTrade xs
+
+-- The ages `new` rise if `old` do, and have all of `old` but those whose trades have no row.
+pub record KeepsLots (rows : List HoldingRow) (old new : List LotAge) : Type 0 where
+  pub rising : IsRising old → IsRising new
+  pub kept : (a : LotAge) → Has old a → Has new a ⊎ (find (λ r. r.trade == a.trade) rows ≡ None)

@@ -87,6 +87,14 @@ module _ {S : Type 0} (g : Ghosts S) where
       opens (Ok answer) clean on = (before.unchanged_if_open clean on).was_open
       opens (Err e) clean on = tt
 
+  -- reads, and one more that tells nothing
+  pub reads_and_one : (old mid end : Held S) {V W E F : Type 0} (v : V) (result : Result W F) (P : V → Tables → Type 0) (Q : W → Tables → Type 0)
+      → ReadSequencePost {E = E} g old mid (Ok v) P → ReadPost g mid end result Q → ReadSequencePost {E = E} g old end (Ok v) P
+  reads_and_one old mid end v result P Q first read = record {
+    answered = λ clean t holds. first.answered (disk_was_clean_before_reads mid end (single_read_changes_nothing mid end result Q read) clean) t holds;
+    unchanged = joined_reads_change_nothing old mid end first.unchanged (single_read_changes_nothing mid end result Q read);
+  }
+
 -- ---- lists
 
 got : {X : Type 0} (xs : List X) (n : ℕ) → n < length xs → (x : X) × (slice_get xs n ≡ Some x) × (take (n + 1) xs ≡ take n xs ++ x ∷ [])

@@ -12,7 +12,7 @@ use Rattle.brk_tables_schema.specs.Made.{HasDeskTables}
 use Rattle.brk_store.specs.Audited.{AuditPost}
 use Rattle.brk_store.specs.Holds.{ApplyPost, CreatePost, ReadPost, WasOpenAndIsUnchanged}
 use Rattle.brk_store.specs.Indexed.{CoversRows, IndexIsTrue}
-use Rattle.brk_store.specs.ReadSequences.{IsUnchangedByReads}
+use Rattle.brk_store.specs.ReadSequences.{IsUnchangedByReads, ReadSequencePost}
 use Rattle.brk_store.proofs.Ending.{is_read, with_transaction_open}
 use Rattle.brk_lot_index.specs.declared.index.LotIndex.{LotIndex}
 
@@ -46,6 +46,16 @@ module _ {S : Type 0} (g : Ghosts S) (old new : Held S) (known : Bool) (lots : O
         let c = is.covers k (clean_before (state g old) (state g new) _ post.survives clean) (post.open_and_committed clean).0 in
         (after c.0, post.applied c.0 (λ _ _. c.1) clean on, adds c.0 c.2);
   }
+
+-- lots in memory that cover the same rows
+pub index_after_dropping : {S : Type 0} (g : Ghosts S) (old new : Held S) (known : Bool) (index : LotIndex) (lots : Option LotIndex)
+    → ReadSequencePost {E = Fault} g old new (Ok lots) (λ lots t. CoversRows (Some index) t → CoversRows lots t) → IndexIsTrue g old known (Some index) → IndexIsTrue g new known lots
+index_after_dropping g old new known index lots reads is = record {
+  covers = λ k clean on.
+      let s = reads.unchanged.unchanged_if_open clean on in
+      let c = is.covers k (clean_before (state g old) (state g new) (λ _. ⊥) reads.unchanged.survives clean) s.was_open in
+      (c.0, subst (HasDeskTables c.0) (sym s.now) c.1, reads.answered clean c.0 (λ _ _. c.1) c.2);
+}
 
 -- tables that were created are there
 pub index_of_created : {S : Type 0} (g : Ghosts S) (old new : Held S) → CreatePost g old new (Ok tt) → IndexIsTrue g new true None

@@ -1,13 +1,14 @@
 //! The lots by position in memory, and pages of lots that are read by them.
 
-ghost use Rattle.std.specs.Prelude.{◌≡◌, ◌==◌, ◌&&◌, ◌++◌, [], Err, IfErr, OnErr, OnOk, Some, bytes_eq, false, map, option_and_then, option_map, slice_get, take};
+ghost use Rattle.std.specs.Prelude.{◌≡◌, ◌==◌, ◌&&◌, ◌++◌, [], Err, IfErr, Ok, OnErr, OnOk, Some, bytes_eq, false, map, option_and_then, option_map, slice_get, take};
 ghost use Rattle.std.specs.List.{cons_option, filter_map};
 ghost use Rattle.std.specs.Option.{option_copied};
 ghost use Rattle.brk_changes.specs.Changes.{tables_after_changes};
 ghost use Rattle.brk_changes.specs.Rows.{abstract_holding_row};
-ghost use Rattle.brk_lot_index.specs.Ages.{CoversLots, ages_in, in_closing_order, is_closed_after, lot_of_age, lot_of_later_age, value_if};
+ghost use Rattle.brk_lot_index.specs.Ages.{CoversLots, KeepsLots, ages_in, in_closing_order, is_closed_after, lot_of_age, lot_of_later_age, value_if};
 ghost use Rattle.brk_model.specs.Run.{IsCallFault};
 ghost use Rattle.brk_model.specs.Tables.{Tables};
+ghost use Rattle.brk_money.specs.declared.fault.Fault.{Fault};
 ghost use Rattle.brk_money.specs.declared.fault.Fault.TheVariants as fault;
 ghost use Rattle.brk_store.specs.Holds.{ReadPost};
 ghost use Rattle.brk_store.specs.Indexed.{CoversRows};
@@ -19,7 +20,7 @@ ghost use Rattle.brk_tables_schema.specs.Statements.{IsFirstMatch};
 use crate::Store;
 use crate::beginning::begin_transaction;
 use brk_changes::{Change, HoldingRow};
-use brk_lot_index::index::age_in_closing_order;
+use brk_lot_index::index::{age_in_closing_order, drop_first_age};
 use brk_lot_index::{LotAge, LotIndex};
 use brk_money::{Fault, Id, Stamp};
 use brk_ref::Symbol;
@@ -229,7 +230,7 @@ pub(crate) fn read_page_of_ages<S: Alter>(
     requires { conn.old.in_transaction ≡ false }
     ensures mode { conn.new.in_transaction ≡ false }
     ensures read { ReadPost S.Store conn.old conn.new result (λ page t. map abstract_holding_row page.items
-        ≡ take page_size (filter_map (lot_of_later_age t.holdings account symbol.now lifo after.now) (in_closing_order lifo (ages_in (option_copied ages))))) }
+        ≡ take page_size (filter_map (lot_of_later_age t.holdings account symbol.now lifo after.now) (in_closing_order lifo (ages_in (option_copied ages.entry))))) }
     ensures fault { IfErr result IsCallFault }
 {
     // Called because it fails if the database is not open.
@@ -237,6 +238,47 @@ pub(crate) fn read_page_of_ages<S: Alter>(
     match ages {
         Some(ages) => read_lots_of_ages(conn, alloc, account, symbol, lifo, after, ages),
         None => Ok(Vec::new(alloc)),
+    }
+}
+
+// Drops ages at the end at which closing begins whose trades have no lot, up to the first that has
+// one, or at which the read fails.
+fn drop_gone_ages<S: Alter>(conn: &mut Connection<S>, lifo: bool, ages: &mut VecDeque<LotAge>)
+    requires { conn.old.in_transaction ≡ false }
+    ensures mode { conn.new.in_transaction ≡ false }
+    ensures reads { ReadSequencePost {E = Fault} S.Store conn.old conn.new (Ok tt) (λ _ t. KeepsLots t.holdings ages.old.items ages.new.items) }
+{
+    for _turn in 0..ages.len() {
+        let Some(age) = age_in_closing_order(ages, lifo, 0) else {
+            return;
+        };
+        let Ok(None) = read_lot_by_trade(conn, age.trade) else {
+            return;
+        };
+        drop_first_age(ages, lifo);
+    }
+}
+
+// Returns the lots without some of a position whose trades have no lot any more, or `None` if the
+// memory is refused.
+fn lots_without_gone_ages<S: Alter>(
+    conn: &mut Connection<S>,
+    mut index: LotIndex,
+    account: Id,
+    symbol: &Symbol,
+    lifo: bool,
+) -> Option<LotIndex>
+    requires { conn.old.in_transaction ≡ false }
+    ensures mode { conn.new.in_transaction ≡ false }
+    ensures reads { ReadSequencePost {E = Fault} S.Store conn.old conn.new (Ok result) (λ lots t. CoversLots index t.holdings → CoversRows lots t) }
+{
+    let Some(mut ages) = index.take(account, symbol) else {
+        return Some(index);
+    };
+    drop_gone_ages(conn, lifo, &mut ages);
+    match index.put(account, symbol, ages) {
+        Ok(()) => Some(index),
+        Err(_) => None,
     }
 }
 
@@ -264,6 +306,15 @@ impl<S: Alter> Store<S> {
         match read_lot_index(&mut self.conn, alloc) {
             Ok(index) => self.lots = Some(index),
             Err(_) => self.known = false,
+        }
+    }
+
+    // Drops some lots of a position from the memory that do not exist any more.
+    fn drop_gone_lots(&mut self, account: Id, symbol: &Symbol, lifo: bool)
+        ensures { IsUnchangedByReads S.Store self.old self.new }
+    {
+        if let Some(index) = self.lots.take() {
+            self.lots = lots_without_gone_ages(&mut self.conn, index, account, symbol, lifo);
         }
     }
 
@@ -324,6 +375,9 @@ impl<S: Alter> Store<S> {
         ensures fault { IfErr result IsCallFault }
     {
         self.prepare_lots(alloc);
+        if after.is_none() {
+            self.drop_gone_lots(account, symbol, lifo);
+        }
         self.page_of_prepared_lots(alloc, account, symbol, lifo, skipped, after)
     }
 }

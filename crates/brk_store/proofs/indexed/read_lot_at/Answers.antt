@@ -1,4 +1,4 @@
-use Rattle.std.proofs.Common.{◌≡◌, ◌∙◌, Some, None, Option, ap, option_map, slice_get, sym, rules, true, false}
+use Rattle.std.proofs.Common.{◌≡◌, ◌∙◌, Some, None, Option, ap, option_map, refl, slice_get, sym, rules, true, false}
 use Rattle.std.specs.Prelude.{option_and_then}
 use Rattle.brk_money.specs.declared.fault.Fault.{Fault}
 use Rattle.brk_changes.specs.Rows.{abstract_holding_row}

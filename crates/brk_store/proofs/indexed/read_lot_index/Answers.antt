@@ -20,5 +20,5 @@ returns-in-Ok-clause-read g c =
     decided g.S.Store c.args.conn.now c.read_all_lots.new.conn c.in_ok-rows.rows AreAllLots Covers (Ok c.in-Ok.index) c.in_ok-rows.ensures.read
     (λ t all. subst (CoversLots c.in-Ok.index) (ap (map abstract_holding_row) c.deref.ensures.value ∙ all) c.in-Ok.ensures)
 
-pub returns-in-Err-clause-read : goal.returns-in-Err-clause-read
-returns-in-Err-clause-read g c = decided g.S.Store c.args.conn.now c.read_all_lots.new.conn c.in_ok-rows.rows AreAllLots Covers (Err Memory) c.in_ok-rows.ensures.read tt
+pub returns-clause-read : goal.returns-clause-read
+returns-clause-read g c = decided g.S.Store c.args.conn.now c.read_all_lots.new.conn c.in_ok-rows.rows AreAllLots Covers (Err Memory) c.in_ok-rows.ensures.read tt

@@ -15,7 +15,7 @@ returns-in-Some-clause-read g c =
     (λ o (t : Tables). option_map abstract_holding_row o ≡ find (λ (r : HoldingRow). r.trade == age.trade) t.holdings)
     (λ found (t : Tables). option_map abstract_holding_row found ≡ lot_of_age t.holdings c.args.account c.args.symbol.now age)
     (λ t e. c.lot_of_position.ensures ∙ ap (value_if test) e)
-    (rw c.in-Some.is at c.in_ok-read_lot_by_trade.ensures.read)
+    (rw c.in-Some.is at c.in_ok-row.ensures.read)
 
 pub returns-in-None-clause-read : goal.returns-in-None-clause-read
 returns-in-None-clause-read g c =
@@ -25,4 +25,4 @@ returns-in-None-clause-read g c =
     (λ o (t : Tables). option_map abstract_holding_row o ≡ find (λ (r : HoldingRow). r.trade == age.trade) t.holdings)
     (λ found (t : Tables). option_map abstract_holding_row found ≡ lot_of_age t.holdings c.args.account c.args.symbol.now age)
     (λ t e. ap (value_if test) e)
-    (rw c.in-None.is at c.in_ok-read_lot_by_trade.ensures.read)
+    (rw c.in-None.is at c.in_ok-row.ensures.read)

@@ -38,8 +38,8 @@ loop-place-preserved g c =
       mode = c.read_lot_at.ensures.mode;
     }
 
-pub returns-then-len-eqPAGE_SIZE-clause-read : goal.returns-then-len-eqPAGE_SIZE-clause-read
-returns-then-len-eqPAGE_SIZE-clause-read g c =
+pub returns-then-len-eq-PAGE_SIZE-clause-read : goal.returns-then-len-eq-PAGE_SIZE-clause-read
+returns-then-len-eq-PAGE_SIZE-clause-read g c =
     let es = in_closing_order c.args.lifo c.args.ages.now.items in
     let f = λ (t : Tables). lot_of_later_age t.holdings c.args.account c.args.symbol.now c.args.lifo c.args.after.now in
     reads_retold g.S.Store c.args.conn.now c.loop-place.conn tt c.loop-place.page

@@ -6,7 +6,7 @@ pub invariant_of-self : goal.invariant_of-self
 invariant_of-self g c = (
   c.in-Ok.ensures.mode,
   index_after_changes g.S.Store c.self.inside.conn c.apply_changes_in_transaction.new.conn c.self.inside.known c.self.inside.lots c.lots_with_opened.result
-  (tables_after_changes c.args.changes.now) c.in-Ok.ensures.applied (rw c.take.ensures.value at c.lots_with_opened.ensures) c.self.invariant.1,
+      (tables_after_changes c.args.changes.now) c.in-Ok.ensures.applied (rw c.take.ensures.value at c.lots_with_opened.ensures) c.self.invariant.1,
 )
 
 pub returns-in-Ok : goal.returns-in-Ok
