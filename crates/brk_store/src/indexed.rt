@@ -246,7 +246,7 @@ pub(crate) fn read_page_of_ages<S: Alter>(
 fn drop_gone_ages<S: Alter>(conn: &mut Connection<S>, lifo: bool, ages: &mut VecDeque<LotAge>)
     requires { conn.old.in_transaction ≡ false }
     ensures mode { conn.new.in_transaction ≡ false }
-    ensures reads { ReadSequencePost {E = Fault} S.Store conn.old conn.new (Ok tt) (λ _ t. KeepsLots t.holdings ages.old.items ages.new.items) }
+    ensures reads { ReadSequencePost {V = Unit {0}} {E = Fault} S.Store conn.old conn.new (Ok tt) (λ _ t. KeepsLots t.holdings ages.old.items ages.new.items) }
 {
     for _turn in 0..ages.len() {
         let Some(age) = age_in_closing_order(ages, lifo, 0) else {
@@ -309,10 +309,14 @@ impl<S: Alter> Store<S> {
         }
     }
 
-    // Drops some lots of a position from the memory that do not exist any more.
-    fn drop_gone_lots(&mut self, account: Id, symbol: &Symbol, lifo: bool)
+    // Before the first page of a position: drops some of its lots from the memory that do not exist any
+    // more.
+    fn drop_gone_lots(&mut self, account: Id, symbol: &Symbol, lifo: bool, after: &Option<LotAge>)
         ensures { IsUnchangedByReads S.Store self.old self.new }
     {
+        if after.is_some() {
+            return;
+        }
         if let Some(index) = self.lots.take() {
             self.lots = lots_without_gone_ages(&mut self.conn, index, account, symbol, lifo);
         }
@@ -375,9 +379,7 @@ impl<S: Alter> Store<S> {
         ensures fault { IfErr result IsCallFault }
     {
         self.prepare_lots(alloc);
-        if after.is_none() {
-            self.drop_gone_lots(account, symbol, lifo);
-        }
+        self.drop_gone_lots(account, symbol, lifo, after);
         self.page_of_prepared_lots(alloc, account, symbol, lifo, skipped, after)
     }
 }

@@ -27,12 +27,12 @@ returns-clause-first_lot g c told ls h =
     let was_clean = disk_was_clean_before_reads self.store.now after.store.now c.in_ok-page.ensures.store told in
     let has = h.1 was_clean (c.in_ok-page.ensures.opened told) in
     let shown = c.in_ok-page.ensures.rows told h.0 h.1 h.3 in
-    let last : c.age_of_last_lot.result ≡ age_after_rows self.last_age page = search rules in
-    let behind : rows_closed_after self.lifo c.age_of_last_lot.result rows ≡ drop after.read rows =
+    let last : c.age_of_last_lot-self.result ≡ age_after_rows self.last_age page = search rules in
+    let behind : rows_closed_after self.lifo c.age_of_last_lot-self.result rows ≡ drop after.read rows =
     ap (λ a. rows_closed_after self.lifo a rows) last
     ∙ left_after_page h.0 (state g.S.Store self.store.now).now has self.account self.symbol.now self.lifo self.last_age self.read page shown h.3
     ∙ ap (λ n. drop n rows) (sym count) in
     rw c.in_ok-page.ensures.same
     (turned g.S.Store after.store.now self.lifo self.account self.symbol.now h.0 (c.in_ok-page.ensures.store.same_rows h.0 h.1) self.read after.read page
-    (nat_lt c.len.result 16) c.age_of_last_lot.result c.match-first.first ls
+    (nat_lt c.len.result 16) c.age_of_last_lot-self.result c.match-first.first ls
     shown count ended first left behind)
