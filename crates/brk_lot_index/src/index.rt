@@ -127,6 +127,7 @@ impl LotIndex {
     /// Takes the ages with the number of the position of an account in a security out of the index.
     pub fn take(&mut self, account: Id, symbol: &Symbol) -> Option<VecDeque<LotAge>>
         ensures taken { ages_in result ≡ lots_at self.old (position_number account symbol.now) }
+        ensures emptied { lots_at self.new (position_number account symbol.now) ≡ [] }
         ensures others { (number : ℕ) → (position_number account symbol.now == number) ≡ false → lots_at self.new number ≡ lots_at self.old number }
     {
         self.positions.remove(&number_of_position(account, symbol))

@@ -150,3 +150,7 @@ last_page h f es n page all few is =
 pub none_in_order : {X Y : Type 0} (f : X → Option Y) (lifo : Bool) → [] ≡ take 16 (filter_map f (in_closing_order lifo []))
 none_in_order f true = refl
 none_in_order f false = refl
+
+pub first_of : {X : Type 0} (xs : List X) (x : X) → slice_get xs 0 ≡ Some x → xs ≡ x ∷ drop 1 xs
+first_of [] x e = absurd (let f = e in cc)
+first_of (y ∷ ys) x e = let same : y ≡ x = cc in ap (λ z. z ∷ ys) same
