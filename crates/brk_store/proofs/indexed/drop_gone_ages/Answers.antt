@@ -31,6 +31,6 @@ loop-turn-preserved g c =
           (λ t p q. dropped_then t.holdings old mid new p (first_dropped t.holdings c.args.lifo mid new age (drop 1 es) (first_of es age (sym this)) c.drop_first_age.ensures (sym q)))
           c.loop-turn.invariant.reads
           (one_read g.S.Store c.loop-turn.conn c.read_lot_by_trade.new.conn {V = Option row.HoldingRow} (Ok None)
-          (λ found t. option_map abstract_holding_row found ≡ find (λ (r : HoldingRow). r.trade == age.trade) t.holdings) c.in-Ok-None.ensures.read);
+          (λ found t. option_map abstract_holding_row found ≡ find (λ (r : HoldingRow). r.trade == age.trade) t.holdings) (rw c.in-Ok-None.field-0-is at c.in-Ok-None.ensures.read));
       mode = c.read_lot_by_trade.ensures.mode;
     }
