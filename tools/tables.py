@@ -886,6 +886,8 @@ STATEMENTS = {
         (update, 'CompleteTrade', 'trade', [('T_ST_ID', 1), ('T_DTS', 2), ('T_TRADE_PRICE', 3), ('T_COMM', 4), ('T_TAX', 5)], [('T_ID', 6)]),
         (select, 'OldestLots', 'holding', [('H_CA_ID', 1), ('H_S_SYMB', 2)], [('H_DTS', False), ('H_T_ID', False)], ('lit', 16), None, 3),
         (select, 'NewestLots', 'holding', [('H_CA_ID', 1), ('H_S_SYMB', 2)], [('H_DTS', True), ('H_T_ID', True)], ('lit', 16), None, 3),
+        (select, 'LotByTrade', 'holding', [('H_T_ID', 1)], [('H_T_ID', False)]),
+        (select, 'LotsByTrade', 'holding', [], [('H_T_ID', False)]),
         (select, 'SummaryOf', 'summary', [('HS_CA_ID', 1), ('HS_S_SYMB', 2)], [('HS_CA_ID', False), ('HS_S_SYMB', False)]),
         (select, 'SummariesOf', 'summary', [('HS_CA_ID', 1)], [('HS_CA_ID', False), ('HS_S_SYMB', False)]),
         (insert, 'AddLot', 'holding', [1, 2, 3, 4, 5, 6]),

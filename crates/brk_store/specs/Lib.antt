@@ -6,5 +6,6 @@ pub mod Numbers
 pub mod Walked
 pub mod Calling
 pub mod Pages
+pub mod Indexed
 pub mod RemainingLots
 pub mod Valuation

@@ -11,6 +11,7 @@ mod cash;
 mod changing;
 mod examining;
 mod holdings;
+mod indexed;
 mod lot_changes;
 mod numbers;
 pub mod pages;

@@ -1,5 +1,7 @@
 use crate::changing::{apply_changes_in_transaction, create_tables_in_transaction};
+use crate::indexed::lots_with_opened;
 use brk_changes::Change;
+use brk_lot_index::LotIndex;
 use brk_money::Fault;
 use sqlite::{Alter, Connection};
 use std::marker::Model;
@@ -25,6 +27,11 @@ use std::marker::Model;
 /// the store, a crash may expose the changes of the call as committed.
 pub struct Store<S: Alter> {
     pub(crate) conn: Connection<S>,
+    // True only if the database, while it is open, has the tables of a desk with some rows.
+    pub(crate) known: bool,
+    // The lots by position, or `None` if they were not read yet, or if the memory for them was
+    // refused.
+    pub(crate) lots: Option<LotIndex>,
 }
 
 impl<S: Alter> Model for Store<S> {
@@ -35,15 +42,21 @@ impl<S: Alter> Model for Store<S> {
 
     ghost coded = { held_code S.code };
 
+    ghost use Rattle.brk_store.specs.Indexed.{IndexIsTrue};
+
     ghost view = { λ s. s.conn };
 
-    ghost invariant = { λ s. s.conn.in_transaction ≡ false };
+    ghost invariant = { λ s. (s.conn.in_transaction ≡ false) × IndexIsTrue S.Store s.conn s.known s.lots };
 }
 
 impl<S: Alter + Drop> Drop for Store<S> {
     /// Drops the connection of the store.
     fn drop(self) {
-        let Store { conn: _ } = self;
+        let Store {
+            conn: _,
+            known: _,
+            lots: _,
+        } = self;
     }
 }
 
@@ -78,7 +91,11 @@ impl<S: Alter> Store<S> {
             return Err((conn, Fault::Store));
         }
         match create_tables_in_transaction(&mut conn) {
-            Ok(()) => Ok(Store { conn }),
+            Ok(()) => Ok(Store {
+                conn,
+                known: true,
+                lots: None,
+            }),
             Err(fault) => Err((conn, fault)),
         }
     }
@@ -100,7 +117,13 @@ impl<S: Alter> Store<S> {
         ensures applied { ApplyPost S.Store self.old self.new result (tables_after_changes changes.now) }
         ensures fault { OnErr result (result ≡ Err fault.Store) }
     {
-        apply_changes_in_transaction(&mut self.conn, changes)
+        match apply_changes_in_transaction(&mut self.conn, changes) {
+            Ok(()) => {
+                self.lots = lots_with_opened(self.lots.take(), changes);
+                Ok(())
+            }
+            Err(fault) => Err(fault),
+        }
     }
 
     /// Returns the connection of the store, which is in autocommit mode.
@@ -108,7 +131,11 @@ impl<S: Alter> Store<S> {
         ensures same { result ≡ self }
         ensures autocommit { result.in_transaction ≡ false }
     {
-        let Store { conn } = self;
+        let Store {
+            conn,
+            known: _,
+            lots: _,
+        } = self;
         conn
     }
 }

@@ -79,7 +79,11 @@ impl<S: Alter> Store<S> {
             return Err((conn, Fault::Store));
         }
         match audit_and_upgrade_database(&mut conn, alloc) {
-            Ok(()) => Ok(Store { conn }),
+            Ok(()) => Ok(Store {
+                conn,
+                known: false,
+                lots: None,
+            }),
             Err(fault) => Err((conn, fault)),
         }
     }

@@ -11,6 +11,9 @@ pub mod RequestsBelow
 pub mod LastTradeBySymbol
 pub mod OldestLots
 pub mod NewestLots
+pub mod LotByTrade
+pub mod LotsByTrade
+pub mod LotReads
 pub mod Turned
 pub mod SummariesOf
 pub mod SummaryOf

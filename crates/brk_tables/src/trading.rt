@@ -19,8 +19,8 @@ pub use balances::set_account_balance;
 pub use broker_totals::set_broker_totals;
 pub use history::add_trade_history_row;
 pub use holdings::{
-    holding_summaries_of_account, holding_summary_by_account_and_symbol, page_of_lots_newest_first,
-    page_of_lots_oldest_first,
+    all_lots, holding_summaries_of_account, holding_summary_by_account_and_symbol, lot_by_trade,
+    page_of_lots_newest_first, page_of_lots_oldest_first,
 };
 pub use last_trades::{last_trade_by_symbol, set_last_trade};
 pub use lots::{add_lot, add_lot_change, remove_lot, set_lot_quantity};

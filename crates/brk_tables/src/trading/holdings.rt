@@ -7,7 +7,7 @@ ghost use Rattle.sqlite_value.specs.declared.value.Value.TheVariants.{Int};
 ghost use Rattle.brk_money.specs.declared.fault.Fault.TheVariants.{Store};
 ghost use Rattle.brk_model.specs.Run.{IsCallFault};
 ghost use Rattle.brk_changes.specs.Rows.{abstract_holding_row, abstract_summary_row};
-ghost use Rattle.brk_tables_schema.specs.Desk.{Summaries};
+ghost use Rattle.brk_tables_schema.specs.Desk.{Holdings, Summaries};
 ghost use Rattle.brk_tables_schema.specs.Statements.{ReadsFirstMatch, ReadsMatchingRows, ReadsDeskTables};
 ghost use Rattle.brk_tables.specs.Pages.{position_lots_by_age, page_after_skipped};
 
@@ -82,6 +82,43 @@ pub fn page_of_lots_newest_first<S: Alter>(
             text_as_parameter(symbol.as_str()),
             skip_count_as_parameter(skipped),
         ],
+    )?;
+    decode_rows(alloc, &rows)
+}
+
+/// Returns the lot that the trade `trade` opened (HOLDING), or `None` if there is none. Changes
+/// nothing if it succeeds. Fails with `Store` only, also if the row is malformed or memory runs out.
+pub fn lot_by_trade<S: Alter>(
+    tx: &mut Transaction<'_, S>,
+    trade: Id,
+) -> Result<Option<HoldingRow>, Fault>
+    ensures same_reference { tx.new.conn.ghost_name ≡ tx.old.conn.ghost_name }
+    ensures step { ReadsFirstMatch S.Store tx.old tx.new result Holdings abstract_holding_row (λ r. r.trade == trade) }
+    ensures fault { OnErr result (result ≡ Err Store) }
+{
+    let rows = select_rows(
+        tx,
+        "SELECT H_T_ID, H_CA_ID, H_S_SYMB, H_DTS, H_PRICE, H_QTY FROM HOLDING WHERE H_T_ID = ?1 ORDER BY H_T_ID",
+        &[id_as_parameter(trade)],
+    )?;
+    decode_first_row(&rows)
+}
+
+/// Returns all lots (HOLDING), sorted by the id of the trade that opened them, ascending. Changes
+/// nothing if it succeeds. Fails with `Memory` or `Store` only; with `Store` also if a row is
+/// malformed.
+pub fn all_lots<S: Alter>(
+    tx: &mut Transaction<'_, S>,
+    alloc: Global,
+) -> Result<Vec<HoldingRow>, Fault>
+    ensures same_reference { tx.new.conn.ghost_name ≡ tx.old.conn.ghost_name }
+    ensures step { ReadsDeskTables S.Store tx.old tx.new result (λ all t. map abstract_holding_row all.items ≡ t.holdings) }
+    ensures fault { IfErr result IsCallFault }
+{
+    let rows = select_rows(
+        tx,
+        "SELECT H_T_ID, H_CA_ID, H_S_SYMB, H_DTS, H_PRICE, H_QTY FROM HOLDING ORDER BY H_T_ID",
+        &[],
     )?;
     decode_rows(alloc, &rows)
 }

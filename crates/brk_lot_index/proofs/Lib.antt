@@ -1,0 +1,4 @@
+pub mod Rising
+pub mod Covering
+pub mod Ordered
+pub mod Dropping

@@ -1,0 +1,72 @@
+-- What the lots in memory cover, from one call to the next.
+use Rattle.std.proofs.Common.{◌≡◌, Bool, true, false, Option, Some, None, Result, Ok, Err, IsTrue, sym, subst}
+use Rattle.sqlite_trees.specs.declared.store.Store.{Ghosts}
+use Rattle.sqlite.specs.Held.{Held, state}
+use Rattle.sqlite.specs.State.{State, HasCleanDisk, Survives, IsRolledBack}
+use Rattle.brk_money.specs.declared.fault.Fault.{Fault}
+use Rattle.brk_model.specs.Tables.{Tables, tables_without_rows}
+use Rattle.brk_sql.specs.Model.{IsTransactionStep, IsUnchangedAndSatisfies}
+use Rattle.brk_sql.proofs.Inside.{clean_before}
+use Rattle.brk_tables_schema.specs.Desk.{desk_tables}
+use Rattle.brk_tables_schema.specs.Made.{HasDeskTables}
+use Rattle.brk_store.specs.Audited.{AuditPost}
+use Rattle.brk_store.specs.Holds.{ApplyPost, CreatePost, ReadPost, WasOpenAndIsUnchanged}
+use Rattle.brk_store.specs.Indexed.{CoversRows, IndexIsTrue}
+use Rattle.brk_store.specs.ReadSequences.{IsUnchangedByReads, ReadSequencePost}
+use Rattle.brk_store.proofs.Ending.{is_read, with_transaction_open}
+use Rattle.brk_lot_index.specs.declared.index.LotIndex.{LotIndex}
+
+pub nothing_known : {S : Type 0} (g : Ghosts S) (conn : Held S) (lots : Option LotIndex) → IndexIsTrue g conn false lots
+nothing_known g conn lots = record { covers = λ known. absurd (let e = known in cc) }
+
+module _ {S : Type 0} (g : Ghosts S) (old new : Held S) (known : Bool) (lots : Option LotIndex) where
+  -- what is so of a database is so where it is unchanged
+  pub unchanged_index : (HasCleanDisk (state g new) → HasCleanDisk (state g old))
+      → (HasCleanDisk (state g new) → IsTrue (state g new).is_open → WasOpenAndIsUnchanged (state g old) (state g new)) → IndexIsTrue g old known lots → IndexIsTrue g new known lots
+  unchanged_index before same is = record {
+    covers = λ k clean on.
+        let s = same clean on in
+        let c = is.covers k (before clean) s.was_open in
+        (c.0, subst (HasDeskTables c.0) (sym s.now) c.1, c.2);
+  }
+
+  pub index_after_reads : IsUnchangedByReads g old new → IndexIsTrue g old known lots → IndexIsTrue g new known lots
+  index_after_reads reads = unchanged_index (clean_before (state g old) (state g new) (λ _. ⊥) reads.survives) reads.unchanged_if_open
+
+  pub index_after_audit : (result : _) → AuditPost g old new result → IndexIsTrue g old known lots → IndexIsTrue g new known lots
+  index_after_audit result audit = unchanged_index (clean_before (state g old) (state g new) (λ _. ⊥) audit.survives) audit.unchanged_if_open
+
+  pub index_after_fault : (fault : Fault) (after : Tables → Tables) → ApplyPost {V = Unit {0}} {E = Fault} g old new (Err fault) after → IndexIsTrue g old known lots → IndexIsTrue g new known lots
+  index_after_fault fault after post = unchanged_index (clean_before (state g old) (state g new) _ post.survives) post.unchanged_if_open
+
+  pub index_after_changes : (more : Option LotIndex) (after : Tables → Tables) → ApplyPost {V = Unit {0}} {E = Fault} g old new (Ok tt) after
+      → ((t : Tables) → CoversRows lots t → CoversRows more (after t)) → IndexIsTrue g old known lots → IndexIsTrue g new known more
+  index_after_changes more after post adds is = record {
+    covers = λ k clean on.
+        let c = is.covers k (clean_before (state g old) (state g new) _ post.survives clean) (post.open_and_committed clean).0 in
+        (after c.0, post.applied c.0 (λ _ _. c.1) clean on, adds c.0 c.2);
+  }
+
+-- lots in memory that cover the same rows
+pub index_after_dropping : {S : Type 0} (g : Ghosts S) (old new : Held S) (known : Bool) (index : LotIndex) (lots : Option LotIndex)
+    → ReadSequencePost {E = Fault} g old new (Ok lots) (λ lots t. CoversRows (Some index) t → CoversRows lots t) → IndexIsTrue g old known (Some index) → IndexIsTrue g new known lots
+index_after_dropping g old new known index lots reads is = record {
+  covers = λ k clean on.
+      let s = reads.unchanged.unchanged_if_open clean on in
+      let c = is.covers k (clean_before (state g old) (state g new) (λ _. ⊥) reads.unchanged.survives clean) s.was_open in
+      (c.0, subst (HasDeskTables c.0) (sym s.now) c.1, reads.answered clean c.0 (λ _ _. c.1) c.2);
+}
+
+-- tables that were created are there
+pub index_of_created : {S : Type 0} (g : Ghosts S) (old new : Held S) → CreatePost g old new (Ok tt) → IndexIsTrue g new true None
+index_of_created g old new made = record { covers = λ k clean on. (tables_without_rows, made.created clean on, tt) }
+
+-- a read in a transaction, which is dropped at its end
+pub read_keeps_index : {S V E : Type 0} (g : Ghosts S) (conn first mid end : Held S) (known : Bool) (lots : Option LotIndex) {out : Result V E} {P : V → Tables → Type 0}
+    → first ≡ with_transaction_open conn → (IsTrue (state g conn).is_open → (state g conn).now ≡ (state g conn).committed)
+    → IsTransactionStep (state g first) (state g mid) out (λ v. IsUnchangedAndSatisfies desk_tables (P v))
+    → Survives (state g mid) (state g end) (λ _. ⊥) → (HasCleanDisk (state g end) → IsRolledBack (state g mid) (state g end)) → end.in_transaction ≡ false
+    → IndexIsTrue g conn known lots → (end.in_transaction ≡ false) × IndexIsTrue g end known lots
+read_keeps_index g conn first mid end known lots {out} {P} first_is settled step late back ended is =
+    let post = is_read g conn mid end settled out P (subst (λ h. IsTransactionStep (state g h) (state g mid) out (λ v. IsUnchangedAndSatisfies desk_tables (P v))) first_is step) late back in
+    (ended, unchanged_index g conn end known lots (clean_before (state g conn) (state g end) (λ _. ⊥) post.survives) post.unchanged_if_open is)
