@@ -43,7 +43,7 @@ PrintsWholeBatch base t input before after =
 pub record PrintsBatchAt {R : Type 0} (machine : Bor R) (t : ℕ) (input : Text) (io : InputAndOutput) (end : Ending) : Type 0 where
   -- `Done` means that the batch completed and exactly its text was written.
   pub whole : end ≡ ending.Done → PrintsWholeBatch empty_base t input io.before io.after
-  -- For any result, the lines and the result are those of the model from the empty base, and `base`
+  -- For any result, the lines and the result are the model's from the empty base, and `base`
   -- and `later` are the base and the clock after the batch.
   pub result : Result Counts BatchFault
   pub ended : end ≡ ending_of_batch result

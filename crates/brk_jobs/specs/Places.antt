@@ -51,7 +51,7 @@ pub record ExecutesJobAndCloses {S R : Type 0} (g : Ghosts S) (closes : CloseRel
   pub closed : Result (Unit {0}) Fault
   pub executed : ExecutesJob g machine job old new io reached
   pub shut : closes new closed
-  -- The ending is that of the job, or `Open` with the fault of the close if the job was done.
+  -- The ending is the ending of the job, or `Open` with the fault of the close if the job was done.
   pub ended : end ≡ ending_after_close reached closed
 
 -- A file was opened with the result `opened`. `Ok`: the job was executed on its store, which was
