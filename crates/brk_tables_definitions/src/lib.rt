@@ -2,6 +2,10 @@
 //! defines them.
 #![tactic(auto)]
 
+mod connection;
 mod definitions;
+mod desk;
 mod lists;
 mod parts;
+
+pub use connection::with_definitions_tested;
