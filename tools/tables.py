@@ -818,6 +818,59 @@ pub(crate) const COLUMNS_OF_ALL_TABLES: [(&str, &[&str]); {len(DATA)}] = [
     out += ''.join(f'("{star_text(d)}", &[{names(d)}]),\n' for d in DATA) + '];\n'
     save('crates/brk_tables_scan/src/column_names.rt', out)
 
+def definitions():
+    """The definitions of all tables as the code of brk_tables_definitions states them, and how tables are told apart"""
+    def table(d):
+        t, sql, w, row, key, rows, rowkey, cols = d
+        spot = lambda i: 0 if rowkey and i == 0 else i + 1
+        kinds = {'text_column': 'Kind::Text, true', 'integer_column': 'Kind::Integer, true', 'nullable_integer_column': 'Kind::Integer, false'}
+        primary = ', '.join(str(spot(i)) for i in range(1 if rowkey else KEYS[t]))
+        uniques = ([] if rowkey else [f'&[{primary}]']) + [f'&[{u}]' for u in UNIQUE.get(t, [])]
+        references = [f'({spot(i)}, "{r.split(".")[0]}", "{r.split(".")[1]}")' for i, (c, k, _, r) in enumerate(cols) if r]
+        return f"""Definition {{
+    name: "{sql}",
+    columns: &[{', '.join(f'("{c}", {kinds[k]})' for c, k, _, _ in cols)}],
+    key: {'Some(0)' if rowkey else 'None'},
+    primary: &[{primary}],
+    uniques: &[{', '.join(uniques)}],
+    references: &[{', '.join(references)}],
+}},
+"""
+    out = f"""//! Written by tools/tables.py: the definitions of a desk's tables.
+
+use crate::definition::Definition;
+use sqlite_schema::schema::Kind;
+
+/// The definitions of all tables of a desk.
+pub(crate) static DEFINITIONS: [Definition; {len(DATA)}] = [
+{''.join(table(d) for d in DATA)}];
+"""
+    save('crates/brk_tables_definitions/src/desk_tables.rt', out)
+    every = ', '.join(d[2] for d in DATA)
+    out = f"""-- Written by tools/tables.py: a desk's tables are known by their names, and their foreign keys write no rows.
+use Rattle.std.proofs.Common.{{◌≡◌, ℕ, List, Option, Some, true, refl, sym, ap, ◌∙◌, slice_get}}
+use Rattle.std.specs.Prelude.{{bytes_eq, option_and_then}}
+use Rattle.std.specs.List.{{position_from}}
+use Rattle.brk_sql.specs.Desk.{{has_no_writing_foreign_keys}}
+use Rattle.brk_tables_schema.specs.Desk.{{DeskTable, {every}, all_tables, all_table_names, table_definition_at_tree}}
+
+-- No foreign key of a desk's table changes or deletes rows.
+pub keys_write_nothing : (w : DeskTable) (tree : ℕ) → has_no_writing_foreign_keys (table_definition_at_tree w tree) ≡ true
+{chr(10).join(f'keys_write_nothing {d[2]} tree = refl' for d in DATA)}
+
+abbrev table_of_name : List ℕ → Option DeskTable
+table_of_name name = option_and_then (slice_get all_tables) (position_from (bytes_eq name) 0 all_table_names)
+
+known_by_name : (w : DeskTable) (tree : ℕ) → table_of_name (table_definition_at_tree w tree).name ≡ Some w
+{chr(10).join(f'known_by_name {d[2]} tree = refl' for d in DATA)}
+
+-- Tables of a desk with the same definition are the same.
+pub same_by_definition : (v w : DeskTable) (tree : ℕ) → table_definition_at_tree v tree ≡ table_definition_at_tree w tree → v ≡ w
+same_by_definition v w tree same =
+    let e : Some v ≡ Some w = sym (known_by_name v tree) ∙ ap (λ t. table_of_name t.name) same ∙ known_by_name w tree in cc
+"""
+    save('crates/brk_tables_definitions/proofs/Written.antt', out)
+
 def listed():
     out = f"""-- Written by tools/tables.py: the names of a table and of its columns do not depend on its tree.
 use Rattle.std.proofs.Common.{{◌≡◌, ℕ, refl}}
@@ -1518,7 +1571,7 @@ pub const TABLES: [(&str, &str); {len(DATA)}] = [
 
 def lay_out():
     """Lays out the crates that were written to, and gives each file that came out as it was its time again"""
-    for crate in sorted({'brk_changes', 'brk_replay', *(folder.split('/')[0] for folder in STATEMENTS)}):
+    for crate in sorted({'brk_changes', 'brk_replay', 'brk_tables_definitions', *(folder.split('/')[0] for folder in STATEMENTS)}):
         done = subprocess.run(['rt', 'fmt'], cwd=f'crates/{crate}', stdout=subprocess.PIPE, stderr=subprocess.STDOUT, text=True)
         if done.returncode != 0:
             sys.exit(f'tools/tables.py: rt fmt in crates/{crate}:\n{done.stdout}')
@@ -1538,6 +1591,7 @@ if __name__ == '__main__':
     probing()
     stars()
     column_names()
+    definitions()
     listed()
     whole()
     rows_code()

@@ -79,7 +79,7 @@ impl<S: Alter> Store<S> {
         if !conn.is_autocommit() {
             return Err((conn, Fault::Store));
         }
-        let (mut conn, has_definitions) = with_definitions_tested(alloc, conn);
+        let (mut conn, has_definitions) = with_definitions_tested(conn);
         match audit_and_upgrade_database(&mut conn, alloc) {
             Ok(()) => Ok(Store {
                 conn,

@@ -9,12 +9,11 @@ use Rattle.sqlite_rules.proofs.RuleLemmas.{same_table}
 use Rattle.sqlite.specs.Effect.{Database, IsDatabase}
 use Rattle.brk_model.specs.Schemas.{Schema}
 use Rattle.brk_changes.specs.Schemas.{abstract_schema}
-use Rattle.brk_sql.specs.Desk.{HasNoWritingForeignKeysAt, IsTableAt, has_no_writing_foreign_keys, has_no_writing_foreign_keys_if_at}
+use Rattle.brk_sql.specs.Desk.{IsTableAt, has_no_writing_foreign_keys, has_no_writing_foreign_keys_if_at}
 use Rattle.brk_tables_schema.specs.Desk.{DeskTable, table_definition_at_tree, table_definition_has_tree}
 use Rattle.brk_tables_scan.specs.Schemas.{HasDeskDefinitions, HasDistinctRowids, TablesWithDeskNamesAreDeskTables}
 use Rattle.brk_tables_definitions.specs.Definitions.{IsDefinedAsDeskDefines}
-use Rattle.brk_tables_definitions.proofs.Known.{same_by_definition}
-use Rattle.brk_tables_definitions.proofs.Written.{keys_write_nothing}
+use Rattle.brk_tables_definitions.proofs.Written.{keys_write_nothing, same_by_definition}
 
 module _ (db : Database) (sound : IsDatabase db) (trees_apart : IsAscending (λ s t. s.tree ≡ t.tree → ⊥) db.schema.tables)
     (rowids_apart : (table : Table) → Has db.schema.tables table → HasDistinctRowids (db.trees table.tree)) (defined : (w : DeskTable) → IsDefinedAsDeskDefines db.schema w) where

@@ -1,5 +1,4 @@
 pub mod Written
-pub mod Known
-pub mod Defined
+pub mod Shapes
 pub mod Laid
 pub mod Desks

@@ -1,1 +1,2 @@
 pub mod Definitions
+pub mod Written

@@ -2,10 +2,10 @@
 //! defines them.
 #![tactic(auto)]
 
+mod comparing;
 mod connection;
-mod definitions;
-mod desk;
-mod lists;
+mod definition;
+mod desk_tables;
 mod parts;
 
 pub use connection::with_definitions_tested;

@@ -1,54 +1,127 @@
-//! The comparison of the parts of two definitions of tables.
+//! The comparison of the parts of a table with those of a definition.
 
-ghost use Rattle.std.specs.Prelude.{◌≡◌, ◌↔◌, [], IsTrue};
+ghost use Rattle.std.specs.Borrow.{Bor};
+ghost use Rattle.std.specs.Prelude.{◌≡◌, ◌↔◌, ◌∷◌, ℕ, List, [], IsTrue, map};
+ghost use Rattle.sqlite_value.specs.Keys.{plain};
+ghost use Rattle.brk_sql.specs.Desk.{foreign_key};
+ghost use Rattle.brk_tables_definitions.specs.Written.{column_of_definition, reference_of_definition, strict_column};
 
-use crate::lists::text_lists_are_equal;
+use crate::definition::{ColumnDefinition, ReferenceDefinition};
 use sqlite_items::Items;
 use sqlite_schema::code::Terms;
-use sqlite_schema::schema::{Column, Reference, Table};
+use sqlite_schema::schema::{Action, Column, Kind, Reference, Table};
+use sqlite_value::keys::{Collation, Order};
 use sqlite_value::value::{Bytes, Value};
 
 /// Returns true if the two texts are equal.
-pub(crate) fn texts_are_equal(first: &Bytes, second: &Bytes) -> bool
-    ensures { IsTrue result ↔ (first.now ≡ second.now) }
+pub(crate) fn text_is(text: &Bytes, expected: &str) -> bool
+    ensures { IsTrue result ↔ (text.now ≡ expected.now) }
 {
-    first.as_slice() == second.as_slice()
+    text.as_slice() == expected.as_bytes()
 }
 
-/// Returns true if the two lists of places are equal.
-pub(crate) fn places_are_equal(first: &Items<usize>, second: &Items<usize>) -> bool
-    ensures { IsTrue result ↔ (first.now ≡ second.now) }
+// Returns true if the column is that of a STRICT table with this name and of this kind, NOT NULL if
+// `not_null`, without a default, and with the collation BINARY.
+fn column_is(column: &Column, name: &str, kind: Kind, not_null: bool) -> bool
+    ensures { IsTrue result ↔ (column.now ≡ strict_column name.now kind not_null) }
 {
-    first.as_slice() == second.as_slice()
+    matches!(column.default, Value::Null)
+        && column.kind == kind
+        && column.is_strict
+        && column.not_null == not_null
+        && column.collation == Collation::Binary
+        && text_is(&column.name, name)
 }
 
-/// Returns true if the two foreign keys are equal.
-pub(crate) fn reference_equals(first: &Reference, second: &Reference) -> bool
-    ensures { IsTrue result ↔ (first.now ≡ second.now) }
+/// Returns true if the columns are those of the definitions, in order.
+pub(crate) fn columns_are(columns: &[Column], definitions: &[ColumnDefinition]) -> bool
+    ensures { IsTrue result ↔ (columns.now ≡ map column_of_definition definitions.now) }
 {
-    first.on_delete == second.on_delete
-        && first.on_update == second.on_update
-        && first.is_deferred == second.is_deferred
-        && places_are_equal(&first.columns, &second.columns)
-        && texts_are_equal(&first.parent, &second.parent)
-        && text_lists_are_equal(
-            first.parent_columns.as_slice(),
-            second.parent_columns.as_slice(),
-        )
+    if columns.len() != definitions.len() {
+        return false;
+    }
+    for (column, (name, kind, not_null)) in columns.iter().zip(definitions) {
+        if !column_is(column, name, *kind, *not_null) {
+            return false;
+        }
+    }
+    true
 }
 
-/// Returns true only if the two columns are equal, and false only if they differ or one has a
-/// default.
-pub(crate) fn column_equals(first: &Column, second: &Column) -> bool
-    ensures { IsTrue result → first.now ≡ second.now }
+// Returns true if the list has this one place.
+fn is_one_place(places: &Items<usize>, place: usize) -> bool
+    ensures { IsTrue result ↔ (places.now ≡ place ∷ []) }
 {
-    matches!(first.default, Value::Null)
-        && matches!(second.default, Value::Null)
-        && first.kind == second.kind
-        && first.is_strict == second.is_strict
-        && first.not_null == second.not_null
-        && first.collation == second.collation
-        && texts_are_equal(&first.name, &second.name)
+    places.as_slice() == [place].as_slice()
+}
+
+// Returns true if the list has this one text.
+fn is_one_text(texts: &Items<Bytes>, text: &str) -> bool
+    ensures { IsTrue result ↔ (texts.now ≡ text.now ∷ []) }
+{
+    match texts.as_slice() {
+        [only] => text_is(only, text),
+        _ => false,
+    }
+}
+
+// Returns true if the foreign key is that of the column at `place` to the column `column` of the
+// table `parent`, with NO ACTION on delete and on update, and not deferred.
+fn reference_is(reference: &Reference, place: usize, parent: &str, column: &str) -> bool
+    ensures { IsTrue result ↔ (reference.now ≡ foreign_key place parent.now column.now) }
+{
+    reference.on_delete == Action::NoAction
+        && reference.on_update == Action::NoAction
+        && !reference.is_deferred
+        && is_one_place(&reference.columns, place)
+        && text_is(&reference.parent, parent)
+        && is_one_text(&reference.parent_columns, column)
+}
+
+/// Returns true if the foreign keys are those of the definitions, in order.
+pub(crate) fn references_are(references: &[Reference], definitions: &[ReferenceDefinition]) -> bool
+    ensures { IsTrue result ↔ (references.now ≡ map reference_of_definition definitions.now) }
+{
+    if references.len() != definitions.len() {
+        return false;
+    }
+    for (reference, (place, parent, column)) in references.iter().zip(definitions) {
+        if !reference_is(reference, *place, parent, column) {
+            return false;
+        }
+    }
+    true
+}
+
+/// Returns true if the lists of places are equal.
+pub(crate) fn place_lists_are(lists: &[Items<usize>], definitions: &[&[usize]]) -> bool
+    ensures { IsTrue result ↔ (lists.now ≡ map (λ (places : Bor (List ℕ)). places.now) definitions.now) }
+{
+    if lists.len() != definitions.len() {
+        return false;
+    }
+    for (list, definition) in lists.iter().zip(definitions) {
+        if list.as_slice() != *definition {
+            return false;
+        }
+    }
+    true
+}
+
+/// Returns true if there is one order for each of `definitions`, ascending in all columns, with the
+/// collation BINARY.
+pub(crate) fn orders_are_plain(orders: &[Order], definitions: &[&[usize]]) -> bool
+    ensures { IsTrue result ↔ (orders.now ≡ map (λ (places : Bor (List ℕ)). plain) definitions.now) }
+{
+    if orders.len() != definitions.len() {
+        return false;
+    }
+    for (order, _) in orders.iter().zip(definitions) {
+        if order.digits != 0 {
+            return false;
+        }
+    }
+    true
 }
 
 // Returns true if there are no expressions.

@@ -1,4 +1,4 @@
-use Rattle.std.proofs.Common.{◌≡◌, ap, rules, subst, sym}
+use Rattle.std.proofs.Common.{rules, subst}
 use Rattle.sqlite.specs.Held.{Serves, state}
 use Rattle.brk_tables_definitions.specs.Definitions.{IsDefinedAsDeskDefines}
 use Rattle.brk_tables_definitions.proofs.Desks.{desk_tables_are_defined}
@@ -12,4 +12,4 @@ returns-clause-defined g c = λ has is_open.
     let listed = g.met.S.Alter.listed store serves.unbroken in
     let ordered = g.met.S.Store.ordered store serves.unbroken in
     desk_tables_are_defined (state g.S.Store c.args.conn).now serves.sound (trees_apart serves listed ordered) (rowids_apart serves listed ordered)
-    (λ w. subst (λ s. IsDefinedAsDeskDefines s w) c.schema.ensures.value (c.has_definitions_of_desk-has_definitions.ensures has w))
+    (λ w. subst (λ s. IsDefinedAsDeskDefines s w) c.schema.ensures.value (c.has_definitions_of_desk-has_definitions.ensures.0 has w))

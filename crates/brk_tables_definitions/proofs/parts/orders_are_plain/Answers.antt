@@ -1,6 +1,6 @@
 use Rattle.std.proofs.Common.{rules}
 use Rattle.std.proofs.lemmas.Iterator.{empty_from_Zip}
-use Rattle.brk_tables_definitions.proofs.lists.place_lists_are_equal.Goals as goal
+use Rattle.brk_tables_definitions.proofs.parts.orders_are_plain.Goals as goal
 
 pub returns : goal.returns
 returns c =

@@ -1,6 +1,6 @@
 use Rattle.std.proofs.Common.{rules}
 use Rattle.std.proofs.lemmas.Iterator.{empty_from_Zip}
-use Rattle.brk_tables_definitions.proofs.lists.orders_are_equal.Goals as goal
+use Rattle.brk_tables_definitions.proofs.parts.place_lists_are.Goals as goal
 
 pub returns : goal.returns
 returns c =

@@ -1,0 +1,86 @@
+//! The comparison of tables with their definitions.
+
+ghost use Rattle.std.specs.Borrow.{Bor};
+ghost use Rattle.std.specs.Prelude.{◌≡◌, ◌↔◌, ℕ, List, All, IsTrue, false, map};
+ghost use Rattle.sqlite_value.specs.Keys.{plain};
+ghost use Rattle.brk_tables_schema.specs.Desk.{DeskTable, all_tables, table_definition_at_tree};
+ghost use Rattle.brk_tables_definitions.specs.Definitions.{HasOnlyDefinition, IsDefinedAsDeskDefines};
+ghost use Rattle.brk_tables_definitions.specs.Written.{table_of_definition};
+
+use crate::definition::Definition;
+use crate::desk_tables::DEFINITIONS;
+use crate::parts::{
+    columns_are, has_no_expressions, orders_are_plain, place_lists_are, references_are, text_is,
+};
+use sqlite_schema::schema::{Schema, Table};
+
+// Returns true if the table has the name, the primary key and the columns of the definition, and no
+// AUTOINCREMENT.
+fn has_name_key_and_columns(table: &Table, definition: &Definition) -> bool
+    ensures { IsTrue result ↔ ((table.now.name ≡ (table_of_definition definition.now 0).name) × (table.now.key ≡ definition.now.key)
+        × (table.now.primary ≡ definition.now.primary.now) × (table.now.columns ≡ (table_of_definition definition.now 0).columns) × (table.now.is_counted ≡ false)) }
+{
+    table.key == definition.key
+        && !table.is_counted
+        && text_is(&table.name, definition.name)
+        && table.primary.as_slice() == definition.primary
+        && columns_are(table.columns.as_slice(), definition.columns)
+}
+
+// Returns true if the table has the UNIQUE constraints and the foreign keys of the definition.
+fn has_constraints(table: &Table, definition: &Definition) -> bool
+    ensures { IsTrue result ↔ ((table.now.uniques ≡ (table_of_definition definition.now 0).uniques) × (table.now.orders ≡ map (λ (places : Bor (List ℕ)). plain) definition.now.uniques.now)
+        × (table.now.references ≡ (table_of_definition definition.now 0).references)) }
+{
+    place_lists_are(table.uniques.as_slice(), definition.uniques)
+        && orders_are_plain(table.orders.as_slice(), definition.uniques)
+        && references_are(table.references.as_slice(), definition.references)
+}
+
+// Returns true if the table has the definition, at any tree.
+fn has_definition(table: &Table, definition: &Definition) -> bool
+    ensures { IsTrue result ↔ (table.now ≡ table_of_definition definition.now table.now.tree) }
+{
+    has_no_expressions(table)
+        && has_name_key_and_columns(table, definition)
+        && has_constraints(table, definition)
+}
+
+// Returns true if the first table of `schema` with the name of the definition, if there is one, has
+// the definition.
+fn has_only_definition(schema: &Schema, definition: &Definition) -> bool
+    ensures { IsTrue result ↔ HasOnlyDefinition schema.now (table_of_definition definition.now) }
+{
+    let Some(at) = schema.table_named(definition.name.as_bytes()) else {
+        return true;
+    };
+    match schema.tables.get(at) {
+        Some(table) => has_definition(table, definition),
+        None => true,
+    }
+}
+
+// Returns true if, for each definition, the first table of `schema` with its name, if there is one,
+// has this definition.
+fn has_only_definitions(schema: &Schema, definitions: &[Definition]) -> bool
+    ensures { IsTrue result ↔ All (λ definition. HasOnlyDefinition schema.now (table_of_definition definition)) definitions.now }
+{
+    definitions
+        .iter()
+        .all(|definition| has_only_definition(schema, definition))
+}
+
+// Returns the definitions of all tables of a desk.
+fn desk_definitions() -> &'static [Definition]
+    ensures { map table_of_definition result.now ≡ map table_definition_at_tree all_tables }
+{
+    &DEFINITIONS
+}
+
+/// Returns true if each table of `schema` with the name of a desk's table is defined as a desk
+/// defines it.
+pub(crate) fn has_definitions_of_desk(schema: &Schema) -> bool
+    ensures { IsTrue result ↔ ((w : DeskTable) → IsDefinedAsDeskDefines schema.now w) }
+{
+    has_only_definitions(schema, desk_definitions())
+}
