@@ -1,11 +1,10 @@
 #!/usr/bin/env python3
-"""Writes the files that follow from the list of tables and statements below: the shapes and cells of the tables (brk_tables_schema), which
-text makes which table (brk_tables), the rows of a desk's tables in code (brk_changes), the names of all columns, the reads of
-whole tables and their decoding (brk_tables_scan), that a database has the rows of one set of tables (brk_tables), the tables that
-a transcript shows (brk_replay), and what each SQL text means over any schema (in the crate of the statement). Run it at the top of the
-repository after a change of the list; `.ci/run` does so first. It lays out what it wrote by `rt fmt`, so where nothing changed it leaves
-the tree as it was, and it prints nothing. With `--texts` it prints the SQL texts as well, for the Rust code. What it writes is checked
-like any other file."""
+"""Writes the files that follow from the list of tables and statements below: the shapes and cells of the tables (brk_tables_schema), which text makes
+which table (brk_tables), the rows of a desk's tables in code (brk_changes), the definitions of the tables in code (brk_tables_definitions), the names
+of all columns, the reads of whole tables and their decoding (brk_tables_scan), that a database has the rows of one set of tables (brk_tables), the
+tables that a transcript shows (brk_replay), and what each SQL text means over any schema (in the crate of the statement). Run it at the top of the
+repository after a change of the list; `.ci/run` does so first. It lays out what it wrote by `rt fmt`, so where nothing changed it leaves the tree as
+it was, and it prints nothing. With `--texts` it prints the SQL texts as well, for the Rust code. What it writes is checked like any other file."""
 import os
 import re
 import subprocess
