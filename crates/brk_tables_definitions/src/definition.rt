@@ -10,8 +10,8 @@ pub(crate) type ColumnDefinition = (&'static str, Kind, bool);
 /// the column in a stored row, and the table and the column that it refers to.
 pub(crate) type ReferenceDefinition = (usize, &'static str, &'static str);
 
-/// The definition of a table without CHECK and AUTOINCREMENT. A place is that of a column in a
-/// stored row: 0 for the INTEGER PRIMARY KEY, otherwise the number of the column, from 1.
+/// The definition of a table without CHECK and AUTOINCREMENT. A place is a column's place in
+/// a stored row: 0 for the INTEGER PRIMARY KEY, otherwise the number of the column, from 1.
 #[derive(Clone, Copy)]
 pub(crate) struct Definition {
     pub(crate) name: &'static str,

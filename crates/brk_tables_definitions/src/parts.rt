@@ -20,8 +20,8 @@ pub(crate) fn text_is(text: &Bytes, expected: &str) -> bool
     text.as_slice() == expected.as_bytes()
 }
 
-// Returns true if the column is that of a STRICT table with this name and of this kind, NOT NULL if
-// `not_null`, without a default, and with the collation BINARY.
+// Returns true if the column belongs to a STRICT table, has this name and this kind, is NOT NULL if
+// and only if `not_null`, and has no default and the collation BINARY.
 fn column_is(column: &Column, name: &str, kind: Kind, not_null: bool) -> bool
     ensures { IsTrue result ↔ (column.now ≡ strict_column name.now kind not_null) }
 {
@@ -33,7 +33,7 @@ fn column_is(column: &Column, name: &str, kind: Kind, not_null: bool) -> bool
         && text_is(&column.name, name)
 }
 
-/// Returns true if the columns are those of the definitions, in order.
+/// Returns true if the columns equal the columns that the definitions stand for, in order.
 pub(crate) fn columns_are(columns: &[Column], definitions: &[ColumnDefinition]) -> bool
     ensures { IsTrue result ↔ (columns.now ≡ map column_of_definition definitions.now) }
 {
@@ -65,8 +65,8 @@ fn is_one_text(texts: &Items<Bytes>, text: &str) -> bool
     }
 }
 
-// Returns true if the foreign key is that of the column at `place` to the column `column` of the
-// table `parent`, with NO ACTION on delete and on update, and not deferred.
+// Returns true if the foreign key leads from the column at `place` to the column `column` of the
+// table `parent`, with NO ACTION on delete and on update, and is not deferred.
 fn reference_is(reference: &Reference, place: usize, parent: &str, column: &str) -> bool
     ensures { IsTrue result ↔ (reference.now ≡ foreign_key place parent.now column.now) }
 {
@@ -78,7 +78,7 @@ fn reference_is(reference: &Reference, place: usize, parent: &str, column: &str)
         && is_one_text(&reference.parent_columns, column)
 }
 
-/// Returns true if the foreign keys are those of the definitions, in order.
+/// Returns true if the foreign keys equal the foreign keys that the definitions stand for, in order.
 pub(crate) fn references_are(references: &[Reference], definitions: &[ReferenceDefinition]) -> bool
     ensures { IsTrue result ↔ (references.now ≡ map reference_of_definition definitions.now) }
 {
