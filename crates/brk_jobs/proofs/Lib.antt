@@ -5,3 +5,4 @@ pub mod Explained
 pub mod Outcomes
 pub mod Placed
 pub mod Printed
+pub mod Served
