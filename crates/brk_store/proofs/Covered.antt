@@ -9,7 +9,8 @@ use Rattle.brk_sql.specs.Model.{IsTransactionStep, IsUnchangedAndSatisfies}
 use Rattle.brk_sql.proofs.Inside.{clean_before}
 use Rattle.brk_tables_schema.specs.Desk.{desk_tables}
 use Rattle.brk_tables_schema.specs.Made.{HasDeskTables}
-use Rattle.brk_store.specs.Audited.{AuditPost}
+use Rattle.brk_tables_scan.specs.Schemas.{TablesWithDeskNamesAreDeskTables}
+use Rattle.brk_store.specs.Audited.{AdoptPost, AuditPost}
 use Rattle.brk_store.specs.Holds.{ApplyPost, CreatePost, ReadPost, WasOpenAndIsUnchanged}
 use Rattle.brk_store.specs.Indexed.{CoversRows, IndexIsTrue}
 use Rattle.brk_store.specs.ReadSequences.{IsUnchangedByReads, ReadSequencePost}
@@ -60,6 +61,13 @@ index_after_dropping g old new known index lots reads is = record {
 -- tables that were created are there
 pub index_of_created : {S : Type 0} (g : Ghosts S) (old new : Held S) → CreatePost g old new (Ok tt) → IndexIsTrue g new true None
 index_of_created g old new made = record { covers = λ k clean on. (tables_without_rows, made.created clean on, tt) }
+
+-- the rows of an adopted store are there, if the tables are defined as a desk defines them
+pub index_of_adopted : {S : Type 0} (g : Ghosts S) (old new : Held S) (known : Bool) → (IsTrue known → IsTrue (state g old).is_open → TablesWithDeskNamesAreDeskTables (state g old).now)
+    → AdoptPost g old new (Ok tt) → IndexIsTrue g new known None
+index_of_adopted g old new known defined adoption = record {
+  covers = λ k clean on. let rows = adoption.adopted (λ _. defined k) in (rows.0, rows.1 clean on, tt);
+}
 
 -- a read in a transaction, which is dropped at its end
 pub read_keeps_index : {S V E : Type 0} (g : Ghosts S) (conn first mid end : Held S) (known : Bool) (lots : Option LotIndex) {out : Result V E} {P : V → Tables → Type 0}

@@ -10,6 +10,7 @@ use crate::beginning::begin_transaction;
 use crate::examining::{AuditResult, audit_by_own_schema};
 use brk_money::Fault;
 use brk_tables::cash::upgrade_tables;
+use brk_tables_definitions::with_definitions_tested;
 use sqlite::{Alter, Connection};
 use std::alloc::Global;
 
@@ -69,7 +70,7 @@ impl<S: Alter> Store<S> {
     /// names and column names, then these tables satisfy `HasDeskDefinitions`, with a desk's types,
     /// keys and foreign keys, and no foreign key with CASCADE, SET NULL or SET DEFAULT. A database
     /// without such tables, for example an empty one, satisfies this premise.
-    pub fn adopt(alloc: Global, mut conn: Connection<S>) -> Result<Store<S>, (Connection<S>, Fault)>
+    pub fn adopt(alloc: Global, conn: Connection<S>) -> Result<Store<S>, (Connection<S>, Fault)>
         ensures adopted { MatchResult result (λ store. AdoptPost S.Store conn store (Ok tt)) (λ e. AdoptPost S.Store conn e.0 (Err e.1)) }
         ensures condition { IfErr result (λ e. e.1 ≢ fault.Damaged NotEmpty) }
         ensures no_transaction_open { IfErr result (λ e. conn.in_transaction ≡ false → e.0.in_transaction ≡ false) }
@@ -78,10 +79,11 @@ impl<S: Alter> Store<S> {
         if !conn.is_autocommit() {
             return Err((conn, Fault::Store));
         }
+        let (mut conn, has_definitions) = with_definitions_tested(alloc, conn);
         match audit_and_upgrade_database(&mut conn, alloc) {
             Ok(()) => Ok(Store {
                 conn,
-                known: false,
+                known: has_definitions,
                 lots: None,
             }),
             Err(fault) => Err((conn, fault)),

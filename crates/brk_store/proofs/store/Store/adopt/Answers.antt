@@ -1,0 +1,17 @@
+use Rattle.std.proofs.Common.{Ok, subst}
+use Rattle.brk_store.specs.Audited.{AdoptPost}
+use Rattle.brk_store.proofs.Covered.{index_of_adopted}
+use Rattle.brk_store.proofs.store.Store.adopt.Goals as goal
+
+pub returns-in-Ok-clause-adopted : goal.returns-in-Ok-clause-adopted
+returns-in-Ok-clause-adopted g c =
+    subst (λ conn. AdoptPost g.S.Store conn c.audit_and_upgrade_database.new.conn (Ok tt)) c.with_definitions_tested-conn.ensures.same c.in-Ok.ensures.adopted
+
+pub invariant_of-result : goal.invariant_of-result
+invariant_of-result g c =
+    let adoption : AdoptPost g.S.Store c.args.conn c.audit_and_upgrade_database.new.conn (Ok tt) =
+    subst (λ conn. AdoptPost g.S.Store conn c.audit_and_upgrade_database.new.conn (Ok tt)) c.with_definitions_tested-conn.ensures.same c.in-Ok.ensures.adopted in
+    (
+      c.in-Ok.ensures.mode,
+      index_of_adopted g.S.Store c.args.conn c.audit_and_upgrade_database.new.conn c.with_definitions_tested-conn.result.1 c.with_definitions_tested-conn.ensures.defined adoption,
+    )

@@ -1,0 +1,5 @@
+pub mod Written
+pub mod Known
+pub mod Defined
+pub mod Laid
+pub mod Desks
