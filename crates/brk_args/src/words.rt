@@ -14,7 +14,7 @@ const VERSION: &str = "0.1.0 (schema 3, kit 13f)";
 // is missing or empty or has no table of a desk.
 fn optional_file_argument<'a>(alloc: Global) -> Arg<'a> {
     Arg::new(alloc, "db").long("db").value_name("FILE").help(
-        "The file of the desk, created if it is missing or empty; without it the desk is in memory",
+        "The file of the desk, created if it is missing or empty (check the path); without it the desk is in memory",
     )
 }
 
@@ -36,7 +36,7 @@ fn timestamp_argument<'a>(alloc: Global) -> Arg<'a> {
         .value_name("MS")
         .value_parser(value_parser!(i64).range(0..=Stamp::GREATEST))
         .help(
-            "The time of every command, in milliseconds since 1970-01-01 UTC; without it the clock is read",
+            "The clock reading, in milliseconds since 1970-01-01 UTC, never one in the future; without it the clock is read",
         )
 }
 

@@ -1,4 +1,6 @@
+pub mod Elements
 pub mod Rising
-pub mod Covering
+pub mod Placing
+pub mod Indexing
+pub mod Changing
 pub mod Ordered
-pub mod Dropping

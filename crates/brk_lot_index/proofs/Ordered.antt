@@ -1,22 +1,21 @@
--- The lots of a position, by their ages and by the table.
-use Rattle.std.proofs.Common.{◌≡◌, ◌⊎◌, inl, inr, ◌∙◌, ◌+◌, ◌<◌, ◌==◌, ◌&&◌, ◌||◌, ℕ, Bool, true, false, not, cond, List, [], ◌∷◌, ◌++◌, Option, Some, None, length, map, filter, find, take, drop, reverse, get_or, refl, sym, ap, ap₂, subst, arith, nat_lt, eq-eqb, eqb-true}
+-- The lots of a position, by the ages that an index has and by the table.
+use Rattle.std.proofs.Common.{◌≡◌, inl, inr, ◌∙◌, ◌==◌, ◌&&◌, ◌||◌, ℕ, Bool, true, false, not, cond, List, [], ◌∷◌, ◌++◌, Option, Some, None, map, filter, find, take, drop, reverse, refl, sym, ap, ap₂, subst, arith, nat_lt, eq-eqb, eqb-true}
 use Rattle.std.specs.Prelude.{bytes_eq}
 use Rattle.std.specs.List.{AllByRecursion, cons_option, filter_map}
 use Rattle.std.proofs.lemmas.Bool.Decides.{nat_tests}
 use Rattle.std.proofs.lemmas.Slice.Eq.{bytes_eq-Decides}
-use Rattle.std.proofs.lemmas.List.{append-nil}
-use Rattle.std.proofs.lemmas.List.Elements.{filter_map-append}
+use Rattle.std.proofs.lemmas.List.{drop-map, map-append, take-map}
 use mathlib.Core.List.{reverse-cons}
 use Rattle.brk_money.specs.Spelling.{Text}
-use Rattle.brk_model.specs.Keys.{is_row_key_less, rows_sorted_by_key}
+use Rattle.brk_model.specs.Keys.{is_row_key_less}
 use Rattle.brk_model.specs.Lists.{insert_by, sort_by}
 use Rattle.brk_model.specs.Tables.{HoldingRow}
 use Rattle.brk_changes.specs.Rows.{lot_age_key, lots_oldest_first}
 use Rattle.brk_lot_index.specs.declared.age.LotAge.{LotAge}
 use Rattle.brk_lot_index.specs.declared.index.LotIndex.{LotIndex}
-use Rattle.brk_lot_index.specs.Ages.{CoversLots, Has, IsRising, RisesByTrade, age_of_row, in_closing_order, is_closed_after, is_older, lot_of_age, lot_of_later_age, lots_at, position_number, rows_closed_after, value_if}
+use Rattle.brk_lot_index.specs.Ages.{Has, IsIndexOf, IsRising, RisesByTrade, age_of_row, in_closing_order, is_older, lot_of_age, lots_at, value_if}
 use Rattle.brk_lot_index.proofs.Rising.{never_older, older_then}
-use Rattle.brk_lot_index.proofs.Covering.{has_filtered, has_inserted}
+use Rattle.brk_lot_index.proofs.Elements.{has_filtered, has_inserted, has_kept, inserted_has, true_is_false}
 
 -- ---- lists that a relation sorts
 
@@ -33,9 +32,6 @@ each P (y ∷ ys) x all (inr h) = each P ys x all.1 h
 pub all_of : {X : Type 0} (P : X → Type 0) (xs : List X) → ((x : X) → Has xs x → P x) → AllByRecursion P xs
 all_of P [] f = tt
 all_of P (x ∷ xs) f = (f x (inl refl), all_of P xs (λ y h. f y (inr h)))
-
-true_is_false : {Y : Type 0} (b : Bool) → b ≡ true → b ≡ false → Y
-true_is_false b p q = absurd (let e = p in let f = q in cc)
 
 module _ {X : Type 0} (before : X → X → Bool) (never : (x : X) → before x x ≡ false) (onward : (x y z : X) → before x y ≡ true → before y z ≡ true → before x z ≡ true) where
   -- sorted lists with the same elements are equal
@@ -58,48 +54,6 @@ module _ {X : Type 0} (before : X → X → Bool) (never : (x : X) → before x 
       tails : (a b : X) (bs : List X) (z : X) → a ≡ b → before a z ≡ true → Has (b ∷ bs) z → Has bs z
       tails a b bs z e k (inl same) = true_is_false (before a a) (subst (λ w. before a w ≡ true) (same ∙ sym e) k) (never a)
       tails a b bs z e k (inr h) = h
-
-  -- what is after an element of a sorted list
-  pub rest_after : (xs : List X) (x : X) (ys : List X) → Sorted before (xs ++ x ∷ ys) → filter (before x) (xs ++ x ∷ ys) ≡ ys
-  rest_after [] x ys s = rw (never x) (kept ys s.0)
-    where
-      kept : (zs : List X) → AllByRecursion (λ y. before x y ≡ true) zs → filter (before x) zs ≡ zs
-      kept [] all = refl
-      kept (z ∷ zs) all = rw all.0 (ap (λ l. z ∷ l) (kept zs all.1))
-  rest_after (w ∷ ws) x ys s = rw (off (each (λ y. before w y ≡ true) (ws ++ x ∷ ys) x s.0 (there ws))) (rest_after ws x ys s.1)
-    where
-      there : (zs : List X) → Has (zs ++ x ∷ ys) x
-      there [] = inl refl
-      there (z ∷ zs) = inr (there zs)
-
-      off : before w x ≡ true → before x w ≡ false
-      off k = go (before x w) refl
-        where
-          go : (b : Bool) → before x w ≡ b → b ≡ false
-          go true e = true_is_false (before w w) (onward w x w k e) (never w)
-          go false e = refl
-
-sorted_join : {X : Type 0} (before : X → X → Bool) (xs : List X) (x : X) → Sorted before xs → AllByRecursion (λ y. before y x ≡ true) xs → Sorted before (xs ++ x ∷ [])
-sorted_join before [] x s all = (tt, tt)
-sorted_join {X} before (y ∷ ys) x s all = (more ys s.0, sorted_join before ys x s.1 all.1)
-  where
-    more : (zs : List X) → AllByRecursion (λ z. before y z ≡ true) zs → AllByRecursion (λ z. before y z ≡ true) (zs ++ x ∷ [])
-    more [] none = (all.0, tt)
-    more (z ∷ zs) k = (k.0, more zs k.1)
-
-all_join : {X : Type 0} (P : X → Type 0) (xs : List X) (x : X) → AllByRecursion P xs → P x → AllByRecursion P (xs ++ x ∷ [])
-all_join P [] x all p = (p, tt)
-all_join P (y ∷ ys) x all p = (all.0, all_join P ys x all.1 p)
-
-all_reversed : {X : Type 0} (P : X → Type 0) (xs : List X) → AllByRecursion P xs → AllByRecursion P (reverse xs)
-all_reversed P [] all = tt
-all_reversed P (x ∷ xs) all = subst (AllByRecursion P) (sym (reverse-cons x xs)) (all_join P (reverse xs) x (all_reversed P xs all.1) all.0)
-
--- from the other end it is sorted the other way
-pub sorted_reversed : {X : Type 0} (before : X → X → Bool) (xs : List X) → Sorted before xs → Sorted (λ x y. before y x) (reverse xs)
-sorted_reversed before [] s = tt
-sorted_reversed before (x ∷ xs) s =
-    subst (Sorted (λ x y. before y x)) (sym (reverse-cons x xs)) (sorted_join (λ x y. before y x) (reverse xs) x (sorted_reversed before xs s.1) (all_reversed (λ y. before x y ≡ true) xs s.0))
 
 -- ---- rows by age
 
@@ -142,23 +96,11 @@ unfolding sort_by
 has_sorted [] x h = absurd h
 has_sorted (y ∷ ys) x h = elim (has_inserted (is_row_key_less lot_age_key) y (lots_oldest_first ys) x h) [ inl k ↦ inr (has_sorted ys x k) | inr e ↦ inl e ]
 
-has_put : {X : Type 0} (less : X → X → Bool) (r : X) (xs : List X) (x : X) → Has xs x ⊎ (x ≡ r) → Has (insert_by less r xs) x
-has_put less r [] x (inl h) = absurd h
-has_put less r [] x (inr e) = inl e
-has_put {X} less r (y ∷ ys) x h = go (less y r) h (λ k. has_put less r ys x k)
-  where
-    go : (b : Bool) → Has (y ∷ ys) x ⊎ (x ≡ r) → (Has ys x ⊎ (x ≡ r) → Has (insert_by less r ys) x) → Has (cond b (y ∷ insert_by less r ys) (r ∷ y ∷ ys)) x
-    go true (inl (inl e)) on = inl e
-    go true (inl (inr k)) on = inr (on (inl k))
-    go true (inr e) on = inr (on (inr e))
-    go false (inl k) on = inr k
-    go false (inr e) on = inl e
-
 pub sorted_has : (xs : List HoldingRow) (x : HoldingRow) → Has xs x → Has (lots_oldest_first xs) x
 unfolding sort_by
 sorted_has [] x h = absurd h
-sorted_has (y ∷ ys) x (inl e) = has_put (is_row_key_less lot_age_key) y (lots_oldest_first ys) x (inr e)
-sorted_has (y ∷ ys) x (inr h) = has_put (is_row_key_less lot_age_key) y (lots_oldest_first ys) x (inl (sorted_has ys x h))
+sorted_has (y ∷ ys) x (inl e) = inserted_has (is_row_key_less lot_age_key) y (lots_oldest_first ys) x (inr e)
+sorted_has (y ∷ ys) x (inr h) = inserted_has (is_row_key_less lot_age_key) y (lots_oldest_first ys) x (inl (sorted_has ys x h))
 
 apart_numbers : (a b : ℕ) → nat_lt a b ≡ true → (a == b) ≡ false
 apart_numbers a b p = grind (arith, nat_tests)
@@ -178,16 +120,6 @@ filtered_rises p (x ∷ xs) up = go (p x) (filtered_rises p xs up.1)
     go : (b : Bool) → RisesByTrade (filter p xs) → RisesByTrade (cond b (x ∷ filter p xs) (filter p xs))
     go true more = (all_of (λ y. nat_lt x.trade y.trade ≡ true) (filter p xs) (λ y h. each (λ y. nat_lt x.trade y.trade ≡ true) xs y up.0 (has_filtered p xs y h).0), more)
     go false more = more
-
-has_kept : {X : Type 0} (p : X → Bool) (xs : List X) (x : X) → Has xs x → p x ≡ true → Has (filter p xs) x
-has_kept p [] x h k = absurd h
-has_kept {X} p (y ∷ ys) x h k = go (p y) refl h (λ m. has_kept p ys x m k)
-  where
-    go : (b : Bool) → p y ≡ b → Has (y ∷ ys) x → (Has ys x → Has (filter p ys) x) → Has (cond b (y ∷ filter p ys) (filter p ys)) x
-    go true e (inl same) on = inl same
-    go true e (inr m) on = inr (on m)
-    go false e (inl same) on = true_is_false (p x) k (ap p same ∙ e)
-    go false e (inr m) on = on m
 
 -- ---- what a trade's id finds
 
@@ -296,63 +228,62 @@ module _ (rows : List HoldingRow) (account : ℕ) (symbol : Text) where
             )
 
     -- the lots that an index gives are those of the table
-    pub lots_are : (index : LotIndex) → CoversLots index rows → lots_of (lots_at index (position_number account symbol)) ≡ lots_oldest_first (filter is_lot rows)
-    lots_are index covers =
-        let es = lots_at index (position_number account symbol) in
+    lots_are : (index : LotIndex) → IsIndexOf index rows → lots_of (lots_at index account symbol) ≡ lots_oldest_first (filter is_lot rows)
+    lots_are index is =
+        let es = lots_at index account symbol in
         same_sorted is_row_older (λ x. never_older (age_of_row x)) (λ x y z. older_then (age_of_row x) (age_of_row y) (age_of_row z)) (lots_of es) (lots_oldest_first (filter is_lot rows))
-        (lots_sorted es (covers.rising (position_number account symbol))) (rows_sorted (filter is_lot rows) (filtered_rises is_lot rows up))
+        (lots_sorted es (is.rising account symbol)) (rows_sorted (filter is_lot rows) (filtered_rises is_lot rows up))
         (λ x h. let k = has_lot es x h in sorted_has (filter is_lot rows) x (has_kept is_lot rows x k.0 k.1))
         (λ x h.
         let k = has_filtered is_lot rows x (has_sorted (filter is_lot rows) x h) in
         let both = two (x.account == account) (bytes_eq x.symbol symbol) k.1 in
-        let n : position_number x.account x.symbol ≡ position_number account symbol = ap₂ position_number (eqb-true x.account account both.0) ((bytes_eq-Decides x.symbol symbol).0 both.1) in
-        lot_has es x (subst (λ m. Has (lots_at index m) (age_of_row x)) n (covers.covered x k.0)) k.0 k.1)
+        let there = subst (λ s. Has (lots_at index x.account s) (age_of_row x)) ((bytes_eq-Decides x.symbol symbol).0 both.1) (is.covers x k.0) in
+        lot_has es x (subst (λ a. Has (lots_at index a symbol) (age_of_row x)) (eqb-true x.account account both.0) there) k.0 k.1)
 
--- ---- from either end, and after an age
+    -- each of its ages finds a lot
+    finds_lot : (index : LotIndex) → IsIndexOf index rows → (a : LotAge) → Has (lots_at index account symbol) a → (x : HoldingRow) × (lot_of_age rows account symbol a ≡ Some x)
+    finds_lot index is a h =
+        let m = is.exact account symbol a h in
+        let here : is_lot m.0 ≡ true = rw (eq-eqb m.0.account account m.2, (bytes_eq-Decides m.0.symbol symbol).1 m.3) refl in
+        (m.0, ap (lot_of_age rows account symbol) (sym m.4) ∙ lot_finds m.0 m.1 here)
 
-cut : {X Y : Type 0} (f : X → Option Y) (xs : List X) (x : X) → filter_map f (xs ++ x ∷ []) ≡ filter_map f xs ++ filter_map f (x ∷ [])
-cut f xs x = filter_map-append f xs (x ∷ [])
+    all_found : (es : List LotAge) → ((a : LotAge) → Has es a → (x : HoldingRow) × (lot_of_age rows account symbol a ≡ Some x)) → map (lot_of_age rows account symbol) es ≡ map Some (lots_of es)
+    all_found [] each = refl
+    all_found (a ∷ es) each =
+        let this = each a (inl refl) in
+        rw this.1 (ap (λ l. Some this.0 ∷ l) (all_found es (λ b h. each b (inr h))))
 
-pub turned_lots : {X Y : Type 0} (f : X → Option Y) (xs : List X) → filter_map f (reverse xs) ≡ reverse (filter_map f xs)
-turned_lots f [] = refl
-turned_lots {X} {Y} f (x ∷ xs) =
-    ap (filter_map f) (reverse-cons x xs) ∙ cut f (reverse xs) x ∙ ap (λ l. l ++ filter_map f (x ∷ [])) (turned_lots f xs) ∙ go (f x)
-  where
-    go : (o : Option Y) → reverse (filter_map f xs) ++ cons_option o [] ≡ reverse (cons_option o (filter_map f xs))
-    go (Some y) = sym (reverse-cons y (filter_map f xs))
-    go None = append-nil (reverse (filter_map f xs))
+    pub lots_found : (index : LotIndex) → IsIndexOf index rows → map (lot_of_age rows account symbol) (lots_at index account symbol) ≡ map Some (lots_oldest_first (filter is_lot rows))
+    lots_found index is = all_found (lots_at index account symbol) (finds_lot index is) ∙ ap (map Some) (lots_are index is)
 
-pub ordered_lots : {X Y : Type 0} (f : X → Option Y) (lifo : Bool) (xs : List X) → filter_map f (in_closing_order lifo xs) ≡ in_closing_order lifo (filter_map f xs)
-ordered_lots f true xs = turned_lots f xs
-ordered_lots f false xs = refl
+-- ---- from either end, and a part of them
 
-pub later_lots : (rows : List HoldingRow) (account : ℕ) (symbol : Text) (lifo : Bool) (after : Option LotAge) (es : List LotAge)
-    → filter_map (lot_of_later_age rows account symbol lifo after) es ≡ rows_closed_after lifo after (filter_map (lot_of_age rows account symbol) es)
-later_lots rows account symbol lifo after [] = refl
-later_lots rows account symbol lifo after (a ∷ es) = go (lot_of_age rows account symbol a) refl (is_closed_after lifo after a) refl (later_lots rows account symbol lifo after es)
-  where
-    more : List HoldingRow
-    more = filter_map (lot_of_later_age rows account symbol lifo after) es
+reversed : {X Y : Type 0} (f : X → Y) (xs : List X) → map f (reverse xs) ≡ reverse (map f xs)
+reversed f [] = refl
+reversed f (x ∷ xs) = ap (map f) (reverse-cons x xs) ∙ map-append f (reverse xs) (x ∷ []) ∙ ap (λ l. l ++ f x ∷ []) (reversed f xs) ∙ sym (reverse-cons (f x) (map f xs))
 
-    all : List HoldingRow
-    all = filter_map (lot_of_age rows account symbol) es
+in_order : {X Y : Type 0} (f : X → Y) (lifo : Bool) (xs : List X) → map f (in_closing_order lifo xs) ≡ in_closing_order lifo (map f xs)
+in_order f true xs = reversed f xs
+in_order f false xs = refl
 
-    go : (o : Option HoldingRow) → lot_of_age rows account symbol a ≡ o → (b : Bool) → is_closed_after lifo after a ≡ b → more ≡ rows_closed_after lifo after all
-        → cons_option (cond b o None) more ≡ rows_closed_after lifo after (cons_option o all)
-    go None e true k on = on
-    go None e false k on = on
-    go (Some y) e true k on = rw (ap (is_closed_after lifo after) (lot_found rows account symbol a y e).2 ∙ k) (ap (λ l. y ∷ l) on)
-    go (Some y) e false k on = rw (ap (is_closed_after lifo after) (lot_found rows account symbol a y e).2 ∙ k) on
+somes_are : {X : Type 0} (xs ys : List X) → map Some xs ≡ map Some ys → xs ≡ ys
+somes_are [] [] e = refl
+somes_are [] (y ∷ ys) e = absurd (let f = e in cc)
+somes_are (x ∷ xs) [] e = absurd (let f = e in cc)
+somes_are (x ∷ xs) (y ∷ ys) e =
+    let here : x ≡ y = cc in
+    let more : map Some xs ≡ map Some ys = cc in
+    ap₂ ◌∷◌ here (somes_are xs ys more)
 
--- what is closed after a lot of the position
-pub closed_after_lot : (rows : List HoldingRow) (account : ℕ) (symbol : Text) (up : RisesByTrade rows) (lifo : Bool) (xs : List HoldingRow) (x : HoldingRow) (ys : List HoldingRow)
-    → in_closing_order lifo (lots_oldest_first (filter (λ r. (r.account == account) && bytes_eq r.symbol symbol) rows)) ≡ xs ++ x ∷ ys
-    → rows_closed_after lifo (Some (age_of_row x)) (xs ++ x ∷ ys) ≡ ys
-closed_after_lot rows account symbol up true xs x ys is =
-    let held = filter (λ r. (r.account == account) && bytes_eq r.symbol symbol) rows in
-    rest_after (λ a b. is_row_older b a) (λ a. never_older (age_of_row a)) (λ a b c p q. older_then (age_of_row c) (age_of_row b) (age_of_row a) q p) xs x ys
-    (subst (Sorted (λ a b. is_row_older b a)) is (sorted_reversed is_row_older (lots_oldest_first held) (rows_sorted held (filtered_rises (λ r. (r.account == account) && bytes_eq r.symbol symbol) rows up))))
-closed_after_lot rows account symbol up false xs x ys is =
-    let held = filter (λ r. (r.account == account) && bytes_eq r.symbol symbol) rows in
-    rest_after is_row_older (λ a. never_older (age_of_row a)) (λ a b c p q. older_then (age_of_row a) (age_of_row b) (age_of_row c) p q) xs x ys
-    (subst (Sorted is_row_older) is (rows_sorted held (filtered_rises (λ r. (r.account == account) && bytes_eq r.symbol symbol) rows up)))
+-- the rows that some ages of an index find are the lots at their places
+pub page_found : (rows : List HoldingRow) (account : ℕ) (symbol : Text) (up : RisesByTrade rows) (index : LotIndex) → IsIndexOf index rows → (lifo : Bool) (skipped most : ℕ) (page : List HoldingRow)
+    → map Some page ≡ map (lot_of_age rows account symbol) (take most (drop skipped (in_closing_order lifo (lots_at index account symbol))))
+    → page ≡ take most (drop skipped (in_closing_order lifo (lots_oldest_first (filter (λ r. (r.account == account) && bytes_eq r.symbol symbol) rows))))
+page_found rows account symbol up index is lifo skipped most page shown =
+    let es = lots_at index account symbol in
+    let lots = lots_oldest_first (filter (λ (r : HoldingRow). (r.account == account) && bytes_eq r.symbol symbol) rows) in
+    let f = lot_of_age rows account symbol in
+    somes_are page (take most (drop skipped (in_closing_order lifo lots)))
+    (shown ∙ sym (take-map f most (drop skipped (in_closing_order lifo es))) ∙ ap (take most) (sym (drop-map f skipped (in_closing_order lifo es)) ∙ ap (drop skipped) (in_order f lifo es
+    ∙ ap (in_closing_order lifo) (lots_found rows account symbol up index is) ∙ sym (in_order Some lifo lots)) ∙ drop-map Some skipped (in_closing_order lifo lots))
+    ∙ take-map Some most (drop skipped (in_closing_order lifo lots)))

@@ -1,17 +1,17 @@
--- The ages of lots, and what an index of them covers.
-use Rattle.std.specs.Prelude.{◌≡◌, ◌⊎◌, ◌==◌, ◌&&◌, ◌+◌, ◌*◌, ◌%◌, ◌^◌, ℕ, Bool, true, false, List, [], ◌∷◌, Option, Some, None, bytes_eq, find, fold, nat_eq, reverse, if◌then◌else◌, ◌≤◌, length, drop, take, filter, nat_lt}
+-- The ages of lots, and what an index of lots has.
+use Rattle.std.specs.Prelude.{◌≡◌, ◌⊎◌, ◌==◌, ◌&&◌, ℕ, Bool, true, false, List, [], ◌∷◌, Option, Some, None, bytes_eq, find, nat_eq, reverse, if◌then◌else◌, ◌≤◌, length, drop, take, nat_lt}
 use Rattle.std.specs.declared.alloc.Global.{Global}
-use Rattle.std.specs.HashMap.{get}
+use Rattle.std.specs.HashMap.{HashMap, get, get_by_text, hash_map_len}
 use Rattle.std.specs.declared.collections.VecDeque.{VecDeque}
+use Rattle.std.specs.declared.string.String.{String}
 use Rattle.std.specs.List.{AllByRecursion}
 use Rattle.brk_money.specs.Spelling.{Text}
 use Rattle.brk_model.specs.Lists.{is_pair_less}
 use Rattle.brk_model.specs.Tables.{HoldingRow}
-use Rattle.brk_changes.specs.Rows.{abstract_holding_row}
-use Rattle.brk_changes.specs.declared.change.Change.{Change}
-use Rattle.brk_changes.specs.declared.change.Change.TheVariants.{AddLot}
 use Rattle.brk_lot_index.specs.declared.age.LotAge.{LotAge}
 use Rattle.brk_lot_index.specs.declared.index.LotIndex.{LotIndex}
+use Rattle.brk_lot_index.specs.declared.index.LotPlace.{LotPlace}
+use Rattle.brk_lot_index.specs.declared.positions.Positions.{Positions}
 
 -- True if the lot of the age `a` was opened before that of the age `b`: at a smaller stamp, or at
 -- the same stamp by a trade with a smaller id.
@@ -37,50 +37,59 @@ abbrev pub IsRising : List LotAge → Type 0
 IsRising [] = Unit {0}
 IsRising (x ∷ xs) = AllByRecursion (λ y. is_older x y ≡ true) xs × IsRising xs
 
--- The ages `new` rise if the ages `old` do. They have `x`, and all that `old` has.
-pub record InsertsAge (old : List LotAge) (x : LotAge) (new : List LotAge) : Type 0 where
-  pub rising : IsRising old → IsRising new
-  pub keeps : IsRising old → (y : LotAge) → Has old y → Has new y
-  pub has : IsRising old → Has new x
-
--- The number `n`, and then the byte `b`.
-abbrev pub number_with_byte : ℕ → ℕ → ℕ
-number_with_byte n b = ((n * 131) % 2 ^ 64 + b) % 2 ^ 64
-
--- The number of the position of `account` in the security `symbol`. Positions may share a number.
-unfoldable pub position_number : ℕ → Text → ℕ
-position_number account symbol = fold number_with_byte account symbol
-
--- What is known of the place of `x` in ages: `None` if it is one of them. The ages from the place on
--- are younger, and those before it older, if the ages rise.
+-- If the ages rise, those before the place are older than `x`, and those from the place on are not.
 pub record IsPlaceOfAge (ages : List LotAge) (x : LotAge) (place : ℕ) : Type 0 where
   pub within : place ≤ length ages
-  pub younger : AllByRecursion (λ y. is_older x y ≡ true) (drop place ages)
   pub older : IsRising ages → AllByRecursion (λ y. is_older y x ≡ true) (take place ages)
+  pub rest : IsRising ages → AllByRecursion (λ y. is_older y x ≡ false) (drop place ages)
+
+-- The ages `new` are `old` and `x`. They rise if `old` does and does not have `x`.
+pub record InsertsAge (old : List LotAge) (x : LotAge) (new : List LotAge) : Type 0 where
+  pub rising : IsRising old → (Has old x → ⊥) → IsRising new
+  pub keeps : (y : LotAge) → Has old y → Has new y
+  pub has : Has new x
+  pub only : (y : LotAge) → Has new y → Has old y ⊎ (y ≡ x)
+
+-- If the ages `old` rise and have `x`, then `new` is `old` without `x`.
+pub record RemovesAge (old : List LotAge) (x : LotAge) (new : List LotAge) : Type 0 where
+  pub rising : IsRising old → Has old x → IsRising new
+  pub keeps : IsRising old → Has old x → (y : LotAge) → Has old y → (y ≡ x) ⊎ Has new y
+  pub only : IsRising old → Has old x → (y : LotAge) → Has new y → Has old y × (y ≡ x → ⊥)
 
 abbrev pub ages_in : Option (VecDeque LotAge Global) → List LotAge
 ages_in None = []
 ages_in (Some ages) = ages.items
 
--- The lots of the positions with the number `number`.
-abbrev pub lots_at : LotIndex → ℕ → List LotAge
-lots_at index number = ages_in (get nat_eq index.positions number)
+abbrev pub ages_of_symbol : {S : Type 0} → Option (HashMap (String Global) (VecDeque LotAge Global) S) → Text → List LotAge
+ages_of_symbol None symbol = []
+ages_of_symbol (Some symbols) symbol = ages_in (get_by_text symbols symbol)
 
--- The index has the lots of all rows, and may have more; the lots of each number rise.
-pub record CoversLots (index : LotIndex) (rows : List HoldingRow) : Type 0 where
-  pub rising : (number : ℕ) → IsRising (lots_at index number)
-  pub covered : (r : HoldingRow) → Has rows r → Has (lots_at index (position_number r.account r.symbol)) (age_of_row r)
+-- The ages of the lots of `account` in the security `symbol`.
+abbrev pub ages_at : Positions → ℕ → Text → List LotAge
+ages_at positions account symbol = ages_of_symbol (get nat_eq positions.accounts account) symbol
 
--- The index `new` has the lot of `r` and all that `old` has, if the lots of `old` rise.
-pub record AddsLot (old : LotIndex) (r : HoldingRow) (new : LotIndex) : Type 0 where
-  pub rising : ((number : ℕ) → IsRising (lots_at old number)) → (number : ℕ) → IsRising (lots_at new number)
-  pub keeps : ((number : ℕ) → IsRising (lots_at old number)) → (number : ℕ) (y : LotAge) → Has (lots_at old number) y → Has (lots_at new number) y
-  pub has : ((number : ℕ) → IsRising (lots_at old number)) → Has (lots_at new (position_number r.account r.symbol)) (age_of_row r)
+abbrev pub lots_at : LotIndex → ℕ → Text → List LotAge
+lots_at index account symbol = ages_at index.positions account symbol
 
--- The row of HOLDING that the change inserts, if it inserts one.
-abbrev pub opened_lot : Change → Option HoldingRow
-opened_lot (AddLot row) = Some (abstract_holding_row row)
-opened_lot _ = None
+-- True if the accounts and the symbols are equal.
+abbrev pub is_same_position : ℕ → Text → ℕ → Text → Bool
+is_same_position account symbol other_account other_symbol = (account == other_account) && bytes_eq symbol other_symbol
+
+-- The index of the lots in `rows`, the rows of HOLDING: for each account and security, the ages of its
+-- lots, which rise. `placed` and `found`: where the index has the lot of a trade.
+pub record IsIndexOf (index : LotIndex) (rows : List HoldingRow) : Type 0 where
+  pub rising : (account : ℕ) (symbol : Text) → IsRising (lots_at index account symbol)
+  pub covers : (r : HoldingRow) → Has rows r → Has (lots_at index r.account r.symbol) (age_of_row r)
+  pub exact : (account : ℕ) (symbol : Text) (a : LotAge) → Has (lots_at index account symbol) a
+      → (r : HoldingRow) × Has rows r × (r.account ≡ account) × (r.symbol ≡ symbol) × (age_of_row r ≡ a)
+  pub placed : (account : ℕ) (symbol : Text) (a : LotAge) → Has (lots_at index account symbol) a
+      → get nat_eq index.places a.trade ≡ Some (record { account = account; symbol = symbol; stamp = a.stamp })
+  pub found : (trade : ℕ) (place : LotPlace) → get nat_eq index.places trade ≡ Some place
+      → Has (lots_at index place.account place.symbol) (record { stamp = place.stamp; trade = trade })
+
+-- The number of lots that the index has.
+abbrev pub number_of_lots : LotIndex → ℕ
+number_of_lots index = hash_map_len index.places
 
 -- The value, if it passes the test.
 abbrev pub value_if : {X : Type 0} → (X → Bool) → Option X → Option X
@@ -92,28 +101,7 @@ abbrev pub lot_of_age : List HoldingRow → ℕ → Text → LotAge → Option H
 lot_of_age rows account symbol a =
     value_if (λ r. (r.account == account) && (bytes_eq r.symbol symbol && (r.stamp == a.stamp))) (find (λ r. r.trade == a.trade) rows)
 
--- True if the lot of the age `a` is closed after that of the age `b`: the newest first if `lifo`,
--- otherwise the oldest first. True for every age if there is no `b`.
-abbrev pub is_closed_after : Bool → Option LotAge → LotAge → Bool
-is_closed_after lifo None a = true
-is_closed_after true (Some b) a = is_older a b
-is_closed_after false (Some b) a = is_older b a
-
--- The rows of the lots that are closed after the lot of the age `after`.
-abbrev pub rows_closed_after : Bool → Option LotAge → List HoldingRow → List HoldingRow
-rows_closed_after lifo after rows = filter (λ r. is_closed_after lifo after (age_of_row r)) rows
-
--- The row of the lot of the age `a`, if it is a lot of `account` in the security `symbol` that is
--- closed after the lot of the age `after`.
-abbrev pub lot_of_later_age : List HoldingRow → ℕ → Text → Bool → Option LotAge → LotAge → Option HoldingRow
-lot_of_later_age rows account symbol lifo after a = if is_closed_after lifo after a then lot_of_age rows account symbol a else None
-
 -- The ids of the trades of the rows ascend.
 abbrev pub RisesByTrade : List HoldingRow → Type 0
 RisesByTrade [] = Unit {0}
 RisesByTrade (x ∷ xs) = AllByRecursion (λ y. nat_lt x.trade y.trade ≡ true) xs × RisesByTrade xs
-
--- The ages `new` rise if `old` do, and have all of `old` but those whose trades have no row.
-pub record KeepsLots (rows : List HoldingRow) (old new : List LotAge) : Type 0 where
-  pub rising : IsRising old → IsRising new
-  pub kept : (a : LotAge) → Has old a → Has new a ⊎ (find (λ r. r.trade == a.trade) rows ≡ None)

@@ -1,9 +1,11 @@
 //! An index of lots in memory: for each position, which is an account with a security, the stamps
-//! and the ids of its lots, the oldest first. It may also have lots that do not exist any more.
+//! and the trades of its lots, the oldest first.
 #![tactic(auto)]
 
 pub mod age;
+pub mod ages;
 pub mod index;
+mod positions;
 
 pub use age::LotAge;
-pub use index::LotIndex;
+pub use index::{IndexLost, LotIndex};

@@ -15,19 +15,7 @@ use Rattle.brk_store.specs.ReadSequences.{IsUnchangedByReads, ReadSequencePost, 
 -- ---- reads
 
 module _ {S : Type 0} (g : Ghosts S) where
-  -- what was read tells this too, if anything was
-  pub reads_weaker : (old end : Held S) {V E : Type 0} (result : Result V E) (P R : V → Tables → Type 0) → ((v : V) (t : Tables) → P v t → R v t)
-      → ReadPost g old end result P → ReadSequencePost g old end result R
-  reads_weaker old end {V} {E} result P R tell read = record {
-    answered = λ clean. go result (read.answered clean);
-    unchanged = single_read_changes_nothing old end result P read;
-  }
-    where
-      go : (r : Result V E) → IfOk r (λ v. (t : Tables) → HoldsRows g old t → P v t) → IfOk r (λ v. (t : Tables) → HoldsRows g old t → R v t)
-      go (Ok v) h = λ t holds. tell v t (h t holds)
-      go (Err e) h = tt
-
-  -- the same of a read
+  -- what was read tells this too, of a store that was open
   pub read_weaker : (old end : Held S) {V E : Type 0} (result : Result V E) (P R : V → Tables → Type 0)
       → (HasCleanDisk (state g end) → IsTrue (state g old).is_open → (v : V) (t : Tables) → HoldsRows g old t → P v t → R v t)
       → ReadPost g old end result P → ReadPost g old end result R
@@ -87,70 +75,40 @@ module _ {S : Type 0} (g : Ghosts S) where
       opens (Ok answer) clean on = (before.unchanged_if_open clean on).was_open
       opens (Err e) clean on = tt
 
-  -- reads, and one more that tells nothing
-  pub reads_and_one : (old mid end : Held S) {V W E F : Type 0} (v : V) (result : Result W F) (P : V → Tables → Type 0) (Q : W → Tables → Type 0)
-      → ReadSequencePost {E = E} g old mid (Ok v) P → ReadPost g mid end result Q → ReadSequencePost {E = E} g old end (Ok v) P
-  reads_and_one old mid end v result P Q first read = record {
-    answered = λ clean t holds. first.answered (disk_was_clean_before_reads mid end (single_read_changes_nothing mid end result Q read) clean) t holds;
-    unchanged = joined_reads_change_nothing old mid end first.unchanged (single_read_changes_nothing mid end result Q read);
-  }
-
 -- ---- lists
 
-got : {X : Type 0} (xs : List X) (n : ℕ) → n < length xs → (x : X) × (slice_get xs n ≡ Some x) × (take (n + 1) xs ≡ take n xs ++ x ∷ [])
-got [] n h = absurd (omega arith)
-got (x ∷ xs) zero h = (x, refl, refl)
-got (x ∷ xs) (suc n) h =
-    let k = got xs n (omega arith) in
-    let e : suc n + 1 ≡ suc (n + 1) = omega arith in
-    (k.0, k.1, ap (λ m. take m (x ∷ xs)) e ∙ ap (λ l. x ∷ l) k.2)
-
--- one more lot is looked for
-pub one_lot : {X Y : Type 0} (f : X → Option Y) (es : List X) (n : ℕ) (found : Option Y) (ys : List Y) → n < length es → ys ≡ filter_map f (take n es)
-    → found ≡ option_and_then f (slice_get es n) → ys ++ cons_option found [] ≡ filter_map f (take (n + 1) es)
-one_lot {X} {Y} f es n found ys inside so is =
-    let k = got es n inside in
-    let this : found ≡ f k.0 = is ∙ ap (option_and_then f) k.1 in
-    ap₂ (λ (a b : List Y). a ++ b) so (ap (λ (o : Option Y). cons_option o []) this) ∙ sym (filter_map-append f (take n es) (k.0 ∷ [])) ∙ ap (filter_map f) (sym k.2)
-
-pub pushed : {X Y : Type 0} (h : X → Y) (page : List X) (found : Option X) → map h (page ++ cons_option found []) ≡ map h page ++ cons_option (option_map h found) []
-pushed h page (Some x) = map-append h page (x ∷ [])
-pushed h page None = map-append h page []
-
-pub few_more : {X : Type 0} (page : List X) (found : Option X) (more : List X) → more ≡ page ++ cons_option found [] → length page < 16 → length more ≤ 16
-few_more page found more is few = omega (arith, ap length is, length-append page (cons_option found []), one found)
+-- one more row of an age is read
+pub one_age : {X : Type 0} (es : List X) (n : ℕ) (a : X) → slice_get es n ≡ Some a → (m : ℕ) (k : ℕ) → n ≡ k + m → take (m + 1) (drop k es) ≡ take m (drop k es) ++ a ∷ []
+one_age es n a is m k sum = next (drop k es) m a (sym (got k es m) ∙ ap (slice_get es) (sym sum) ∙ is)
   where
-    one : {X : Type 0} (o : Option X) → length (cons_option o []) ≤ 1
-    one (Some x) = omega arith
-    one None = omega arith
+    got : {X : Type 0} (k : ℕ) (xs : List X) (m : ℕ) → slice_get xs (k + m) ≡ slice_get (drop k xs) m
+    got zero xs m = let e : 0 + m ≡ m = omega arith in ap (slice_get xs) e
+    got (suc k) [] m = let e : suc k + m ≡ suc (k + m) = omega arith in ap (slice_get []) e
+    got (suc k) (x ∷ xs) m = let e : suc k + m ≡ suc (k + m) = omega arith in ap (slice_get (x ∷ xs)) e ∙ got k xs m
 
-pub ordered_length : {X : Type 0} (lifo : Bool) (xs : List X) → length (in_closing_order lifo xs) ≡ length xs
-ordered_length true xs = length-reverse xs
-ordered_length false xs = refl
+    next : {X : Type 0} (xs : List X) (m : ℕ) (a : X) → slice_get xs m ≡ Some a → take (m + 1) xs ≡ take m xs ++ a ∷ []
+    next [] m a e = absurd (let f = e in cc)
+    next (x ∷ xs) zero a e = let same : x ≡ a = cc in ap (λ z. z ∷ []) same
+    next (x ∷ xs) (suc m) a e = let f : suc m + 1 ≡ suc (m + 1) = omega arith in ap (λ j. take j (x ∷ xs)) f ∙ ap (λ l. x ∷ l) (next xs m a e)
 
-cut_at : {X : Type 0} (xs ys : List X) (n : ℕ) → length xs ≡ n → take n (xs ++ ys) ≡ xs
-cut_at [] ys zero e = refl
-cut_at [] ys (suc n) e = absurd (omega arith)
-cut_at (x ∷ xs) ys zero e = absurd (omega arith)
-cut_at (x ∷ xs) ys (suc n) e = ap (λ l. x ∷ l) (cut_at xs ys n (omega arith))
+-- no more ages are there
+pub no_age : {X : Type 0} (es : List X) (n : ℕ) → None ≡ slice_get es n → (m : ℕ) (k : ℕ) → n ≡ k + m → m ≤ 16 → take m (drop k es) ≡ take 16 (drop k es)
+no_age es n none m k sum most =
+    let all : length es ≤ n = past es n (sym none) in
+    let few : length (drop k es) ≤ m = omega (arith, length-drop k es) in
+    take_all m (drop k es) few ∙ sym (take_all 16 (drop k es) (omega (arith, few)))
+  where
+    past : {X : Type 0} (xs : List X) (n : ℕ) → slice_get xs n ≡ None → length xs ≤ n
+    past [] n e = omega arith
+    past (x ∷ xs) zero e = absurd (let f = e in cc)
+    past (x ∷ xs) (suc n) e = let more = past xs n e in omega (arith, more)
 
-pub first_page : {X Y Z : Type 0} (h : Z → Y) (f : X → Option Y) (es : List X) (n : ℕ) (page : List Z) → length page ≡ 16 → map h page ≡ filter_map f (take n es)
-    → map h page ≡ take 16 (filter_map f es)
-first_page h f es n page full is =
-    let whole : filter_map f es ≡ map h page ++ filter_map f (drop n es) =
-    ap (filter_map f) (sym (take-append-drop n es)) ∙ filter_map-append f (take n es) (drop n es) ∙ ap (λ l. l ++ filter_map f (drop n es)) (sym is) in
-    sym (ap (take 16) whole ∙ cut_at (map h page) (filter_map f (drop n es)) 16 (length-map page h ∙ full))
+-- a row of a page, and the row that its age finds
+pub row_read : {X Y Z : Type 0} (h : Z → Y) (f : X → Option Y) (page : List Z) (z : Z) (es more : List X) (a : X) → map Some (map h page) ≡ map f es → Some (h z) ≡ f a → more ≡ es ++ a ∷ []
+    → map Some (map h (page ++ z ∷ [])) ≡ map f more
+row_read h f page z es more a before this is =
+    ap (map Some) (map-append h page (z ∷ [])) ∙ map-append Some (map h page) (h z ∷ []) ∙ ap₂ (λ l o. l ++ o ∷ []) before this ∙ sym (ap (map f) is ∙ map-append f es (a ∷ []))
 
-pub last_page : {X Y Z : Type 0} (h : Z → Y) (f : X → Option Y) (es : List X) (n : ℕ) (page : List Z) → length es ≤ n → length page ≤ 16 → map h page ≡ filter_map f (take n es)
-    → map h page ≡ take 16 (filter_map f es)
-last_page h f es n page all few is =
-    let whole : map h page ≡ filter_map f es = is ∙ ap (filter_map f) (take_all n es all) in
-    whole ∙ sym (take_all 16 (filter_map f es) (omega (arith, ap length whole, length-map page h)))
-
-pub none_in_order : {X Y : Type 0} (f : X → Option Y) (lifo : Bool) → [] ≡ take 16 (filter_map f (in_closing_order lifo []))
-none_in_order f true = refl
-none_in_order f false = refl
-
-pub first_of : {X : Type 0} (xs : List X) (x : X) → slice_get xs 0 ≡ Some x → xs ≡ x ∷ drop 1 xs
-first_of [] x e = absurd (let f = e in cc)
-first_of (y ∷ ys) x e = let same : y ≡ x = cc in ap (λ z. z ∷ ys) same
+pub no_ages : {X : Type 0} (lifo : Bool) (skipped : ℕ) → take 16 (drop skipped (in_closing_order {X} lifo [])) ≡ []
+no_ages true skipped = ap (take 16) (drop_none skipped)
+no_ages false skipped = ap (take 16) (drop_none skipped)

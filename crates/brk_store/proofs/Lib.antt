@@ -18,6 +18,6 @@ pub mod Sequences
 pub mod ReadResults
 pub mod TradesFound
 pub mod MarketValues
-pub mod Covered
+pub mod KeptIndex
 pub mod ByAges
 pub mod ByIndex

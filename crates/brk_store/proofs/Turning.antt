@@ -1,6 +1,6 @@
 -- A page is turned.
 use Rattle.std.specs.Prelude.{MatchOption, option_map}
-use Rattle.std.proofs.Common.{Option, ◌≡◌, ◌+◌, ℕ, zero, suc, List, [], ◌∷◌, ◌++◌, Bool, true, false, nat_lt, drop, take, length, map, reverse, min, slice_get, Some, None, refl, sym, ap, ◌∙◌, subst, arith}
+use Rattle.std.proofs.Common.{Option, ◌≡◌, ◌+◌, ℕ, zero, suc, List, [], ◌∷◌, ◌++◌, Bool, true, false, nat_lt, drop, take, length, map, reverse, min, slice_get, Some, refl, sym, ap, ◌∙◌, subst, arith}
 use Rattle.std.proofs.lemmas.Bool.{ltb-true, ltb-false}
 use mathlib.Core.List.{reverse-cons}
 use Rattle.std.proofs.lemmas.List.{map-append, take-append-drop, take_all, drop-drop, append-nil, length-map, length-take}
@@ -9,8 +9,6 @@ use Rattle.sqlite.specs.Held.{Held}
 use Rattle.brk_lots.specs.Lots.{list_reversed_if_lifo}
 use Rattle.brk_lots.specs.declared.lot.Lot.{Lot}
 use Rattle.brk_book_theorems.specs.OrderReads.{lot_of_typed_row}
-use Rattle.brk_lot_index.specs.declared.age.LotAge.{LotAge}
-use Rattle.brk_lot_index.specs.Ages.{rows_closed_after}
 use Rattle.brk_money.specs.Spelling.{Text}
 use Rattle.brk_store.specs.Holds.{HoldsRows}
 use Rattle.brk_model.specs.Tables.{Tables, HoldingRow}
@@ -50,34 +48,32 @@ next_row xs n x e = let f : n + 1 ≡ suc n = omega arith in rw f (after_row xs 
 module _ {S : Type 0} (g : Ghosts S) (held : Held S) (lifo : Bool) (account : ℕ) (symbol : Text) where
   -- For some rows that the store holds, `ls` are the lots that a source of pages with this state
   -- still has to return.
-  abbrev pub AreRemainingLotsOfPages : List row.HoldingRow → Bool → ℕ → Option LotAge → List Lot → Type 0
-  AreRemainingLotsOfPages pending ended read last ls = (t : Tables) × HoldsRows g held t × (ls ≡ remaining_lots pending ended read (lot_rows_in_closing_order lifo account symbol t))
-      × (rows_closed_after lifo last (lot_rows_in_closing_order lifo account symbol t) ≡ drop read (lot_rows_in_closing_order lifo account symbol t))
+  abbrev pub AreRemainingLotsOfPages : List row.HoldingRow → Bool → ℕ → List Lot → Type 0
+  AreRemainingLotsOfPages pending ended read ls = (t : Tables) × HoldsRows g held t × (ls ≡ remaining_lots pending ended read (lot_rows_in_closing_order lifo account symbol t))
 
   -- the first lot of a page, and what is left then
-  pub turned : (t : Tables) (holds : HoldsRows g held t) (read read' : ℕ) (page : List row.HoldingRow) (ended : Bool) (last : Option LotAge) (first : Option Lot) (ls : List Lot)
+  pub turned : (t : Tables) (holds : HoldsRows g held t) (read read' : ℕ) (page : List row.HoldingRow) (ended : Bool) (first : Option Lot) (ls : List Lot)
       → map abstract_holding_row page ≡ page_after_skipped read (lot_rows_in_closing_order lifo account symbol t) → read' ≡ read + length page
       → ended ≡ nat_lt (length page) page_size → first ≡ option_map lot_of_typed_row (slice_get page 0)
       → ls ≡ map lot_of_row (drop read (lot_rows_in_closing_order lifo account symbol t))
-      → rows_closed_after lifo last (lot_rows_in_closing_order lifo account symbol t) ≡ drop read' (lot_rows_in_closing_order lifo account symbol t)
-      → MatchOption first ((ls ≡ []) × AreRemainingLotsOfPages (drop 1 page) ended read' last []) (λ lot. (more : List Lot) × (ls ≡ lot ∷ more) × AreRemainingLotsOfPages (drop 1 page) ended read' last more)
-  turned t holds read read' page ended last first ls shown count is_ended is left behind =
+      → MatchOption first ((ls ≡ []) × AreRemainingLotsOfPages (drop 1 page) ended read' []) (λ lot. (more : List Lot) × (ls ≡ lot ∷ more) × AreRemainingLotsOfPages (drop 1 page) ended read' more)
+  turned t holds read read' page ended first ls shown count last is left =
       let rows = lot_rows_in_closing_order lifo account symbol t in
       let whole : ls ≡ remaining_lots page ended read' rows = left ∙ sym (page_turned rows read page shown)
-      ∙ ap (λ b. remaining_lots page b (read + length page) rows) (sym is_ended) ∙ ap (λ n. remaining_lots page ended n rows) (sym count) in
-      go page is is_ended whole
+      ∙ ap (λ b. remaining_lots page b (read + length page) rows) (sym last) ∙ ap (λ n. remaining_lots page ended n rows) (sym count) in
+      go page is last whole
     where
       go : (page : List row.HoldingRow) → first ≡ option_map lot_of_typed_row (slice_get page 0) → ended ≡ nat_lt (length page) page_size
           → ls ≡ remaining_lots page ended read' (lot_rows_in_closing_order lifo account symbol t)
-          → MatchOption first ((ls ≡ []) × AreRemainingLotsOfPages (drop 1 page) ended read' last []) (λ lot. (more : List Lot) × (ls ≡ lot ∷ more) × AreRemainingLotsOfPages (drop 1 page) ended read' last more)
+          → MatchOption first ((ls ≡ []) × AreRemainingLotsOfPages (drop 1 page) ended read' []) (λ lot. (more : List Lot) × (ls ≡ lot ∷ more) × AreRemainingLotsOfPages (drop 1 page) ended read' more)
       go [] f l w =
           let none : remaining_lots [] ended read' (lot_rows_in_closing_order lifo account symbol t) ≡ [] =
           ap (λ b. remaining_lots [] b read' (lot_rows_in_closing_order lifo account symbol t)) l in
-          subst (λ o. MatchOption o ((ls ≡ []) × AreRemainingLotsOfPages [] ended read' last [])
-          (λ lot. (more : List Lot) × (ls ≡ lot ∷ more) × AreRemainingLotsOfPages [] ended read' last more)) (sym f) (w ∙ none, (t, holds, sym none, behind))
+          subst (λ o. MatchOption o ((ls ≡ []) × AreRemainingLotsOfPages [] ended read' [])
+          (λ lot. (more : List Lot) × (ls ≡ lot ∷ more) × AreRemainingLotsOfPages [] ended read' more)) (sym f) (w ∙ none, (t, holds, sym none))
       go (p ∷ ps) f l w =
-          subst (λ o. MatchOption o ((ls ≡ []) × AreRemainingLotsOfPages ps ended read' last []) (λ lot. (more : List Lot) × (ls ≡ lot ∷ more) × AreRemainingLotsOfPages ps ended read' last more)) (sym f)
-          (remaining_lots ps ended read' (lot_rows_in_closing_order lifo account symbol t), w, (t, holds, refl, behind))
+          subst (λ o. MatchOption o ((ls ≡ []) × AreRemainingLotsOfPages ps ended read' []) (λ lot. (more : List Lot) × (ls ≡ lot ∷ more) × AreRemainingLotsOfPages ps ended read' more)) (sym f)
+          (remaining_lots ps ended read' (lot_rows_in_closing_order lifo account symbol t), w, (t, holds, refl))
 
 -- ---- from an end
 
@@ -90,8 +86,3 @@ map_turned {X} {Y} f (x ∷ xs) =
 pub map_end : {X Y : Type 0} (lifo : Bool) (f : X → Y) (xs : List X) → list_reversed_if_lifo lifo (map f xs) ≡ map f (list_reversed_if_lifo lifo xs)
 map_end true f xs = map_turned f xs
 map_end false f xs = refl
-
--- with no lot read, all are left
-pub all_later : (lifo : Bool) (xs : List HoldingRow) → rows_closed_after lifo None xs ≡ xs
-all_later lifo [] = refl
-all_later lifo (x ∷ xs) = ap (λ l. x ∷ l) (all_later lifo xs)

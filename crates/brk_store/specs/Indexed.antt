@@ -1,19 +1,31 @@
--- What the lots in memory of a store cover.
-use Rattle.std.specs.Prelude.{Bool, Option, Some, None, IsTrue}
+-- The index of lots of a store, and a page of lots that is read by it.
+use Rattle.std.specs.Prelude.{◌≡◌, ℕ, Bool, IsTrue, List, Option, Some, None, drop, map, take}
 use Rattle.sqlite_trees.specs.declared.store.Store.{Ghosts}
 use Rattle.sqlite.specs.Held.{Held, state}
 use Rattle.sqlite.specs.State.{HasCleanDisk}
+use Rattle.brk_money.specs.Spelling.{Text}
 use Rattle.brk_model.specs.Tables.{Tables}
+use Rattle.brk_changes.specs.Rows.{abstract_holding_row}
+use Rattle.brk_changes.specs.declared.holding_row.HoldingRow as row
+use Rattle.brk_tables.specs.Pages.{page_size}
 use Rattle.brk_tables_schema.specs.Made.{HasDeskTables}
-use Rattle.brk_lot_index.specs.Ages.{CoversLots}
+use Rattle.brk_lot_index.specs.Ages.{IsIndexOf, in_closing_order, lot_of_age}
+use Rattle.brk_lot_index.specs.declared.age.LotAge.{LotAge}
 use Rattle.brk_lot_index.specs.declared.index.LotIndex.{LotIndex}
 
--- The lots in memory, if there are any, cover the rows of HOLDING in the tables `t`.
-abbrev pub CoversRows : Option LotIndex → Tables → Type 0
-CoversRows None t = Unit {0}
-CoversRows (Some index) t = CoversLots index t.holdings
+-- The index, if there is one, is that of the rows of HOLDING in the tables `t`.
+abbrev pub IsIndexOfTables : Option LotIndex → Tables → Type 0
+IsIndexOfTables None t = Unit {0}
+IsIndexOfTables (Some index) t = IsIndexOf index t.holdings
 
 -- If `known` is true, the database of the connection has the tables of a desk with some rows, and the
--- lots in memory cover them. Vacuous if the disk assumption fails, or once the database is closed.
-pub record IndexIsTrue {S : Type 0} (g : Ghosts S) (conn : Held S) (known : Bool) (lots : Option LotIndex) : Type 0 where
-  pub covers : IsTrue known → HasCleanDisk (state g conn) → IsTrue (state g conn).is_open → (t : Tables) × HasDeskTables t (state g conn).now × CoversRows lots t
+-- index, if there is one, is that of these rows. Vacuous if the disk assumption fails, or once the
+-- database is closed.
+pub record IndexIsTrue {S : Type 0} (g : Ghosts S) (conn : Held S) (known : Bool) (index : Option LotIndex) : Type 0 where
+  pub indexed : IsTrue known → HasCleanDisk (state g conn) → IsTrue (state g conn).is_open → (t : Tables) × HasDeskTables t (state g conn).now × IsIndexOfTables index t
+
+-- The rows `page` are those of the ages after the first `skipped` in the order of closing, at most 16
+-- of them: one row for each age, a lot of `account` in the security `symbol`.
+abbrev pub HasRowOfEachAge : ℕ → Text → Bool → ℕ → List LotAge → List row.HoldingRow → Tables → Type 0
+HasRowOfEachAge account symbol lifo skipped ages page t =
+    map Some (map abstract_holding_row page) ≡ map (lot_of_age t.holdings account symbol) (take page_size (drop skipped (in_closing_order lifo ages)))

@@ -1,8 +1,6 @@
 -- The lots of a position in the order in which a trade closes them, and those not yet returned
 -- after pages of them were read.
-use Rattle.std.specs.Prelude.{ℕ, List, [], ◌∷◌, ◌++◌, Bool, Option, Some, if◌then◌else◌, drop, map}
-use Rattle.brk_lot_index.specs.Ages.{age_of_row}
-use Rattle.brk_lot_index.specs.declared.age.LotAge.{LotAge}
+use Rattle.std.specs.Prelude.{ℕ, List, [], ◌++◌, Bool, if◌then◌else◌, drop, map}
 use Rattle.brk_lots.specs.declared.lot.Lot.{Lot}
 use Rattle.brk_lots.specs.Lots.{list_reversed_if_lifo}
 use Rattle.brk_model.specs.Tables.{Tables, HoldingRow}
@@ -26,8 +24,3 @@ unread_rows ended read rows = if ended then [] else drop read rows
 -- on.
 abbrev pub remaining_lots : List row.HoldingRow → Bool → ℕ → List HoldingRow → List Lot
 remaining_lots pending ended read rows = map lot_of_row (map abstract_holding_row pending ++ unread_rows ended read rows)
-
--- The age of the last lot of the rows, or `last` if there are none.
-abbrev pub age_after_rows : Option LotAge → List row.HoldingRow → Option LotAge
-age_after_rows last [] = last
-age_after_rows last (r ∷ rs) = age_after_rows (Some (age_of_row (abstract_holding_row r))) rs

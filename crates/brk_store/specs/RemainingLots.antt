@@ -4,7 +4,6 @@ use Rattle.std.specs.Prelude.{◌≡◌, ℕ, List, drop}
 use Rattle.sqlite_trees.specs.declared.store.Store.{Ghosts}
 use Rattle.sqlite.specs.Held.{Held}
 use Rattle.brk_lots.specs.declared.lot.Lot.{Lot}
-use Rattle.brk_lot_index.specs.Ages.{rows_closed_after}
 use Rattle.brk_model.specs.Tables.{Tables}
 use Rattle.brk_store.specs.Holds.{HoldsRows}
 use Rattle.brk_store.specs.Pages.{remaining_lots, lot_rows_in_closing_order}
@@ -20,12 +19,10 @@ abbrev pub number_of_rows_read : {S P : Type 0} → Pages S P → ℕ
 number_of_rows_read p = p.read
 
 -- For some rows `t` that the store of the source holds, `ls` are exactly the lots that the source
--- still has to return, in order, and the rows that it has not read are those that are closed after the
--- last that it has read. If the disk assumption fails, or the store is closed, the store
+-- still has to return, in order. If the disk assumption fails, or the store is closed, the store
 -- holds every `t`, so `ls` may be the lots of any rows. False if the store is open and satisfies
 -- `HasDeskTables` for no `t`.
 abbrev pub AreRemainingLots : {S : Type 0} → Ghosts S → Pages S Page → List Lot → Type 0
 AreRemainingLots g p ls =
     (t : Tables) × HoldsRows g p.store.now t
     × (ls ≡ remaining_lots (drop p.page.returned p.page.rows.items) p.ended p.read (lot_rows_in_closing_order p.lifo p.account p.symbol.now t))
-    × (rows_closed_after p.lifo p.last_age (lot_rows_in_closing_order p.lifo p.account p.symbol.now t) ≡ drop p.read (lot_rows_in_closing_order p.lifo p.account p.symbol.now t))

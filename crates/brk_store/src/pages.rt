@@ -1,18 +1,16 @@
 //! The lots of a position, which a source reads from the store 16 rows at a time (a page of them).
 
-ghost use Rattle.std.specs.Prelude.{◌≡◌, ◌≢◌, ◌≤◌, ◌+◌, IfErr, IfOk, IsTrue, drop, length, map, pos};
+ghost use Rattle.std.specs.Prelude.{◌≡◌, ◌≢◌, ◌≤◌, ◌+◌, IfErr, IfOk, IsTrue, length, map, pos};
 ghost use Rattle.std.specs.List.{All};
-ghost use Rattle.brk_lot_index.specs.Ages.{rows_closed_after};
 ghost use Rattle.brk_model.specs.Run.{IsCallFault};
 ghost use Rattle.brk_changes.specs.Rows.{abstract_holding_row};
 ghost use Rattle.brk_tables.specs.Pages.{page_after_skipped, page_size};
 ghost use Rattle.brk_book_theorems.specs.OrderReads.{lot_of_typed_row};
 ghost use Rattle.brk_store.specs.Holds.{ReadPost};
-ghost use Rattle.brk_store.specs.Pages.{age_after_rows, lot_rows_in_closing_order};
+ghost use Rattle.brk_store.specs.Pages.{lot_rows_in_closing_order};
 
 use crate::Store;
 use brk_changes::HoldingRow;
-use brk_lot_index::LotAge;
 use brk_lots::{Lot, LotSource};
 use brk_money::{Fault, Id};
 use brk_ref::Symbol;
@@ -49,8 +47,6 @@ pub struct Pages<'a, S: Alter, P> {
     // `read`: the number of rows that were read. `ended`: true once a page had fewer than 16 rows.
     read: u32,
     ended: bool,
-    // The age of the last lot that was read, or `None` if none was.
-    last_age: Option<LotAge>,
     // The number of calls of `next` that failed; it stops at the greatest `u64`.
     faults: u64,
 }
@@ -71,21 +67,9 @@ impl<S: Alter, P: Drop> Drop for Pages<'_, S, P> {
             page: _,
             read: _,
             ended: _,
-            last_age: _,
             faults: _,
         } = self;
     }
-}
-
-// Returns the age of the last lot of the rows, or `last` if there are none.
-fn age_of_last_lot(rows: &[HoldingRow], last: &Option<LotAge>) -> Option<LotAge>
-    ensures { result ≡ age_after_rows last.now rows.now }
-{
-    let mut age = *last;
-    for row in rows {
-        age = Some(LotAge::of_row(row));
-    }
-    age
 }
 
 // Returns true only if there are at most 16 rows and each lot has shares.
@@ -96,8 +80,7 @@ fn is_valid_lot_page(rows: &[HoldingRow]) -> bool
 }
 
 // Returns a page of the lots of an account in a security, in the order of `Store::page_of_lots`: at
-// most 16 after the first `skipped` lots, each with shares, if these are closed after the lot of the
-// age `after`. If the database is still open, it is
+// most 16 after the first `skipped` lots, each with shares. If the database is still open, it is
 // unchanged. Fails with `Memory` or `Store` only; with `Store` also if the page has more than 16
 // rows, or a lot without shares.
 fn read_valid_lot_page<S: Alter>(
@@ -107,16 +90,14 @@ fn read_valid_lot_page<S: Alter>(
     symbol: &Symbol,
     lifo: bool,
     skipped: u32,
-    after: &Option<LotAge>,
 ) -> Result<Vec<HoldingRow>, Fault>
-    ensures read { ReadPost S.Store store.old store.new result (λ all t.
-        rows_closed_after lifo after.now (lot_rows_in_closing_order lifo account symbol.now t) ≡ drop skipped (lot_rows_in_closing_order lifo account symbol.now t)
-        → map abstract_holding_row all.items ≡ page_after_skipped skipped (lot_rows_in_closing_order lifo account symbol.now t)) }
+    ensures read { ReadPost S.Store store.old store.new result (λ all t. map abstract_holding_row all.items
+        ≡ page_after_skipped skipped (lot_rows_in_closing_order lifo account symbol.now t)) }
     ensures few { IfOk result (λ all. length all.items ≤ page_size) }
     ensures some_shares { IfOk result (λ all. All (λ r. r.qty ≢ pos 0) all.items) }
     ensures fault { IfErr result IsCallFault }
 {
-    let page = store.page_of_lots(alloc, account, symbol, lifo, skipped, after)?;
+    let page = store.page_of_lots(alloc, account, symbol, lifo, skipped)?;
     if is_valid_lot_page(&page) {
         Ok(page)
     } else {
@@ -184,20 +165,18 @@ impl<S: Alter> Store<S> {
             page,
             read: 0,
             ended: false,
-            last_age: None,
             faults: 0,
         }
     }
 }
 
 impl<S: Alter> Pages<'_, S, Page> {
-    ghost use Rattle.std.specs.Prelude.{◌≡◌, ◌≢◌, ◌≤◌, ◌+◌, ◌-◌, ◌∷◌, IfErr, IfOk, IfSome, IsTrue, List, MatchOption, OnErr, OnOk, [], drop, length, map, pos};
+    ghost use Rattle.std.specs.Prelude.{◌≡◌, ◌≢◌, ◌≤◌, ◌+◌, ◌-◌, ◌∷◌, IfErr, IfOk, IfSome, List, MatchOption, OnErr, [], length, map, pos};
     ghost use Rattle.std.specs.List.{All};
     ghost use Rattle.sqlite.specs.Held.{state};
     ghost use Rattle.sqlite.specs.State.{HasCleanDisk};
     ghost use Rattle.brk_lots.specs.declared.lot.Lot.{Lot as TheLot};
     ghost use Rattle.brk_changes.specs.Rows.{abstract_holding_row};
-    ghost use Rattle.brk_lot_index.specs.Ages.{rows_closed_after};
     ghost use Rattle.brk_model.specs.Run.{IsCallFault};
     ghost use Rattle.brk_model.specs.Tables.{Tables};
     ghost use Rattle.brk_store.specs.Holds.{HoldsRows};
@@ -228,12 +207,8 @@ impl<S: Alter> Pages<'_, S, Page> {
 
         // At `Ok` the rows of the next page, if the disk assumption holds.
         ensures rows { HasCleanDisk (state S.Store self.new.store.now) → IfOk result (λ page. (t : Tables) → HoldsRows S.Store self.old.store.now t →
-            rows_closed_after self.old.lifo self.old.last_age (lot_rows_in_closing_order self.old.lifo self.old.account self.old.symbol.now t)
-            ≡ drop self.old.read (lot_rows_in_closing_order self.old.lifo self.old.account self.old.symbol.now t) → map abstract_holding_row page.items
+            map abstract_holding_row page.items
             ≡ page_after_skipped self.old.read (lot_rows_in_closing_order self.old.lifo self.old.account self.old.symbol.now t)) }
-
-        // At `Ok` the store was open.
-        ensures opened { HasCleanDisk (state S.Store self.new.store.now) → OnOk result (IsTrue (state S.Store self.old.store.now).is_open) }
 
         // The number of rows read grows by the rows of the page; at an error it is unchanged.
         ensures counted { IfOk result (λ page. self.new.read ≡ self.old.read + length page.items) }
@@ -252,7 +227,6 @@ impl<S: Alter> Pages<'_, S, Page> {
             self.symbol,
             self.lifo,
             self.read,
-            &self.last_age,
         )?;
         let Some(read) = self.read.checked_add(page.len() as u32) else {
             return Err(Fault::Store);
@@ -299,7 +273,6 @@ impl<S: Alter> Pages<'_, S, Page> {
             None => None,
         };
         self.ended = page.len() < PAGE_SIZE;
-        self.last_age = age_of_last_lot(&page, &self.last_age);
         self.page = Page {
             rows: page,
             returned: 1,

@@ -1,5 +1,5 @@
 use crate::changing::{apply_changes_in_transaction, create_tables_in_transaction};
-use crate::indexed::lots_with_opened;
+use crate::indexed::index_after_changes;
 use brk_changes::Change;
 use brk_lot_index::LotIndex;
 use brk_money::Fault;
@@ -29,24 +29,22 @@ pub struct Store<S: Alter> {
     pub(crate) conn: Connection<S>,
     // True only if the database, while it is open, has the tables of a desk with some rows.
     pub(crate) known: bool,
-    // The lots by position, or `None` if they were not read yet, or if the memory for them was
-    // refused.
-    pub(crate) lots: Option<LotIndex>,
+    // The index of the lots, or `None` if it was not made yet, or could not be kept.
+    pub(crate) index: Option<LotIndex>,
 }
 
 impl<S: Alter> Model for Store<S> {
     ghost use Rattle.sqlite.specs.Held.{Held, held_code};
     ghost use Rattle.std.specs.Prelude.{◌≡◌, false};
+    ghost use Rattle.brk_store.specs.Indexed.{IndexIsTrue};
 
     ghost Value = { Held S };
 
     ghost coded = { held_code S.code };
 
-    ghost use Rattle.brk_store.specs.Indexed.{IndexIsTrue};
-
     ghost view = { λ s. s.conn };
 
-    ghost invariant = { λ s. (s.conn.in_transaction ≡ false) × IndexIsTrue S.Store s.conn s.known s.lots };
+    ghost invariant = { λ s. (s.conn.in_transaction ≡ false) × IndexIsTrue S.Store s.conn s.known s.index };
 }
 
 impl<S: Alter + Drop> Drop for Store<S> {
@@ -55,7 +53,7 @@ impl<S: Alter + Drop> Drop for Store<S> {
         let Store {
             conn: _,
             known: _,
-            lots: _,
+            index: _,
         } = self;
     }
 }
@@ -94,7 +92,7 @@ impl<S: Alter> Store<S> {
             Ok(()) => Ok(Store {
                 conn,
                 known: true,
-                lots: None,
+                index: None,
             }),
             Err(fault) => Err((conn, fault)),
         }
@@ -119,7 +117,7 @@ impl<S: Alter> Store<S> {
     {
         match apply_changes_in_transaction(&mut self.conn, changes) {
             Ok(()) => {
-                self.lots = lots_with_opened(self.lots.take(), changes);
+                self.index = index_after_changes(self.index.take(), changes);
                 Ok(())
             }
             Err(fault) => Err(fault),
@@ -131,11 +129,7 @@ impl<S: Alter> Store<S> {
         ensures same { result ≡ self }
         ensures autocommit { result.in_transaction ≡ false }
     {
-        let Store {
-            conn,
-            known: _,
-            lots: _,
-        } = self;
+        let Store { conn, .. } = self;
         conn
     }
 }

@@ -84,7 +84,7 @@ impl<S: Alter> Store<S> {
             Ok(()) => Ok(Store {
                 conn,
                 known: has_definitions,
-                lots: None,
+                index: None,
             }),
             Err(fault) => Err((conn, fault)),
         }

@@ -3,7 +3,7 @@ use Rattle.std.specs.Global.{Vec}
 use Rattle.brk_money.specs.declared.fault.Fault.TheVariants.{Memory}
 use Rattle.brk_changes.specs.Rows.{abstract_holding_row}
 use Rattle.brk_changes.specs.declared.holding_row.HoldingRow as row
-use Rattle.brk_lot_index.specs.Ages.{CoversLots}
+use Rattle.brk_lot_index.specs.Ages.{IsIndexOf}
 use Rattle.brk_lot_index.specs.declared.index.LotIndex.{LotIndex}
 use Rattle.brk_model.specs.Tables.{Tables}
 use Rattle.brk_store.proofs.ReadResults.{decided}
@@ -12,13 +12,13 @@ use Rattle.brk_store.proofs.indexed.read_lot_index.Goals as goal
 abbrev AreAllLots : Vec row.HoldingRow → Tables → Type 0
 AreAllLots all t = map abstract_holding_row all.items ≡ t.holdings
 
-abbrev Covers : LotIndex → Tables → Type 0
-Covers index t = CoversLots index t.holdings
+abbrev IsIndexOfHoldings : LotIndex → Tables → Type 0
+IsIndexOfHoldings index t = IsIndexOf index t.holdings
 
 pub returns-in-Ok-clause-read : goal.returns-in-Ok-clause-read
 returns-in-Ok-clause-read g c =
-    decided g.S.Store c.args.conn.now c.read_all_lots.new.conn c.in_ok-rows.rows AreAllLots Covers (Ok c.in-Ok.index) c.in_ok-rows.ensures.read
-    (λ t all. subst (CoversLots c.in-Ok.index) (ap (map abstract_holding_row) c.deref.ensures.value ∙ all) c.in-Ok.ensures)
+    decided g.S.Store c.args.conn.now c.read_all_lots.new.conn c.in_ok-rows.rows AreAllLots IsIndexOfHoldings (Ok c.in-Ok.index) c.in_ok-rows.ensures.read
+    (λ t all. subst (IsIndexOf c.in-Ok.index) (ap (map abstract_holding_row) c.deref.ensures.value ∙ all) c.in-Ok.ensures)
 
 pub returns-clause-read : goal.returns-clause-read
-returns-clause-read g c = decided g.S.Store c.args.conn.now c.read_all_lots.new.conn c.in_ok-rows.rows AreAllLots Covers (Err Memory) c.in_ok-rows.ensures.read tt
+returns-clause-read g c = decided g.S.Store c.args.conn.now c.read_all_lots.new.conn c.in_ok-rows.rows AreAllLots IsIndexOfHoldings (Err Memory) c.in_ok-rows.ensures.read tt

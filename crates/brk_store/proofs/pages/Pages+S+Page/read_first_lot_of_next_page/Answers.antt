@@ -1,14 +1,9 @@
-use Rattle.std.proofs.Common.{◌≡◌, ◌+◌, ◌∙◌, [], drop, length, nat_lt, map, slice_get, rules, ap, sym}
+use Rattle.std.proofs.Common.{◌≡◌, ◌+◌, ◌∙◌, [], drop, length, nat_lt, map, slice_get, rules, ap}
 use Rattle.std.specs.Prelude.{option_map}
 use Rattle.std.proofs.lemmas.List.{drop_all}
 use Rattle.brk_book_theorems.specs.OrderReads.{lot_of_typed_row}
 use Rattle.brk_book_theorems.specs.TradeReads.{lot_of_row}
 use Rattle.brk_store.specs.Pages.{remaining_lots, lot_rows_in_closing_order}
-use Rattle.sqlite.specs.Held.{state}
-use Rattle.brk_lot_index.specs.Ages.{rows_closed_after}
-use Rattle.brk_store.specs.Pages.{age_after_rows}
-use Rattle.brk_store.specs.ReadSequences.{disk_was_clean_before_reads}
-use Rattle.brk_store.proofs.ByIndex.{left_after_page}
 use Rattle.brk_store.proofs.Turning.{turned}
 use Rattle.brk_store.proofs.pages.Pages+S+Page.read_first_lot_of_next_page.Goals as goal
 use Rattle.brk_store.proofs.pages.Pages+S+Page.read_first_lot_of_next_page.Goals.{in-Some, in-None}
@@ -24,15 +19,7 @@ returns-clause-first_lot g c told ls h =
     let none : drop self.page.returned self.page.rows.items ≡ [] = drop_all self.page.returned self.page.rows.items (search rules) in
     let left : ls ≡ map lot_of_row (drop self.read rows) = h.2 ∙ ap (λ p. remaining_lots p self.ended self.read rows) none ∙ ap (λ b. remaining_lots [] b self.read rows) c.if-self.false in
     let first : c.match-first.first ≡ option_map lot_of_typed_row (slice_get page 0) = elim c.match-first.branch [ in-Some w ↦ search rules | in-None w ↦ search rules ] in
-    let was_clean = disk_was_clean_before_reads self.store.now after.store.now c.in_ok-page.ensures.store told in
-    let has = h.1 was_clean (c.in_ok-page.ensures.opened told) in
-    let shown = c.in_ok-page.ensures.rows told h.0 h.1 h.3 in
-    let last : c.age_of_last_lot-self.result ≡ age_after_rows self.last_age page = search rules in
-    let behind : rows_closed_after self.lifo c.age_of_last_lot-self.result rows ≡ drop after.read rows =
-    ap (λ a. rows_closed_after self.lifo a rows) last
-    ∙ left_after_page h.0 (state g.S.Store self.store.now).now has self.account self.symbol.now self.lifo self.last_age self.read page shown h.3
-    ∙ ap (λ n. drop n rows) (sym count) in
     rw c.in_ok-page.ensures.same
     (turned g.S.Store after.store.now self.lifo self.account self.symbol.now h.0 (c.in_ok-page.ensures.store.same_rows h.0 h.1) self.read after.read page
-    (nat_lt c.len.result 16) c.age_of_last_lot-self.result c.match-first.first ls
-    shown count ended first left behind)
+    (nat_lt c.len.result 16) c.match-first.first ls
+    (c.in_ok-page.ensures.rows told h.0 h.1) count ended first left)

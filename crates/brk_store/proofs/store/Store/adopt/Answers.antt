@@ -1,6 +1,6 @@
 use Rattle.std.proofs.Common.{Ok, subst}
 use Rattle.brk_store.specs.Audited.{AdoptPost}
-use Rattle.brk_store.proofs.Covered.{index_of_adopted}
+use Rattle.brk_store.proofs.KeptIndex.{index_of_adopted}
 use Rattle.brk_store.proofs.store.Store.adopt.Goals as goal
 
 pub returns-in-Ok-clause-adopted : goal.returns-in-Ok-clause-adopted

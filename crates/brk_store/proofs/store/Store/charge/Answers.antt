@@ -1,6 +1,6 @@
 use Rattle.std.proofs.Common.{rules}
 use Rattle.brk_store.proofs.Ending.{read_is_over}
-use Rattle.brk_store.proofs.Covered.{read_keeps_index}
+use Rattle.brk_store.proofs.KeptIndex.{read_keeps_index}
 use Rattle.brk_store.proofs.store.Store.charge.Goals as goal
 
 pub returns-clause-read : goal.returns-clause-read
@@ -10,5 +10,5 @@ returns-clause-read g c =
 
 pub invariant_of-self : goal.invariant_of-self
 invariant_of-self g c =
-    read_keeps_index g.S.Store c.self.inside.conn c.begin_transaction-tx.result.conn.now c.charge_by_type_and_tier.new.tx.conn.now c.drop-tx.new.self.0 c.self.inside.known c.self.inside.lots
+    read_keeps_index g.S.Store c.self.inside.conn c.begin_transaction-tx.result.conn.now c.charge_by_type_and_tier.new.tx.conn.now c.drop-tx.new.self.0 c.self.inside.known c.self.inside.index
     c.begin_transaction-tx.ensures.begun c.begin_transaction-tx.ensures.is_committed c.charge_by_type_and_tier.ensures.step c.drop-tx.ensures.survives c.drop-tx.ensures.undone c.drop-tx.ensures.ended c.self.invariant.1
