@@ -1,26 +1,21 @@
 -- A table of any database is that of some records, where the program has read its rows and tested
 -- them.
-use Rattle.std.proofs.Common.{◌≡◌, ◌⊎◌, inl, inr, ℕ, ℤ, List, [], ◌∷◌, map, true, false, not, Some, None, Ordering, Less, Equal, Greater, is_eq, is_lt, int_cmp, refl, sym, ap, ap₂, subst, ◌∙◌, IsTrue}
+use Rattle.std.proofs.Common.{◌≡◌, ◌⊎◌, inl, inr, ℕ, List, [], ◌∷◌, map, true, false, not, Ordering, Less, is_eq, refl, sym, ap, ap₂, subst, ◌∙◌}
 use Rattle.std.specs.Cmp.{IsTotalOrder}
 use Rattle.std.specs.List.{AllByRecursion, IsDistinct}
 use Rattle.std.specs.List.Sorted.{IsPermutation}
-use Rattle.std.proofs.lemmas.Cmp.{int_cmp_total}
-use Rattle.std.proofs.lemmas.Bool.{and_parts}
 use Rattle.std.proofs.lemmas.List.Sorted.{IsPermutation-sym, IsPermutation-map}
-use Rattle.sqlite_value.specs.declared.value.Value.TheVariants.{Int}
 use Rattle.sqlite_value.specs.declared.keys.Key.{Key}
 use Rattle.sqlite_value.specs.Order.{Row, value_cmp}
-use Rattle.sqlite_value.proofs.OrderLemmas.{value_cmp-Int}
 use Rattle.sqlite_trees.specs.Tree.{rowid, IsTable, IsAscending}
-use Rattle.sqlite_trees.specs.View.{is_int}
 use Rattle.sqlite_sql.specs.Term.{Term, eval_all}
 use Rattle.sqlite_sql.specs.Query.{Query, page}
 use Rattle.sqlite_rules.proofs.ListLemmas.{all_has}
 use Rattle.sqlite.specs.Table.{Table}
-use Rattle.brk_sql.specs.Rows.{cells_in_column_order, has_same_rowid, IsStrictlyAscending, TreeHoldsRecords, is_strictly_ascending_above}
+use Rattle.brk_sql.specs.Rows.{cells_in_column_order, has_same_rowid, IsStrictlyAscending, TreeHoldsRecords}
 use Rattle.brk_sql.proofs.Decode.{filter_true}
 use Rattle.brk_sql.proofs.Order.{map_on}
-use Rattle.brk_sql.proofs.Pick.{Picks, Keyed, Apart, keyed_permuted, apart_permuted, int_is, sorted_by}
+use Rattle.brk_sql.proofs.Pick.{Picks, Keyed, Apart, apart_permuted, int_is, sorted_by}
 use Rattle.sqlite_rules.specs.Edit.{id_in}
 use Rattle.sqlite_rules.specs.Lists.{Has}
 use Rattle.sqlite_schema.specs.Rules.{differ}
@@ -31,69 +26,9 @@ use Rattle.brk_sql.proofs.Unique.{unique_rows}
 use Rattle.brk_sql.proofs.Values.{differ_ints}
 use Rattle.brk_sql.proofs.Writes.{IsRowidKey, IsUniqueKey}
 
--- ---- numbers that climb
-
-less : (o : Ordering) → is_lt o ≡ true → o ≡ Less
-less Less h = refl
-less Equal h = absurd (let e = h in cc)
-less Greater h = absurd (let e = h in cc)
-
-below_all : (a b : ℤ) (xs : List ℤ) → int_cmp a b ≡ Less → AllByRecursion (λ y. int_cmp b y ≡ Less) xs → AllByRecursion (λ y. int_cmp a y ≡ Less) xs
-below_all a b [] low all = tt
-below_all a b (x ∷ xs) low all = (int_cmp_total.trans a b x low all.0, below_all a b xs low all.1)
-
-climbs_above : (last : ℤ) (xs : List ℤ) → is_strictly_ascending_above (Some last) xs ≡ true → AllByRecursion (λ y. int_cmp last y ≡ Less) xs × IsStrictlyAscending int_cmp xs
-climbs_above last [] h = (tt, tt)
-climbs_above last (x ∷ xs) h =
-    let both = and_parts _ _ h in
-    let more = climbs_above x xs both.1 in
-    let first = less _ both.0 in
-    ((first, below_all last x xs first more.0), more)
-
-pub climbs_rise : (xs : List ℤ) → is_strictly_ascending_above None xs ≡ true → IsStrictlyAscending int_cmp xs
-climbs_rise [] h = tt
-climbs_rise (x ∷ xs) h = climbs_above x xs h
-
-pub rises_of : {X : Type 0} (f : X → ℤ) (xs : List X) → IsStrictlyAscending int_cmp (map f xs) → IsStrictlyAscending (λ x y. int_cmp (f x) (f y)) xs
-rises_of {X} f [] up = tt
-rises_of {X} f (x ∷ xs) up = (each xs up.0, rises_of f xs up.1)
-  where
-    each : (ys : List X) → AllByRecursion (λ y. int_cmp (f x) y ≡ Less) (map f ys) → AllByRecursion (λ y. int_cmp (f x) (f y) ≡ Less) ys
-    each [] all = tt
-    each (y ∷ ys) all = (all.0, each ys all.1)
-
-pub same_ints : (xs ys : List ℤ) → map Int xs ≡ map Int ys → xs ≡ ys
-same_ints [] [] h = refl
-same_ints [] (y ∷ ys) h = absurd (let e = h in cc)
-same_ints (x ∷ xs) [] h = absurd (let e = h in cc)
-same_ints (x ∷ xs) (y ∷ ys) h =
-    let here : x ≡ y = cc in
-    let more : map Int xs ≡ map Int ys = cc in
-    ap₂ ◌∷◌ here (same_ints xs ys more)
-
 -- ---- rowids
 
--- rows whose rowids are numbers that climb
-pub rowids_climb : (rows : List Row) (ids : List ℤ) → map rowid rows ≡ map Int ids → IsStrictlyAscending int_cmp ids → Keyed rows × Apart rows
-unfolding IsDistinct
-rowids_climb [] ids h up = (tt, tt)
-rowids_climb (r ∷ rows) [] h up = absurd (let e = h in cc)
-rowids_climb (r ∷ rows) (n ∷ ids) h up =
-    let here : rowid r ≡ Int n = cc in
-    let more : map rowid rows ≡ map Int ids = cc in
-    let later = rowids_climb rows ids more up.1 in
-    ((subst (λ v. IsTrue (is_int v)) (sym here) refl, later.0), (each r n here rows ids more up.0, later.1))
-  where
-    each : (r : Row) (n : ℤ) → rowid r ≡ Int n → (rows : List Row) (ids : List ℤ) → map rowid rows ≡ map Int ids → AllByRecursion (λ y. int_cmp n y ≡ Less) ids
-        → AllByRecursion (λ s. has_same_rowid r s ≡ false) rows
-    each r n is [] ids h low = tt
-    each r n is (s ∷ rows) [] h low = absurd (let e = h in cc)
-    each r n is (s ∷ rows) (m ∷ ids) h low =
-        let here : rowid s ≡ Int m = cc in
-        let more : map rowid rows ≡ map Int ids = cc in
-        (ap is_eq (ap₂ value_cmp is here ∙ value_cmp-Int n m ∙ low.0), each r n is rows ids more low.1)
-
--- what a store that was handed over shows of its trees is enough too
+-- the rows of a table whose rowids rise have different rowids
 pub table_apart : (rows : List Row) → IsTable rows → Apart rows
 unfolding IsDistinct
 table_apart [] up = tt
@@ -123,31 +58,6 @@ module _ {X : Type 0} (table : Table) (encode : X → Row) (cmp : X → X → Or
     rising = rising;
     shown = subst (λ l. IsPermutation l (map (cells_in_column_order table) rows)) (sym picked_are) (IsPermutation-map (cells_in_column_order table) p.picked rows (IsPermutation-sym _ _ picked_all));
   }
-
-  -- where the key is the rowid, the same read is enough
-  pub adopted_by_rowid : (key : X → ℤ) → ((r : Row) (x : X) → cells_in_column_order table r ≡ encode x → rowid r ≡ Int (key x))
-      → ((x y : X) → cmp x y ≡ int_cmp (key x) (key y)) → TreeHoldsRecords table encode cmp xs rows
-  adopted_by_rowid key keyed is =
-      let ids = rowids p.picked xs (sym picked_are) in
-      let both = rowids_climb p.picked (map key xs) ids (ids_rise xs rising) in
-      adopted (keyed_permuted p.picked rows (IsPermutation-sym _ _ picked_all) both.0) (apart_permuted p.picked rows (IsPermutation-sym _ _ picked_all) both.1)
-    where
-      rowids : (rs : List Row) (ys : List X) → map (cells_in_column_order table) rs ≡ map encode ys → map rowid rs ≡ map Int (map key ys)
-      rowids [] [] h = refl
-      rowids [] (y ∷ ys) h = absurd (let e = h in cc)
-      rowids (r ∷ rs) [] h = absurd (let e = h in cc)
-      rowids (r ∷ rs) (y ∷ ys) h =
-          let here : cells_in_column_order table r ≡ encode y = cc in
-          let more : map (cells_in_column_order table) rs ≡ map encode ys = cc in
-          ap₂ ◌∷◌ (keyed r y here) (rowids rs ys more)
-
-      ids_rise : (ys : List X) → IsStrictlyAscending cmp ys → IsStrictlyAscending int_cmp (map key ys)
-      ids_rise [] up = tt
-      ids_rise (y ∷ ys) up = (each y ys up.0, ids_rise ys up.1)
-        where
-          each : (y : X) (zs : List X) → AllByRecursion (λ z. cmp y z ≡ Less) zs → AllByRecursion (λ n. int_cmp (key y) n ≡ Less) (map key zs)
-          each y [] all = tt
-          each y (z ∷ zs) all = (sym (is y z) ∙ all.0, each y zs all.1)
 
 -- ---- a table of a sound database, read by its key
 

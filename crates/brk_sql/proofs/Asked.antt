@@ -57,7 +57,7 @@ use Rattle.sqlite_ast.specs.declared.Core.{Core, roll-Core}
 use Rattle.sqlite_ast.specs.declared.Select as ast
 use Rattle.brk_sql.specs.Desk.{IsTableAt}
 use Rattle.brk_sql.proofs.Texts.{read}
-use Rattle.brk_sql.proofs.Looks.{no_returning}
+use Rattle.brk_sql.proofs.Returning.{no_returning}
 use Rattle.sqlite_resolve.specs.declared.compiled.Compiled.{Compiled}
 use Rattle.sqlite.specs.Listing.{understood}
 use Rattle.sqlite_resolve.specs.Order.{sort, sorts_from, key, peeled, alias_in, collation_of, written_on, placed, is_numeral}
@@ -320,11 +320,6 @@ module _ (schema : Schema) (at : ℕ) (table : Table) (found : slice_get schema.
   with_null : (op : BinaryOp) (k : ℕ) → is_found table k ≡ true → compared cx op (term_at table k) (lit Null) ≡ op2 op (term_at table k) (lit Null)
   unfolding compared
   with_null op k f = rw (column_affinity k f, null_affinity, of_itself (affinity_at table k) (place_of table k), of_null (affinity_at table k) (tight table k f)) refl
-
-  column_lowers : (depth k : ℕ) → is_found table k ≡ true → (b next : ℕ) → nat_lt 1 b ≡ true → b - 1 ≡ next → (last : Carried)
-      → lower_to (suc depth) cx (written table k) (left b last) ≡ Ok (term_at table k, left next (carried_at table k))
-  unfolding expression_steps
-  column_lowers depth k f b next more less last = rw (more, less, column_is schema at table found name shown [] may_aggregate may_alias (name_of table k) k (column_of table k) (named table k f) (there table k f)) refl
 
   -- a test: the operator, the column and what it is compared with
   test_lowers : (depth : ℕ) (t : Test) → is_found table (column_tested t) ≡ true → (b b1 b2 b3 : ℕ) → nat_lt 1 b ≡ true → b - 1 ≡ b1 → nat_lt 1 b1 ≡ true → b1 - 1 ≡ b2

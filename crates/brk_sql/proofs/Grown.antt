@@ -3,10 +3,9 @@ use Rattle.std.proofs.Common.{◌≡◌, ◌≢◌, ◌⊎◌, inl, inr, ℕ, Li
 use Rattle.std.specs.List.{AllByRecursion}
 use Rattle.sqlite_schema.specs.declared.schema.Table.{Table}
 use Rattle.sqlite.specs.Effect.{Database}
-use Rattle.sqlite_rules.specs.Lists.{Has}
 use Rattle.sqlite_rules.proofs.ListLemmas.{all_has, all_from}
 use Rattle.brk_sql.specs.Rows.{TreeHoldsRecords}
-use Rattle.brk_sql.specs.Desk.{ProgramTables, IsTableAt, CreatesTableOfShape, CreatesEachTable, HasNoWritingForeignKeysAt, HasTables, HasSelectedTables, PreservesAllTables}
+use Rattle.brk_sql.specs.Desk.{ProgramTables, IsTableAt, CreatesTableOfShape, CreatesEachTable, HasNoWritingForeignKeysAt, HasTables, HasSelectedTables}
 use Rattle.brk_sql.proofs.Created.{all_at}
 use Rattle.brk_sql.proofs.Founded.{all_left, still_calm, new_calm, OrIn, Among}
 use Rattle.brk_sql.proofs.Kept.{none_held}

@@ -93,11 +93,6 @@ picks lost tree terms project order paging db params read a =
 
 -- ---- rowids
 
-equal_is : (o : Ordering) → is_eq o ≡ true → o ≡ Equal
-equal_is Less h = absurd (let e = h in cc)
-equal_is Equal h = refl
-equal_is Greater h = absurd (let e = h in cc)
-
 reversed_eq : (o : Ordering) → is_eq (ordering_reverse o) ≡ is_eq o
 reversed_eq Less = refl
 reversed_eq Equal = refl

@@ -1,5 +1,5 @@
 -- What a SELECT of one table tells of the records, by the numbers of its columns: no caller names a place of a stored row.
-use Rattle.std.proofs.Common.{◌≡◌, ◌∙◌, ℕ, suc, zero, ◌+◌, ◌-◌, ◌<◌, List, [], ◌∷◌, length, map, filter, reverse, Bool, true, false, Option, None, Some, Ok, Ordering, is_eq, refl, sym, ap, ap₂, subst, arith, slice_get}
+use Rattle.std.proofs.Common.{◌≡◌, ◌∙◌, ℕ, suc, zero, ◌-◌, ◌<◌, List, [], ◌∷◌, length, map, filter, reverse, Bool, true, false, Option, None, Some, Ordering, is_eq, refl, sym, ap, ap₂, subst, arith, slice_get}
 use Rattle.std.specs.Prelude.{◌&&◌, is_some}
 use Rattle.std.specs.Cmp.{IsTotalOrder}
 use Rattle.std.specs.List.{list_all}
@@ -23,8 +23,8 @@ use Rattle.sqlite_keyed.specs.Lists.{sort_by}
 use Rattle.sqlite.specs.Effect.{Answers}
 use Rattle.sqlite.specs.State.{State, Shown}
 use Rattle.sqlite.proofs.Callers.{IsPlain, command_of, reads_as}
-use Rattle.brk_sql.specs.Rows.{cells_in_column_order, TreeHoldsRecords}
-use Rattle.brk_sql.specs.Desk.{ProgramTables, HasTables, IsTableAt, TablesSatisfy}
+use Rattle.brk_sql.specs.Rows.{cells_in_column_order}
+use Rattle.brk_sql.specs.Desk.{ProgramTables, IsTableAt, TablesSatisfy}
 use Rattle.brk_sql.proofs.Asked.{Ask, Test, compares, lacks, Tests, single, also, IsAsked, is_found, are_found, tests_found, column_tested, collation_at, test_term, tests_term, filter_of, output_at, columns_of, key_at, asks}
 use Rattle.brk_sql.proofs.Kept.{reads_rising, reads_falling, reads_sorted}
 use Rattle.brk_sql.proofs.Meant.{meant, known, when_understood}

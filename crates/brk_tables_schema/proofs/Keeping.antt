@@ -1,9 +1,8 @@
 -- What the statements on kept rows make of the tables, and tell of them.
-use Rattle.std.proofs.Common.{◌≡◌, ℕ, pos, List, [], ◌∷◌, map, filter, ◌==◌, ◌&&◌, refl, ap}
+use Rattle.std.proofs.Common.{◌≡◌, ℕ, pos, List, [], ◌∷◌, map, filter, ◌==◌, ◌&&◌, refl}
 use Rattle.std.specs.Prelude.{bytes_eq}
 use Rattle.sqlite_value.specs.declared.value.Value.TheVariants.{Null, Text as Words}
-use Rattle.sqlite_value.specs.Order.{Row, column}
-use Rattle.sqlite_tied.proofs.RuleLemmas.{and_true}
+use Rattle.sqlite_value.specs.Order.{Row}
 use Rattle.sqlite.specs.State.{State, Shown}
 use Rattle.brk_model.specs.Records.{Kept}
 use Rattle.brk_model.specs.Keys.{kept_key}

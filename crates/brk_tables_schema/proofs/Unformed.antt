@@ -1,5 +1,5 @@
 -- A column that does not read has no form.
-use Rattle.std.proofs.Common.{◌≡◌, ◌<◌, ℕ, ℤ, zero, suc, pos, negsuc, List, [], ◌∷◌, length, get_or, Bool, true, false, Some, slice_get, refl, sym, ap, ◌∙◌, arith}
+use Rattle.std.proofs.Common.{◌≡◌, ◌<◌, ℕ, zero, suc, List, [], ◌∷◌, length, get_or, Bool, true, false, Some, slice_get, refl, sym, ap, ◌∙◌, arith}
 use Rattle.std.specs.Prelude.{◌&&◌}
 use Rattle.std.specs.Prelude.{Result, Ok, Err, IsErrAnd}
 use Rattle.std.specs.Str.{IsUtf8, is_utf8}
@@ -11,31 +11,12 @@ use Rattle.sqlite_value.specs.declared.value.Value.TheVariants.{Null, Int, Real,
 use Rattle.sqlite_value.specs.Order.{Row, column}
 use Rattle.brk_tables_schema.specs.declared.decode_error.DecodeError.{DecodeError}
 use Rattle.brk_tables_schema.specs.declared.decode_error.DecodeError.TheVariants.{Form}
-use Rattle.brk_tables_schema.specs.Formed.{is_natural_cell, is_null_or_natural_cell, is_text_cell, is_integer_cell, passes_all_cell_checks}
+use Rattle.brk_tables_schema.specs.Formed.{is_text_cell, passes_all_cell_checks}
 
 -- a form that nothing has
 unformed : (b : Bool) → (b ≡ true → ⊥) → b ≡ false
 unformed true never = absurd (never refl)
 unformed false never = refl
-
-pub not_natural : (v : Value) (form : ℕ → Bool) → ((n : ℕ) → v ≡ Int (pos n) → form n ≡ true → ⊥) → is_natural_cell form v ≡ false
-not_natural (Int (pos n)) form never = unformed _ (never n refl)
-not_natural (Int (negsuc n)) form never = refl
-not_natural Null form never = refl
-not_natural (Real x) form never = refl
-not_natural (Words s) form never = refl
-not_natural (Blob b) form never = refl
-
-pub is_natural : (v : Value) (form : ℕ → Bool) (n : ℕ) → is_natural_cell form v ≡ false → v ≡ Int (pos n) → form n ≡ false
-is_natural v form n never is = rw is at never
-
-pub not_maybe : (v : Value) (form : ℕ → Bool) → (v ≡ Null → ⊥) → ((n : ℕ) → v ≡ Int (pos n) → form n ≡ true → ⊥) → is_null_or_natural_cell form v ≡ false
-not_maybe (Int (pos n)) form null never = unformed _ (never n refl)
-not_maybe (Int (negsuc n)) form null never = refl
-not_maybe Null form null never = absurd (null refl)
-not_maybe (Real x) form null never = refl
-not_maybe (Words s) form null never = refl
-not_maybe (Blob b) form null never = refl
 
 pub not_words : (v : Value) (form : List ℕ → Bool) → ((s : List ℕ) → v ≡ Words s → form s ≡ true → ⊥) → is_text_cell form v ≡ false
 not_words (Int n) form never = refl
@@ -43,13 +24,6 @@ not_words Null form never = refl
 not_words (Real x) form never = refl
 not_words (Words s) form never = unformed _ (never s refl)
 not_words (Blob b) form never = refl
-
-pub not_number : (v : Value) → ((n : ℤ) → v ≡ Int n → ⊥) → is_integer_cell v ≡ false
-not_number (Int n) never = absurd (never n refl)
-not_number Null never = refl
-not_number (Real x) never = refl
-not_number (Words s) never = refl
-not_number (Blob b) never = refl
 
 -- ---- a row
 
