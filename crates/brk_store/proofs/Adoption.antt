@@ -45,7 +45,6 @@ use Rattle.brk_store.specs.Audited.{IsUpgradedDiskContent, StoresRowsWithAuditRe
 use Rattle.brk_store.specs.Audited.{ConnectionHasThirdSchema, AdoptPost, AuditPost, ConnectionTablesWithDeskNamesAreDeskTables, AuditAnswerSatisfies}
 use Rattle.brk_store.specs.AuditResult.{IsTrueAuditResult}
 use Rattle.brk_store.specs.Holds.{HoldsRows, WasOpenAndIsUnchanged}
-use Rattle.brk_store.specs.ReadSequences.{empty_read_sequence_changes_nothing}
 use Rattle.brk_store.specs.declared.examining.AuditResult.{AuditResult}
 use Rattle.brk_store.specs.declared.examining.AuditResult.TheVariants.{Passes as Succeeds, Fails}
 use Rattle.brk_store.proofs.Closing.{answer_with, on_fault}
@@ -119,26 +118,6 @@ module _ {S : Type 0} (g : Ghosts S) (new : Held S) where
       go (inl clean) (inr off) = (tables_without_rows, (λ _ on. absurd (off on)), no_rows_pass, refl)
       go (inr never) o = (tables_without_rows, (λ clean _. absurd (never clean)), no_rows_pass, refl)
 
--- ---- a connection on which a transaction is open is refused
-
-pub unadopted : {S : Type 0} (g : Ghosts S) (conn : Held S) → AdoptPost g conn conn (Err Store)
-unadopted g conn = record {
-  answered = λ clean defined. tt;
-  was_open = λ clean. tt;
-  adopted = λ defined. tt;
-  upgraded = λ clean on defined. tt;
-  open_after_upgrade = λ clean defined. tt;
-  unchanged_if_open = λ clean on. record { was_open = on; now = refl; committed = refl };
-  survives = λ defined. survives_weaker (state g conn) (state g conn) _ _ (λ _ db none. absurd none) (empty_read_sequence_changes_nothing {g = g} conn).survives;
-  audited = λ defined third. record {
-    answered = λ clean known. tt;
-    was_open = λ clean. tt;
-    same_rows = λ t holds. holds;
-    unchanged_if_open = λ clean on. record { was_open = on; now = refl; committed = refl };
-    survives = (empty_read_sequence_changes_nothing {g = g} conn).survives;
-  };
-}
-
 -- ---- the answer over all schemas is that of the third, where its desk is there
 
 audited_third : (db : Database) (answer : Option Condition) → TablesWithSchemaNamesAreDeskTables third_schema db → DatabaseHasSchema third_schema db
@@ -198,12 +177,6 @@ module _ {S : Type 0} (g : Ghosts S) (old first : Held S) (settled : IsTrue (sta
 
     gave_up : (fault : Fault) → IsCallFault fault → AdoptPost g old end (Err fault)
     gave_up fault may = none_adopted fault (λ clean defined. on_fault fault (IsDatabaseAuditResult (state g old).now) may) (λ clean. on_fault fault (λ _. IsTrue (state g old).is_open) may)
-
-  -- the examination gave up
-  pub gives_up : (end : Held S) (fault : Fault) → IsCallFault fault
-      → IsTransactionStep {V = AuditResult} {E = Fault} (state g (with_transaction_open old)) (state g first) (Err fault) ReturnsTrueAuditResult
-      → Survives (state g first) (state g end) (λ _. ⊥) → (HasCleanDisk (state g end) → IsRolledBack (state g first) (state g end)) → AdoptPost g old end (Err fault)
-  gives_up end fault may step late back = gave_up first end (Err fault) ReturnsTrueAuditResult step late back fault may
 
   module _ (told : AuditResult) (step : IsTransactionStep {V = AuditResult} {E = Fault} (state g (with_transaction_open old)) (state g first) (Ok told) ReturnsTrueAuditResult) where
     looked : (end : Held S) → Survives (state g first) (state g end) (λ _. ⊥) → HasCleanDisk (state g end) → ReturnsTrueAuditResult told (state g (with_transaction_open old)) (state g first)

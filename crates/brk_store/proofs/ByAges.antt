@@ -1,14 +1,12 @@
 -- Pages of lots that are read by their ages.
-use Rattle.std.proofs.Common.{◌≡◌, ◌∙◌, ◌+◌, ◌<◌, ◌≤◌, ℕ, zero, suc, Bool, true, false, List, [], ◌∷◌, ◌++◌, Option, Some, None, Result, Ok, Err, IfOk, OnOk, IsTrue, length, map, option_map, take, drop, slice_get, refl, sym, ap, ap₂, subst, arith, length-append}
-use Rattle.std.specs.List.{cons_option, filter_map}
-use Rattle.std.specs.Prelude.{option_and_then}
-use Rattle.std.proofs.lemmas.List.{append-nil, length-map, length-reverse, map-append, take-append-drop, take_all}
-use Rattle.std.proofs.lemmas.List.Elements.{filter_map-append}
+use Rattle.std.proofs.Common.{◌≡◌, ◌∙◌, ◌+◌, ◌≤◌, ℕ, zero, suc, Bool, true, false, List, [], ◌∷◌, ◌++◌, Option, Some, None, Result, Ok, Err, IfOk, OnOk, IsTrue, length, map, take, drop, slice_get, refl, sym, ap, ap₂, arith}
+use Rattle.std.proofs.lemmas.List.{length-drop, map-append, take_all}
 use Rattle.sqlite_trees.specs.declared.store.Store.{Ghosts}
 use Rattle.sqlite.specs.Held.{Held, state}
 use Rattle.sqlite.specs.State.{HasCleanDisk}
 use Rattle.brk_model.specs.Tables.{Tables}
 use Rattle.brk_lot_index.specs.Ages.{in_closing_order}
+use Rattle.brk_lot_index.specs.declared.age.LotAge.{LotAge}
 use Rattle.brk_store.specs.Holds.{HoldsRows, ReadPost}
 use Rattle.brk_store.specs.ReadSequences.{IsUnchangedByReads, ReadSequencePost, disk_was_clean_before_reads, joined_reads_change_nothing, single_read_changes_nothing}
 
@@ -109,6 +107,11 @@ pub row_read : {X Y Z : Type 0} (h : Z → Y) (f : X → Option Y) (page : List 
 row_read h f page z es more a before this is =
     ap (map Some) (map-append h page (z ∷ [])) ∙ map-append Some (map h page) (h z ∷ []) ∙ ap₂ (λ l o. l ++ o ∷ []) before this ∙ sym (ap (map f) is ∙ map-append f es (a ∷ []))
 
-pub no_ages : {X : Type 0} (lifo : Bool) (skipped : ℕ) → take 16 (drop skipped (in_closing_order {X} lifo [])) ≡ []
-no_ages true skipped = ap (take 16) (drop_none skipped)
-no_ages false skipped = ap (take 16) (drop_none skipped)
+drop_none : (n : ℕ) (xs : List LotAge) → xs ≡ [] → drop n xs ≡ []
+drop_none zero xs e = e
+drop_none (suc n) [] e = refl
+drop_none (suc n) (x ∷ xs) e = absurd (let f = e in cc)
+
+pub no_ages : (lifo : Bool) (skipped : ℕ) → take 16 (drop skipped (in_closing_order {X = LotAge} lifo [])) ≡ []
+no_ages true skipped = ap (take 16) (drop_none skipped [] refl)
+no_ages false skipped = ap (take 16) (drop_none skipped [] refl)

@@ -1,5 +1,5 @@
 -- A page of lots that is read by the index is that of the table.
-use Rattle.std.proofs.Common.{◌≡◌, ◌∙◌, ◌==◌, ◌&&◌, ℕ, Bool, true, false, List, Some, IsTrue, drop, filter, map, refl, ap, subst, take}
+use Rattle.std.proofs.Common.{◌≡◌, ◌∙◌, ◌==◌, ◌&&◌, ℕ, Bool, true, false, List, Some, IsTrue, filter, map, refl, ap, subst}
 use Rattle.std.specs.Prelude.{bytes_eq}
 use Rattle.sqlite_trees.specs.declared.store.Store.{Ghosts}
 use Rattle.sqlite.specs.Held.{Held, state}

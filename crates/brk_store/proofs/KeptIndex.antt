@@ -1,19 +1,18 @@
 -- The index of a store, from one call to the next.
-use Rattle.std.proofs.Common.{◌≡◌, Bool, true, false, Option, Some, None, Result, Ok, Err, IsTrue, sym, subst}
+use Rattle.std.proofs.Common.{◌≡◌, Bool, false, Option, None, Result, Ok, IsTrue, sym, subst}
 use Rattle.sqlite_trees.specs.declared.store.Store.{Ghosts}
 use Rattle.sqlite.specs.Held.{Held, state}
-use Rattle.sqlite.specs.State.{State, HasCleanDisk, Survives, IsRolledBack}
+use Rattle.sqlite.specs.State.{HasCleanDisk, Survives, IsRolledBack}
 use Rattle.brk_money.specs.declared.fault.Fault.{Fault}
-use Rattle.brk_model.specs.Tables.{Tables, tables_without_rows}
+use Rattle.brk_model.specs.Tables.{Tables}
 use Rattle.brk_sql.specs.Model.{IsTransactionStep, IsUnchangedAndSatisfies}
 use Rattle.brk_sql.proofs.Inside.{clean_before}
 use Rattle.brk_tables_schema.specs.Desk.{desk_tables}
 use Rattle.brk_tables_schema.specs.Made.{HasDeskTables}
 use Rattle.brk_tables_scan.specs.Schemas.{TablesWithDeskNamesAreDeskTables}
-use Rattle.brk_store.specs.Audited.{AdoptPost, AuditPost}
-use Rattle.brk_store.specs.Holds.{ApplyPost, CreatePost, ReadPost, WasOpenAndIsUnchanged}
+use Rattle.brk_store.specs.Audited.{AdoptPost}
+use Rattle.brk_store.specs.Holds.{ApplyPost, WasOpenAndIsUnchanged}
 use Rattle.brk_store.specs.Indexed.{IsIndexOfTables, IndexIsTrue}
-use Rattle.brk_store.specs.ReadSequences.{IsUnchangedByReads, ReadSequencePost}
 use Rattle.brk_store.proofs.Ending.{is_read, with_transaction_open}
 use Rattle.brk_lot_index.specs.declared.index.LotIndex.{LotIndex}
 

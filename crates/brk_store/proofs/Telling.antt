@@ -106,12 +106,6 @@ module _ (a b c d : State) (third second first : Bool) (one : IsTransactionStep 
 abbrev pub ReturnsTrueAuditResult : AuditResult → State → State → Type 0
 ReturnsTrueAuditResult told a b = IsTrue a.is_open × (b.now ≡ a.now) × (TablesWithDeskNamesAreDeskTables a.now → IsTrueAuditResult told a.now)
 
-pub tells_none : (a b : State) → IsTransactionStep {V = Option known.Schema} {E = Fault} a b (Ok None) FindsSchemaOfDatabase
-    → IsTransactionStep {V = AuditResult} {E = Fault} a b (Ok (Fails condition.Schema)) ReturnsTrueAuditResult
-tells_none a b step =
-    step_read a b None (Ok (Fails condition.Schema)) FindsSchemaOfDatabase ReturnsTrueAuditResult
-    (λ told e p. let same : Fails condition.Schema ≡ told = cc in subst (λ t. ReturnsTrueAuditResult t a b) same (p.0, p.1, p.2)) step
-
 module _ (a b c : State) (schema : known.Schema) (there : IsTransactionStep {V = Option known.Schema} {E = Fault} a b (Ok (Some schema)) FindsSchemaOfDatabase) where
   -- the desk that is there, and what its conditions told
   examined : (answer : Option Condition) (told : AuditResult)

@@ -1,6 +1,6 @@
 -- A page is turned.
 use Rattle.std.specs.Prelude.{MatchOption, option_map}
-use Rattle.std.proofs.Common.{Option, ◌≡◌, ◌+◌, ℕ, zero, suc, List, [], ◌∷◌, ◌++◌, Bool, true, false, nat_lt, drop, take, length, map, reverse, min, slice_get, Some, refl, sym, ap, ◌∙◌, subst, arith}
+use Rattle.std.proofs.Common.{Option, ◌≡◌, ◌+◌, ℕ, List, [], ◌∷◌, ◌++◌, Bool, true, false, nat_lt, drop, take, length, map, reverse, min, slice_get, refl, sym, ap, ◌∙◌, subst, arith}
 use Rattle.std.proofs.lemmas.Bool.{ltb-true, ltb-false}
 use mathlib.Core.List.{reverse-cons}
 use Rattle.std.proofs.lemmas.List.{map-append, take-append-drop, take_all, drop-drop, append-nil, length-map, length-take}
@@ -36,14 +36,6 @@ page_turned rows read page e = ap (map lot_of_row) (go (nat_lt (length page) pag
         ∙ ap (λ (l : List HoldingRow). l ++ drop (read + 16) rows) e
         ∙ ap (λ (l : List HoldingRow). take 16 k ++ l) (sym (drop-drop 16 read rows))
         ∙ take-append-drop 16 k
-
-after_row : {X : Type 0} (xs : List X) (n : ℕ) (x : X) → slice_get xs n ≡ Some x → drop n xs ≡ x ∷ drop (suc n) xs
-after_row [] n x e = absurd (let f = e in cc)
-after_row (y ∷ ys) zero x e = let f : y ≡ x = cc in ap (λ z. z ∷ ys) f
-after_row (y ∷ ys) (suc n) x e = after_row ys n x e
-
-pub next_row : {X : Type 0} (xs : List X) (n : ℕ) (x : X) → slice_get xs n ≡ Some x → drop n xs ≡ x ∷ drop (n + 1) xs
-next_row xs n x e = let f : n + 1 ≡ suc n = omega arith in rw f (after_row xs n x e)
 
 module _ {S : Type 0} (g : Ghosts S) (held : Held S) (lifo : Bool) (account : ℕ) (symbol : Text) where
   -- For some rows that the store holds, `ls` are the lots that a source of pages with this state

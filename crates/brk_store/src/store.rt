@@ -129,7 +129,11 @@ impl<S: Alter> Store<S> {
         ensures same { result ≡ self }
         ensures autocommit { result.in_transaction ≡ false }
     {
-        let Store { conn, .. } = self;
+        let Store {
+            conn,
+            known: _,
+            index: _,
+        } = self;
         conn
     }
 }

@@ -9,8 +9,8 @@ use crate::files::machine::{
     perform_job_until_crash, run_batch_until_crash,
 };
 use crate::worked::{FIRST_MOMENT, append_end_record, append_purchase};
-use brk_interfaces::brk_desk::brk_store::Store;
 use brk_changes::Change;
+use brk_interfaces::brk_desk::brk_store::Store;
 use brk_lots::{Closing, LotSource, close};
 use brk_money::{Id, Price, Qty, Side, Stamp};
 use brk_ref::Symbol;
@@ -86,12 +86,7 @@ fn closing_and_row_count<S: Alter>(
 
 // Sells `count` shares of ABC of account 100: removes the lots that the sale closes. Each lot has one
 // share. Fails as `closing_and_row_count`, or if the store fails.
-fn sell<S: Alter>(
-    alloc: Global,
-    store: &mut Store<S>,
-    count: u32,
-    lifo: bool,
-) -> Result<(), Fail> {
+fn sell<S: Alter>(alloc: Global, store: &mut Store<S>, count: u32, lifo: bool) -> Result<(), Fail> {
     let (closing, _) = closing_and_row_count(alloc, store, count, lifo)?;
     let mut changes = Vec::new(alloc);
     for touch in &closing.touched {
@@ -112,6 +107,7 @@ const FIRST_SALES: Sales = [
     (40, 40, 40),
     (41, 40, 40),
 ];
+
 const SECOND_SALES: Sales = [
     (1, 1, 16),
     (16, 16, 16),
@@ -119,6 +115,7 @@ const SECOND_SALES: Sales = [
     (39, 39, 39),
     (40, 39, 39),
 ];
+
 const THIRD_SALES: Sales = [
     (1, 1, 16),
     (16, 16, 16),
