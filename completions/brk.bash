@@ -40,7 +40,7 @@ _brk_is_before_value() {
 _brk_value() {
     case "$1 $2" in
         "batch --db") _brk_files ;;
-        "batch --at") _brk_hint MS 'The time of every command, in milliseconds since 1970-01-01 UTC; without it the clock is read (from 0 to 253402300799999)' ;;
+        "batch --at") _brk_hint MS 'The clock reading, in milliseconds since 1970-01-01 UTC, never one in the future; without it the clock is read (from 0 to 253402300799999)' ;;
         "statement --db") _brk_files ;;
         "statement --account") _brk_hint ID 'The account (from 1 to 1000000000000)' ;;
         "statement --from") _brk_hint DAY 'The first day, as 2024-03-01' ;;
@@ -50,7 +50,7 @@ _brk_value() {
         "audit --db") _brk_files ;;
         "serve --port") _brk_hint P 'The port of 127.0.0.1 (from 1 to 65535)' ;;
         "serve --db") _brk_files ;;
-        "serve --at") _brk_hint MS 'The time of every command, in milliseconds since 1970-01-01 UTC; without it the clock is read (from 0 to 253402300799999)' ;;
+        "serve --at") _brk_hint MS 'The clock reading, in milliseconds since 1970-01-01 UTC, never one in the future; without it the clock is read (from 0 to 253402300799999)' ;;
         "serve --streams") _brk_hint N 'The number of streams that are served before the program ends (from 1 to 1000000)' ;;
     esac
 }

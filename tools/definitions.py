@@ -15,10 +15,12 @@ MODEL = ['brk_money', 'brk_model', 'brk_http_model']
 # The crates that implement it, whose definitions are all our own.
 CODE = [
     'brk_changes',
+    'brk_lot_index',
     'brk_sql',
     'brk_tables_schema',
     'brk_tables',
     'brk_tables_scan',
+    'brk_tables_definitions',
     'brk_store',
     'brk_view',
     'brk_queries',

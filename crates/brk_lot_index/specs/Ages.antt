@@ -56,10 +56,12 @@ pub record RemovesAge (old : List LotAge) (x : LotAge) (new : List LotAge) : Typ
   pub keeps : IsRising old → Has old x → (y : LotAge) → Has old y → (y ≡ x) ⊎ Has new y
   pub only : IsRising old → Has old x → (y : LotAge) → Has new y → Has old y × (y ≡ x → ⊥)
 
+-- The ages, or none.
 abbrev pub ages_in : Option (VecDeque LotAge Global) → List LotAge
 ages_in None = []
 ages_in (Some ages) = ages.items
 
+-- The ages of the lots in the security `symbol`, of the ages by symbol of an account.
 abbrev pub ages_of_symbol : {S : Type 0} → Option (HashMap (String Global) (VecDeque LotAge Global) S) → Text → List LotAge
 ages_of_symbol None symbol = []
 ages_of_symbol (Some symbols) symbol = ages_in (get_by_text symbols symbol)
@@ -68,6 +70,7 @@ ages_of_symbol (Some symbols) symbol = ages_in (get_by_text symbols symbol)
 abbrev pub ages_at : Positions → ℕ → Text → List LotAge
 ages_at positions account symbol = ages_of_symbol (get nat_eq positions.accounts account) symbol
 
+-- The same in an index.
 abbrev pub lots_at : LotIndex → ℕ → Text → List LotAge
 lots_at index account symbol = ages_at index.positions account symbol
 

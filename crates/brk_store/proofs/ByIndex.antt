@@ -1,4 +1,4 @@
--- A page of lots that is read by the index is that of the table.
+-- A page of lots that is read by the index equals the page of the table.
 use Rattle.std.proofs.Common.{◌≡◌, ◌∙◌, ◌==◌, ◌&&◌, ℕ, Bool, true, false, List, Some, IsTrue, filter, map, refl, ap, subst}
 use Rattle.std.specs.Prelude.{bytes_eq}
 use Rattle.sqlite_trees.specs.declared.store.Store.{Ghosts}
