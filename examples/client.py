@@ -1,20 +1,25 @@
 #!/usr/bin/env python3
-"""Sends a batch to `brk batch` through a pipe, and tells what came of each of its rows. Beforehand it names each row
+"""Sends a batch to `brk batch` through a pipe, and prints the answer to each of its rows. Beforehand it names each row
 whose kind or number of fields is wrong by examples/kinds.csv.
 
     python3 examples/client.py [--at MS]
 
-The arguments are passed to `brk batch`, and its exit status is returned. docs/formats/batches.md explains the lines,
-and docs/formats/rows.md the rows.
+The arguments are passed to `brk batch`, and its exit status is returned. BRK names the program; without it `brk` on PATH
+is taken, and then ../brk. It shows how rows are written and lines are read. It stores nothing and never retries: before
+a real client sends a batch it stores the batch with its clock reading, as examples/send does. docs/formats/batches.md
+explains the lines, and docs/formats/rows.md the rows.
 """
 
 import csv
 import io
+import os
 import pathlib
+import shutil
 import subprocess
 import sys
 
-BRK = pathlib.Path(__file__).resolve().parent.parent / "brk"
+OURS = pathlib.Path(__file__).resolve().parent.parent / "brk"
+BRK = os.environ.get("BRK") or shutil.which("brk") or str(OURS)
 KINDS = pathlib.Path(__file__).resolve().parent / "kinds.csv"
 
 REFUSALS = {
@@ -37,7 +42,7 @@ REFUSALS = {
     17: "the customer's tax rates would come to more than the whole",
     18: "a field is out of form, or the kind or the number of fields is wrong",
     19: "another row is kept under the key",
-    20: "too many ticks",
+    20: "too many ticks, ids or names",
     21: "no later stamp is left",
     22: "the day is not after that of the stamp",
 }
@@ -49,6 +54,7 @@ def amount(cents):
     return f"{sign}{abs(cents) // 100}.{abs(cents) % 100:02}"
 
 
+# A customer has LAST before FIRST, and an order FIRST before LAST.
 ROWS = [
     ("broker", 1, "Smith, Jones & Co"),
     ("customer", 10, 1, "T10", "Lee", 'Ann "Nan"'),
@@ -95,8 +101,8 @@ def batch_of(name, rows):
 
 
 def send(name, rows, words):
-    """Runs brk on a batch; answers its exit status, and its lines as lists of fields."""
-    # This reads lines while it writes rows: to write all first would stand still as soon as both pipes are full.
+    """Runs brk on a batch; returns its exit status, and its lines as lists of fields."""
+    # This reads lines while it writes rows: a client that writes all rows first blocks once both pipes are full.
     done = subprocess.run([BRK, "batch", *words], input=batch_of(name, rows), stdout=subprocess.PIPE)
     # A line counts once its line feed is there.
     whole, _, _ = done.stdout.rpartition(b"\n")

@@ -2,8 +2,9 @@
 
     import desk_books
 
-It copies the file, with its log, into a temporary folder, reads the copy by SQL, and deletes it. It
-needs Python 3.9 and nothing else. docs/formats/tables.md lists the tables.
+sqlite3 copies the file, with what its log has, into a temporary folder. The copy is read by SQL, and
+deleted. While a run of brk has the file, no copy is made: `database is locked`. It needs Python 3.9 and
+nothing else. docs/formats/tables.md lists the tables.
 """
 
 import collections
@@ -11,10 +12,10 @@ import contextlib
 import datetime
 import os
 import re
-import shutil
 import sqlite3
 import sys
 import tempfile
+import urllib.parse
 
 SCHEMA = 3
 DAY_MS = 86_400_000
@@ -78,17 +79,22 @@ Price = collections.namedtuple("Price", "stamp symbol price")
 
 @contextlib.contextmanager
 def copied(path):
-    """Opens a copy of a desk's file and of its log, and deletes it at the end."""
+    """Opens a copy of a desk's file, with what its log has, and deletes it at the end. Raises an
+    error of sqlite3 if another program has the file, or if the user may not write its folder."""
     with tempfile.TemporaryDirectory(prefix="desk-books-") as folder:
-        copy = os.path.join(folder, "copy.db")
-        for end in ("", "-wal"):
-            if end == "" or os.path.exists(path + end):
-                shutil.copyfile(path + end, copy + end)
-        conn = sqlite3.connect(copy)
+        name = f"file:{urllib.parse.quote(os.path.abspath(path))}?mode=ro"
+        source = sqlite3.connect(name, uri=True, timeout=0, isolation_level=None)
+        copy = sqlite3.connect(os.path.join(folder, "copy.db"))
         try:
-            yield conn
+            # this fails if the file is locked, where a backup would wait; and it keeps brk out
+            source.execute("BEGIN")
+            source.execute("SELECT count(*) FROM sqlite_master").fetchall()
+            source.backup(copy)
+            source.close()
+            yield copy
         finally:
-            conn.close()
+            source.close()
+            copy.close()
 
 
 class Books:

@@ -5,7 +5,7 @@
 #
 #     sh examples/holdings.sh FILE CUSTOMER FROM TO
 #
-# The program is ./brk, or what the variable BRK names. It ends at the first answer that is not whole, with its exit status.
+# BRK names the program; without it `brk` on PATH is taken, and then ../brk. It ends at the first answer that is not whole, with its exit status.
 set -eu
 if [ $# -ne 4 ]; then
     echo "usage: sh examples/holdings.sh FILE CUSTOMER FROM TO" >&2
@@ -17,7 +17,11 @@ case $2 in
         exit 2
         ;;
 esac
-brk=${BRK:-$(dirname "$0")/../brk}
+if [ ! -s "$1" ]; then
+    echo "no desk: $1 is missing or empty" >&2
+    exit 1
+fi
+brk=${BRK:-$(command -v brk || echo "$(dirname "$0")/../brk")}
 folder=$(mktemp -d)
 trap 'rm -rf "$folder"' EXIT
 "$brk" ask --db "$1" --heads customer "$2"

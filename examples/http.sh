@@ -11,7 +11,7 @@ tell() {
     curl -sS -w '   (%{http_code})\n' "$@"
 }
 
-# A row under a key, and the same row again, on one stream: it acts once.
+# A row under a key, and the same row again, on one stream: it is booked once.
 tell -d '["broker","1","Bo"]' "$at/rows/H/1" --next -sS -w '   (%{http_code})\n' -d '["broker","1","Bo"]' "$at/rows/H/1"
 # Another row under that key, and the row without a key.
 tell -d '["broker","2","Cy"]' "$at/rows/H/1"

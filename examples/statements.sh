@@ -4,13 +4,17 @@
 #
 #     sh examples/statements.sh FILE FROM TO
 #
-# The program is ./brk, or what the variable BRK names. It ends at the first statement that is not whole, with its exit status.
+# BRK names the program; without it `brk` on PATH is taken, and then ../brk. It ends at the first statement that is not whole, with its exit status.
 set -eu
 if [ $# -ne 3 ]; then
     echo "usage: sh examples/statements.sh FILE FROM TO" >&2
     exit 2
 fi
-brk=${BRK:-$(dirname "$0")/../brk}
+if [ ! -s "$1" ]; then
+    echo "no desk: $1 is missing or empty" >&2
+    exit 1
+fi
+brk=${BRK:-$(command -v brk || echo "$(dirname "$0")/../brk")}
 accounts=$(sqlite3 -readonly "$1" 'SELECT CA_ID FROM CUSTOMER_ACCOUNT ORDER BY CA_ID')
 for account in $accounts; do
     "$brk" statement --db "$1" --account "$account" --from "$2" --to "$3"

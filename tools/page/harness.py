@@ -7,9 +7,11 @@ import io
 import json
 import pathlib
 import re
+import shutil
 import socket
 import subprocess
 import sys
+import tempfile
 import time
 
 import desk_books
@@ -75,9 +77,12 @@ class Desk:
         return json.loads(lines)["view"]
 
     def rows(self, query, *given):
-        """Rows of the tables, of a copy."""
-        with desk_books.copied(self.path) as conn:
-            return conn.execute(query, given).fetchall()
+        """Rows of the tables, of a copy. `brk serve` may have the file, and executes nothing meanwhile."""
+        with tempfile.TemporaryDirectory(prefix="try-page-") as folder:
+            for end in ("", "-wal"):
+                shutil.copyfile(f"{self.path}{end}", f"{folder}/copy.db{end}")
+            with desk_books.copied(f"{folder}/copy.db") as conn:
+                return conn.execute(query, given).fetchall()
 
     def explained(self, trade):
         """The text of `brk explain`, or None if the program has no such command."""
