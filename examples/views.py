@@ -6,7 +6,7 @@
     python3 examples/views.py 8123 status 100
 
 Without a view it first books the rows of examples/day.csv, each under its key, so that a second run books nothing, and then asks for
-all eleven views. With one it asks for that alone. docs/formats/queries.md explains the views and their numbers.
+all eleven views. It sends a result under the id that the reply to its order has. With a view it asks for that alone. docs/formats/queries.md explains the views and their numbers.
 """
 
 import csv
@@ -54,12 +54,17 @@ def send(stream, target, texts):
 
 
 def book(stream):
-    """Books the day; a row that was booked before is answered again, and acts no more."""
+    """Books the day; a row that was booked before is answered again, and acts no more. In the file N in `result,N` is the
+    N-th order of the day; the row has the id that the reply to this order has."""
     with open(DAY, newline="") as file:
         header, *rows, _ = csv.reader(file)
-    counts = {"ok": 0, "again": 0, "no": 0}
+    counts, trades = {"ok": 0, "again": 0, "no": 0}, []
     for number, row in enumerate(rows, start=1):
-        word, _ = send(stream, f"/rows/{header[1]}/{number}", row)
+        if row[0] == "result":
+            row[1] = trades[int(row[1]) - 1] or sys.exit(f"row {number}: its order was refused")
+        word, told = send(stream, f"/rows/{header[1]}/{number}", row)
+        if row[0] == "order":
+            trades.append("" if word == "no" else told[1])
         counts[word] += 1
     print(", ".join(f"{count} {word}" for word, count in counts.items()))
 

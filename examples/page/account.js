@@ -1,5 +1,6 @@
 // An account: positions, the balance over time, open orders, last trades and statuses.
 
+import { UNKNOWN } from "./derivation.js";
 import { ask, fileAccount, readFile, Refused } from "./desk.js";
 import { el, field, form, link, note, problem, table } from "./dom.js";
 import { amount, cents, dayOf, moment, sum, whole } from "./money.js";
@@ -22,12 +23,15 @@ export async function readAccount(account, onCount) {
   return { account, last, first, broker, recent, file, own: own ?? null, trades, isCut, taxid, ...replay(trades) };
 }
 
-// Returns the balance that the account has without the rows that are known: its opening, if the file was read; and
-// otherwise what is left of its balance without the cash of its trades, or null.
-export function startOf({ file, own, trades }) {
-  if (file) {
-    return cents(file.opening);
-  }
+// Returns the balance that the account has before its first cash row: its opening, if the file was read, and otherwise
+// null. Without the file no balance before the last is known, since deposits and withdrawals are in no view.
+export function startOf({ file }) {
+  return file ? cents(file.opening) : null;
+}
+
+// Returns the opening, the deposits and the withdrawals of an account, as one number: what is left of its balance
+// without the cash of its trades; or null.
+function togetherOf({ own, trades }) {
   return own ? own.balance - sum(trades.map((trade) => trade.move?.amount ?? 0n)) : null;
 }
 
@@ -40,7 +44,7 @@ function unseenCash({ file, own, trades }) {
   return own.balance - cents(file.opening) - moves - sum(trades.map((trade) => trade.move?.amount ?? 0n));
 }
 
-// The cash rows of an account that are known, by rising stamp, each with the balance after it.
+// The cash rows of an account that are known, by rising stamp, each with the balance after it, or null.
 function postingsOf(known) {
   const moved = known.trades.filter((trade) => trade.move).map(({ id, move, settlement }) => ({
     kind: "trade",
@@ -56,9 +60,9 @@ function postingsOf(known) {
     value: cents(text),
     text: cents(text) > 0n ? "Deposit" : "Withdrawal",
   }));
-  let balance = startOf(known) ?? 0n;
+  let balance = startOf(known);
   return [...moved, ...paid].sort((one, other) => Number(BigInt(one.stamp) - BigInt(other.stamp))).map((row) => {
-    balance += row.value;
+    balance = balance === null ? null : balance + row.value;
     return { ...row, balance };
   });
 }
@@ -67,21 +71,8 @@ const MISSING_CASH =
   "No view shows the opening, the deposits and the withdrawals of an account. Start the page with --db"
   + " to see them.";
 
-// Says what the page does not know of an account's cash, and offers to read the file anew.
-export function cashNotes(known) {
-  const unseen = unseenCash(known);
-  if (!known.file) {
-    const start = startOf(known);
-    const together =
-      ` Together they are ${start === null ? "" : amount(start)}, shown as the balance before the first row.`;
-    return [note(`${MISSING_CASH}${start === null ? "" : together}`)];
-  }
-  const read =
-    "Opening, deposits, withdrawals, tax rates, bands and the settlement day are those of the file, read at"
-    + ` ${moment(known.file.read)} UTC.`;
-  if (unseen === 0n) {
-    return [note(read)];
-  }
+// Creates a button that has the file read anew, and shows the page again.
+export function readAgain() {
   const again = el("button", { type: "button", id: "read-file" }, "Read the file anew");
   again.addEventListener("click", async () => {
     again.disabled = true;
@@ -92,10 +83,27 @@ export function cashNotes(known) {
       again.after(problem(error));
     }
   });
+  return again;
+}
+
+// Says what the page does not know of an account's cash, and offers to read the file anew.
+export function cashNotes(known) {
+  const unseen = unseenCash(known);
+  if (!known.file) {
+    const together = togetherOf(known);
+    return [note(`${MISSING_CASH}${together === null ? "" : ` Together they are ${amount(together)}.`}`
+      + " So no balance is shown but the one of now.")];
+  }
+  const read =
+    "Opening, deposits, withdrawals, tax rates, bands and the settlement day are those of the file, read at"
+    + ` ${moment(known.file.read)} UTC.`;
+  if (unseen === 0n) {
+    return [note(read)];
+  }
   return [el("div", { class: "warning", role: "status" },
     el("p", {}, el("strong", {}, "! "),
       `${read} Since then ${amount(unseen)} was deposited or withdrawn, which the rows below lack.`),
-    again)];
+    readAgain())];
 }
 
 function summary(known) {
@@ -179,8 +187,12 @@ function lots(held) {
 }
 
 function startPoint(known, postings) {
-  const balance = startOf(known) ?? 0n;
-  return { kind: "start", stamp: postings[0].stamp, balance, text: known.file ? "Opening" : "Before the first row" };
+  return { kind: "start", stamp: postings[0].stamp, balance: startOf(known), text: "Opening" };
+}
+
+// Writes the balance after a row, or nothing if it is not known.
+function shownBalance(balance) {
+  return balance === null ? "" : amount(balance);
 }
 
 function ruleRow(rule) {
@@ -188,7 +200,7 @@ function ruleRow(rule) {
 }
 
 function postedRow({ stamp, trade, value, balance, text, due }, account) {
-  return [moment(stamp), trade ? tradeLink(trade, account) : "", amount(value), amount(balance), text, due ?? ""];
+  return [moment(stamp), trade ? tradeLink(trade, account) : "", amount(value), shownBalance(balance), text, due ?? ""];
 }
 
 function postedTable(known, postings) {
@@ -198,8 +210,9 @@ function postedTable(known, postings) {
     const at = postings.findIndex((row) => dayOf(row.stamp) >= rule);
     rows.splice(at < 0 ? rows.length : at, 0, ruleRow(rule));
   }
-  const before = known.file ? "Opening" : "Opening, deposits and withdrawals";
-  rows.unshift(["", "", "", amount(startOf(known) ?? 0n), before, ""]);
+  const together = togetherOf(known);
+  rows.unshift(known.file ? ["", "", "", amount(startOf(known)), "Opening", ""]
+    : ["", "", together === null ? UNKNOWN : amount(together), "", "Opening, deposits and withdrawals", ""]);
   return table("Cash rows", ["Posted", "Trade#", "Amount#", "Balance#", "Text", "Settles on"], rows,
     { id: "posted", isTitled: true });
 }
@@ -207,12 +220,7 @@ function postedTable(known, postings) {
 function balanceSection(known) {
   const postings = postingsOf(known);
   const section = el("section", {}, el("h2", {}, "Balance over time"), ...cashNotes(known));
-  if (startOf(known) === null) {
-    section.append(
-      note("The balance before the first row is not known without the customer's id; it is shown as 0.00."
-        + " Look the customer up first."));
-  }
-  if (postings.length > 0) {
+  if (known.file && postings.length > 0) {
     section.append(
       balancePlot([startPoint(known, postings), ...postings], known.file?.rule, `account ${known.account}`));
   }

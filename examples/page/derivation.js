@@ -32,10 +32,6 @@ function checked(line, value, shown) {
   return { ...line, check: { holds: value === shown, shown: amount(shown) } };
 }
 
-function signed(value) {
-  return value < 0n ? `(${amount(value)})` : amount(value);
-}
-
 // The account, its customer and its broker: with the file by their ids, and otherwise by their names.
 function ownerLines(account, file, names) {
   if (!file) {
@@ -296,21 +292,18 @@ function balanceLines(trade, context) {
     : unknown("Opening", "deposits and withdrawals neither");
   const own = trade.move ? checked(movedLine, moved, trade.settlement.amount) : movedLine;
   if (start === null) {
-    const missing = (label) => unknown(label, "give the customer's id to see it");
+    const missing = (label) => unknown(label, "deposits and withdrawals may have come before or after");
     return [row, opening, cash, missing("Balance before"), own, missing("Balance after")];
   }
-  const how = file ? "Opening and Cash before" : `Cash before and ${signed(start)}, which the account has without its`
-    + " trades; as it was if no deposit or withdrawal came later";
   return [
     row, opening, cash,
-    money("Balance before", start + total, how), own,
+    money("Balance before", start + total, "Opening and Cash before"), own,
     money("Balance after", start + total + moved, "the sum of the two lines above"),
   ];
 }
 
 // Returns the parts of a trade's derivation, each with its heading and its lines. `context` has the account, its
-// trades, what the file says of it, the names that are known, and `start`: the opening, or in its place the balance
-// now less the cash of all trades, or null.
+// trades, what the file says of it, the names that are known, and `start`: the opening, or null.
 export function explain(trade, effect, context) {
   const { account, file, names } = context;
   const parts = [{ name: "order", heading: "The order", lines: orderedLines(trade, account, file, names) }];

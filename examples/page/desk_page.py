@@ -4,11 +4,12 @@
     python3 examples/page/desk_page.py --db desk.db
     python3 examples/page/desk_page.py --port 8123
 
-With --db it starts `brk serve` over the file, and ends it when it ends itself. Before that it reads from a copy of the
-file what no view shows: openings, deposits, withdrawals, the settlement day, tax rates, bands and names. With --port
-it asks a desk that runs already, and the page says what is missing. It prints the address of the page; Control-C ends
-it. It needs Python 3.9 and the files beside it, examples/http_client.py and examples/desk_books.py. docs/PAGE.md
-describes the page and says what is safe.
+With --db it serves the desk itself, not a copy: it starts `brk serve` over the file, which has to exist, and ends it
+when it ends itself. What is booked on the page is booked. Before it starts, it reads from a copy of the file what no
+view shows: openings, deposits, withdrawals, the settlement day, tax rates, bands and names. With --port it asks a desk
+that runs already, and the page says what is missing. It prints the address of the page; Control-C ends it. If it is
+killed by SIGKILL, `brk serve` goes on and holds the file. It needs Python 3.9 and the files beside it,
+examples/http_client.py and examples/desk_books.py. docs/PAGE.md describes the page and says what is safe.
 """
 
 import argparse
@@ -18,9 +19,11 @@ import hmac
 import http.client
 import http.server
 import json
+import os
 import pathlib
 import re
 import secrets
+import shutil
 import signal
 import socket
 import sqlite3
@@ -74,9 +77,14 @@ def now():
     return time.time_ns() // 1_000_000
 
 
+def has_desk(path):
+    """Whether there is a file that is not empty: of another path `brk serve` would make a new desk."""
+    return os.path.isfile(path) and os.path.getsize(path) > 0
+
+
 class Service:
     """`brk serve` over a file, on a port that was free. It is started again if its streams are used up, or if it was
-    killed; not if it found the file damaged."""
+    killed; not if it found the file damaged, or if there is no file."""
 
     def __init__(self, brk, path):
         self.brk, self.path = brk, path
@@ -87,6 +95,8 @@ class Service:
 
     def start(self):
         """Starts the program, and waits until it has audited the file and listens."""
+        if not has_desk(self.path):
+            raise Unreachable("no desk there")
         self.messages = tempfile.TemporaryFile()
         words = ["serve", "--port", str(self.port), "--db", self.path, "--streams", str(STREAMS)]
         self.process = subprocess.Popen(
@@ -392,8 +402,15 @@ def arguments():
     which.add_argument("--db", metavar="FILE", help="the file of the desk; brk serve is started over it")
     which.add_argument("--port", type=int, metavar="P", help="the port of a brk serve that runs already")
     words.add_argument("--page", type=int, default=8124, metavar="P", help="the port of the page; 0 takes a free one")
-    words.add_argument("--brk", default=str(TOP / "brk"), metavar="PROGRAM", help="the program that --db starts")
-    return words.parse_args()
+    words.add_argument("--brk", metavar="PROGRAM", help="what --db starts; otherwise BRK, brk of the path, or that of this tree")
+    given = words.parse_args()
+    given.brk = given.brk or os.environ.get("BRK") or shutil.which("brk") or str(TOP / "brk")
+    return given
+
+
+def fail(why):
+    print(f"desk_page: the page did not start: {why}", file=sys.stderr)
+    return 1
 
 
 def main():
@@ -405,6 +422,9 @@ def main():
     try:
         # the port first, so that nothing is started if the page runs already
         server = Server(given.page, page)
+    except OSError as error:
+        return fail(f"port {given.page}: {error.strerror}")
+    try:
         if service:
             page.read()
             print(f"the desk of {given.db} is at http://127.0.0.1:{service.port}/", flush=True)
@@ -413,8 +433,7 @@ def main():
     except KeyboardInterrupt:
         return 0
     except (OSError, Unreachable) as error:
-        print(f"desk_page: the page did not start: {given.db or given.port}: {error}", file=sys.stderr)
-        return 1
+        return fail(f"{given.db or given.port}: {error}")
     finally:
         if service:
             service.stop()

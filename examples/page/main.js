@@ -19,6 +19,7 @@ const PAGES = {
   order: showOrder, market: showMarket,
 };
 const ASK_AGAIN = 2000;
+const SAYS_READING = 300;
 
 const main = document.getElementById("main");
 const banner = document.getElementById("banner");
@@ -52,11 +53,15 @@ async function show() {
   const page = el("div", { class: "page", "aria-busy": "true" });
   main.replaceChildren(page);
   markNavigation(name);
+  const reading = el("p", { class: "note", role: "status" }, "Reading\u2026");
+  const waiting = setTimeout(() => page.append(reading), SAYS_READING);
   try {
     await (PAGES[name] ?? PAGES.customer)(page, words);
   } catch (error) {
     page.append(problem(error));
   }
+  clearTimeout(waiting);
+  reading.remove();
   if (own !== shows) {
     return;
   }

@@ -1,6 +1,6 @@
 // The order form: its estimate is told before it is sent.
 
-import { ask, fileLists, Refused } from "./desk.js";
+import { ask, fileAccount, fileLists, Refused } from "./desk.js";
 import { el, field, form, note, problem, table } from "./dom.js";
 import { amount, cents, whole } from "./money.js";
 import { readOwner } from "./owners.js";
@@ -14,21 +14,36 @@ function fieldsOf({ account, type, symbol, qty, price, cash, end, first, last, t
   return [account, type, symbol, qty, MARKET.includes(type) ? "" : price ?? "", cash, end, first, last, taxid];
 }
 
-function estimateTable(values, [price, bought, sold, tax, commission, charge, assets]) {
+// Returns the tax that is withheld from the settlement, and what the settlement is made of besides the value: all of the
+// tax for tax status 1, and none for the others. If the tax status is not known, the tax counts as withheld.
+function withheld(tax, status) {
+  if (tax === 0n || status === "0" || status === "2") {
+    return [0n, "commission and charge"];
+  }
+  const unsure = `; ${amount(tax)} of tax is not withheld if the tax status of the account is 2`;
+  return [tax, `commission, charge and tax${status === "1" ? "" : unsure}`];
+}
+
+// Returns what an order would bring or cost: its name, the amount and how it follows.
+export function settled(sells, size, costs, tax, status) {
+  const [kept, parts] = withheld(tax, status);
+  return sells ? ["Would bring", size - costs - kept, `value less ${parts}`]
+    : ["Would cost", size + costs + kept, `value, ${parts}`];
+}
+
+function estimateTable(values, [price, bought, sold, tax, commission, charge, assets], status) {
   const size = BigInt(values.qty) * cents(price);
   const costs = cents(commission) + cents(charge);
-  const sells = SALES.includes(values.type);
-  const total = sells ? size - costs : -size - costs;
+  const [name, total, how] = settled(SALES.includes(values.type), size, costs, cents(tax), status);
   const rows = [
     ["Price of a share", amount(cents(price)), MARKET.includes(values.type) ? "the last price" : "as asked"],
     ["Value", amount(size), `${whole(BigInt(values.qty))} shares times the price`],
     ["Commission", amount(cents(commission)), "estimated"],
     ["Charge", amount(cents(charge)), ""],
-    sells ? ["Would bring", amount(total), "value less commission and charge"]
-      : ["Would cost", amount(-total), "value, commission and charge"],
     ["BUY of the shares that it would close", amount(cents(bought)), ""],
     ["SELL of these shares", amount(cents(sold)), ""],
-    ["Tax", amount(cents(tax)), "on SELL less BUY; withheld as well for tax status 1"],
+    ["Tax", amount(cents(tax)), "on SELL less BUY; withheld for tax status 1"],
+    [name, amount(total), values.cash === "margin" ? `${how}; on margin, so it moves no cash` : how],
     ["Assets of the account now", amount(cents(assets)), "balance and holdings"],
   ];
   return table("The estimate of this order", ["Number", "Amount#", "Note"], rows, { id: "estimate" });
@@ -70,6 +85,7 @@ async function estimate(values, told, made) {
   made.querySelectorAll("[aria-invalid]").forEach((each) => each.removeAttribute("aria-invalid"));
   try {
     const [record] = await ask("estimate", ...fieldsOf(values));
+    const file = await fileAccount(values.account);
     const sending = new Sending(made, el("div", { role: "status", "aria-live": "polite" }), describe);
     const button = el("button", { type: "button", id: "send-order", class: "main" }, "Send this order");
     const unsent = note("Nothing is booked yet.");
@@ -78,7 +94,7 @@ async function estimate(values, told, made) {
       await sending.send((latest) => ["order", ...fieldsOf(latest)]);
       button.disabled = sending.isBooked;
     });
-    const shown = estimateTable(values, record);
+    const shown = estimateTable(values, record, file?.taxstatus ?? null);
     told.replaceChildren(shown, unsent, button, sending.told);
     // not to the button, which a second press of Enter would push
     shown.querySelector(".scroll").focus();
@@ -91,7 +107,7 @@ async function estimate(values, told, made) {
 }
 
 export async function showOrder(main, [account]) {
-  const told = note("The estimate comes first; then the order can be sent.");
+  const told = note("The estimate comes first; then the order can be sent. An order that is sent is booked in the desk.");
   main.append(el("h1", { tabindex: "-1" }, "New order"), told);
   let [owner, lists] = [{}, null];
   try {

@@ -104,7 +104,10 @@ function times(at) {
   const ends = [[at.first, "start"], [(at.first + at.last) / 2n, "middle"], [at.last, "end"]];
   const shown = at.first === at.last ? [[at.first, "middle"]] : ends;
   return shown.map(([stamp, anchor]) =>
-    svg("text", { class: "label", x: at.x(stamp), y: PLOT.height - 12, "text-anchor": anchor }, timeText(stamp, at)));
+    svg("text", {
+      class: anchor === "middle" && shown.length > 1 ? "label between" : "label", x: at.x(stamp), y: PLOT.height - 12,
+      "text-anchor": anchor,
+    }, timeText(stamp, at)));
 }
 
 const SHAPES = {
@@ -147,7 +150,7 @@ function ruleLine(rule, at) {
 }
 
 function legend(kinds, rule) {
-  const names = { start: "before the first row", trade: "trade", deposit: "deposit", withdrawal: "withdrawal" };
+  const names = { start: "opening", trade: "trade", deposit: "deposit", withdrawal: "withdrawal" };
   const shown = Object.keys(names).filter((kind) => kinds.has(kind));
   const items = shown.map((kind) => {
     const shape = svg("svg", { viewBox: "-9 -9 18 18", "aria-hidden": "true" }, SHAPES[kind](0, 0));

@@ -28,7 +28,7 @@ const WORDS = {
     "Look at the account's trades before you send anything again, and then start a new form."],
   20: ["There are more than twenty ids or names.", "Ask for at most twenty at a time."],
   21: ["The clock of the desk has no later stamp, or the trade would settle after 9999-12-31.",
-    "Check the clock of the machine."],
+    "A clock reading was far in the future. Book nothing more: see The clock in docs/OPERATING.md."],
   22: ["The day is not after that of the row.", "Take a later day."],
 };
 

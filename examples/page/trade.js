@@ -1,7 +1,7 @@
 // A trade: why each cent moved, line by line.
 
-import { cashNotes, readAccount, startOf } from "./account.js";
-import { ask, fileSecurity, fileTrade, Refused } from "./desk.js";
+import { cashNotes, readAccount, readAgain, startOf } from "./account.js";
+import { ask, fileLists, fileSecurity, fileTrade, Refused } from "./desk.js";
 import { explain, UNKNOWN } from "./derivation.js";
 import { el, field, form, keepRoles, link, note, problem, table } from "./dom.js";
 import { amount, moment, whole } from "./money.js";
@@ -140,11 +140,29 @@ async function showDerivation(main, id, account) {
   }
 }
 
+// Shows a trade whose account is not known, such as one that came after the file was read: what its lookup has, and a
+// way to its account; or that there is no such trade.
+async function showWithoutAccount(main, id) {
+  try {
+    const [trade] = readTrades(await ask("trades", id));
+    main.append(el("p", { class: "headline" }, headline(trade)));
+    const isRead = await fileLists() !== null;
+    const missing = "No view says to which account a trade belongs"
+      + (isRead ? ", and the file had no such trade when it was read." : ".");
+    main.append(el("div", { class: "warning", role: "status" }, el("p", {}, missing), isRead ? readAgain() : null));
+  } catch (error) {
+    main.append(problem(error));
+  }
+}
+
 // Shows the form, and the derivation if a trade and its account are named.
 export async function showTrade(main, [id, account]) {
   main.append(el("h1", { tabindex: "-1" }, id ? `Trade ${id}` : "Trade"));
   const owner = account || (id ? (await fileTrade(id))?.[0] : null);
   if (!owner) {
+    if (id) {
+      await showWithoutAccount(main, id);
+    }
     main.append(note("Why each cent moved: the derivation of a trade's amounts."), tradeForm(id, account));
     return;
   }

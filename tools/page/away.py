@@ -105,10 +105,20 @@ def other_desk(trial, views, page_port):
         ),
     )
     trial.tell("with --port: the rates that fit", tab.texts("tr[data-line='Rates that fit'] td")[0], "19,999 to 20,001")
+    trial.tell(
+        "with --port: no balance before or after a trade is shown",
+        [tab.texts(f"tr[data-line='{label}'] td")[0] for label in ("Balance before", "Balance after")],
+        ["not in the views", "not in the views"],
+    )
     trial.show("account/100")
     trial.tell(
         "with --port: openings and movements are one number",
         "No view shows the opening, the deposits and the withdrawals" in " ".join(tab.texts(".note")),
+    )
+    trial.tell(
+        "with --port: no balance of an earlier day is shown, in the table or as a plot",
+        ({row[3] for row in tab.table("#posted")}, len(tab.texts(".plot"))),
+        ({""}, 0),
     )
     goes_away(trial, served)
     program.stop()

@@ -87,6 +87,8 @@ def derivations(trial, views):
     )
     trial.show("trade/3")
     trial.tell("a trade without its account is found in the file", len(trial.tab.texts("#part-settlement")), 1)
+    trial.show("trade/99999")
+    trial.tell("an unknown trade is told", "There is no trade with this id." in " ".join(trial.tab.texts(".problem")))
     trial.show("trade/3/110")
     trial.tell(
         "a trade of another account is told in words",

@@ -54,6 +54,14 @@ def order_form(trial, views):
             (words in told, f"(refusal {number})" in told, todo, marked),
             (True, True, True, field),
         )
+    fill_order(trial, type="TLS", price="15.00")
+    tab.wait("document.querySelector('#estimate')")
+    cents = {row[0]: int(plain(row[1]).replace(".", "")) for row in tab.table("#estimate")}
+    trial.tell(
+        "a sale would bring its value less commission, charge and the tax that is withheld",
+        (cents["Tax"] > 0, cents["Would bring"]),
+        (True, cents["Value"] - cents["Commission"] - cents["Charge"] - cents["Tax"]),
+    )
     fill_order(trial)
     tab.wait("document.querySelector('#estimate')")
     trial.tell("nothing is sent with the estimate", "Nothing is booked yet." in trial.told("order"))
@@ -89,6 +97,16 @@ def order_form(trial, views):
         post(trial, f"/rows/{key[1]}/{key[2]}", other),
         {"no": ["19"]},
     )
+    trial.show(f"trade/{LAST_TRADE + 1}")
+    trial.tell(
+        "a trade that came after the file was read is shown without its account",
+        ("submitted since" in " ".join(tab.texts(".headline")), len(tab.texts("#read-file"))),
+        (True, 1),
+    )
+    trial.leave()
+    tab.click("#read-file")
+    trial.settle()
+    trial.tell("its account is found once the file is read anew", len(tab.texts("#part-order")), 1)
     with trial.stopped():
         trades = trial.desk.rows("SELECT T_ID, T_QTY FROM TRADE WHERE T_ID > ?", LAST_TRADE)
         trial.tell("a double click books one order", trades, [(LAST_TRADE + 1, 10)])
