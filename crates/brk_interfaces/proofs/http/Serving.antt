@@ -71,6 +71,9 @@ module _ {S : Type 0} (g : Ghosts S) where
   reads_clock gives most first last clock later (calls, outcomes, made, few) =
       let both = without_clock CallOutcome gives (first, clock) (last, later) calls outcomes made in
       let r = as_made first last calls outcomes both.0 in (
-        r.0, r.1, run_of g first last r.0 r.1 r.4, still_few r.0 calls most r.2 few,
+        r.0,
+        r.1,
+        run_of g first last r.0 r.1 r.4,
+        still_few r.0 calls most r.2 few,
         subst (λ (cs : List (ℕ × run.Call)). ReadsClockForCalls gives clock cs later) (sym r.2) both.1,
       )
