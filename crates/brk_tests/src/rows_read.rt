@@ -35,7 +35,8 @@ fn batch_of_purchases_of_one_share(alloc: Global, others: u64) -> Result<String,
     for n in 1..=others {
         append_purchase(&mut batch, 101, 1, LOTS.saturating_add(n))?;
     }
-    append_end_record(&mut batch, 2 * LOTS + 2 * others + 1)?;
+    let trades = LOTS.saturating_add(others);
+    append_end_record(&mut batch, trades.saturating_mul(2).saturating_add(1))?;
     Ok(batch)
 }
 
