@@ -82,6 +82,15 @@ _brk_view() {
     esac
 }
 
+_brk_topic() {
+    case $1 in
+        trade) _brk_hint 'ID' ;;
+        account) _brk_hint 'ID' ;;
+        holding) _brk_hint 'ACCOUNT SYMBOL' ;;
+        broker) _brk_hint 'ID' ;;
+    esac
+}
+
 _brk_text() {
     case $1 in
         '') _brk_words 'batch statement ask explain audit serve help' ;;
@@ -89,7 +98,7 @@ _brk_text() {
         batch) [[ -n $ended ]] || _brk_words "$(_brk_options batch)" ;;
         statement) [[ -n $ended ]] || _brk_words "$(_brk_options statement)" ;;
         ask) if [[ ${#texts[@]} -eq 0 ]]; then _brk_words 'customer taxid recent status submitted estimate trades accounttrades symboltrades lots volume'; else _brk_view "${texts[0]}"; fi ;;
-        explain) [[ -n $ended ]] || _brk_words "$(_brk_options explain)" ;;
+        explain) if [[ ${#texts[@]} -eq 0 ]]; then _brk_words 'trade account holding broker'; else _brk_topic "${texts[0]}"; fi ;;
         audit) [[ -n $ended ]] || _brk_words "$(_brk_options audit)" ;;
         serve) [[ -n $ended ]] || _brk_words "$(_brk_options serve)" ;;
     esac

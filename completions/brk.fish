@@ -82,6 +82,10 @@ complete -c brk -n '__brk_is_bare ask' -a volume -d 'SECTOR NAME ..'
 
 complete -c brk -n '__brk_is explain' -s h -l help -d 'Prints the help'
 complete -c brk -n '__brk_lacks explain db' -l db -r -F -d 'FILE: The file of the desk'
+complete -c brk -n '__brk_is_bare explain' -a trade -d 'ID'
+complete -c brk -n '__brk_is_bare explain' -a account -d 'ID'
+complete -c brk -n '__brk_is_bare explain' -a holding -d 'ACCOUNT SYMBOL'
+complete -c brk -n '__brk_is_bare explain' -a broker -d 'ID'
 
 complete -c brk -n '__brk_is audit' -s h -l help -d 'Prints the help'
 complete -c brk -n '__brk_lacks audit db' -l db -r -F -d 'FILE: The file of the desk'

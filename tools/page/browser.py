@@ -32,7 +32,7 @@ SWITCHES = [
     "--font-render-hinting=none",
     "--force-color-profile=srgb",
 ]
-KEYS = {"Tab": 9, "Enter": 13, "Space": 32, "End": 35, "Home": 36}
+KEYS = {"Tab": 9, "Enter": 13, "Space": 32, "End": 35, "Home": 36, "ArrowRight": 39}
 
 
 class Socket:
@@ -286,6 +286,13 @@ class Tab:
             given["clip"] = {"x": 0, "y": 0, "width": size["width"], "height": size["height"], "scale": 1}
         told = self.call("Page.captureScreenshot", **given)
         pathlib.Path(path).write_bytes(base64.b64decode(told["data"]))
+
+    def part(self, x, y, width, height):
+        """The bytes of a picture of a part of the window: the same bytes if it looks the same."""
+        clip = {"x": x, "y": y, "width": width, "height": height, "scale": 1}
+        # a picture beyond the window would lay the page out anew, and scroll its frames back
+        told = self.call("Page.captureScreenshot", format="png", captureBeyondViewport=False, clip=clip)
+        return base64.b64decode(told["data"])
 
     def print(self, path):
         """Prints the page to a PDF; returns its bytes."""

@@ -115,6 +115,48 @@ def names_and_sizes(trial):
         tab.resize(1200)
 
 
+def shadows(tab, table):
+    """Whether the left and the right edge of a table's frame look other than its middle, above the heads' words."""
+    left, middle, right, top = tab.evaluate(
+        f"""(() => {{
+        const table = document.querySelector({json.dumps(table)});
+        table.closest(".scroll").scrollIntoView();
+        const frame = table.closest(".scroll").getBoundingClientRect();
+        const lefts = [frame.left, (frame.left + frame.right) / 2, frame.right - 12];
+        const places = [...lefts.map((left) => left + scrollX), table.tHead.getBoundingClientRect().top + 1 + scrollY];
+        return places.map(Math.round);
+    }})()"""
+    )
+    plain = tab.part(middle, top, 12, 3)
+    return [tab.part(edge, top, 12, 3) != plain for edge in (left, right)]
+
+
+def scrolling(trial):
+    """A table that is wider than its frame: a shadow shows where it goes on, and the keyboard scrolls it."""
+    tab = trial.tab
+    frame = "document.querySelector('#last-trades').closest('.scroll')"
+    trial.show("account/110")
+    seen = []
+    for share in (0, 0.5, 1):
+        tab.evaluate(f"(() => {{ const f = {frame}; f.scrollLeft = {share} * (f.scrollWidth - f.clientWidth); }})()")
+        seen.append(shadows(tab, "#last-trades"))
+    trial.tell(
+        "account/110: a shadow at each edge beyond which a table goes on: at its start, in its middle and at its end,"
+        " and at no edge of a table that is shown whole",
+        [*seen, shadows(tab, "#positions")],
+        [[False, True], [True, True], [True, False], [False, False]],
+    )
+    tab.evaluate(f"(() => {{ const f = {frame}; f.scrollLeft = 0; f.focus(); }})()")
+    focused = tab.evaluate(f"document.activeElement === {frame} && Boolean({frame}.getAttribute('aria-label'))")
+    tab.press("ArrowRight")
+    try:
+        tab.wait(f"{frame}.scrollLeft > 0", 5)
+        scrolled = True
+    except TimeoutError:
+        scrolled = False
+    trial.tell("account/110: a frame with a name, which an arrow key scrolls", (focused, scrolled), (True, True))
+
+
 def printing(trial):
     tab = trial.tab
     for hash_, name in (("account/100", "account"), ("trade/3/100", "trade")):
