@@ -11,14 +11,14 @@ use Rattle.brk_model.specs.Audit.{ConditionHolds}
 use Rattle.brk_model.specs.Form.{satisfies_form_condition}
 use Rattle.brk_model.specs.Schemas.{Schema}
 use Rattle.brk_model.specs.Tables.{Tables, TradeRow}
-use Rattle.brk_book_theorems.proofs.Orders.{Ascends, ascends, ascends_map}
-use Rattle.brk_book_theorems.proofs.Same.{All-of, map-same}
-use Rattle.brk_changes.specs.Rows.{abstract_cash_row, abstract_move_row, abstract_trade_row}
-use Rattle.brk_changes.specs.Sheets.{abstract_sheets}
-use Rattle.brk_changes.specs.declared.sheets.Sheets.{Sheets}
-use Rattle.brk_changes.specs.declared.trade_row.TradeRow as trade
-use Rattle.brk_changes.specs.declared.move_row.MoveRow as move
-use Rattle.brk_changes.specs.declared.cash_row.CashRow as cash
+use Rattle.brk_trade_books.proofs.Orders.{Ascends, ascends, ascends_map}
+use Rattle.brk_trade_books.proofs.Same.{All-of, map-same}
+use Rattle.brk_trade_rows.specs.Rows.{abstract_cash_row, abstract_move_row, abstract_trade_row}
+use Rattle.brk_trade_rows.specs.Sheets.{abstract_sheets}
+use Rattle.brk_trade_rows.specs.declared.sheets.Sheets.{Sheets}
+use Rattle.brk_trade_rows.specs.declared.trade_row.TradeRow as trade
+use Rattle.brk_trade_rows.specs.declared.move_row.MoveRow as move
+use Rattle.brk_trade_rows.specs.declared.cash_row.CashRow as cash
 use Rattle.brk_audit_sums.specs.AccountTerms.{account_tax_status_in_terms}
 use Rattle.brk_audit_sums.specs.Conditions.{HasValidStatuses}
 use Rattle.brk_audit.specs.CashMoveFigures.{abstract_posted_figures}

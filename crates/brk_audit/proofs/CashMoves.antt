@@ -23,12 +23,12 @@ use Rattle.brk_model.specs.Adopted.{base_of_tables, is_posting_of_trade, movemen
 use Rattle.brk_model.specs.Form.{satisfies_form_condition, trade_ids_of_cash_rows}
 use Rattle.brk_model.specs.Ways.{satisfies_status_condition, has_valid_status_history}
 use Rattle.brk_model.specs.Audit.{ConditionHolds, expected_tables}
-use Rattle.brk_book_theorems.specs.Books.{BooksInvariant, HasLastStatusAtOtherStamp, HasDistinctLastStatusStamps, HasDistinctMovementStamps}
-use Rattle.brk_book_theorems.proofs.Order.{All-insert}
-use Rattle.brk_book_theorems.proofs.LotReading.{All-sort}
-use Rattle.brk_book_theorems.proofs.Orders.{Ascends, Rises, SameSums, one_order, permuted, sum_append, sum_map, sum_sort}
-use Rattle.brk_book_theorems.proofs.Postings.{numbered_stay}
-use Rattle.brk_book_theorems.proofs.Same.{All-append, All-filter, All-map, All-mapped, All-of, map-same}
+use Rattle.brk_trade_books.specs.Books.{BooksInvariant, HasLastStatusAtOtherStamp, HasDistinctLastStatusStamps, HasDistinctMovementStamps}
+use Rattle.brk_trade_books.proofs.Order.{All-insert}
+use Rattle.brk_trade_books.proofs.LotReading.{All-sort}
+use Rattle.brk_trade_books.proofs.Orders.{Ascends, Rises, SameSums, one_order, permuted, sum_append, sum_map, sum_sort}
+use Rattle.brk_trade_books.proofs.Postings.{numbered_stay}
+use Rattle.brk_trade_books.proofs.Same.{All-append, All-filter, All-map, All-mapped, All-of, map-same}
 use Rattle.brk_audit_theorems.proofs.AdoptedBooks.{adopted_books}
 use Rattle.brk_audit_theorems.proofs.Climbs.{Climbs, In, climbs_filter, each_in, of_all}
 use Rattle.brk_audit_theorems.proofs.Members.{map-map}

@@ -5,8 +5,8 @@ use Rattle.std.specs.Prelude.{◌↔◌, IsTrue}
 use Rattle.brk_model.specs.Form.{satisfies_form_condition}
 use Rattle.brk_model.specs.Audit.{ConditionHolds}
 use Rattle.brk_model.specs.Schemas.{Schema}
-use Rattle.brk_changes.specs.Sheets.{abstract_sheets}
-use Rattle.brk_changes.specs.declared.sheets.Sheets.{Sheets}
+use Rattle.brk_trade_rows.specs.Sheets.{abstract_sheets}
+use Rattle.brk_trade_rows.specs.declared.sheets.Sheets.{Sheets}
 use Rattle.brk_audit_sums.specs.Conditions.{HasWellFormedRows, HasValidStatuses}
 
 pub form_held : (schema : Schema) (s : Sheets) → ConditionHolds schema Form (abstract_sheets s) → HasWellFormedRows s

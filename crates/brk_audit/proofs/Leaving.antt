@@ -15,15 +15,15 @@ use Rattle.brk_lots.specs.declared.lot.Lot.{Lot}
 use Rattle.brk_lots.specs.Lots.{abstract_lot}
 use Rattle.brk_lots.proofs.Ends.{walk_of}
 use Rattle.brk_lots.proofs.Plain.{lots_walk}
-use Rattle.brk_book_theorems.specs.Books.{BooksInvariant}
-use Rattle.brk_book_theorems.specs.TradeReads.{holding_rows_of_position, lots_of_position, lot_of_row}
-use Rattle.brk_book_theorems.proofs.LotOrder.{position_read, shares_read}
-use Rattle.brk_book_theorems.proofs.LotReading.{All-sort, all_pass}
-use Rattle.brk_book_theorems.proofs.Places.{filter-all, filter-append}
-use Rattle.brk_book_theorems.proofs.Same.{All-map, All-of, filter-none}
+use Rattle.brk_trade_books.specs.Books.{BooksInvariant}
+use Rattle.brk_trade_books.specs.TradeReads.{holding_rows_of_position, lots_of_position, lot_of_row}
+use Rattle.brk_trade_books.proofs.LotOrder.{position_read, shares_read}
+use Rattle.brk_trade_books.proofs.LotReading.{All-sort, all_pass}
+use Rattle.brk_trade_books.proofs.Places.{filter-all, filter-append}
+use Rattle.brk_trade_books.proofs.Same.{All-map, All-of, filter-none}
 use Rattle.brk_audit_theorems.proofs.Climbs.{In}
 use Rattle.brk_audit.specs.Positions.{AreLotsLeftByTrades, holding_row_in_position_of_trade, nothing, position, deal_of_completed_row, holding_rows_left_by_trades, has_same_position}
-use Rattle.brk_book_theorems.proofs.Orders.{sum_append, sum_both, sum_filter, sum_same, sum_sort}
+use Rattle.brk_trade_books.proofs.Orders.{sum_append, sum_both, sum_filter, sum_same, sum_sort}
 use Rattle.brk_audit.proofs.Places.{all_back, at_one, one_place, same_self}
 
 -- ---- rows of lots at a trade's position

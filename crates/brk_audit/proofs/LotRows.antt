@@ -30,16 +30,16 @@ use Rattle.brk_model.specs.Adopted.{base_of_tables, trade_of_row}
 use Rattle.brk_model.specs.Audit.{expected_tables}
 use Rattle.brk_model.specs.Ways.{satisfies_status_condition, has_valid_status_history}
 use Rattle.brk_model.specs.Form.{has_account, has_security, is_id, is_price, is_quantity_in_schema, is_at_most_last_stamp, has_price_matching_completion, is_well_formed_trade_row}
-use Rattle.brk_changes.specs.Rows.{abstract_trade_row}
-use Rattle.brk_changes.specs.declared.trade_row.TradeRow as trade
+use Rattle.brk_trade_rows.specs.Rows.{abstract_trade_row}
+use Rattle.brk_trade_rows.specs.declared.trade_row.TradeRow as trade
 use Rattle.brk_lots.proofs.Left.{same_is}
-use Rattle.brk_book_theorems.specs.Books.{BooksInvariant, HasDistinctLastStatusStamps}
-use Rattle.brk_book_theorems.proofs.Bools.{numbers_back}
-use Rattle.brk_book_theorems.proofs.LotOrder.{Follows, InOrder, held_in_order, trades_held}
-use Rattle.brk_book_theorems.proofs.LotReading.{IdsApart, IdsRise, all_pass, filter-map, holdings_in_order, is_left, numbered_rise, rise_apart, rise_filter}
-use Rattle.brk_book_theorems.proofs.Order.{NoneBefore, Sorted, sorted_filter}
-use Rattle.brk_book_theorems.proofs.Places.{filter-all}
-use Rattle.brk_book_theorems.proofs.Same.{NonePass, All-filter, All-map, All-of}
+use Rattle.brk_trade_books.specs.Books.{BooksInvariant, HasDistinctLastStatusStamps}
+use Rattle.brk_trade_books.proofs.Bools.{numbers_back}
+use Rattle.brk_trade_books.proofs.LotOrder.{Follows, InOrder, held_in_order, trades_held}
+use Rattle.brk_trade_books.proofs.LotReading.{IdsApart, IdsRise, all_pass, filter-map, holdings_in_order, is_left, numbered_rise, rise_apart, rise_filter}
+use Rattle.brk_trade_books.proofs.Order.{NoneBefore, Sorted, sorted_filter}
+use Rattle.brk_trade_books.proofs.Places.{filter-all}
+use Rattle.brk_trade_books.proofs.Same.{NonePass, All-filter, All-map, All-of}
 use Rattle.brk_audit_theorems.proofs.AdoptedBooks.{adopted_books}
 use Rattle.brk_audit_theorems.proofs.Again.{both_all}
 use Rattle.brk_audit_theorems.proofs.Climbs.{In, list_all_true}
@@ -52,7 +52,7 @@ use Rattle.brk_audit_sums.specs.Completed.{completed_trade_rows, is_completed_tr
 use Rattle.brk_audit.specs.Positions.{AreLotsLeftByTrades, has_same_id_or_stamp, is_before_by_position, deal_of_completed_row, has_same_position}
 use Rattle.brk_audit_sums.proofs.Completed.{completed_rows, done_moments, right_rows}
 use Rattle.brk_audit.proofs.Leaving.{any_in, at_any, at_place, leave_sums}
-use Rattle.brk_book_theorems.proofs.Orders.{Ascends, Rises, one_order, permuted, sum_filter, sum_map, sum_same, sum_sort}
+use Rattle.brk_trade_books.proofs.Orders.{Ascends, Rises, one_order, permuted, sum_filter, sum_map, sum_same, sum_sort}
 use Rattle.brk_audit.proofs.Places.{at_one, moment_order}
 use Rattle.brk_audit.proofs.Stretches.{seen}
 use Rattle.brk_audit_sums.specs.Conditions.{IsWellFormedBySomeSchema}

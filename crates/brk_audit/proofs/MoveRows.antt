@@ -22,10 +22,10 @@ use Rattle.brk_model.specs.Audit.{expected_tables}
 use Rattle.brk_model.specs.Ways.{satisfies_status_condition}
 use Rattle.brk_lots.specs.Chains.{lot_changes_of_deals}
 use Rattle.brk_lots.specs.Deals.{AreDistinctAscendingDeals, PrecedesDealOfOtherTrade}
-use Rattle.brk_book_theorems.specs.Books.{BooksInvariant}
-use Rattle.brk_book_theorems.proofs.LotOrder.{Follows, InOrder, held_in_order, trades_held}
-use Rattle.brk_book_theorems.proofs.Order.{Sorted, key_one_way, key_splits, sorted_sort}
-use Rattle.brk_book_theorems.proofs.Same.{All-map, All-of}
+use Rattle.brk_trade_books.specs.Books.{BooksInvariant}
+use Rattle.brk_trade_books.proofs.LotOrder.{Follows, InOrder, held_in_order, trades_held}
+use Rattle.brk_trade_books.proofs.Order.{Sorted, key_one_way, key_splits, sorted_sort}
+use Rattle.brk_trade_books.proofs.Same.{All-map, All-of}
 use Rattle.brk_audit_theorems.proofs.AdoptedBooks.{adopted_books}
 use Rattle.brk_audit_theorems.proofs.Climbs.{Climbs}
 use Rattle.brk_audit_theorems.proofs.Parts.{key_parts}
@@ -36,7 +36,7 @@ use Rattle.brk_audit_sums.proofs.Completed.{completed_rows}
 use Rattle.brk_audit.proofs.Leaving.{AreDealt, deals_among, own_run}
 use Rattle.brk_audit.proofs.LotRows.{dealt}
 use Rattle.brk_audit.proofs.Moves.{run_sums}
-use Rattle.brk_book_theorems.proofs.Orders.{SameSums, permuted, sum_append, sum_map, sum_none, sum_same, sum_sort}
+use Rattle.brk_trade_books.proofs.Orders.{SameSums, permuted, sum_append, sum_map, sum_none, sum_same, sum_sort}
 use Rattle.brk_audit.proofs.Places.{all_back, at_one, same_self}
 use Rattle.brk_audit_sums.specs.Conditions.{IsWellFormedBySomeSchema}
 use Rattle.brk_audit.proofs.Expected.{same_history}

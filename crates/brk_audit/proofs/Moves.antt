@@ -16,12 +16,12 @@ use Rattle.brk_lots.specs.Lots.{list_reversed_if_lifo}
 use Rattle.brk_lots.proofs.Changes.{all_firsts}
 use Rattle.brk_lots.proofs.Deals.{IsOlder, all_after, older_after}
 use Rattle.brk_lots.proofs.History.{history_rows}
-use Rattle.brk_book_theorems.proofs.Same.{All-append, All-map, All-of}
-use Rattle.brk_book_theorems.proofs.Touching.{Without, lot_without}
+use Rattle.brk_trade_books.proofs.Same.{All-append, All-map, All-of}
+use Rattle.brk_trade_books.proofs.Touching.{Without, lot_without}
 use Rattle.brk_audit_theorems.proofs.Climbs.{In, each_in}
 use Rattle.brk_audit_theorems.proofs.Marks.{filtered}
 use Rattle.brk_audit_theorems.proofs.Members.{in_map}
-use Rattle.brk_book_theorems.proofs.Orders.{permuted, sum_append, sum_both, sum_filter, sum_map, sum_none, sum_same}
+use Rattle.brk_trade_books.proofs.Orders.{permuted, sum_append, sum_both, sum_filter, sum_map, sum_none, sum_same}
 use Rattle.brk_audit.proofs.Places.{all_back, all_front}
 
 -- ---- a sum over elements with a number, as one over the numbers

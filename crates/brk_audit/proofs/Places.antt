@@ -14,8 +14,8 @@ use Rattle.brk_model.specs.Keys.{KeyPart, number, word, is_key_less}
 use Rattle.brk_model.specs.Lists.{is_text_less}
 use Rattle.brk_model.specs.Tables.{TradeRow}
 use Rattle.brk_lots.specs.Deals.{AreDistinctAscendingDeals, PrecedesDealOfOtherTrade}
-use Rattle.brk_book_theorems.proofs.Order.{NoneBefore, Sorted, key_one_way, key_splits, key_total}
-use Rattle.brk_book_theorems.proofs.Same.{All-map}
+use Rattle.brk_trade_books.proofs.Order.{NoneBefore, Sorted, key_one_way, key_splits, key_total}
+use Rattle.brk_trade_books.proofs.Same.{All-map}
 use Rattle.brk_audit_form.proofs.KeyOrders.{gt_lt, numbers_before, texts_before}
 use Rattle.brk_audit.specs.Positions.{FirstElementSatisfies, has_same_id_or_stamp, is_before_by_position, position_sort_key, deal_of_completed_row, has_same_position}
 

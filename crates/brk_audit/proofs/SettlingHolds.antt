@@ -9,16 +9,16 @@ use Rattle.brk_model.specs.Audit.{ConditionHolds}
 use Rattle.brk_model.specs.Tables.{MoveRow, Tables, TradeRow}
 use Rattle.brk_model.specs.Form.{has_rows_only_in_tables_of_schema, satisfies_form_condition}
 use Rattle.std.proofs.lemmas.Bool.{and_parts, eqb-true}
-use Rattle.brk_book_theorems.proofs.Same.{All-of, map-same}
+use Rattle.brk_trade_books.proofs.Same.{All-of, map-same}
 use Rattle.brk_audit_theorems.proofs.Parts.{KeyParts, key_parts}
 use Rattle.brk_model_theorems.proofs.FormParts.{form_parts}
-use Rattle.brk_changes.specs.Rows.{abstract_cash_row, abstract_request_row, abstract_settlement_row, abstract_trade_row}
-use Rattle.brk_changes.specs.Sheets.{abstract_sheets}
-use Rattle.brk_changes.specs.declared.sheets.Sheets.{Sheets}
-use Rattle.brk_changes.specs.declared.trade_row.TradeRow as trade
-use Rattle.brk_changes.specs.declared.request_row.RequestRow as request
-use Rattle.brk_changes.specs.declared.settlement_row.SettlementRow as settlement
-use Rattle.brk_changes.specs.declared.cash_row.CashRow as cash
+use Rattle.brk_trade_rows.specs.Rows.{abstract_cash_row, abstract_request_row, abstract_settlement_row, abstract_trade_row}
+use Rattle.brk_trade_rows.specs.Sheets.{abstract_sheets}
+use Rattle.brk_trade_rows.specs.declared.sheets.Sheets.{Sheets}
+use Rattle.brk_trade_rows.specs.declared.trade_row.TradeRow as trade
+use Rattle.brk_trade_rows.specs.declared.request_row.RequestRow as request
+use Rattle.brk_trade_rows.specs.declared.settlement_row.SettlementRow as settlement
+use Rattle.brk_trade_rows.specs.declared.cash_row.CashRow as cash
 use Rattle.brk_audit_sums.specs.AccountTerms.{account_broker_in_terms, account_tax_status_in_terms}
 use Rattle.brk_audit_sums.specs.Completed.{is_completed_trade_row, is_pending_trade_row}
 use Rattle.brk_audit_sums.specs.Conditions.{HasWellFormedRows, HasValidStatuses}

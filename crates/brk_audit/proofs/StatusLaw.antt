@@ -13,8 +13,8 @@ use Rattle.brk_model.specs.Keys.{number, is_key_less, history_key, trade_key}
 use Rattle.brk_model.specs.Form.{is_well_formed_history_row}
 use Rattle.brk_model.specs.Ways.{completion_stamps, movement_stamps, satisfies_status_condition, has_valid_status_history}
 use Rattle.brk_model.specs.Audit.{ConditionHolds}
-use Rattle.brk_book_theorems.proofs.Same.{All-map}
-use Rattle.brk_book_theorems.proofs.LotReading.{all_pass}
+use Rattle.brk_trade_books.proofs.Same.{All-map}
+use Rattle.brk_trade_books.proofs.LotReading.{all_pass}
 use Rattle.brk_audit_theorems.proofs.Climbs.{Climbs, list_all_true}
 use Rattle.brk_audit_theorems.proofs.Members.{All-flat_map}
 use Rattle.brk_audit_theorems.proofs.Parts.{KeyParts, key_parts}

@@ -14,8 +14,8 @@ use Rattle.brk_model.specs.Joins.{history_rows_with_trade_id}
 use Rattle.brk_model.specs.Keys.{word, is_key_less, rows_sorted_by_key, history_key}
 use Rattle.brk_model.specs.Adopted.{status_changes_of_trade, trade_of_row}
 use Rattle.brk_model.specs.Ways.{matches_last_status_change, is_strictly_ascending, is_valid_status_sequence, has_valid_status_history}
-use Rattle.brk_book_theorems.proofs.Same.{All-map}
-use Rattle.brk_book_theorems.proofs.LotReading.{all_pass}
+use Rattle.brk_trade_books.proofs.Same.{All-map}
+use Rattle.brk_trade_books.proofs.LotReading.{all_pass}
 use Rattle.brk_audit_theorems.proofs.Climbs.{Climbs, climbs_filter, stays}
 use Rattle.brk_audit_theorems.proofs.Members.{sorted_each}
 use Rattle.brk_audit_theorems.proofs.Marks.{no_more_ways}

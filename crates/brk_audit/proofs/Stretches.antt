@@ -3,14 +3,14 @@ use Rattle.std.proofs.Common.{arith, ◌≡◌, ◌+◌, ◌-◌, ◌<◌, ◌++
 use Rattle.std.specs.List.{AllByRecursion, IsDistinct}
 use Rattle.std.specs.List.Sorted.{IsSortedBy}
 use Rattle.std.proofs.lemmas.List.{drop-drop, drop_more, map-append, take-append-drop, take_rest}
-use Rattle.brk_changes.specs.Rows.{abstract_trade_row}
-use Rattle.brk_changes.specs.declared.trade_row.TradeRow as code
+use Rattle.brk_trade_rows.specs.Rows.{abstract_trade_row}
+use Rattle.brk_trade_rows.specs.declared.trade_row.TradeRow as code
 use Rattle.brk_lots.specs.Deals.{AreDistinctAscendingDeals}
 use Rattle.brk_model.specs.Tables.{TradeRow}
-use Rattle.brk_book_theorems.proofs.Order.{Sorted}
+use Rattle.brk_trade_books.proofs.Order.{Sorted}
 use Rattle.brk_audit_theorems.proofs.Members.{map-map}
 use Rattle.brk_audit.specs.Positions.{FirstElementSatisfies, has_same_id_or_stamp, is_before_by_position, deal_of_completed_row, has_same_position}
-use Rattle.brk_book_theorems.proofs.Orders.{sorted_by, sorted_map}
+use Rattle.brk_trade_books.proofs.Orders.{sorted_by, sorted_map}
 use Rattle.brk_audit.proofs.Places.{deals_follow, distinct_drop, distinct_front, others, place_order, same_self, sorted_drop, sorted_front}
 
 -- a row behind a reference, as the definitions have it

@@ -7,10 +7,10 @@ use Rattle.std.proofs.lemmas.List.{append-nil, drop_more, drop-map, take-append-
 use Rattle.brk_money.specs.Kinds.{is_same_trade_status}
 use Rattle.brk_money.specs.declared.status.Status.TheVariants.{Completed}
 use Rattle.brk_model.specs.Lists.{all_distinct, contains_number}
-use Rattle.brk_changes.specs.Rows.{abstract_history_row, abstract_move_row, abstract_trade_row}
-use Rattle.brk_changes.specs.declared.trade_row.TradeRow.{TradeRow}
-use Rattle.brk_changes.specs.declared.history_row.HistoryRow.{HistoryRow}
-use Rattle.brk_changes.specs.declared.move_row.MoveRow.{MoveRow}
+use Rattle.brk_trade_rows.specs.Rows.{abstract_history_row, abstract_move_row, abstract_trade_row}
+use Rattle.brk_trade_rows.specs.declared.trade_row.TradeRow.{TradeRow}
+use Rattle.brk_trade_rows.specs.declared.history_row.HistoryRow.{HistoryRow}
+use Rattle.brk_trade_rows.specs.declared.move_row.MoveRow.{MoveRow}
 use Rattle.brk_audit.specs.Statuses.{all_histories_are_valid, is_valid_history, movement_stamps_of_cash_rows, completion_stamps_of_history}
 
 false_true : {A : Type 0} → false ≡ true → A

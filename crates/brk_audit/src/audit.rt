@@ -1,12 +1,12 @@
 ghost use Rattle.std.specs.Prelude.{◌≡◌, IfErr, IfOk};
 ghost use Rattle.brk_money.specs.declared.fault.Fault.TheVariants.{Memory};
 ghost use Rattle.brk_model.specs.Audit.{IsAuditResult};
-ghost use Rattle.brk_changes.specs.Schemas.{abstract_schema};
-ghost use Rattle.brk_changes.specs.Sheets.{abstract_sheets};
+ghost use Rattle.brk_trade_rows.specs.Schemas.{abstract_schema};
+ghost use Rattle.brk_trade_rows.specs.Sheets.{abstract_sheets};
 
 use crate::cash::cash_condition_holds;
 use crate::history::history_condition_holds;
-use crate::lots::lot_condition_holds;
+use crate::holding_lots::lot_condition_holds;
 use crate::requests::request_condition_holds;
 use crate::settlements::settlement_condition_holds;
 use crate::status::status_condition_holds;
@@ -15,8 +15,8 @@ use brk_audit_sums::balances::balance_condition_holds;
 use brk_audit_sums::commissions::commission_condition_holds;
 use brk_audit_sums::counts::count_condition_holds;
 use brk_audit_sums::summaries::summary_condition_holds;
-use brk_changes::{Schema, Sheets};
 use brk_money::{Condition, Fault};
+use brk_trade_rows::{Schema, Sheets};
 use std::alloc::Global;
 
 /// Returns the first condition of `schema` that the rows of `sheets` fail, in the order `Form`,

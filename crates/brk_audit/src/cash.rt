@@ -9,17 +9,17 @@ ghost use Rattle.brk_audit_sums.specs.Conditions.{HasValidStatuses};
 ghost use Rattle.brk_audit_sums.specs.Settling.{RowsCannotMatchTrades, RowsMatchTradesIffOthersDo, settlement_amount_at_tax_status, is_completed_cash_trade};
 ghost use Rattle.brk_audit_sums.specs.Settling.{is_numbered_by_stamp, cash_transaction_figures_of_trade, cash_transaction_figures_of_row};
 ghost use Rattle.brk_audit_sums.specs.Settling.{posted_figures_of_trade, posted_figures_of_row};
-ghost use Rattle.brk_changes.specs.Rows.{abstract_cash_row, abstract_move_row, abstract_trade_row};
-ghost use Rattle.brk_changes.specs.Schemas.{abstract_schema};
-ghost use Rattle.brk_changes.specs.Sheets.{abstract_sheets};
+ghost use Rattle.brk_trade_rows.specs.Rows.{abstract_cash_row, abstract_move_row, abstract_trade_row};
+ghost use Rattle.brk_trade_rows.specs.Schemas.{abstract_schema};
+ghost use Rattle.brk_trade_rows.specs.Sheets.{abstract_sheets};
 
 use crate::status::stamp_in_millis;
 use brk_audit_sums::account_terms::{AccountTerms, account_tax_status, account_terms_by_id};
 use brk_audit_sums::amounts::settlement_amount_of_row;
 use brk_audit_sums::completion::is_completed;
 use brk_audit_sums::summaries::are_all_three_true;
-use brk_changes::{CashRow, MoveRow, Schema, Sheets, TradeRow};
 use brk_money::{Cents, Fault, Id, Stamp, TaxStatus};
+use brk_trade_rows::{CashRow, MoveRow, Schema, Sheets, TradeRow};
 use std::alloc::Global;
 use std::collections::BTreeMap;
 

@@ -4,8 +4,8 @@ ghost use Rattle.std.specs.List.Sorted.{IsSortedBy};
 ghost use Rattle.std.specs.Ordering.{is_lt};
 ghost use Rattle.brk_audit_sums.specs.Conditions.{HasWellFormedRows, HasValidStatuses};
 ghost use Rattle.brk_audit.specs.Positions.{AreLotChangesOfTrades, has_same_id_or_stamp, is_before_by_position, deal_of_completed_row};
-ghost use Rattle.brk_changes.specs.Rows.{abstract_lot_change_row, abstract_trade_row};
-ghost use Rattle.brk_changes.specs.Sheets.{abstract_sheets};
+ghost use Rattle.brk_trade_rows.specs.Rows.{abstract_lot_change_row, abstract_trade_row};
+ghost use Rattle.brk_trade_rows.specs.Sheets.{abstract_sheets};
 ghost use Rattle.brk_lots.specs.Chains.{abstract_deal_touch, lot_changes_of_deals};
 ghost use Rattle.brk_lots.specs.Deals.{AreDistinctAscendingDeals};
 ghost use Rattle.brk_model.specs.Audit.{ConditionHolds};
@@ -17,9 +17,9 @@ ghost use Rattle.brk_money.specs.declared.fault.Fault.TheVariants.{Memory};
 use crate::positions::{
     completed_trades_by_position, deals_of_completed_trades, leading_trade_count_of_position,
 };
-use brk_changes::{LotChange, Sheets, TradeRow};
 use brk_lots::{DealTouch, Position};
 use brk_money::Fault;
+use brk_trade_rows::{LotChange, Sheets, TradeRow};
 use std::alloc::Global;
 use std::cmp::Ordering;
 

@@ -5,11 +5,11 @@
 pub mod audit;
 pub mod cash;
 pub mod history;
-pub mod lots;
+pub mod holding_lots;
 mod positions;
 pub mod requests;
 pub mod settlements;
 pub mod status;
 
 pub use audit::audit_rows;
-pub use brk_changes::Sheets;
+pub use brk_trade_rows::Sheets;

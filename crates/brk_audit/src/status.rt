@@ -11,12 +11,12 @@ ghost use Rattle.brk_model.specs.Schemas.{Schema};
 ghost use Rattle.brk_model.specs.Lists.{all_distinct};
 ghost use Rattle.brk_audit_sums.specs.Conditions.{HasWellFormedRows};
 ghost use Rattle.brk_audit.specs.Statuses as spec;
-ghost use Rattle.brk_changes.specs.Rows.{abstract_history_row, abstract_move_row, abstract_trade_row};
-ghost use Rattle.brk_changes.specs.Sheets.{abstract_sheets};
+ghost use Rattle.brk_trade_rows.specs.Rows.{abstract_history_row, abstract_move_row, abstract_trade_row};
+ghost use Rattle.brk_trade_rows.specs.Sheets.{abstract_sheets};
 
 use brk_audit_sums::completion::is_completed;
-use brk_changes::{HistoryRow, MoveRow, Sheets, TradeRow};
 use brk_money::{Fault, Id, Stamp, Status};
+use brk_trade_rows::{HistoryRow, MoveRow, Sheets, TradeRow};
 use std::alloc::Global;
 use std::collections::BTreeSet;
 

@@ -13,12 +13,12 @@ use Rattle.brk_model.specs.Form.{is_well_formed_customer_tax_row, is_well_formed
 use Rattle.brk_model.specs.Form.{is_well_formed_holding_row, is_well_formed_summary_row, is_well_formed_holding_history_row, is_well_formed_settlement_row}
 use Rattle.brk_ref.specs.Records.{kept_row_with_empty_texts, abstract_broker_row, abstract_customer, abstract_account_row, abstract_permission}
 use Rattle.brk_ref.specs.Records.{abstract_security_row, abstract_last_trade_row, abstract_charge, abstract_band, abstract_tax_rate, abstract_customer_tax}
-use Rattle.brk_changes.specs.Rows.{abstract_trade_row, abstract_history_row, abstract_request_row, abstract_holding_row, abstract_summary_row}
-use Rattle.brk_changes.specs.Rows.{abstract_lot_change_row, abstract_settlement_row, abstract_cash_row, abstract_move_row}
-use Rattle.brk_changes.specs.Sheets.{abstract_sheets}
+use Rattle.brk_trade_rows.specs.Rows.{abstract_trade_row, abstract_history_row, abstract_request_row, abstract_holding_row, abstract_summary_row}
+use Rattle.brk_trade_rows.specs.Rows.{abstract_lot_change_row, abstract_settlement_row, abstract_cash_row, abstract_move_row}
+use Rattle.brk_trade_rows.specs.Sheets.{abstract_sheets}
 use Rattle.brk_model.specs.Schemas.{Schema}
 use Rattle.brk_model.specs.Tables.{Tables}
-use Rattle.brk_changes.specs.declared.sheets.Sheets.{Sheets}
+use Rattle.brk_trade_rows.specs.declared.sheets.Sheets.{Sheets}
 use Rattle.brk_model_theorems.proofs.Conjunctions.{joined, parts, whole}
 use Rattle.brk_model_theorems.proofs.FormParts.{keys_rise}
 use Rattle.brk_audit_form.specs.Groups.{reference_rows_are_well_formed, reference_tables_are_sorted, trading_rows_are_well_formed, trading_tables_are_sorted}

@@ -6,8 +6,8 @@ use Rattle.std.proofs.lemmas.Bool.{and_cases, and_from, and_left, and_right, cas
 use Rattle.std.proofs.lemmas.List.{append-nil, take-append-drop, take_more}
 use Rattle.brk_model.specs.Form.{trade_ids_of_cash_rows}
 use Rattle.brk_model.specs.Lists.{all_distinct, contains_number}
-use Rattle.brk_changes.specs.Rows.{abstract_move_row}
-use Rattle.brk_changes.specs.declared.move_row.MoveRow.{MoveRow}
+use Rattle.brk_trade_rows.specs.Rows.{abstract_move_row}
+use Rattle.brk_trade_rows.specs.declared.move_row.MoveRow.{MoveRow}
 
 false_true : {A : Type 0} → false ≡ true → A
 false_true e = absurd (cc)

@@ -13,9 +13,9 @@ use Rattle.brk_model.specs.Form.{satisfies_form_condition, has_tables_sorted_by_
 use Rattle.brk_model.specs.Form.{is_within_customer_limits, is_well_formed_cash_transaction_row, is_well_formed_cash_move_row, trade_ids_of_cash_rows}
 use Rattle.brk_model.specs.Form.{has_rows_only_in_tables_of_schema}
 use Rattle.brk_ref.specs.Records.{abstract_customer, abstract_band}
-use Rattle.brk_changes.specs.Rows.{abstract_trade_row, abstract_cash_row, abstract_move_row}
-use Rattle.brk_changes.specs.Sheets.{abstract_sheets}
-use Rattle.brk_changes.specs.declared.sheets.Sheets.{Sheets}
+use Rattle.brk_trade_rows.specs.Rows.{abstract_trade_row, abstract_cash_row, abstract_move_row}
+use Rattle.brk_trade_rows.specs.Sheets.{abstract_sheets}
+use Rattle.brk_trade_rows.specs.declared.sheets.Sheets.{Sheets}
 use Rattle.brk_model_theorems.specs.FormParts.{SatisfiesFormParts}
 use Rattle.brk_model_theorems.proofs.FormParts.{form_parts}
 use Rattle.brk_model_theorems.proofs.Conjunctions.{Hold, joined, parts, whole}

@@ -16,10 +16,10 @@ use Rattle.brk_model.specs.Form.{is_last_stamp_in_calendar, is_one_day_settlemen
 use Rattle.brk_ref.specs.Records.{abstract_account_row, abstract_broker_row, abstract_customer}
 use Rattle.brk_ref.specs.Records.{abstract_permission, abstract_security_row, kept_row_with_empty_texts}
 use Rattle.brk_ref.specs.Records.{abstract_last_trade_row, abstract_charge, abstract_band, abstract_tax_rate, abstract_customer_tax}
-use Rattle.brk_changes.specs.Rows.{abstract_trade_row, abstract_history_row, abstract_request_row, abstract_holding_row, abstract_summary_row}
-use Rattle.brk_changes.specs.Rows.{abstract_lot_change_row, abstract_settlement_row, abstract_cash_row, abstract_move_row}
-use Rattle.brk_changes.specs.Sheets.{abstract_sheets}
-use Rattle.brk_changes.specs.declared.sheets.Sheets.{Sheets}
+use Rattle.brk_trade_rows.specs.Rows.{abstract_trade_row, abstract_history_row, abstract_request_row, abstract_holding_row, abstract_summary_row}
+use Rattle.brk_trade_rows.specs.Rows.{abstract_lot_change_row, abstract_settlement_row, abstract_cash_row, abstract_move_row}
+use Rattle.brk_trade_rows.specs.Sheets.{abstract_sheets}
+use Rattle.brk_trade_rows.specs.declared.sheets.Sheets.{Sheets}
 
 -- True if the typed rows `s` of KEPT, BROKER, CUSTOMER, CUSTOMER_ACCOUNT, ACCOUNT_PERMISSION,
 -- SECURITY, LAST_TRADE, CHARGE, COMMISSION_RATE, TAXRATE and CUSTOMER_TAXRATE are sorted by key in

@@ -2,11 +2,11 @@ ghost use Rattle.std.specs.Prelude.{◌≡◌, IsTrue, map};
 ghost use Rattle.std.specs.List.{list_all};
 ghost use Rattle.brk_model.specs.Form as form;
 ghost use Rattle.brk_model.specs.Keys.{band_key};
-ghost use Rattle.brk_changes.specs.Schemas.{abstract_schema};
+ghost use Rattle.brk_trade_rows.specs.Schemas.{abstract_schema};
 ghost use Rattle.brk_ref.specs.Records.{abstract_band};
 
-use brk_changes::Schema;
 use brk_ref::{Band, is_overlapping_band};
+use brk_trade_rows::Schema;
 
 /// Returns true if no two bands with the same tier, trade type and exchange share a quantity.
 /// Compares only neighbours. The bands must be sorted by key without a repeated key, and each must

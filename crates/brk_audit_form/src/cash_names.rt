@@ -5,8 +5,8 @@ ghost use Rattle.brk_money.specs.declared.fault.Fault.TheVariants.{Memory};
 ghost use Rattle.brk_model.specs.Form as form;
 ghost use Rattle.brk_model.specs.Joins.{trade_row_with_id};
 ghost use Rattle.brk_model.specs.Results.{cash_row_name_from_parts};
-ghost use Rattle.brk_changes.specs.Rows.{abstract_cash_row, abstract_move_row, abstract_trade_row};
-ghost use Rattle.brk_changes.specs.Sheets.{abstract_sheets};
+ghost use Rattle.brk_trade_rows.specs.Rows.{abstract_cash_row, abstract_move_row, abstract_trade_row};
+ghost use Rattle.brk_trade_rows.specs.Sheets.{abstract_sheets};
 ghost use Rattle.brk_audit_form.specs.Conditions.{HasSortedKeys};
 ghost use Rattle.brk_audit_form.specs.Names.{security_name_or_empty};
 
@@ -14,9 +14,9 @@ use crate::limits::{
     is_move_id_within_limits, is_signed_amount_within_limit, stamp_is_at_most_last_stamp,
 };
 use crate::references::{find_security, find_trade, has_account};
-use brk_changes::{CashRow, MoveRow, Sheets, TradeRow};
 use brk_money::{Cents, Fault, Id, Qty};
 use brk_ref::Symbol;
+use brk_trade_rows::{CashRow, MoveRow, Sheets, TradeRow};
 use std::alloc::{AllocError, Global};
 
 // Returns the name of the security with the symbol, or the empty text if there is no such security.

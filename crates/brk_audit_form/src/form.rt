@@ -3,8 +3,8 @@ ghost use Rattle.brk_money.specs.declared.fault.Condition.TheVariants.{Form};
 ghost use Rattle.brk_money.specs.declared.fault.Fault.TheVariants.{Memory};
 ghost use Rattle.brk_model.specs.Audit.{ConditionHolds};
 ghost use Rattle.brk_model.specs.Form.{is_last_stamp_in_calendar, is_one_day_settlement_start_in_calendar, has_rows_only_in_tables_of_schema};
-ghost use Rattle.brk_changes.specs.Schemas.{abstract_schema};
-ghost use Rattle.brk_changes.specs.Sheets.{abstract_sheets};
+ghost use Rattle.brk_trade_rows.specs.Schemas.{abstract_schema};
+ghost use Rattle.brk_trade_rows.specs.Sheets.{abstract_sheets};
 ghost use Rattle.brk_audit_form.specs.Groups.{passes_nonallocating_form_checks};
 
 use crate::bands::are_bands_disjoint;
@@ -16,8 +16,8 @@ use crate::tables::{
     all_tables_have_sorted_keys, has_well_formed_reference_rows, has_well_formed_trading_rows,
 };
 use crate::tax_ids::customers_have_distinct_tax_ids;
-use brk_changes::{Schema, Sheets};
 use brk_money::{Day, Fault, Stamp};
+use brk_trade_rows::{Schema, Sheets};
 use std::alloc::Global;
 
 // Returns true if there is no last stamp, or if it is at most the greatest stamp, 9999-12-31

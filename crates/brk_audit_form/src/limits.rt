@@ -2,12 +2,12 @@ ghost use Rattle.std.specs.Prelude.{◌≡◌, nat_le};
 ghost use Rattle.brk_money.specs.Spelling.{is_within_amount_limit};
 ghost use Rattle.brk_model.specs.Form as form;
 ghost use Rattle.brk_model.specs.Limits as limits;
-ghost use Rattle.brk_changes.specs.Schemas.{abstract_schema};
-ghost use Rattle.brk_changes.specs.Sheets.{abstract_sheets};
+ghost use Rattle.brk_trade_rows.specs.Schemas.{abstract_schema};
+ghost use Rattle.brk_trade_rows.specs.Sheets.{abstract_sheets};
 
-use brk_changes::{Schema, Sheets};
 use brk_money::{Amount, Cents, Id, MoveId, Price, Qty, Stamp};
 use brk_ref::{ChargeAmount, Form, Text, Tier};
+use brk_trade_rows::{Schema, Sheets};
 
 /// Returns true if the id is from 1 to the greatest id, both included.
 pub(crate) fn is_id_within_limits(id: Id) -> bool

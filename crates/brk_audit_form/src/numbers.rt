@@ -3,8 +3,8 @@ ghost use Rattle.std.specs.List.{range_with_len};
 ghost use Rattle.brk_model.specs.Form as form;
 ghost use Rattle.brk_model.specs.Limits.{greatest_id};
 
-use brk_changes::{MoveRow, TradeRow};
 use brk_money::Id;
+use brk_trade_rows::{MoveRow, TradeRow};
 
 /// Returns true if the ids of the trades are 1, 2, 3 and so on, in the order of the rows.
 pub(crate) fn are_trades_numbered_from_one(trades: &[TradeRow]) -> bool

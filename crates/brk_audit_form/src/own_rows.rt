@@ -5,10 +5,10 @@ ghost use Rattle.std.specs.Ordering.{nat_cmp};
 ghost use Rattle.brk_money.specs.declared.fault.Fault.TheVariants.{Memory};
 ghost use Rattle.brk_model.specs.Form.{trade_ids_of_cash_rows};
 ghost use Rattle.brk_model.specs.Lists.{all_distinct};
-ghost use Rattle.brk_changes.specs.Rows.{abstract_move_row};
+ghost use Rattle.brk_trade_rows.specs.Rows.{abstract_move_row};
 
-use brk_changes::MoveRow;
 use brk_money::{Fault, Id};
+use brk_trade_rows::MoveRow;
 use std::alloc::Global;
 use std::collections::BTreeSet;
 

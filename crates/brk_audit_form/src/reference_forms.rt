@@ -10,12 +10,12 @@ use crate::references::{
     has_account, has_broker, has_customer, has_last_trade, has_security, has_tax_rate,
 };
 use crate::rows::Formed;
-use brk_changes::{Schema, Sheets};
 use brk_money::{Amount, Rate, TaxRate};
 use brk_ref::{
     AccountRow, Band, BrokerRow, Charge, Customer, CustomerTax, Key, LastTrade, Permission,
     RowNumber, Security, Tax, Volume,
 };
+use brk_trade_rows::{Schema, Sheets};
 
 impl Formed for Key {
     ghost form = { λ schema tables row. form.is_well_formed_kept_row (of.kept_row_with_empty_texts row) };
@@ -23,9 +23,7 @@ impl Formed for Key {
     // Returns true if the batch name of the key is well-formed and its row number is from 1 to the
     // greatest row number, both included.
     fn is_row_well_formed(&self, _schema: Schema, _sheets: &Sheets) -> bool {
-        is_well_formed_text(&self.batch)
-            && 1 <= self.row.get()
-            && self.row.get() <= RowNumber::GREATEST
+        is_well_formed_text(&self.batch) && 1 <= self.n.get() && self.n.get() <= RowNumber::GREATEST
     }
 }
 

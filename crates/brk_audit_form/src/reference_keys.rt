@@ -13,7 +13,7 @@ impl Keyed for Key {
 
     // Returns the order of two keys by batch name, then by row number.
     fn compare_keys(&self, other: &Key) -> Ordering {
-        compare_texts(&self.batch, &other.batch).then(self.row.get().cmp(&other.row.get()))
+        compare_texts(&self.batch, &other.batch).then(self.n.get().cmp(&other.n.get()))
     }
 }
 

@@ -2,11 +2,11 @@ ghost use Rattle.std.specs.Prelude.{◌≡◌, Bool};
 ghost use Rattle.std.specs.List.{list_all};
 ghost use Rattle.brk_model.specs.Schemas as schemas;
 ghost use Rattle.brk_model.specs.Tables.{Tables};
-ghost use Rattle.brk_changes.specs.Schemas.{abstract_schema};
-ghost use Rattle.brk_changes.specs.Sheets.{abstract_sheets};
+ghost use Rattle.brk_trade_rows.specs.Schemas.{abstract_schema};
+ghost use Rattle.brk_trade_rows.specs.Sheets.{abstract_sheets};
 ghost use Rattle.brk_audit_form.specs.Conditions.{HasSortedKeys};
 
-use brk_changes::{Schema, Sheets};
+use brk_trade_rows::{Schema, Sheets};
 
 /// A row of a table whose columns the condition `Form` checks.
 pub(crate) trait Formed {

@@ -1,14 +1,14 @@
 ghost use Rattle.std.specs.Prelude.{◌≡◌};
 ghost use Rattle.brk_model.specs.Form as form;
-ghost use Rattle.brk_changes.specs.Schemas.{abstract_schema};
-ghost use Rattle.brk_changes.specs.Sheets.{abstract_sheets};
+ghost use Rattle.brk_trade_rows.specs.Schemas.{abstract_schema};
+ghost use Rattle.brk_trade_rows.specs.Sheets.{abstract_sheets};
 ghost use Rattle.brk_audit_form.specs.Conditions.{HasSortedKeys};
 ghost use Rattle.brk_audit_form.specs.Groups.{reference_rows_are_well_formed, reference_tables_are_sorted};
 ghost use Rattle.brk_audit_form.specs.Groups.{trading_rows_are_well_formed, trading_tables_are_sorted};
 
 use crate::keys::has_sorted_unique_keys;
 use crate::rows::are_rows_well_formed;
-use brk_changes::{Schema, Sheets};
+use brk_trade_rows::{Schema, Sheets};
 
 // Returns true if each of KEPT, BROKER, CUSTOMER, CUSTOMER_ACCOUNT, ACCOUNT_PERMISSION, SECURITY,
 // LAST_TRADE, CHARGE, COMMISSION_RATE, TAXRATE and CUSTOMER_TAXRATE is sorted by key, ascending,

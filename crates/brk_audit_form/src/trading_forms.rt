@@ -1,7 +1,7 @@
 ghost use Rattle.std.specs.Prelude.{◌≡◌};
 ghost use Rattle.brk_model.specs.Form as form;
-ghost use Rattle.brk_changes.specs.Rows as of;
-ghost use Rattle.brk_changes.specs.Sheets.{abstract_sheets};
+ghost use Rattle.brk_trade_rows.specs.Rows as of;
+ghost use Rattle.brk_trade_rows.specs.Sheets.{abstract_sheets};
 ghost use Rattle.brk_audit_form.specs.Conditions.{HasSortedKeys};
 
 use crate::limits::{
@@ -12,11 +12,11 @@ use crate::references::{
     find_trade, has_account, has_broker, has_completion, has_security, has_trade,
 };
 use crate::rows::Formed;
-use brk_changes::{
+use brk_money::{Day, Stamp, Status};
+use brk_trade_rows::{
     CashType, HistoryRow, HoldingRow, LotChange, RequestRow, Schema, SettlementRow, Sheets,
     SummaryRow, TradeRow, due_day_after_completion,
 };
-use brk_money::{Day, Stamp, Status};
 
 // Returns true if TRADE_HISTORY has a completion of the trade of the row and the row has a price
 // from 1 cent to the greatest price, both included, or if there is neither a completion nor a

@@ -1,8 +1,8 @@
 ghost use Rattle.brk_model.specs.Keys as keys;
-ghost use Rattle.brk_changes.specs.Rows as of;
+ghost use Rattle.brk_trade_rows.specs.Rows as of;
 
 use crate::keys::{Keyed, compare_ids, compare_texts};
-use brk_changes::{
+use brk_trade_rows::{
     CashRow, HistoryRow, HoldingRow, LotChange, MoveRow, RequestRow, SettlementRow, SummaryRow,
     TradeRow,
 };

@@ -5,11 +5,11 @@ use Rattle.std.specs.Option.{option_map_or}
 use Rattle.std.specs.Ordering.{nat_cmp}
 use Rattle.std.specs.BTreeMap.{BTreeMap, get}
 use Rattle.brk_money.specs.declared.tax_status.TaxStatus.TheVariants.{Untaxed}
-use Rattle.brk_book_theorems.proofs.Reading.{find-map}
+use Rattle.brk_trade_books.proofs.Reading.{find-map}
 use Rattle.brk_ref.specs.Records.{abstract_account_row}
 use Rattle.brk_ref.specs.declared.account.AccountRow.{AccountRow}
-use Rattle.brk_changes.specs.Sheets.{abstract_sheets}
-use Rattle.brk_changes.specs.declared.sheets.Sheets.{Sheets}
+use Rattle.brk_trade_rows.specs.Sheets.{abstract_sheets}
+use Rattle.brk_trade_rows.specs.declared.sheets.Sheets.{Sheets}
 use Rattle.brk_audit_sums.specs.AccountTerms.{account_broker_in_terms, account_tax_status_in_terms, terms_of_account_row}
 use Rattle.brk_audit_sums.specs.Settling.{account_broker_or_zero, account_tax_status_or_untaxed}
 use Rattle.brk_audit_sums.specs.declared.account_terms.AccountTerms.{AccountTerms}

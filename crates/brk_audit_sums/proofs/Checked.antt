@@ -7,19 +7,19 @@ use Rattle.std.specs.List.{AllByRecursion, filter_map}
 use Rattle.std.specs.Ordering.{is_eq, nat_cmp}
 use Rattle.brk_model.specs.Lists.{total_by}
 use Rattle.brk_model.specs.Tables.{TradeRow}
-use Rattle.brk_changes.specs.Rows.{abstract_move_row, abstract_trade_row}
-use Rattle.brk_changes.specs.Sheets.{abstract_sheets}
-use Rattle.brk_changes.specs.declared.sheets.Sheets.{Sheets}
-use Rattle.brk_changes.specs.declared.trade_row.TradeRow as trade
-use Rattle.brk_changes.specs.declared.move_row.MoveRow as move
+use Rattle.brk_trade_rows.specs.Rows.{abstract_move_row, abstract_trade_row}
+use Rattle.brk_trade_rows.specs.Sheets.{abstract_sheets}
+use Rattle.brk_trade_rows.specs.declared.sheets.Sheets.{Sheets}
+use Rattle.brk_trade_rows.specs.declared.trade_row.TradeRow as trade
+use Rattle.brk_trade_rows.specs.declared.move_row.MoveRow as move
 use Rattle.brk_audit_sums.specs.AccountTerms.{account_broker_in_terms}
 use Rattle.brk_audit_sums.specs.Completed.{is_completed_trade_row}
 use Rattle.brk_audit_sums.specs.Settling.{account_broker_or_zero}
 use Rattle.brk_audit_sums.specs.Sums.{broker_posting_of_trade_row, movement_posting_of_row, sum_over_broker_trades}
 use Rattle.brk_audit_sums.specs.declared.account_terms.AccountTerms.{AccountTerms}
-use Rattle.brk_book_theorems.proofs.Places.{filter-append}
-use Rattle.brk_book_theorems.proofs.Worth.{total-append}
-use Rattle.brk_book_theorems.proofs.Same.{All-map, All-mapped, All-of, filter-same, total_by-same}
+use Rattle.brk_trade_books.proofs.Places.{filter-append}
+use Rattle.brk_trade_books.proofs.Worth.{total-append}
+use Rattle.brk_trade_books.proofs.Same.{All-map, All-mapped, All-of, filter-same, total_by-same}
 use Rattle.brk_audit_sums.specs.declared.tally.KeyedAmount.{KeyedAmount}
 use Rattle.brk_audit_sums.specs.Tally.{sum_at_key, total_amount_at_key}
 use Rattle.brk_audit_sums.proofs.AccountTerms.{HasTerms, same_brokers}

@@ -13,7 +13,7 @@ use Rattle.brk_model.specs.Derived.{pending_trades}
 use Rattle.brk_model.specs.Tables.{Tables, TradeRow}
 use Rattle.brk_model.specs.Adopted.{base_of_tables, trade_of_row}
 use Rattle.brk_model.specs.Ways.{completion_stamps, movement_stamps, satisfies_status_condition, has_valid_status_history}
-use Rattle.brk_book_theorems.proofs.Same.{All-map, All-filter, filter-same}
+use Rattle.brk_trade_books.proofs.Same.{All-map, All-filter, filter-same}
 use Rattle.brk_audit_theorems.proofs.Climbs.{list_all_true}
 use Rattle.brk_audit_theorems.proofs.Marks.{Lasts, lasts, same_statuses}
 use Rattle.brk_audit_theorems.proofs.AdoptedBooks.{filter-map}

@@ -7,8 +7,8 @@ use Rattle.std.specs.Ordering.{is_eq}
 use Rattle.std.proofs.lemmas.List.{take_more}
 use Rattle.std.proofs.lemmas.List.Elements.{filter_map-append}
 use Rattle.brk_model.specs.Lists.{total_by}
-use Rattle.brk_book_theorems.proofs.SumReading.{total-map}
-use Rattle.brk_book_theorems.proofs.Same.{map-last}
+use Rattle.brk_trade_books.proofs.SumReading.{total-map}
+use Rattle.brk_trade_books.proofs.Same.{map-last}
 use Rattle.brk_audit_theorems.proofs.AdoptedBooks.{filter-map}
 use Rattle.brk_audit_sums.specs.declared.tally.KeyedAmount.{KeyedAmount}
 use Rattle.brk_audit_sums.specs.Tally.{total_amount_at_key}

@@ -18,10 +18,10 @@ use Rattle.brk_model.specs.Keys.{number, rows_sorted_by_key, is_row_key_less, ca
 use Rattle.brk_model.specs.Adopted.{account_of_row, base_of_tables, is_posting_of_trade, posting_of_cash_transaction_row, posting_of_cash_move_row, postings_of_tables, trade_of_row}
 use Rattle.brk_model.specs.Ways.{satisfies_status_condition, has_valid_status_history}
 use Rattle.brk_model.specs.Audit.{ConditionHolds, expected_tables}
-use Rattle.brk_book_theorems.proofs.Same.{All-filter, All-map, find-each, map-same}
+use Rattle.brk_trade_books.proofs.Same.{All-filter, All-map, find-each, map-same}
 use Rattle.brk_model.specs.Lists.{sort_by}
-use Rattle.brk_book_theorems.proofs.Order.{append_nil}
-use Rattle.brk_book_theorems.proofs.Reading.{find-map}
+use Rattle.brk_trade_books.proofs.Order.{append_nil}
+use Rattle.brk_trade_books.proofs.Reading.{find-map}
 use Rattle.brk_audit_theorems.proofs.Climbs.{Climbs, In, climbs_filter, climbs_map, each_in, stays}
 use Rattle.brk_audit_theorems.proofs.Members.{FoundIn, found_in, map-map, one_of_key}
 use Rattle.brk_audit_theorems.proofs.AdoptedBooks.{filter-map}

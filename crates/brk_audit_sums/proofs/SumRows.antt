@@ -18,8 +18,8 @@ use Rattle.brk_model.specs.Keys.{account_key, broker_key, rows_sorted_by_key, nu
 use Rattle.brk_model.specs.Adopted.{account_of_row, base_of_tables, movement_of_row, trade_of_row}
 use Rattle.brk_model.specs.Ways.{satisfies_status_condition}
 use Rattle.brk_model.specs.Audit.{ConditionHolds, expected_tables}
-use Rattle.brk_book_theorems.proofs.Postings.{balance_parts}
-use Rattle.brk_book_theorems.proofs.Same.{All-map, All-of, filter-same, find-each, map-same, total_by-same}
+use Rattle.brk_trade_books.proofs.Postings.{balance_parts}
+use Rattle.brk_trade_books.proofs.Same.{All-map, All-of, filter-same, find-each, map-same, total_by-same}
 use Rattle.brk_audit_theorems.proofs.Climbs.{Climbs, In, climbs_map, each_in, stays}
 use Rattle.brk_audit_theorems.proofs.Members.{FoundIn, found_in, map-map, one_of_key}
 use Rattle.brk_audit_theorems.proofs.AdoptedTables.{brokers_there}

@@ -21,10 +21,10 @@ use Rattle.brk_model.specs.Lists.{is_zero, total_by}
 use Rattle.brk_model.specs.Shares.{signed_by_side}
 use Rattle.brk_model.specs.Schemas.{Schema}
 use Rattle.brk_model.specs.Tables.{Tables, SummaryRow, TradeRow}
-use Rattle.brk_changes.specs.Rows.{abstract_summary_row, abstract_trade_row}
-use Rattle.brk_changes.specs.Sheets.{abstract_sheets}
-use Rattle.brk_changes.specs.declared.sheets.Sheets.{Sheets}
-use Rattle.brk_book_theorems.proofs.Same.{All-map, All-mapped, All-of, filter-none, filter-same, find-none}
+use Rattle.brk_trade_rows.specs.Rows.{abstract_summary_row, abstract_trade_row}
+use Rattle.brk_trade_rows.specs.Sheets.{abstract_sheets}
+use Rattle.brk_trade_rows.specs.declared.sheets.Sheets.{Sheets}
+use Rattle.brk_trade_books.proofs.Same.{All-map, All-mapped, All-of, filter-none, filter-same, find-none}
 use Rattle.brk_audit_theorems.proofs.Climbs.{list_all_true, of_all}
 use Rattle.brk_audit_theorems.proofs.Members.{FoundIn, found_in}
 use Rattle.brk_model_theorems.proofs.FormParts.{form_parts}

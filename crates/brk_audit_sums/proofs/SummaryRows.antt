@@ -21,11 +21,11 @@ use Rattle.brk_model.specs.Tables.{Tables, AccountRow, SecurityRow, SummaryRow, 
 use Rattle.brk_model.specs.Adopted.{account_of_row, base_of_tables, security_of_row, trade_of_row}
 use Rattle.brk_model.specs.Ways.{satisfies_status_condition}
 use Rattle.brk_model.specs.Audit.{ConditionHolds, expected_tables}
-use Rattle.brk_book_theorems.specs.Books.{BooksInvariant}
-use Rattle.brk_book_theorems.proofs.Reading.{find-map}
-use Rattle.brk_book_theorems.proofs.Same.{All-map, All-mapped, All-of, filter-none, find-each, find-none}
-use Rattle.brk_book_theorems.proofs.Summaries.{all_summaries, own_summary}
-use Rattle.brk_book_theorems.proofs.Worth.{summaries_in}
+use Rattle.brk_trade_books.specs.Books.{BooksInvariant}
+use Rattle.brk_trade_books.proofs.Reading.{find-map}
+use Rattle.brk_trade_books.proofs.Same.{All-map, All-mapped, All-of, filter-none, find-each, find-none}
+use Rattle.brk_trade_books.proofs.Summaries.{all_summaries, own_summary}
+use Rattle.brk_trade_books.proofs.Worth.{summaries_in}
 use Rattle.brk_audit_theorems.proofs.AdoptedBooks.{adopted_books, symbol_of}
 use Rattle.brk_audit_theorems.proofs.Climbs.{Climbs, In, climbs_append, climbs_filter, climbs_map, each_in, list_all_true, not_itself, of_all, same_rows, stays}
 use Rattle.brk_audit_theorems.specs.Histories.{account_id_key, security_symbol_key}

@@ -11,7 +11,7 @@ use Rattle.std.proofs.Math.IntN.{+ℤ_idr}
 use Rattle.std.proofs.lemmas.List.Elements.{filter_more}
 use Rattle.brk_audit_sums.specs.declared.tally.KeyedAmount.{KeyedAmount}
 use Rattle.brk_model.specs.Lists.{total_by}
-use Rattle.brk_book_theorems.proofs.Worth.{total-append}
+use Rattle.brk_trade_books.proofs.Worth.{total-append}
 use Rattle.brk_audit_sums.specs.Tally.{sum_at_key, total_amount_at_key}
 
 is_equal : (o : Ordering) → is_eq o ≡ true → o ≡ Equal

@@ -4,8 +4,8 @@ use Rattle.brk_model.specs.Form.{satisfies_form_condition}
 use Rattle.brk_model.specs.Schemas.{Schema}
 use Rattle.brk_model.specs.Tables.{Tables}
 use Rattle.brk_model.specs.Ways.{satisfies_status_condition}
-use Rattle.brk_changes.specs.Sheets.{abstract_sheets}
-use Rattle.brk_changes.specs.declared.sheets.Sheets.{Sheets}
+use Rattle.brk_trade_rows.specs.Sheets.{abstract_sheets}
+use Rattle.brk_trade_rows.specs.declared.sheets.Sheets.{Sheets}
 
 -- The tables `t` satisfy the condition `Form` of some schema.
 pub record IsWellFormedBySomeSchema (t : Tables) : Type 0 where

@@ -4,7 +4,7 @@ ghost use Rattle.brk_money.specs.declared.fault.Condition.TheVariants.{Commissio
 ghost use Rattle.brk_money.specs.declared.fault.Fault.TheVariants.{Memory};
 ghost use Rattle.brk_model.specs.Audit.{ConditionHolds};
 ghost use Rattle.brk_model.specs.Schemas.{Schema};
-ghost use Rattle.brk_changes.specs.Sheets.{abstract_sheets};
+ghost use Rattle.brk_trade_rows.specs.Sheets.{abstract_sheets};
 ghost use Rattle.brk_audit_sums.specs.AccountTerms.{account_broker_in_terms};
 ghost use Rattle.brk_audit_sums.specs.Conditions.{HasWellFormedRows, HasValidStatuses};
 ghost use Rattle.brk_audit_sums.specs.Sums.{broker_posting_of_trade_row};
@@ -14,9 +14,9 @@ use crate::account_terms::{AccountTerms, account_terms_by_id};
 use crate::broker_posting::posting_at_broker;
 use crate::keyed_sum::{KeyedSum, all_totals_match_sums, postings_of_trades};
 use crate::tally::{KeyedAmount, sum_amounts_by_key, sum_or_zero_at_key};
-use brk_changes::{Sheets, TradeRow};
 use brk_money::Fault;
 use brk_ref::BrokerRow;
+use brk_trade_rows::{Sheets, TradeRow};
 use std::alloc::Global;
 use std::collections::BTreeMap;
 

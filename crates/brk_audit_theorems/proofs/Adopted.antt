@@ -4,8 +4,8 @@ use Rattle.std.specs.Prelude.{◌&&◌, ◌↔◌, find, option_map, nat_lt}
 use Rattle.std.specs.List.{AllByRecursion, list_all}
 use Rattle.std.specs.Option.{option_map_or}
 use Rattle.std.proofs.lemmas.Bool.{and_parts, and_from}
-use Rattle.brk_book_theorems.proofs.Order.{Sorted, sorted_sort, nat_splits, nat_one_way}
-use Rattle.brk_book_theorems.proofs.MoveReading.{turn_filter}
+use Rattle.brk_trade_books.proofs.Order.{Sorted, sorted_sort, nat_splits, nat_one_way}
+use Rattle.brk_trade_books.proofs.MoveReading.{turn_filter}
 use Rattle.brk_audit_theorems.proofs.UpgradedBase.{IsPosted, posted}
 use Rattle.std.proofs.lemmas.Bool.Decides.{nat_tests}
 use Rattle.brk_model.specs.Schemas.{third_schema}
@@ -19,9 +19,9 @@ use Rattle.brk_model.specs.Adopted.{base_of_tables, status_changes_of_trade, tra
 use Rattle.brk_model.specs.Audit.{ConditionHolds}
 use Rattle.brk_model.specs.Form.{satisfies_form_condition}
 use Rattle.brk_model.specs.Ways.{completion_stamps, satisfies_status_condition, matches_last_status_change, is_strictly_ascending, is_valid_status_sequence, has_valid_status_history, movement_stamps}
-use Rattle.brk_book_theorems.specs.Books.{BooksInvariant, HasDistinctMovementStamps}
-use Rattle.brk_book_theorems.proofs.Same.{All-map, All-mapped}
-use Rattle.brk_book_theorems.proofs.Reading.{find-id, find-map}
+use Rattle.brk_trade_books.specs.Books.{BooksInvariant, HasDistinctMovementStamps}
+use Rattle.brk_trade_books.proofs.Same.{All-map, All-mapped}
+use Rattle.brk_trade_books.proofs.Reading.{find-id, find-map}
 use Rattle.brk_audit_theorems.specs.Passing.{PassesAudit}
 use Rattle.brk_audit_theorems.specs.Histories.{HasValidStatusSequence, HasSettlementAndCashTextsOnlyIfCompleted, HasValidHistories, HasAscendingStatusStamps}
 use Rattle.brk_audit_theorems.proofs.Again.{IsRead, reads, found_first, posted_in, posting_again, turn_one}
@@ -30,7 +30,7 @@ use Rattle.brk_model_theorems.proofs.Conjunctions.{parts3}
 use Rattle.brk_audit_theorems.proofs.Passed.{tables_pass}
 use Rattle.brk_audit_theorems.proofs.Passing.{all_hold, passing_books, passing_tables}
 use Rattle.brk_model.specs.Run.{Call, Outcome, Run}
-use Rattle.brk_book_theorems.proofs.Steps.{empty_books}
+use Rattle.brk_trade_books.proofs.Steps.{empty_books}
 use Rattle.brk_audit_theorems.specs.Runs.{CallMeetsAuditFormats}
 use Rattle.brk_audit_theorems.proofs.SoundRuns.{run_both}
 use Rattle.brk_audit_theorems.proofs.SoundSteps.{empty_sound}

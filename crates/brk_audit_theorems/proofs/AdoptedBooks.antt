@@ -28,13 +28,13 @@ use Rattle.brk_model.specs.Form.{is_well_formed_cash_move_row, has_disjoint_band
 use Rattle.brk_model.specs.Form.{is_well_formed_trade_row}
 use Rattle.brk_model.specs.Ways.{completion_stamps, satisfies_status_condition, movement_stamps, has_valid_status_history}
 use Rattle.brk_model.specs.Names.{AccountOfTradeExists, BrokerOfAccountExists, CustomerOfAccountExists, SecurityOfTradeExists, TradesAreNumberedFrom}
-use Rattle.brk_book_theorems.specs.Books.{MovementBooksInvariant, HasDisjointBands, HasNoCompletionIfSubmitted, HasDistinctAccountIds, HasDistinctSymbols}
-use Rattle.brk_book_theorems.specs.Books.{HasOrderedBounds, MovementAccountExists, HasVolumeWithinLimit, BooksInvariant, TradeStampIsAtMostLastStamp}
-use Rattle.brk_book_theorems.specs.Books.{MovementStampIsAtMostLastStamp, HasLastStatusAtOtherStamp, HasDistinctLastStatusStamps, HasDistinctMovementStamps}
-use Rattle.brk_book_theorems.specs.Books.{HasDistinctPermissions, HasOneStatusChangeIfPending}
-use Rattle.brk_book_theorems.proofs.Bools.{numbers_back}
-use Rattle.brk_book_theorems.proofs.Same.{All-map, All-mapped, All-of, any-none, find-All}
-use Rattle.brk_book_theorems.proofs.Reading.{find-map, is_some-map, some-is-any}
+use Rattle.brk_trade_books.specs.Books.{MovementBooksInvariant, HasDisjointBands, HasNoCompletionIfSubmitted, HasDistinctAccountIds, HasDistinctSymbols}
+use Rattle.brk_trade_books.specs.Books.{HasOrderedBounds, MovementAccountExists, HasVolumeWithinLimit, BooksInvariant, TradeStampIsAtMostLastStamp}
+use Rattle.brk_trade_books.specs.Books.{MovementStampIsAtMostLastStamp, HasLastStatusAtOtherStamp, HasDistinctLastStatusStamps, HasDistinctMovementStamps}
+use Rattle.brk_trade_books.specs.Books.{HasDistinctPermissions, HasOneStatusChangeIfPending}
+use Rattle.brk_trade_books.proofs.Bools.{numbers_back}
+use Rattle.brk_trade_books.proofs.Same.{All-map, All-mapped, All-of, any-none, find-All}
+use Rattle.brk_trade_books.proofs.Reading.{find-map, is_some-map, some-is-any}
 use Rattle.brk_audit_theorems.proofs.Climbs.{Climbs, In, climbs_filter, list_all_true, not_itself, of_all}
 use Rattle.brk_audit_theorems.proofs.Parts.{KeyParts, key_parts}
 use Rattle.brk_model_theorems.specs.FormParts.{SatisfiesFormParts}

@@ -15,10 +15,10 @@ use Rattle.brk_model.specs.Joins.{history_rows_with_trade_id}
 use Rattle.brk_model.specs.Keys.{number, is_key_less, rows_sorted_by_key, insert_row_by_key, history_key, trade_key}
 use Rattle.brk_model.specs.Adopted.{trade_of_row}
 use Rattle.brk_model.specs.Form.{has_trade, is_well_formed_history_row, is_at_most_last_stamp}
-use Rattle.brk_book_theorems.proofs.Order.{rows_commute}
-use Rattle.brk_book_theorems.proofs.Same.{All-map, All-of}
-use Rattle.brk_book_theorems.proofs.LotReading.{all_pass}
-use Rattle.brk_book_theorems.proofs.Each.{AllCommute, Commute, each, each_map, each_sort}
+use Rattle.brk_trade_books.proofs.Order.{rows_commute}
+use Rattle.brk_trade_books.proofs.Same.{All-map, All-of}
+use Rattle.brk_trade_books.proofs.LotReading.{all_pass}
+use Rattle.brk_trade_books.proofs.Each.{AllCommute, Commute, each, each_map, each_sort}
 use Rattle.brk_audit_theorems.proofs.Climbs.{AllBefore, Climbs, In, climbs_append, climbs_filter, each_in, not_itself, same_rows, stays}
 use Rattle.brk_audit_theorems.proofs.Members.{All-flat_map, FoundIn, each-append, each-same, found_in, in_filter, in_flat_map, sorted_each}
 use Rattle.brk_audit_theorems.proofs.Marks.{filtered}

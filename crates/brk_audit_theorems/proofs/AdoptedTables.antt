@@ -22,8 +22,8 @@ use Rattle.brk_model.specs.Adopted.{account_of_row, base_of_tables, zero_last_tr
 use Rattle.brk_model.specs.Form.{satisfies_form_condition, has_security, is_well_formed_history_row, is_price, is_at_most_last_stamp, is_well_formed_last_trade_row, is_well_formed_security_row}
 use Rattle.brk_model.specs.Ways.{completion_stamps, satisfies_status_condition, movement_stamps, has_valid_status_history}
 use Rattle.brk_model.specs.Audit.{ConditionHolds, expected_tables}
-use Rattle.brk_book_theorems.proofs.Same.{All-map, All-of}
-use Rattle.brk_book_theorems.proofs.Reading.{some-is-any}
+use Rattle.brk_trade_books.proofs.Same.{All-map, All-of}
+use Rattle.brk_trade_books.proofs.Reading.{some-is-any}
 use Rattle.brk_audit_theorems.proofs.Climbs.{Climbs, In, climbs_map, each_in, list_all_true, same_rows, stays}
 use Rattle.brk_audit_theorems.proofs.Members.{FoundIn, found_in, in_map, map-map, map_back, one_of_key}
 use Rattle.brk_audit_theorems.proofs.Marks.{Lasts, lasts, same_statuses}

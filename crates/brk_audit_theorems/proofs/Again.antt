@@ -19,17 +19,17 @@ use Rattle.brk_model.specs.Adopted.{posting_of_cash_transaction_row, posting_of_
 use Rattle.brk_model.specs.Adopted.{trade_of_row}
 use Rattle.brk_model.specs.Ways.{is_strictly_ascending}
 use Rattle.brk_model.specs.Names.{TradesAreNumberedFrom}
-use Rattle.brk_book_theorems.specs.Books.{HasDistinctSymbols, BooksInvariant}
-use Rattle.brk_book_theorems.proofs.Order.{Sorted, Splits, by_key-filter, by_key-map, insert_commute, sort_sorted}
-use Rattle.brk_book_theorems.proofs.Same.{All-map, All-of, NonePass, filter-none, flat_map-append}
-use Rattle.brk_book_theorems.proofs.Places.{append_assoc, filter-all, filter-append}
-use Rattle.brk_book_theorems.proofs.Numbering.{numbered_after, numbered_before}
-use Rattle.brk_book_theorems.proofs.LotReading.{All-sort}
-use Rattle.brk_book_theorems.proofs.Reading.{find-id, find-map}
-use Rattle.brk_book_theorems.proofs.TermReading.{reads_last_trade}
-use Rattle.brk_book_theorems.proofs.TradeReading.{trades_in_order}
-use Rattle.brk_book_theorems.proofs.MoveReading.{movements_back, rows_posted, turn_filter}
-use Rattle.brk_book_theorems.proofs.Each.{AllCommute, Commute, each, each_map, each_sort}
+use Rattle.brk_trade_books.specs.Books.{HasDistinctSymbols, BooksInvariant}
+use Rattle.brk_trade_books.proofs.Order.{Sorted, Splits, by_key-filter, by_key-map, insert_commute, sort_sorted}
+use Rattle.brk_trade_books.proofs.Same.{All-map, All-of, NonePass, filter-none, flat_map-append}
+use Rattle.brk_trade_books.proofs.Places.{append_assoc, filter-all, filter-append}
+use Rattle.brk_trade_books.proofs.Numbering.{numbered_after, numbered_before}
+use Rattle.brk_trade_books.proofs.LotReading.{All-sort}
+use Rattle.brk_trade_books.proofs.Reading.{find-id, find-map}
+use Rattle.brk_trade_books.proofs.TermReading.{reads_last_trade}
+use Rattle.brk_trade_books.proofs.TradeReading.{trades_in_order}
+use Rattle.brk_trade_books.proofs.MoveReading.{movements_back, rows_posted, turn_filter}
+use Rattle.brk_trade_books.proofs.Each.{AllCommute, Commute, each, each_map, each_sort}
 use Rattle.brk_audit_theorems.specs.Histories.{HasSettlementAndCashTextsOnlyIfCompleted, HasValidHistories, HasAscendingStatusStamps, base_sorted_by_keys}
 use Rattle.brk_audit_theorems.proofs.Members.{map-map, map_back}
 

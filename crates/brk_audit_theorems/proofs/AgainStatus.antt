@@ -15,13 +15,13 @@ use Rattle.brk_model.specs.Sheets.{sheets, tables_sorted_by_key}
 use Rattle.brk_model.specs.Keys.{rows_sorted_by_key, is_row_key_less, history_key}
 use Rattle.brk_model.specs.Adopted.{movement_of_row}
 use Rattle.brk_model.specs.Ways.{completion_stamps, satisfies_status_condition, movement_stamps, matches_last_status_change, is_strictly_ascending, is_valid_status_sequence, has_valid_status_history}
-use Rattle.brk_book_theorems.specs.Books.{BooksInvariant, HasDistinctLastStatusStamps, HasDistinctMovementStamps}
-use Rattle.brk_book_theorems.proofs.Bools.{numbers_back}
-use Rattle.brk_book_theorems.proofs.Order.{by_key-filter}
-use Rattle.brk_book_theorems.proofs.LotReading.{All-sort}
-use Rattle.brk_book_theorems.proofs.Same.{All-of}
-use Rattle.brk_book_theorems.proofs.Places.{filter-append, map-append}
-use Rattle.brk_book_theorems.proofs.TradeReading.{trades_in_order}
+use Rattle.brk_trade_books.specs.Books.{BooksInvariant, HasDistinctLastStatusStamps, HasDistinctMovementStamps}
+use Rattle.brk_trade_books.proofs.Bools.{numbers_back}
+use Rattle.brk_trade_books.proofs.Order.{by_key-filter}
+use Rattle.brk_trade_books.proofs.LotReading.{All-sort}
+use Rattle.brk_trade_books.proofs.Same.{All-of}
+use Rattle.brk_trade_books.proofs.Places.{filter-append, map-append}
+use Rattle.brk_trade_books.proofs.TradeReading.{trades_in_order}
 use Rattle.brk_audit_theorems.specs.Histories.{HasValidStatusSequence, HasValidHistories, HasAscendingStatusStamps}
 use Rattle.brk_audit_theorems.proofs.Marks.{no_more_ways, three_ways}
 use Rattle.brk_audit_theorems.proofs.Again.{IsRead, both_all, marks_again, movements_again, reads}

@@ -14,7 +14,7 @@ use Rattle.brk_model.specs.Shares.{shares_after_deal, buy_value}
 use Rattle.brk_model.specs.Derived.{signed_proceeds}
 use Rattle.brk_model.specs.Orders.{tax_on_deal}
 use Rattle.brk_model.specs.Base.{Base, customer_id_of_account, is_taxable_account, tax_rate_sum_of_customer}
-use Rattle.brk_book_theorems.proofs.Same.{All-append}
+use Rattle.brk_trade_books.proofs.Same.{All-append}
 
 -- ---- shares
 

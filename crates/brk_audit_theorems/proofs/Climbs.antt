@@ -6,8 +6,8 @@ use Rattle.std.specs.List.{AllByRecursion, list_all}
 use Rattle.std.proofs.lemmas.Bool.{and_parts}
 use Rattle.brk_model.specs.Keys.{KeyPart, is_key_less, is_row_key_less, rows_sorted_by_key}
 use Rattle.brk_model.specs.Form.{is_sorted_by_unique_key}
-use Rattle.brk_book_theorems.proofs.Order.{Sorted, key_one_way, key_splits, sort_sorted}
-use Rattle.brk_book_theorems.proofs.Same.{All-filter, All-map, All-append}
+use Rattle.brk_trade_books.proofs.Order.{Sorted, key_one_way, key_splits, sort_sorted}
+use Rattle.brk_trade_books.proofs.Same.{All-filter, All-map, All-append}
 
 -- ---- members
 

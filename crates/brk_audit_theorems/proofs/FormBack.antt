@@ -10,7 +10,7 @@ use Rattle.brk_money.specs.Spelling.{Text, is_within_amount_limit}
 use Rattle.brk_money.specs.Moments.{day_of, greatest_day}
 use Rattle.brk_money.specs.Kinds.{is_same_trade_status, side_of_trade_type}
 use Rattle.brk_money.specs.declared.status.Status.TheVariants.{Completed}
-use Rattle.brk_book_theorems.proofs.MoveReading.{moves_counted, rows_posted}
+use Rattle.brk_trade_books.proofs.MoveReading.{moves_counted, rows_posted}
 use Rattle.brk_audit_theorems.proofs.UpgradedForm.{HasForm, move_posted}
 use Rattle.brk_model.specs.Schemas.{third_schema}
 use Rattle.brk_model.specs.Limits.{greatest_amount, greatest_charge, greatest_summary_quantity, greatest_tax_rate, most_accounts_per_customer, greatest_id}
@@ -37,16 +37,16 @@ use Rattle.brk_model.specs.Forms.{is_acl, is_exchange, is_name, is_symbol, is_ta
 use Rattle.brk_model.specs.Keys.{KeyPart, word, rows_sorted_by_key, is_row_key_less, account_key, band_key, broker_key, cash_transaction_key, charge_key}
 use Rattle.brk_model.specs.Keys.{customer_key, customer_tax_key, history_key, kept_key, last_trade_key, permission_key, security_key, settlement_key}
 use Rattle.brk_model.specs.Keys.{summary_key, tax_rate_key, trade_key}
-use Rattle.brk_book_theorems.specs.Books.{BooksInvariant}
-use Rattle.brk_book_theorems.proofs.NewKeys.{same_bytes, unused}
-use Rattle.brk_book_theorems.proofs.Order.{NewKey, by_key-filter}
-use Rattle.brk_book_theorems.proofs.Same.{All-filter, All-map, any-none, filter-none, All-mapped}
-use Rattle.brk_book_theorems.proofs.Completing.{All-unfilter, All-unsort}
-use Rattle.brk_book_theorems.proofs.Reading.{any-sorted, reads_count}
-use Rattle.brk_book_theorems.proofs.References.{no_broker_trades, no_trades_of, nothing_posted}
-use Rattle.brk_book_theorems.proofs.LotReading.{numbered_rise, rise_apart}
-use Rattle.brk_book_theorems.proofs.TradeReading.{reads_trade}
-use Rattle.brk_book_theorems.proofs.Tested.{All-back, All-front}
+use Rattle.brk_trade_books.specs.Books.{BooksInvariant}
+use Rattle.brk_trade_books.proofs.NewKeys.{same_bytes, unused}
+use Rattle.brk_trade_books.proofs.Order.{NewKey, by_key-filter}
+use Rattle.brk_trade_books.proofs.Same.{All-filter, All-map, any-none, filter-none, All-mapped}
+use Rattle.brk_trade_books.proofs.Completing.{All-unfilter, All-unsort}
+use Rattle.brk_trade_books.proofs.Reading.{any-sorted, reads_count}
+use Rattle.brk_trade_books.proofs.References.{no_broker_trades, no_trades_of, nothing_posted}
+use Rattle.brk_trade_books.proofs.LotReading.{numbered_rise, rise_apart}
+use Rattle.brk_trade_books.proofs.TradeReading.{reads_trade}
+use Rattle.brk_trade_books.proofs.Tested.{All-back, All-front}
 use Rattle.brk_audit_theorems.specs.Histories.{HasValidStatusSequence, HasSettlementAndCashTextsOnlyIfCompleted, HasValidHistories, HasAscendingStatusStamps, broker_id_key}
 use Rattle.brk_audit_theorems.proofs.Again.{IsRead, both_all, reads}
 use Rattle.brk_audit_theorems.proofs.Climbs.{Climbs, list_all_true, not_itself, of_all}

@@ -7,7 +7,7 @@ use Rattle.brk_money.specs.Spelling.{Text}
 use Rattle.brk_money.specs.Kinds.{trade_status_code}
 use Rattle.brk_money.specs.declared.status.Status.{Status}
 use Rattle.brk_money.specs.declared.status.Status.TheVariants.{Completed, Submitted, Pending, Canceled}
-use Rattle.brk_book_theorems.proofs.Postings.{numbered_stay}
+use Rattle.brk_trade_books.proofs.Postings.{numbered_stay}
 use Rattle.brk_audit_theorems.proofs.UpgradedForm.{numbered_rises}
 use Rattle.brk_model.specs.Lists.{is_zero, sort_by}
 use Rattle.brk_model.specs.Records.{Account, StatusChange, Security, Trade}
@@ -26,11 +26,11 @@ use Rattle.brk_model.specs.Keys.{last_trade_key, charge_key, band_key, tax_rate_
 use Rattle.brk_model.specs.Keys.{summary_key, holding_history_key, settlement_key, cash_transaction_key, cash_move_key}
 use Rattle.brk_model.specs.Ways.{is_valid_status_sequence}
 use Rattle.brk_model_theorems.proofs.FormParts.{keys_whole}
-use Rattle.brk_book_theorems.specs.Books.{HasDistinctAccountIds, HasDistinctSymbols, BooksInvariant}
-use Rattle.brk_book_theorems.proofs.NewKeys.{not_both, same_bytes}
-use Rattle.brk_book_theorems.proofs.Same.{All-filter, All-map, All-mapped, All-of}
-use Rattle.brk_book_theorems.proofs.LotReading.{IdsApart, numbered_rise, rise_apart}
-use Rattle.brk_book_theorems.proofs.LotReading.{rise_filter}
+use Rattle.brk_trade_books.specs.Books.{HasDistinctAccountIds, HasDistinctSymbols, BooksInvariant}
+use Rattle.brk_trade_books.proofs.NewKeys.{not_both, same_bytes}
+use Rattle.brk_trade_books.proofs.Same.{All-filter, All-map, All-mapped, All-of}
+use Rattle.brk_trade_books.proofs.LotReading.{IdsApart, numbered_rise, rise_apart}
+use Rattle.brk_trade_books.proofs.LotReading.{rise_filter}
 use Rattle.brk_audit_theorems.proofs.Marks.{no_more_ways, three_ways}
 use Rattle.brk_audit_theorems.proofs.Sorted.{All-block, All-rows}
 use Rattle.brk_audit_theorems.specs.Histories.{account_id_key, broker_id_key}

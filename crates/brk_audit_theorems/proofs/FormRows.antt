@@ -9,7 +9,7 @@ use Rattle.brk_money.specs.Spelling.{Text, is_within_amount_limit}
 use Rattle.brk_money.specs.Moments.{day_of, greatest_day, greatest_stamp}
 use Rattle.brk_money.specs.Kinds.{is_same_trade_status}
 use Rattle.brk_money.specs.declared.status.Status.TheVariants.{Completed, Pending}
-use Rattle.brk_book_theorems.proofs.MoveReading.{moves_counted}
+use Rattle.brk_trade_books.proofs.MoveReading.{moves_counted}
 use Rattle.brk_audit_theorems.proofs.UpgradedBase.{moves_own}
 use Rattle.brk_audit_theorems.proofs.UpgradedForm.{HasForm, few_postings, numbered_form}
 use Rattle.brk_model.specs.Schemas.{third_schema}
@@ -46,16 +46,16 @@ use Rattle.brk_model.specs.Ways.{is_valid_status_sequence}
 use Rattle.brk_model.specs.Names.{AccountOfTradeExists, BrokerOfAccountExists, CustomerOfAccountExists, SecurityOfTradeExists, TradesAreNumberedFrom}
 use Rattle.brk_model_theorems.proofs.FormParts.{form_whole}
 use Rattle.brk_model_theorems.proofs.Conjunctions.{and10, and3, and4, and5, and6, parts3, parts4, parts5, parts6}
-use Rattle.brk_book_theorems.specs.Books.{BooksInvariant, HasVolumeWithinLimit, MovementAccountExists, MovementStampIsAtMostLastStamp}
-use Rattle.brk_book_theorems.proofs.Bools.{numbers_back}
-use Rattle.brk_book_theorems.proofs.Postings.{numbered_stay}
-use Rattle.brk_book_theorems.proofs.Order.{by_key-filter}
-use Rattle.brk_book_theorems.proofs.Same.{All-filter, All-map, All-mapped, All-of, find-each, All-append}
-use Rattle.brk_book_theorems.proofs.Reading.{any-sorted, find-key, is_some-map, reads_account, reads_broker, reads_count, reads_customer, some-is-any}
-use Rattle.brk_book_theorems.proofs.TermReading.{map-or, reads_last_trade, reads_rates, reads_security, reads_tax_rate}
-use Rattle.brk_book_theorems.proofs.TradeReading.{reads_trade, trades_in_order}
-use Rattle.brk_book_theorems.proofs.LotReading.{All-sort, IdsApart, numbered_rise, rise_apart}
-use Rattle.brk_book_theorems.proofs.References.{broker_found}
+use Rattle.brk_trade_books.specs.Books.{BooksInvariant, HasVolumeWithinLimit, MovementAccountExists, MovementStampIsAtMostLastStamp}
+use Rattle.brk_trade_books.proofs.Bools.{numbers_back}
+use Rattle.brk_trade_books.proofs.Postings.{numbered_stay}
+use Rattle.brk_trade_books.proofs.Order.{by_key-filter}
+use Rattle.brk_trade_books.proofs.Same.{All-filter, All-map, All-mapped, All-of, find-each, All-append}
+use Rattle.brk_trade_books.proofs.Reading.{any-sorted, find-key, is_some-map, reads_account, reads_broker, reads_count, reads_customer, some-is-any}
+use Rattle.brk_trade_books.proofs.TermReading.{map-or, reads_last_trade, reads_rates, reads_security, reads_tax_rate}
+use Rattle.brk_trade_books.proofs.TradeReading.{reads_trade, trades_in_order}
+use Rattle.brk_trade_books.proofs.LotReading.{All-sort, IdsApart, numbered_rise, rise_apart}
+use Rattle.brk_trade_books.proofs.References.{broker_found}
 use Rattle.brk_audit_theorems.specs.Histories.{HasValidHistories}
 use Rattle.brk_audit_theorems.proofs.Again.{IsRead, base_again, both_all, reads}
 use Rattle.brk_audit_theorems.proofs.AgainStatus.{all_list, first_of_two, some_last}

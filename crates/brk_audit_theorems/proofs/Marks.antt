@@ -14,9 +14,9 @@ use Rattle.brk_model.specs.Tables.{Tables, TradeRow, HistoryRow}
 use Rattle.brk_model.specs.Joins.{history_rows_with_trade_id}
 use Rattle.brk_model.specs.Adopted.{status_changes_of_trade, trade_of_row}
 use Rattle.brk_model.specs.Ways.{is_valid_status_sequence, matches_last_status_change, is_strictly_ascending, has_valid_status_history}
-use Rattle.brk_book_theorems.specs.Books.{HasOneStatusChangeIfPending, HasNoCompletionIfSubmitted, IsNotCompletion, HasOneStatusChange}
-use Rattle.brk_book_theorems.proofs.Same.{All-map, All-mapped}
-use Rattle.brk_book_theorems.proofs.LotReading.{All-sort}
+use Rattle.brk_trade_books.specs.Books.{HasOneStatusChangeIfPending, HasNoCompletionIfSubmitted, IsNotCompletion, HasOneStatusChange}
+use Rattle.brk_trade_books.proofs.Same.{All-map, All-mapped}
+use Rattle.brk_trade_books.proofs.LotReading.{All-sort}
 use Rattle.brk_audit_theorems.proofs.Climbs.{In, each_in}
 use Rattle.brk_model_theorems.proofs.Conjunctions.{parts3}
 

@@ -4,8 +4,8 @@ use Rattle.std.specs.Prelude.{find, is_some, flat_map}
 use Rattle.std.specs.List.{AllByRecursion}
 use Rattle.brk_model.specs.Lists.{sort_by}
 use Rattle.brk_model.specs.Keys.{KeyPart, is_key_less, rows_sorted_by_key, insert_row_by_key}
-use Rattle.brk_book_theorems.proofs.Same.{All-append}
-use Rattle.brk_book_theorems.proofs.Each.{each}
+use Rattle.brk_trade_books.proofs.Same.{All-append}
+use Rattle.brk_trade_books.proofs.Each.{each}
 use Rattle.brk_audit_theorems.proofs.Climbs.{Climbs, In, not_itself, of_all}
 
 false_true : {A : Type 0} → false ≡ true → A

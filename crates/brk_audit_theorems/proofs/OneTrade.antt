@@ -17,9 +17,9 @@ use Rattle.brk_model.specs.Derived.{deal_of_trade, deals_of_position, trades_of_
 use Rattle.brk_model.specs.Form.{is_up_to_last_stamp, is_price, is_quantity_in_schema}
 use Rattle.brk_model.specs.Tests.{stamp_of_next_command}
 use Rattle.brk_model.specs.Ways.{is_strictly_ascending, is_valid_status_sequence}
-use Rattle.brk_book_theorems.proofs.Same.{All-filter, All-map, All-mapped, map-last}
-use Rattle.brk_book_theorems.proofs.Completing.{All-passing}
-use Rattle.brk_book_theorems.proofs.LotReading.{All-sort}
+use Rattle.brk_trade_books.proofs.Same.{All-filter, All-map, All-mapped, map-last}
+use Rattle.brk_trade_books.proofs.Completing.{All-passing}
+use Rattle.brk_trade_books.proofs.LotReading.{All-sort}
 use Rattle.brk_audit_theorems.specs.Histories.{HasValidStatusSequence, HasAscendingStatusStamps}
 use Rattle.brk_audit_theorems.proofs.Marks.{no_more_ways, same_statuses, three_ways, two_ways}
 use Rattle.brk_audit_theorems.specs.Sound.{StatusStampIsAtMostLastStamp, AuditInvariant, TradeAuditInvariant, BaseTradeAuditInvariant, has_price_exactly_if_completed}

@@ -29,7 +29,7 @@ use Rattle.brk_model.specs.Parse.{NamedParser, bounds_if_ascending, parse_row, r
 use Rattle.brk_model.specs.Parse.{read_with_parser, read_id_of_trade_to_cancel, read_charge, read_customer, read_customer_tax, read_executor, read_feed}
 use Rattle.brk_model.specs.Parse.{read_order, read_permission, read_complete_trade_command, read_listing, read_tax_rate, read_ticks, read_cash_type_update}
 use Rattle.brk_model.specs.Parse.{read_cash_name_update, row_parsers, read_movement_command, read_one_day_settlement_start}
-use Rattle.brk_book_theorems.proofs.Same.{find-All}
+use Rattle.brk_trade_books.proofs.Same.{find-All}
 use Rattle.brk_audit_theorems.specs.Sound.{is_well_formed_account, is_well_formed_broker}
 use Rattle.brk_audit_theorems.specs.InForm.{MeetsAuditFormats, OrderMeetsAuditFormats, TickMeetsAuditFormats, is_well_formed_band, is_well_formed_listing, is_movement_amount_within_limits}
 use Rattle.brk_model_theorems.proofs.Conjunctions.{and3, and4}

@@ -8,7 +8,7 @@ use Rattle.brk_model.specs.Form.{satisfies_form_condition}
 use Rattle.brk_model.specs.Ways.{satisfies_status_condition}
 use Rattle.brk_model.specs.Sheets.{sheets, sheets_in_schema}
 use Rattle.brk_model.specs.Audit.{ConditionHolds}
-use Rattle.brk_book_theorems.specs.Books.{BooksInvariant}
+use Rattle.brk_trade_books.specs.Books.{BooksInvariant}
 use Rattle.brk_audit_theorems.specs.Passing.{PassesAudit}
 use Rattle.brk_audit_theorems.specs.Histories.{HasValidHistories}
 use Rattle.brk_audit_theorems.proofs.Sorted.{sorted_tables}

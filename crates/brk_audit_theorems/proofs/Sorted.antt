@@ -19,11 +19,11 @@ use Rattle.brk_model.specs.Sheets.{sheets, tables_sorted_by_key}
 use Rattle.brk_model.specs.Keys.{KeyPart, number, word, is_row_key_less, rows_sorted_by_key, insert_row_by_key, account_key, band_key, broker_key, charge_key}
 use Rattle.brk_model.specs.Keys.{customer_key, customer_tax_key, kept_key, last_trade_key, cash_move_key, permission_key, request_key, security_key}
 use Rattle.brk_model.specs.Keys.{settlement_key, summary_key, tax_rate_key}
-use Rattle.brk_book_theorems.specs.Books.{HasDistinctAccountIds, HasDistinctSymbols, BooksInvariant}
-use Rattle.brk_book_theorems.proofs.Order.{by_key-map, key_one_way, key_splits, rows_commute, sort_sorted, sorted_sort}
-use Rattle.brk_book_theorems.proofs.Same.{All-map, All-of, map-same}
-use Rattle.brk_book_theorems.proofs.Reading.{find-id}
-use Rattle.brk_book_theorems.proofs.Each.{AllCommute, Commute, each, each_sort}
+use Rattle.brk_trade_books.specs.Books.{HasDistinctAccountIds, HasDistinctSymbols, BooksInvariant}
+use Rattle.brk_trade_books.proofs.Order.{by_key-map, key_one_way, key_splits, rows_commute, sort_sorted, sorted_sort}
+use Rattle.brk_trade_books.proofs.Same.{All-map, All-of, map-same}
+use Rattle.brk_trade_books.proofs.Reading.{find-id}
+use Rattle.brk_trade_books.proofs.Each.{AllCommute, Commute, each, each_sort}
 use Rattle.brk_audit_theorems.specs.Histories.{account_id_key, broker_id_key, base_sorted_by_keys, security_symbol_key}
 use Rattle.brk_audit_theorems.proofs.Members.{each-append, sorted_each}
 

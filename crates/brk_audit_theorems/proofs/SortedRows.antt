@@ -10,13 +10,13 @@ use Rattle.brk_model.specs.Keys.{KeyPart, number, word, rows_sorted_by_key, is_k
 use Rattle.brk_model.specs.Lists.{insert_by, sort_by}
 use Rattle.brk_model.specs.Records.{Account, Band, Customer, Permission, Security, Trade}
 use Rattle.brk_model.specs.Tests.{bands_overlap}
-use Rattle.brk_book_theorems.specs.Books.{HasDisjointBands, HasDistinctAccountIds, HasDistinctSymbols, HasOrderedBounds, HasDistinctPermissions}
-use Rattle.brk_book_theorems.proofs.Order.{All-insert, NewKey, key_total}
-use Rattle.brk_book_theorems.proofs.Same.{NonePass, All-append, All-filter, All-map}
-use Rattle.brk_book_theorems.proofs.Keepers.{meet_back}
-use Rattle.brk_book_theorems.proofs.NewKeys.{band_new, permission_new}
-use Rattle.brk_book_theorems.proofs.References.{new_number}
-use Rattle.brk_book_theorems.proofs.LotReading.{All-sort, IdsApart}
+use Rattle.brk_trade_books.specs.Books.{HasDisjointBands, HasDistinctAccountIds, HasDistinctSymbols, HasOrderedBounds, HasDistinctPermissions}
+use Rattle.brk_trade_books.proofs.Order.{All-insert, NewKey, key_total}
+use Rattle.brk_trade_books.proofs.Same.{NonePass, All-append, All-filter, All-map}
+use Rattle.brk_trade_books.proofs.Keepers.{meet_back}
+use Rattle.brk_trade_books.proofs.NewKeys.{band_new, permission_new}
+use Rattle.brk_trade_books.proofs.References.{new_number}
+use Rattle.brk_trade_books.proofs.LotReading.{All-sort, IdsApart}
 use Rattle.brk_model.specs.Keys.{band_key, permission_key}
 use Rattle.brk_audit_theorems.proofs.Climbs.{Climbs, key_through}
 use Rattle.brk_audit_theorems.proofs.Members.{All-flat_map}

@@ -37,12 +37,12 @@ rows_both batch (row ∷ rows) n base moments e low high h =
     (λ b left k. rows_both batch rows (n + 1) b left e (omega (arith, low)) (omega (arith, high)) k) h
   where
     by_read : (r : ReadResult Command) → IfOk r MeetsAuditFormats → (more : Base → List ℕ → ResultOfRows Base) (base : Base) (moments : List ℕ)
-        → ((b : Base) (left : List ℕ) → Both b → Both (more b left).base) → Both base → Both (result_of_row_and_later_rows step_of_row r (record { batch = batch; row = n }) base moments more).base
+        → ((b : Base) (left : List ℕ) → Both b → Both (more b left).base) → Both base → Both (result_of_row_and_later_rows step_of_row r (record { batch = batch; n = n }) base moments more).base
     by_read (Err refusal) form more base moments each h = each base moments h
     by_read (Ok command) form more base [] each h = h
     by_read (Ok command) form more base (moment ∷ moments) each h =
-        each (step_of_row base moment command (record { batch = batch; row = n })).1 moments
-        (keyed_both base moment command (Some (record { batch = batch; row = n })) h form
+        each (step_of_row base moment command (record { batch = batch; n = n })).1 moments
+        (keyed_both base moment command (Some (record { batch = batch; n = n })) h form
         (and_from (is_batch_name batch) (is_id n) e (and_from (nat_le 1 n) (nat_le n greatest_id) (le-leb 1 n low) (le-leb n greatest_id (omega (arith, high))))))
 
 pub batch_both : (base : Base) (name : Text) (moments : List ℕ) (rows : List Fields) (answers : List Answer) (after : Base) → is_batch_name name ≡ true → length rows ≤ greatest_id

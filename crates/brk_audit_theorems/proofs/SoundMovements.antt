@@ -19,11 +19,11 @@ use Rattle.brk_model.specs.Movements.{deposit_movement, withdrawal_movement, bas
 use Rattle.brk_model.specs.Step.{base_after_command_unstamped}
 use Rattle.brk_model.specs.Ways.{is_strictly_ascending}
 use Rattle.brk_model.specs.Tests.{stamp_of_next_command, refusal_of_command, checks_of_command}
-use Rattle.brk_book_theorems.specs.Books.{BooksInvariant}
-use Rattle.brk_book_theorems.proofs.MovementOrder.{movements_before}
-use Rattle.brk_book_theorems.proofs.Movements.{others_stay, unset}
-use Rattle.brk_book_theorems.proofs.Same.{All-append, All-map, All-mapped, map-last}
-use Rattle.brk_book_theorems.proofs.Tested.{passed}
+use Rattle.brk_trade_books.specs.Books.{BooksInvariant}
+use Rattle.brk_trade_books.proofs.MovementOrder.{movements_before}
+use Rattle.brk_trade_books.proofs.Movements.{others_stay, unset}
+use Rattle.brk_trade_books.proofs.Same.{All-append, All-map, All-mapped, map-last}
+use Rattle.brk_trade_books.proofs.Tested.{passed}
 use Rattle.brk_audit_theorems.specs.Sound.{HasDueDayInCalendar, AuditInvariant, TradeAuditInvariant, BaseTradeAuditInvariant, is_well_formed_movement}
 use Rattle.brk_audit_theorems.specs.InForm.{MeetsAuditFormats, is_movement_amount_within_limits}
 use Rattle.brk_audit_theorems.proofs.OneTrade.{rising_more, sound_last}

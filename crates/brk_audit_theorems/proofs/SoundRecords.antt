@@ -23,16 +23,16 @@ use Rattle.brk_model.specs.Rows.{row_text, line_text}
 use Rattle.brk_model.specs.Step.{security_of_listing, base_after_command_unstamped}
 use Rattle.brk_model.specs.Tests.{stamp_of_next_command, refusal_of_command, checks_of_command}
 use Rattle.brk_model.specs.Names.{AccountOfTradeExists, SecurityOfTradeExists}
-use Rattle.brk_book_theorems.specs.Books.{BooksInvariant}
-use Rattle.brk_book_theorems.specs.Steps.{base_after_command}
-use Rattle.brk_book_theorems.proofs.Order.{NewKey}
-use Rattle.brk_book_theorems.proofs.NewKeys.{charge_new, customer_tax_new, same_bytes, not_both}
-use Rattle.brk_book_theorems.proofs.Same.{NonePass, All-append, All-filter, All-map, any-none, filter-same, find-more, find-none, total_by-same}
-use Rattle.brk_book_theorems.proofs.Places.{filter-append}
-use Rattle.brk_book_theorems.proofs.Tested.{passed, not_not}
-use Rattle.brk_book_theorems.proofs.Keepers.{found_more}
-use Rattle.brk_book_theorems.proofs.References.{amount_as_before, as_before, known_completed, more, new_balance, new_number, postings_as_before}
-use Rattle.brk_book_theorems.proofs.Steps.{in_order}
+use Rattle.brk_trade_books.specs.Books.{BooksInvariant}
+use Rattle.brk_trade_books.specs.Steps.{base_after_command}
+use Rattle.brk_trade_books.proofs.Order.{NewKey}
+use Rattle.brk_trade_books.proofs.NewKeys.{charge_new, customer_tax_new, same_bytes, not_both}
+use Rattle.brk_trade_books.proofs.Same.{NonePass, All-append, All-filter, All-map, any-none, filter-same, find-more, find-none, total_by-same}
+use Rattle.brk_trade_books.proofs.Places.{filter-append}
+use Rattle.brk_trade_books.proofs.Tested.{passed, not_not}
+use Rattle.brk_trade_books.proofs.Keepers.{found_more}
+use Rattle.brk_trade_books.proofs.References.{amount_as_before, as_before, known_completed, more, new_balance, new_number, postings_as_before}
+use Rattle.brk_trade_books.proofs.Steps.{in_order}
 use Rattle.brk_audit_theorems.proofs.Again.{both_all}
 use Rattle.brk_model_theorems.proofs.Conjunctions.{parts3, parts5}
 use Rattle.brk_audit_theorems.specs.Histories.{broker_id_key}
@@ -431,12 +431,12 @@ sound_account base now a k books form e =
 two_of_key : (s t : Text) (m n : ℕ) → word s ∷ number m ∷ [] ≡ word t ∷ number n ∷ [] → (s ≡ t) × (m ≡ n)
 two_of_key s t m n e = (cc, cc)
 
-kept_new : (key : Key) (row : Kept) (ks : List Kept) → row.key ≡ key → NonePass (λ k. bytes_eq k.key.batch key.batch && (k.key.row == key.row)) ks → NewKey kept_key row ks
+kept_new : (key : Key) (row : Kept) (ks : List Kept) → row.key ≡ key → NonePass (λ k. bytes_eq k.key.batch key.batch && (k.key.n == key.n)) ks → NewKey kept_key row ks
 kept_new key row ks s h = All-map ks (λ k n e.
-    let d = two_of_key k.key.batch row.key.batch k.key.row row.key.row e in
-    not_both (bytes_eq k.key.batch key.batch && (k.key.row == key.row))
-    (and_from (bytes_eq k.key.batch key.batch) (k.key.row == key.row) (same_bytes k.key.batch key.batch (d.0 ∙ ap (λ q. q.batch) s))
-    (eq-eqb k.key.row key.row (d.1 ∙ ap (λ q. q.row) s))) n) h
+    let d = two_of_key k.key.batch row.key.batch k.key.n row.key.n e in
+    not_both (bytes_eq k.key.batch key.batch && (k.key.n == key.n))
+    (and_from (bytes_eq k.key.batch key.batch) (k.key.n == key.n) (same_bytes k.key.batch key.batch (d.0 ∙ ap (λ q. q.batch) s))
+    (eq-eqb k.key.n key.n (d.1 ∙ ap (λ q. q.n) s))) n) h
 
 none_is : (o : Option Kept) → o ≡ None → is_some o ≡ false
 none_is o e = ap is_some e

@@ -22,15 +22,15 @@ use Rattle.brk_model.specs.Form.{is_well_formed_band_row, is_cash_type_of_trade,
 use Rattle.brk_model.specs.Forms.{is_exchange}
 use Rattle.brk_model.specs.Tests.{stamp_of_next_command, refusal_of_command}
 use Rattle.brk_model_theorems.proofs.Conjunctions.{and6, parts6}
-use Rattle.brk_book_theorems.specs.Books.{BooksInvariant}
-use Rattle.brk_book_theorems.proofs.NewKeys.{same_bytes}
-use Rattle.brk_book_theorems.proofs.Bools.{same_text}
-use Rattle.brk_book_theorems.proofs.Same.{All-append, All-map, find-All}
-use Rattle.brk_book_theorems.proofs.Tested.{All-back, All-front}
-use Rattle.brk_book_theorems.proofs.Positions.{summary_other}
-use Rattle.brk_book_theorems.proofs.Sums.{margin_balance, other_account, other_broker}
-use Rattle.brk_book_theorems.proofs.ResultRows.{done_now, done_then, status_then, trades_then}
-use Rattle.brk_book_theorems.proofs.ResultKeeping.{Found, found_at, result_passed, submitted}
+use Rattle.brk_trade_books.specs.Books.{BooksInvariant}
+use Rattle.brk_trade_books.proofs.NewKeys.{same_bytes}
+use Rattle.brk_trade_books.proofs.Bools.{same_text}
+use Rattle.brk_trade_books.proofs.Same.{All-append, All-map, find-All}
+use Rattle.brk_trade_books.proofs.Tested.{All-back, All-front}
+use Rattle.brk_trade_books.proofs.Positions.{summary_other}
+use Rattle.brk_trade_books.proofs.Sums.{margin_balance, other_account, other_broker}
+use Rattle.brk_trade_books.proofs.ResultRows.{done_now, done_then, status_then, trades_then}
+use Rattle.brk_trade_books.proofs.ResultKeeping.{Found, found_at, result_passed, submitted}
 use Rattle.brk_audit_theorems.specs.Sound.{HasDueDayInCalendar, StatusStampIsAtMostLastStamp, AuditInvariant, BaseTradeAuditInvariant}
 use Rattle.brk_audit_theorems.proofs.Bounds.{amount_within, commission_low, tax_within}
 use Rattle.brk_audit_theorems.proofs.OneTrade.{cheap_shares, completes_way, false_true, past_itself, past_then, price_low, qty_low, sound_last, stamps_more, trade_last}

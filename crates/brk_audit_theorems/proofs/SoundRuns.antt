@@ -9,9 +9,9 @@ use Rattle.brk_model.specs.Queries.{View, Query}
 use Rattle.brk_model.specs.Records.{Key}
 use Rattle.brk_model.specs.Keyed.{keyed_step}
 use Rattle.brk_model.specs.Run.{IsOutcomeOfCall, Call, Do, Ask, Outcome, Did, Saw, NoView, Failed, IsResultOfQuery, Run}
-use Rattle.brk_book_theorems.specs.Books.{BooksInvariant}
-use Rattle.brk_book_theorems.proofs.RunKeeping.{books_command, call_keeps}
-use Rattle.brk_book_theorems.proofs.Keepers.{books_kept}
+use Rattle.brk_trade_books.specs.Books.{BooksInvariant}
+use Rattle.brk_trade_books.proofs.RunKeeping.{books_command, call_keeps}
+use Rattle.brk_trade_books.proofs.Keepers.{books_kept}
 use Rattle.brk_audit_theorems.specs.Sound.{AuditInvariant}
 use Rattle.brk_audit_theorems.specs.InForm.{MeetsAuditFormats, IsWellFormedKey}
 use Rattle.brk_audit_theorems.specs.Runs.{CallMeetsAuditFormats}

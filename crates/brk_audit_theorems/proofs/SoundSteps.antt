@@ -16,9 +16,9 @@ use Rattle.brk_model.specs.Keyed.{answer_and_base_of_step, stored_row_with_optio
 use Rattle.brk_model.specs.Step.{base_after_command_unstamped, reply_to_command, step, value_unless_refused}
 use Rattle.brk_model.specs.Tests.{stamp_of_next_command, refusal_of_command}
 use Rattle.std.specs.Option.{option_map_or}
-use Rattle.brk_book_theorems.specs.Books.{BooksInvariant}
-use Rattle.brk_book_theorems.specs.Steps.{base_after_command}
-use Rattle.brk_book_theorems.proofs.ResultKeeping.{result_named}
+use Rattle.brk_trade_books.specs.Books.{BooksInvariant}
+use Rattle.brk_trade_books.specs.Steps.{base_after_command}
+use Rattle.brk_trade_books.proofs.ResultKeeping.{result_named}
 use Rattle.brk_audit_theorems.specs.Sound.{AuditInvariant}
 use Rattle.brk_audit_theorems.specs.InForm.{MeetsAuditFormats, IsWellFormedKey}
 use Rattle.brk_audit_theorems.proofs.SoundRecords.{LeavesSound, sound_account, sound_band, sound_broker, sound_charge, sound_customer, sound_customer_tax}
@@ -123,7 +123,7 @@ free_sound base now command key k books form named free = by_refusal (refusal_of
 
     same : (key : Option Key) → stored_row_with_optional_key base key ≡ None → stored_row_with_optional_key (base_after_command base now command) key ≡ None
     same None f = refl
-    same (Some key) f = ap (find (λ k. bytes_eq k.key.batch key.batch && (k.key.row == key.row))) (records_kept base (stamp_of_next_command base now) command) ∙ f
+    same (Some key) f = ap (find (λ k. bytes_eq k.key.batch key.batch && (k.key.n == key.n))) (records_kept base (stamp_of_next_command base now) command) ∙ f
 
     by_refusal : (o : Option Refusal) → refusal_of_command base now command ≡ o
         → AuditInvariant (answer_and_base_of_step base key command

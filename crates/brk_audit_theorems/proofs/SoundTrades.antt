@@ -13,7 +13,7 @@ use Rattle.brk_money.specs.Kinds.{is_market_type, is_same_trade_status, side_of_
 use Rattle.brk_money.specs.declared.refusal.Refusal.TheVariants.{NoTrade}
 use Rattle.brk_money.specs.declared.status.Status.{Status}
 use Rattle.brk_money.specs.declared.status.Status.TheVariants.{Completed, Submitted, Pending, Canceled}
-use Rattle.brk_book_theorems.proofs.Postings.{balance_parts}
+use Rattle.brk_trade_books.proofs.Postings.{balance_parts}
 use Rattle.brk_model.specs.Schemas.{third_schema}
 use Rattle.brk_model.specs.Limits.{greatest_amount, greatest_charge, greatest_summary_quantity, greatest_id}
 use Rattle.brk_model.specs.Lists.{contains_number, contains_text, is_pair_less, total_by, update_where}
@@ -36,15 +36,15 @@ use Rattle.brk_model.specs.Step.{base_after_command_unstamped}
 use Rattle.brk_model.specs.Tests.{stamp_of_next_command, checks_of_command, status_check}
 use Rattle.brk_model.specs.Ways.{is_strictly_ascending, is_valid_status_sequence}
 use Rattle.brk_model.specs.Names.{TradesAreNumberedFrom}
-use Rattle.brk_book_theorems.proofs.Same.{All-append, All-map, All-mapped, find-All, map-last}
-use Rattle.brk_book_theorems.proofs.Places.{FoundAt, find-at, some_of}
-use Rattle.brk_book_theorems.proofs.Tested.{not_not, passed}
-use Rattle.brk_book_theorems.proofs.NewKeys.{same_bytes}
-use Rattle.brk_book_theorems.proofs.Numbering.{numbered_after, pending_not_completed, status_of_marked}
-use Rattle.brk_book_theorems.proofs.Completions.{completed_tick, completed_unseen, triggered_waits}
-use Rattle.brk_book_theorems.proofs.Completing.{one_of_id}
-use Rattle.brk_book_theorems.proofs.LotReading.{All-sort, numbered_rise, rise_apart}
-use Rattle.brk_book_theorems.proofs.Ordering.{first_not_completed, ordered_done}
+use Rattle.brk_trade_books.proofs.Same.{All-append, All-map, All-mapped, find-All, map-last}
+use Rattle.brk_trade_books.proofs.Places.{FoundAt, find-at, some_of}
+use Rattle.brk_trade_books.proofs.Tested.{not_not, passed}
+use Rattle.brk_trade_books.proofs.NewKeys.{same_bytes}
+use Rattle.brk_trade_books.proofs.Numbering.{numbered_after, pending_not_completed, status_of_marked}
+use Rattle.brk_trade_books.proofs.Completions.{completed_tick, completed_unseen, triggered_waits}
+use Rattle.brk_trade_books.proofs.Completing.{one_of_id}
+use Rattle.brk_trade_books.proofs.LotReading.{All-sort, numbered_rise, rise_apart}
+use Rattle.brk_trade_books.proofs.Ordering.{first_not_completed, ordered_done}
 use Rattle.brk_audit_theorems.specs.Histories.{HasAscendingStatusStamps}
 use Rattle.brk_audit_theorems.proofs.Again.{both_all}
 use Rattle.brk_audit_theorems.proofs.Climbs.{In, each_in, of_all}

@@ -16,15 +16,15 @@ use Rattle.brk_model.specs.Adopted.{base_of_tables, is_posting_of_trade, movemen
 use Rattle.brk_model.specs.Form.{trade_ids_of_cash_rows}
 use Rattle.brk_model.specs.LookupView.{is_cash_row_of_trade}
 use Rattle.brk_model.specs.Upgraded.{tables_with_merged_cash_rows, tables_upgraded_from_schema}
-use Rattle.brk_book_theorems.specs.Books.{BooksInvariant}
-use Rattle.brk_book_theorems.proofs.LotReading.{IdsApart, numbered_rise, rise_apart, rise_filter}
-use Rattle.brk_book_theorems.proofs.MoveReading.{movements_back, postings_back, stamp_one_way, stamp_splits, turn_filter}
-use Rattle.brk_book_theorems.proofs.Order.{append_nil, by_key-map, sort_sorted, sorted_filter, sorted_sort}
-use Rattle.brk_book_theorems.proofs.Places.{filter-append}
-use Rattle.brk_book_theorems.proofs.Postings.{numbered_stay}
-use Rattle.brk_book_theorems.proofs.Same.{All-filter, All-map, All-of, NonePass, filter-none, map-same}
-use Rattle.brk_book_theorems.proofs.SumReading.{found_each}
-use Rattle.brk_book_theorems.proofs.TradeReading.{reads_trade, trades_stand}
+use Rattle.brk_trade_books.specs.Books.{BooksInvariant}
+use Rattle.brk_trade_books.proofs.LotReading.{IdsApart, numbered_rise, rise_apart, rise_filter}
+use Rattle.brk_trade_books.proofs.MoveReading.{movements_back, postings_back, stamp_one_way, stamp_splits, turn_filter}
+use Rattle.brk_trade_books.proofs.Order.{append_nil, by_key-map, sort_sorted, sorted_filter, sorted_sort}
+use Rattle.brk_trade_books.proofs.Places.{filter-append}
+use Rattle.brk_trade_books.proofs.Postings.{numbered_stay}
+use Rattle.brk_trade_books.proofs.Same.{All-filter, All-map, All-of, NonePass, filter-none, map-same}
+use Rattle.brk_trade_books.proofs.SumReading.{found_each}
+use Rattle.brk_trade_books.proofs.TradeReading.{reads_trade, trades_stand}
 use Rattle.brk_audit_theorems.proofs.Again.{found_first}
 use Rattle.brk_audit_theorems.proofs.Members.{map-map}
 

@@ -25,11 +25,11 @@ use Rattle.brk_model.specs.Form.{is_well_formed_summary_row, is_well_formed_trad
 use Rattle.brk_model.specs.Forms.{is_exchange}
 use Rattle.brk_model.specs.Upgraded.{tables_with_merged_cash_rows}
 use Rattle.brk_model.specs.Names.{TradesAreNumberedFrom}
-use Rattle.brk_book_theorems.specs.Books.{BooksInvariant}
-use Rattle.brk_book_theorems.proofs.LotReading.{All-sort}
-use Rattle.brk_book_theorems.proofs.MoveReading.{moves_counted}
-use Rattle.brk_book_theorems.proofs.Postings.{length_sort}
-use Rattle.brk_book_theorems.proofs.Same.{All-append, All-map, All-mapped, find-All}
+use Rattle.brk_trade_books.specs.Books.{BooksInvariant}
+use Rattle.brk_trade_books.proofs.LotReading.{All-sort}
+use Rattle.brk_trade_books.proofs.MoveReading.{moves_counted}
+use Rattle.brk_trade_books.proofs.Postings.{length_sort}
+use Rattle.brk_trade_books.proofs.Same.{All-append, All-map, All-mapped, find-All}
 use Rattle.brk_audit_theorems.specs.Upgrade.{HasLimitsWithinThirdSchema}
 use Rattle.brk_audit_theorems.proofs.AdoptedBooks.{move_parts}
 use Rattle.brk_audit_theorems.proofs.AgainStatus.{all_list}

@@ -12,7 +12,7 @@ use Rattle.brk_model.specs.Adopted.{base_of_tables, movement_of_row}
 use Rattle.brk_model.specs.Audit.{ConditionHolds}
 use Rattle.brk_model.specs.Upgraded.{tables_with_merged_cash_rows, tables_upgraded_from_schema}
 use Rattle.brk_model.specs.Ways.{completion_stamps, satisfies_status_condition, movement_stamps, has_valid_status_history}
-use Rattle.brk_book_theorems.specs.Books.{BooksInvariant}
+use Rattle.brk_trade_books.specs.Books.{BooksInvariant}
 use Rattle.brk_audit_theorems.specs.Upgrade.{UpgradedRowsMatchTheirBase, HasLimitsWithinThirdSchema}
 use Rattle.brk_audit_theorems.specs.Passing.{PassesAudit}
 use Rattle.brk_audit_theorems.proofs.AdoptedBooks.{adopted_books}

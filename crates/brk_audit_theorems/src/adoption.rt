@@ -10,7 +10,7 @@ ghost use Rattle.brk_model.specs.Adopted.{base_of_tables};
 ghost use Rattle.brk_model.specs.Form.{satisfies_form_condition};
 ghost use Rattle.brk_model.specs.Ways.{satisfies_status_condition};
 ghost use Rattle.brk_model.specs.Sheets.{sheets, sheets_in_schema};
-ghost use Rattle.brk_book_theorems.specs.Books.{BooksInvariant};
+ghost use Rattle.brk_trade_books.specs.Books.{BooksInvariant};
 ghost use Rattle.brk_audit_theorems.specs.Passing.{PassesAudit};
 ghost use Rattle.brk_audit_theorems.specs.Histories.{HasValidHistories, base_sorted_by_keys};
 

@@ -1,9 +1,9 @@
 //! The program `brk`: a brokerage desk at the command line.
 #![tactic(auto)]
 
-use brk_args::{Job, UsageFault, non_utf8_argument_fault, read_words};
-use brk_exit::{Ending, end_with};
-use brk_jobs::{MachineFiles, PipeWriter, execute_requested_job};
+use brk_cli_args::{Job, UsageFault, non_utf8_argument_fault, read_words};
+use brk_cli_exit::{Ending, end_with};
+use brk_cli_jobs::{MachineFiles, PipeWriter, execute_requested_job};
 use std::alloc::AllocError;
 use std::env;
 use std::io::ErrorKind;

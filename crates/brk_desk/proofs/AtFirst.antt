@@ -9,10 +9,10 @@ use Rattle.brk_model.specs.Base.{Base, empty_base}
 use Rattle.brk_model.specs.Upgraded.{tables_upgraded_from_schema}
 use Rattle.brk_model.specs.Run.{Call, Do, Outcome}
 use Rattle.brk_model.specs.Tables.{Tables, tables_without_rows}
-use Rattle.brk_changes.specs.Schemas.{abstract_schema}
-use Rattle.brk_changes.specs.declared.schema.Schema as known
+use Rattle.brk_trade_rows.specs.Schemas.{abstract_schema}
+use Rattle.brk_trade_rows.specs.declared.schema.Schema as known
 use Rattle.brk_audit_theorems.specs.Passing.{PassesAudit}
-use Rattle.brk_book_theorems.proofs.Steps.{empty_books, empty_rows}
+use Rattle.brk_trade_books.proofs.Steps.{empty_books, empty_rows}
 use Rattle.brk_audit_theorems.specs.Runs.{CallMeetsAuditFormats}
 use Rattle.brk_audit_theorems.proofs.SoundRuns.{Both, keyed_both, run_both}
 use Rattle.brk_audit_theorems.proofs.SoundSteps.{empty_sound}

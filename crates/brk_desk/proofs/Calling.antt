@@ -22,15 +22,15 @@ use Rattle.brk_money.specs.declared.refusal.Refusal.TheVariants.{KeyReused}
 use Rattle.std.specs.Prelude.{bytes_eq}
 use Rattle.brk_model.specs.Run.{IsCallFault}
 use Rattle.brk_model.specs.Keyed.{answer_and_base_of_step, base_with_stored_reply, keyed_step, answer_and_base_of_retry}
-use Rattle.brk_changes.specs.Changes.{tables_after_changes}
-use Rattle.brk_plans.specs.declared.plan.Plan.{Plan}
-use Rattle.brk_sql.proofs.Inside.{clean_before}
-use Rattle.brk_plans.specs.Replies.{abstract_reply}
-use Rattle.brk_book_theorems.specs.Books.{BooksInvariant}
+use Rattle.brk_trade_rows.specs.Changes.{tables_after_changes}
+use Rattle.brk_trade_plans.specs.declared.plan.Plan.{Plan}
+use Rattle.brk_tables_sql.proofs.Inside.{clean_before}
+use Rattle.brk_trade_plans.specs.Replies.{abstract_reply}
+use Rattle.brk_trade_books.specs.Books.{BooksInvariant}
 use Rattle.brk_trade_theorems.specs.Decisions.{DecidesCommand}
 use Rattle.brk_trade_theorems.specs.Plans.{PlanImplementsCommand}
-use Rattle.brk_book_theorems.specs.Steps.{base_after_command}
-use Rattle.brk_book_theorems.proofs.Keepers.{books_kept}
+use Rattle.brk_trade_books.specs.Steps.{base_after_command}
+use Rattle.brk_trade_books.proofs.Keepers.{books_kept}
 use Rattle.brk_audit_theorems.specs.InForm.{MeetsAuditFormats, IsWellFormedKey}
 use Rattle.brk_audit_theorems.specs.Sound.{AuditInvariant}
 use Rattle.brk_audit_theorems.proofs.SoundSteps.{keyed_sound}

@@ -5,8 +5,8 @@ use Rattle.sqlite_schema.specs.Names.{table_named}
 use Rattle.sqlite.specs.Effect.{Database}
 use Rattle.brk_model.specs.Schemas.{Schema}
 use Rattle.brk_model.specs.Tables.{Tables}
-use Rattle.brk_changes.specs.Schemas.{abstract_schema}
-use Rattle.brk_sql.specs.Desk.{IsTableAt}
+use Rattle.brk_trade_rows.specs.Schemas.{abstract_schema}
+use Rattle.brk_tables_sql.specs.Desk.{IsTableAt}
 use Rattle.brk_tables_schema.specs.Desk.{DeskTable, schema_has_table, table_name, table_definition_at_tree}
 use Rattle.brk_tables_schema.specs.Made.{HasDeskTablesInSchema, IsTableOfSchema}
 use Rattle.brk_tables_scan.specs.Schemas.{TablesWithDeskNamesAreDeskTables, HasDeskDefinitions}

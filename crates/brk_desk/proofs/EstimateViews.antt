@@ -6,12 +6,12 @@ use Rattle.brk_model.specs.Orders.{estimate}
 use Rattle.brk_model.specs.Queries.{EstimateOf}
 use Rattle.brk_model.specs.Rows.{estimate_fields}
 use Rattle.brk_model.specs.Tables.{Tables}
-use Rattle.brk_plans.specs.Replies.{abstract_estimate, estimate_from_model}
-use Rattle.brk_plans.specs.declared.estimate.Estimate.{Estimate}
-use Rattle.brk_view.specs.Views.{estimate_record}
-use Rattle.brk_view.specs.declared.view.View.TheVariants as views
-use Rattle.brk_decisions.specs.Estimates.{IsEstimateOfModel}
-use Rattle.brk_queries.specs.QueryResults.{AnswersQueryAsModel}
+use Rattle.brk_trade_plans.specs.Replies.{abstract_estimate, estimate_from_model}
+use Rattle.brk_trade_plans.specs.declared.estimate.Estimate.{Estimate}
+use Rattle.brk_view_rows.specs.Views.{estimate_record}
+use Rattle.brk_view_rows.specs.declared.view.View.TheVariants as views
+use Rattle.brk_desk_decisions.specs.Estimates.{IsEstimateOfModel}
+use Rattle.brk_desk_queries.specs.QueryResults.{AnswersQueryAsModel}
 
 -- an estimate of the definitions is shown as they show it
 shown_as_told : (e : Estimate) (m : model.Estimate) → e ≡ estimate_from_model m → estimate_fields (abstract_estimate e) ≡ estimate_record e

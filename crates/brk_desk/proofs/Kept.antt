@@ -6,7 +6,7 @@ use Rattle.brk_model.specs.Commands.{Answer, Command, Reply}
 use Rattle.brk_model.specs.Keyed.{answer_and_base_of_step, stored_row_with_key, answer_and_base_by_stored_row, keyed_step, base_with_stored_reply, answer_and_base_of_retry}
 use Rattle.brk_model.specs.Records.{Key, Kept}
 use Rattle.brk_model.specs.Step.{base_after_accepted_command, step}
-use Rattle.brk_book_theorems.proofs.Keeping.{kept_rows, reads_kept}
+use Rattle.brk_trade_books.proofs.Keeping.{kept_rows, reads_kept}
 use Rattle.brk_desk.specs.Keys.{kept_row_under_key, tables_with_stored_command}
 use Rattle.brk_desk.proofs.Leaving.{leaves_kept}
 

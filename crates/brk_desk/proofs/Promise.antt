@@ -5,7 +5,7 @@ use Rattle.sqlite.specs.Held.{Held, state}
 use Rattle.sqlite.specs.State.{HasCleanDisk}
 use Rattle.brk_model.specs.Adopted.{base_of_tables}
 use Rattle.brk_model.specs.Base.{Base, empty_base}
-use Rattle.brk_book_theorems.proofs.RunSums.{run_adds_up}
+use Rattle.brk_trade_books.proofs.RunSums.{run_adds_up}
 use Rattle.brk_audit_theorems.proofs.Adopted.{sound_passes}
 use Rattle.brk_desk.specs.Answers.{model_outcome}
 use Rattle.brk_desk.specs.Commands.{model_call}

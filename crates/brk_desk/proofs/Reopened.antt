@@ -12,8 +12,8 @@ use Rattle.brk_model.specs.Form.{has_utf8_texts}
 use Rattle.brk_model.specs.Records.{Key}
 use Rattle.brk_model.specs.Sheets.{sheets}
 use Rattle.brk_model.specs.Tables.{Tables}
-use Rattle.brk_sql.proofs.Inside.{clean_before}
-use Rattle.brk_book_theorems.proofs.Steps.{empty_books, empty_rows}
+use Rattle.brk_tables_sql.proofs.Inside.{clean_before}
+use Rattle.brk_trade_books.proofs.Steps.{empty_books, empty_rows}
 use Rattle.brk_audit_theorems.proofs.SoundRuns.{keyed_both}
 use Rattle.brk_audit_theorems.proofs.SoundSteps.{empty_sound}
 use Rattle.brk_store.specs.Audited.{AdoptPost, AuditPost, Represents, IsConsistent}

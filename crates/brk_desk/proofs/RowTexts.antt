@@ -9,18 +9,18 @@ use Rattle.brk_model.specs.Keys.{kept_key, cash_move_key, is_row_key_less, trade
 use Rattle.brk_model.specs.Records.{Kept}
 use Rattle.brk_model.specs.LookupView.{is_cash_row_of_trade}
 use Rattle.brk_model.specs.Tables.{CashRow, MoveRow, Tables, TradeRow, tables_without_rows}
-use Rattle.brk_changes.specs.Changes.{tables_after_change, tables_after_changes}
-use Rattle.brk_changes.specs.Rows.{abstract_move_row, abstract_trade_row}
-use Rattle.brk_changes.specs.declared.change.Change.{Change}
-use Rattle.brk_changes.specs.declared.change.Change.TheVariants.{AddBroker, AddCustomer, AddAccount, AddPermission, AddSecurity, AddLastTrade, AddCharge}
-use Rattle.brk_changes.specs.declared.change.Change.TheVariants.{AddBand, AddTaxRate, AddCustomerTax, AddTrade, SetStatus, AddHistory, AddRequest}
-use Rattle.brk_changes.specs.declared.change.Change.TheVariants.{RemoveRequest, SetLastTrade, CompleteTrade, AddLot, SetLot, RemoveLot, AddLotChange}
-use Rattle.brk_changes.specs.declared.change.Change.TheVariants.{AddSummary, SetSummary, RemoveSummary, AddSettlement, AddMove, SetBalance, SetBrokerTotals}
-use Rattle.brk_changes.specs.declared.change.Change.TheVariants.{SetExecutor, SetCashType, SetCashName, SetOneDaySettlementStart, AddStoredReply, SetLastStamp}
+use Rattle.brk_trade_rows.specs.Changes.{tables_after_change, tables_after_changes}
+use Rattle.brk_trade_rows.specs.Rows.{abstract_move_row, abstract_trade_row}
+use Rattle.brk_trade_rows.specs.declared.change.Change.{Change}
+use Rattle.brk_trade_rows.specs.declared.change.Change.TheVariants.{AddBroker, AddCustomer, AddAccount, AddPermission, AddSecurity, AddLastTrade, AddCharge}
+use Rattle.brk_trade_rows.specs.declared.change.Change.TheVariants.{AddBand, AddTaxRate, AddCustomerTax, AddTrade, SetStatus, AddHistory, AddRequest}
+use Rattle.brk_trade_rows.specs.declared.change.Change.TheVariants.{RemoveRequest, SetLastTrade, CompleteTrade, AddLot, SetLot, RemoveLot, AddLotChange}
+use Rattle.brk_trade_rows.specs.declared.change.Change.TheVariants.{AddSummary, SetSummary, RemoveSummary, AddSettlement, AddMove, SetBalance, SetBrokerTotals}
+use Rattle.brk_trade_rows.specs.declared.change.Change.TheVariants.{SetExecutor, SetCashType, SetCashName, SetOneDaySettlementStart, AddStoredReply, SetLastStamp}
 use Rattle.brk_money.specs.declared.status.Status.TheVariants.{Completed}
 use Rattle.brk_ref.specs.Records.{abstract_kept_row}
-use Rattle.brk_book_theorems.proofs.Order.{All-insert}
-use Rattle.brk_book_theorems.proofs.Places.{All-updated}
+use Rattle.brk_trade_books.proofs.Order.{All-insert}
+use Rattle.brk_trade_books.proofs.Places.{All-updated}
 use Rattle.brk_audit_theorems.proofs.AgainStatus.{all_list}
 use Rattle.brk_audit_theorems.proofs.Climbs.{list_all_true}
 use Rattle.brk_store.proofs.Texts.{text_is_utf8}

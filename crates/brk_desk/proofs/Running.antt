@@ -23,11 +23,11 @@ use Rattle.brk_money.specs.declared.refusal.Refusal.{Refusal}
 use Rattle.brk_model.specs.Base.{Base}
 use Rattle.brk_model.specs.Queries as model
 use Rattle.brk_model.specs.Run.{IsOutcomeOfCall, Ask, IsCallFault, Run}
-use Rattle.brk_view.specs.Queries.{abstract_query}
-use Rattle.brk_view.specs.declared.view.View.{View}
+use Rattle.brk_view_rows.specs.Queries.{abstract_query}
+use Rattle.brk_view_rows.specs.declared.view.View.{View}
 use Rattle.brk_desk.specs.CommandAnswers.{CommandAnswer, IsNotDoneResult, model_answer}
 use Rattle.brk_desk.specs.Answers.{outcome_of_command, model_outcome, outcome_of_query}
-use Rattle.brk_commands.specs.Commands.{abstract_command}
+use Rattle.brk_desk_commands.specs.Commands.{abstract_command}
 use Rattle.brk_desk.specs.Keys.{optional_model_key}
 use Rattle.brk_desk.specs.Commands.{model_call}
 use Rattle.brk_desk.specs.Booked.{CommandPost, IsDiskContentAfterCommand, base_after_keyed_command}

@@ -11,7 +11,7 @@ use Rattle.brk_model.specs.Sheets.{sheets}
 use Rattle.brk_model.specs.Tables.{Tables}
 use Rattle.brk_ref.specs.Records.{abstract_kept_row}
 use Rattle.brk_ref.specs.declared.key.Kept as row
-use Rattle.brk_sql.proofs.Inside.{clean_before}
+use Rattle.brk_tables_sql.proofs.Inside.{clean_before}
 use Rattle.brk_store.specs.Holds.{HoldsRows, ReadPost, WasOpenAndIsUnchanged}
 use Rattle.brk_store.proofs.Sequences.{none_then, same_then}
 use Rattle.brk_store.specs.Audited.{Represents}

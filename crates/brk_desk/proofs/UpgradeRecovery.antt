@@ -17,10 +17,10 @@ use Rattle.brk_model.specs.Base.{Base}
 use Rattle.brk_model.specs.Schemas.{third_schema}
 use Rattle.brk_model.specs.Sheets.{sheets}
 use Rattle.brk_model.specs.Tables.{Tables}
-use Rattle.brk_changes.specs.Schemas.{abstract_schema}
-use Rattle.brk_changes.specs.declared.schema.Schema as known
-use Rattle.brk_changes.specs.declared.schema.Schema.TheVariants.{Third}
-use Rattle.brk_sql.proofs.Inside.{clean_before}
+use Rattle.brk_trade_rows.specs.Schemas.{abstract_schema}
+use Rattle.brk_trade_rows.specs.declared.schema.Schema as known
+use Rattle.brk_trade_rows.specs.declared.schema.Schema.TheVariants.{Third}
+use Rattle.brk_tables_sql.proofs.Inside.{clean_before}
 use Rattle.brk_tables_schema.specs.Made.{HasDeskTables}
 use Rattle.brk_tables_scan.proofs.Defined.{desk_is_there}
 use Rattle.brk_tables.proofs.OneTables.{one_schema}

@@ -12,18 +12,18 @@ use Rattle.brk_model.specs.Upgraded.{tables_with_merged_cash_rows, tables_upgrad
 use Rattle.brk_model.specs.Schemas.{Schema, third_schema}
 use Rattle.brk_model.specs.Sheets.{sheets}
 use Rattle.brk_model.specs.Tables.{MoveRow, Tables, numbered_move_rows}
-use Rattle.brk_changes.specs.Schemas.{abstract_schema}
-use Rattle.brk_changes.specs.declared.schema.Schema as known
-use Rattle.brk_changes.specs.declared.schema.Schema.TheVariants.{First, Second, Third}
-use Rattle.brk_book_theorems.proofs.LotReading.{All-sort}
-use Rattle.brk_book_theorems.proofs.Same.{All-append, All-mapped}
+use Rattle.brk_trade_rows.specs.Schemas.{abstract_schema}
+use Rattle.brk_trade_rows.specs.declared.schema.Schema as known
+use Rattle.brk_trade_rows.specs.declared.schema.Schema.TheVariants.{First, Second, Third}
+use Rattle.brk_trade_books.proofs.LotReading.{All-sort}
+use Rattle.brk_trade_books.proofs.Same.{All-append, All-mapped}
 use Rattle.brk_audit_theorems.specs.Upgrade.{UpgradedRowsMatchTheirBase, HasLimitsWithinThirdSchema}
 use Rattle.brk_audit_theorems.specs.Passing.{PassesAudit}
 use Rattle.brk_audit_theorems.proofs.AgainStatus.{all_list}
 use Rattle.brk_audit_theorems.proofs.Climbs.{list_all_true}
 use Rattle.brk_audit_theorems.proofs.UpgradedRows.{first_narrower, upgraded_rows, rows_upgraded_from, second_narrower}
 use Rattle.brk_audit_theorems.proofs.Passing.{passing_books}
-use Rattle.brk_book_theorems.specs.Books.{BooksInvariant}
+use Rattle.brk_trade_books.specs.Books.{BooksInvariant}
 use Rattle.brk_audit_theorems.specs.Sound.{AuditInvariant}
 use Rattle.brk_audit_theorems.proofs.Adopted.{passing_sound}
 

@@ -4,8 +4,8 @@ use Rattle.std.specs.Prelude.{Result, Ok, Err}
 use Rattle.brk_money.specs.declared.fault.Fault.{Fault}
 use Rattle.brk_money.specs.declared.refusal.Refusal.{Refusal}
 use Rattle.brk_model.specs.Run as run
-use Rattle.brk_view.specs.Views.{records_of_view}
-use Rattle.brk_view.specs.declared.view.View.{View}
+use Rattle.brk_view_rows.specs.Views.{records_of_view}
+use Rattle.brk_view_rows.specs.declared.view.View.{View}
 use Rattle.brk_desk.specs.CommandAnswers.{CommandAnswer, model_answer}
 use Rattle.brk_desk.specs.declared.call.Outcome.{Outcome}
 use Rattle.brk_desk.specs.declared.call.Outcome.TheVariants as desk_outcome

@@ -22,20 +22,20 @@ use Rattle.brk_model.specs.Sheets.{sheets}
 use Rattle.brk_model.specs.Queries.{Query}
 use Rattle.brk_model.specs.Run.{IsCallFault, Run}
 use Rattle.brk_model.specs.Tables.{Tables, tables_without_rows}
-use Rattle.brk_changes.specs.Schemas.{abstract_schema}
-use Rattle.brk_changes.specs.declared.schema.Schema as typed_schema
-use Rattle.brk_book_theorems.specs.Runs.{IsRunWithSumsAndTaxes}
+use Rattle.brk_trade_rows.specs.Schemas.{abstract_schema}
+use Rattle.brk_trade_rows.specs.declared.schema.Schema as typed_schema
+use Rattle.brk_trade_books.specs.Runs.{IsRunWithSumsAndTaxes}
 use Rattle.brk_audit_theorems.specs.Passing.{PassesAudit}
 use Rattle.brk_audit_theorems.specs.Runs.{CallMeetsAuditFormats}
 use Rattle.brk_store.specs.Audited.{AuditPost, AuditAnswerSatisfies, Represents}
 use Rattle.brk_store.specs.Holds.{IsDiskContentOfRows, HoldsRows, WasOpenAndIsUnchanged, CrashStatesSatisfy}
-use Rattle.brk_queries.specs.QueryResults.{model_query_result}
-use Rattle.brk_view.specs.Carried.{HasRowsOfQuery}
-use Rattle.brk_view.specs.Queries.{abstract_query}
-use Rattle.brk_view.specs.declared.view.View.{View}
+use Rattle.brk_desk_queries.specs.QueryResults.{model_query_result}
+use Rattle.brk_view_rows.specs.Carried.{HasRowsOfQuery}
+use Rattle.brk_view_rows.specs.Queries.{abstract_query}
+use Rattle.brk_view_rows.specs.declared.view.View.{View}
 use Rattle.brk_desk.specs.Booked.{CommandPost, PreservesRepresentation}
 use Rattle.brk_desk.specs.Answers.{outcome_of_command, model_outcome, outcome_of_query}
-use Rattle.brk_commands.specs.Commands.{abstract_command}
+use Rattle.brk_desk_commands.specs.Commands.{abstract_command}
 use Rattle.brk_desk.specs.Keys.{optional_model_key}
 use Rattle.brk_desk.specs.Commands.{model_call}
 use Rattle.brk_desk.specs.CrashBases.{AcknowledgesNothing, CrashMayExposeBase}

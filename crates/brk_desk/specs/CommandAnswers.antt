@@ -3,8 +3,8 @@
 use Rattle.std.specs.Prelude.{Result, Ok, Err}
 use Rattle.brk_money.specs.declared.fault.Fault.{Fault}
 use Rattle.brk_model.specs.Commands.{Answer}
-use Rattle.brk_plans.specs.Replies.{abstract_reply}
-use Rattle.brk_plans.specs.declared.reply.Reply.{Reply}
+use Rattle.brk_trade_plans.specs.Replies.{abstract_reply}
+use Rattle.brk_trade_plans.specs.declared.reply.Reply.{Reply}
 use Rattle.brk_ref.specs.Answers.{abstract_answer}
 use Rattle.brk_ref.specs.declared.answer.Answer as code
 use Rattle.brk_ref.specs.declared.answer.Answer.TheVariants as given

@@ -2,9 +2,9 @@
 -- represents.
 use Rattle.std.specs.Prelude.{ℕ}
 use Rattle.brk_desk.specs.Keys.{optional_model_key}
-use Rattle.brk_commands.specs.Commands.{abstract_command}
+use Rattle.brk_desk_commands.specs.Commands.{abstract_command}
 use Rattle.brk_model.specs.Run as run
-use Rattle.brk_view.specs.Queries.{abstract_query}
+use Rattle.brk_view_rows.specs.Queries.{abstract_query}
 use Rattle.brk_desk.specs.declared.call.Call.{Call}
 use Rattle.brk_desk.specs.declared.call.Call.TheVariants as call
 

@@ -6,12 +6,12 @@ use Rattle.brk_money.specs.declared.fault.Fault.{Fault}
 use Rattle.brk_model.specs.Commands.{Command, Reply}
 use Rattle.brk_model.specs.Records.{Key, Kept}
 use Rattle.brk_model.specs.Tables.{Tables}
-use Rattle.brk_book_theorems.specs.Steps.{stored_reply_row}
+use Rattle.brk_trade_books.specs.Steps.{stored_reply_row}
 use Rattle.brk_ref.specs.Records.{abstract_kept_row, abstract_key}
 use Rattle.brk_ref.specs.declared.key.Kept as row
 use Rattle.brk_ref.specs.declared.key.Key as given
 use Rattle.brk_store.specs.Holds.{ReadPost}
-use Rattle.brk_changes.specs.Changes.{tables_with_stored_reply}
+use Rattle.brk_trade_rows.specs.Changes.{tables_with_stored_reply}
 
 -- The key of the model that the key of a command represents, or `None` if the command has no key.
 abbrev pub optional_model_key : Option given.Key → Option Key
@@ -21,7 +21,7 @@ optional_model_key key = option_map abstract_key key
 -- key, or `None` if there is no key or no such row.
 abbrev pub kept_row_under_key : Tables → Option Key → Option Kept
 kept_row_under_key t None = None
-kept_row_under_key t (Some key) = find (λ k. bytes_eq k.key.batch key.batch && (k.key.row == key.row)) t.kept
+kept_row_under_key t (Some key) = find (λ k. bytes_eq k.key.batch key.batch && (k.key.n == key.n)) t.kept
 
 -- With a key: the tables `t` with one more row of KEPT, inserted in key order, which stores
 -- `command` and `reply` under the key. Without a key: `t` unchanged.

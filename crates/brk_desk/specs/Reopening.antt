@@ -9,8 +9,8 @@ use Rattle.brk_model.specs.Adopted.{base_of_tables}
 use Rattle.brk_model.specs.Base.{Base}
 use Rattle.brk_model.specs.Sheets.{sheets}
 use Rattle.brk_model.specs.Tables.{Tables}
-use Rattle.brk_changes.specs.Schemas.{abstract_schema}
-use Rattle.brk_changes.specs.declared.schema.Schema as typed_schema
+use Rattle.brk_trade_rows.specs.Schemas.{abstract_schema}
+use Rattle.brk_trade_rows.specs.declared.schema.Schema as typed_schema
 use Rattle.brk_store.specs.Audited.{StoresRowsWithAuditResult, AuditAnswerSatisfies, Represents}
 use Rattle.brk_store.specs.Holds.{IsDiskContentOfRows, IsConnectionToDiskContent, CrashStatesSatisfy}
 

@@ -1,10 +1,10 @@
 ghost use Rattle.brk_desk.specs.CallPosts.{AskPost};
-ghost use Rattle.brk_view.specs.Queries.{abstract_query};
+ghost use Rattle.brk_view_rows.specs.Queries.{abstract_query};
 
 use crate::viewing::view_of_query;
 use brk_money::Planned;
 use brk_store::Store;
-use brk_view::{Query, View};
+use brk_view_rows::{Query, View};
 use sqlite::Alter;
 use std::alloc::Global;
 

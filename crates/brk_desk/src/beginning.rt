@@ -19,9 +19,9 @@ ghost use Rattle.brk_model.specs.Tables.{Tables, tables_without_rows};
 ghost use Rattle.brk_audit_theorems.specs.Runs.{CallMeetsAuditFormats};
 ghost use Rattle.brk_audit_theorems.specs.Sound.{AuditInvariant};
 ghost use Rattle.brk_store.specs.Holds.{IsDiskContentOfRows, HoldsRows, IsConnectionToDiskContent};
-ghost use Rattle.brk_book_theorems.specs.Books.{BooksInvariant};
-ghost use Rattle.brk_changes.specs.Schemas.{abstract_schema};
-ghost use Rattle.brk_changes.specs.declared.schema.Schema.{Schema};
+ghost use Rattle.brk_trade_books.specs.Books.{BooksInvariant};
+ghost use Rattle.brk_trade_rows.specs.Schemas.{abstract_schema};
+ghost use Rattle.brk_trade_rows.specs.declared.schema.Schema.{Schema};
 
 use sqlite::Alter;
 

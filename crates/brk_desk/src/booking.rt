@@ -3,7 +3,7 @@
 
 ghost use Rattle.std.specs.Prelude.{IfSome};
 ghost use Rattle.std.specs.Option.{option_copied};
-ghost use Rattle.brk_commands.specs.Commands.{abstract_command};
+ghost use Rattle.brk_desk_commands.specs.Commands.{abstract_command};
 ghost use Rattle.brk_desk.specs.Keys.{optional_model_key};
 ghost use Rattle.brk_desk.specs.Booked.{CommandPost};
 ghost use Rattle.brk_audit_theorems.specs.InForm.{MeetsAuditFormats, IsWellFormedKey};
@@ -11,7 +11,7 @@ ghost use Rattle.brk_audit_theorems.specs.InForm.{MeetsAuditFormats, IsWellForme
 use crate::deciding::decide_command;
 use crate::formats::{prove_command_meets_audit_formats, prove_key_is_well_formed};
 use crate::keeping::{answer_retry, plan_with_stored_reply, read_stored_reply};
-use brk_commands::Command;
+use brk_desk_commands::Command;
 use brk_money::{Fault, Stamp};
 use brk_ref::{Answer, Key};
 use brk_store::Store;

@@ -2,10 +2,10 @@ ghost use Rattle.std.specs.Prelude.{◌≡◌};
 ghost use Rattle.brk_desk.specs.Answers.{outcome_of_command, outcome_of_query};
 
 use crate::CommandAnswer;
-use brk_commands::Command;
+use brk_desk_commands::Command;
 use brk_money::{Fault, Planned, Refusal};
 use brk_ref::Key;
-use brk_view::{Query, View};
+use brk_view_rows::{Query, View};
 
 /// A call of a run of a desk: a command or a query.
 #[derive(Drop)]

@@ -1,13 +1,13 @@
 //! The decision on a command, by one function for each kind of command.
 
 ghost use Rattle.std.specs.Prelude.{IfErr};
-ghost use Rattle.brk_commands.specs.Commands.{abstract_command};
+ghost use Rattle.brk_desk_commands.specs.Commands.{abstract_command};
 ghost use Rattle.brk_trade_theorems.specs.Decisions.{DecidesCommand};
 ghost use Rattle.brk_model.specs.Run.{IsCallFault};
 ghost use Rattle.brk_store.specs.Holds.{ReadPost};
 
-use brk_commands::Command;
-use brk_decisions::{
+use brk_desk_commands::Command;
+use brk_desk_decisions::{
     decide_cancel, decide_feed, decide_movement, decide_one_day_settlement, decide_order,
     decide_reference_record, decide_result, decide_update,
 };

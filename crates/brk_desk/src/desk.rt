@@ -1,19 +1,19 @@
 use crate::asking::answer_query;
 use crate::booking::{CommandAnswer, execute_and_commit_command};
 use crate::call::{Call, Outcome};
-use brk_changes::{HoldingRow, MoveRow, TradeRow};
-use brk_commands::Command;
-use brk_explain_rows::{AccountDetails, BrokerDetails, HoldingDetails, TradeDetails};
-use brk_lots::Lot;
-use brk_money::{Fault, Id, Planned, Stamp};
-use brk_queries::explanations::{
+use brk_desk_commands::Command;
+use brk_desk_queries::{Head, read_statement_head};
+use brk_explain_reads::{
     read_account_details, read_broker_details, read_holding_details, read_trade_details,
     visit_completed_trades_of_broker,
 };
-use brk_queries::{StatementHead, read_statement_head};
+use brk_explain_rows::{AccountDetails, BrokerDetails, HoldingDetails, TradeDetails};
+use brk_lots::Lot;
+use brk_money::{Fault, Id, Planned, Stamp};
 use brk_ref::{Key, Symbol};
 use brk_store::{Store, Visitor, WalkError};
-use brk_view::{Query, View};
+use brk_trade_rows::{HoldingRow, MoveRow, TradeRow};
+use brk_view_rows::{Query, View};
 use sqlite::Alter;
 use std::alloc::Global;
 use std::marker::Model;
@@ -64,7 +64,7 @@ impl<S: Alter + Drop> Drop for Desk<S> {
 impl<S: Alter> Desk<S> {
     ghost use Rattle.std.specs.Prelude.{◌≡◌, ◌≢◌, ◌++◌, List, Err, IfErr, OnOk, OnErr};
     ghost use Rattle.std.specs.Option.{option_copied};
-    ghost use Rattle.brk_commands.specs.Commands.{abstract_command};
+    ghost use Rattle.brk_desk_commands.specs.Commands.{abstract_command};
     ghost use Rattle.brk_desk.specs.Keys.{optional_model_key};
     ghost use Rattle.brk_desk.specs.Booked.{CommandPost};
     ghost use Rattle.brk_desk.specs.CallPosts.{AskPost, DeskAuditPost, OutcomePost};
@@ -72,11 +72,11 @@ impl<S: Alter> Desk<S> {
     ghost use Rattle.brk_desk.specs.declared.call.Outcome as desk_outcome;
     ghost use Rattle.brk_money.specs.declared.fault.Condition.TheVariants.{NotEmpty};
     ghost use Rattle.brk_money.specs.declared.fault.Fault.TheVariants.{Damaged, Memory};
-    ghost use Rattle.brk_view.specs.Queries.{abstract_query};
+    ghost use Rattle.brk_view_rows.specs.Queries.{abstract_query};
     ghost use Rattle.std.specs.Fn.{CalledAt};
-    ghost use Rattle.brk_changes.specs.Rows.{abstract_holding_row, abstract_move_row, abstract_trade_row};
-    ghost use Rattle.brk_queries.specs.Heads.{IsStatementHeadOfAccount};
-    ghost use Rattle.brk_explain_model.specs.BrokerLines.{completed_trades_of_broker};
+    ghost use Rattle.brk_trade_rows.specs.Rows.{abstract_holding_row, abstract_move_row, abstract_trade_row};
+    ghost use Rattle.brk_desk_queries.specs.Heads.{IsStatementHeadOfAccount};
+    ghost use Rattle.brk_model_explain.specs.BrokerLines.{completed_trades_of_broker};
     ghost use Rattle.brk_explain_rows.specs.Details.{AreDetailsOfAccount, AreDetailsOfBroker, AreDetailsOfHolding, AreDetailsOfTrade};
     ghost use Rattle.brk_model.specs.Run.{IsCallFault};
     ghost use Rattle.brk_model.specs.Statement.{holding_rows_of_account};
@@ -220,7 +220,7 @@ impl<S: Alter> Desk<S> {
     /// the result.
     ///
     /// A crash after the call exposes only states that a crash before the call could expose.
-    pub fn head(&mut self, alloc: Global, account: Id) -> Result<Option<StatementHead>, Fault>
+    pub fn head(&mut self, alloc: Global, account: Id) -> Result<Option<Head>, Fault>
         ensures read { ReadPost S.Store self.old self.new result (IsStatementHeadOfAccount account) }
         ensures fault { IfErr result IsCallFault }
     {

@@ -3,18 +3,18 @@
 
 ghost use Rattle.std.specs.Prelude.{◌≡◌};
 ghost use Rattle.std.specs.List.{AllByRecursion};
-ghost use Rattle.brk_plans.specs.Commands as books;
-ghost use Rattle.brk_commands.specs.Commands.{abstract_command};
+ghost use Rattle.brk_trade_plans.specs.Commands as books;
+ghost use Rattle.brk_desk_commands.specs.Commands.{abstract_command};
 ghost use Rattle.brk_model.specs.Commands.{AddAccount, AddBand, AddBroker, AddCharge, AddCustomer, AddCustomerTax, AddPermission, AddSecurity, AddTaxRate};
-ghost use Rattle.brk_orders.specs.Records.{movement_command, abstract_order, abstract_ticks, text_update_command};
+ghost use Rattle.brk_ref_orders.specs.Records.{movement_command, abstract_order, abstract_ticks, text_update_command};
 ghost use Rattle.brk_ref.specs.Records.{abstract_account, abstract_band, abstract_broker, abstract_charge, abstract_customer, abstract_customer_tax};
 ghost use Rattle.brk_ref.specs.Records.{abstract_key, abstract_listing, abstract_permission, abstract_tax_rate};
 ghost use Rattle.brk_audit_theorems.specs.InForm.{MeetsAuditFormats, IsWellFormedKey, OrderMeetsAuditFormats, TickMeetsAuditFormats};
 
-use brk_commands::Command;
-use brk_orders::{Direction, Movement, Order, Tick, Update};
-use brk_plans::Reference;
+use brk_desk_commands::Command;
 use brk_ref::{Account, Band, Broker, Charge, Customer, Key, Listing, Permission, Tax};
+use brk_ref_orders::{Direction, Movement, Order, Tick, Update};
+use brk_trade_plans::Reference;
 
 // Proves that the command that adds this broker meets the formats that an audit checks. Does
 // nothing at run time.
@@ -186,5 +186,5 @@ pub fn prove_key_is_well_formed(key: &Key)
     ensures { IsWellFormedKey (abstract_key key.now) }
 {
     key.batch.prove_text_has_its_format();
-    let _ = key.row.get();
+    let _ = key.n.get();
 }

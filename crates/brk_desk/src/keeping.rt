@@ -3,7 +3,7 @@
 
 ghost use Rattle.std.specs.Prelude.{◌≡◌, IfOk, IfErr, OnErr, Err};
 ghost use Rattle.std.specs.Option.{option_copied};
-ghost use Rattle.brk_commands.specs.Commands.{abstract_command};
+ghost use Rattle.brk_desk_commands.specs.Commands.{abstract_command};
 ghost use Rattle.brk_desk.specs.CommandAnswers.{model_answer};
 ghost use Rattle.brk_desk.specs.Keys.{optional_model_key};
 ghost use Rattle.brk_desk.specs.Keys.{ReadStoredReplyPost, tables_with_stored_command};
@@ -12,12 +12,12 @@ ghost use Rattle.brk_model.specs.Keyed.{answer_and_base_of_retry};
 ghost use Rattle.brk_model.specs.Run.{IsCallFault};
 ghost use Rattle.brk_model.specs.Tables.{Tables};
 ghost use Rattle.brk_money.specs.declared.fault.Fault.TheVariants.{Memory};
-ghost use Rattle.brk_changes.specs.Changes.{tables_after_changes};
-ghost use Rattle.brk_plans.specs.Replies.{abstract_reply};
+ghost use Rattle.brk_trade_rows.specs.Changes.{tables_after_changes};
+ghost use Rattle.brk_trade_plans.specs.Replies.{abstract_reply};
 ghost use Rattle.brk_ref.specs.Records.{abstract_kept_row};
 
 use crate::booking::CommandAnswer;
-use brk_commands::{Command, line_text, row_text};
+use brk_desk_commands::{Command, line_text, row_text};
 use brk_money::{Fault, Refusal};
 use brk_ref::{Answer, Kept, Key};
 use brk_store::Store;

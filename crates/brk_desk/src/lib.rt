@@ -16,13 +16,13 @@ pub mod runs;
 mod viewing;
 
 pub use booking::CommandAnswer;
-pub use brk_commands::{Command, line_text, parse_row, row_text};
+pub use brk_desk_commands::{Command, line_text, parse_row, row_text};
+pub use brk_desk_queries::Head;
 pub use brk_money::{Fault, Planned, Refusal, Stamp};
-pub use brk_queries::StatementHead;
 pub use brk_ref::{Answer, Key};
 pub use brk_store;
 pub use brk_store::{Visitor, WalkError};
-pub use brk_view::{Query, View, parse_query};
-pub use brk_view_text::view_fields;
+pub use brk_view::view_fields;
+pub use brk_view_rows::{Query, View, parse_query};
 pub use call::{Call, Outcome};
 pub use desk::Desk;

@@ -21,8 +21,8 @@ ghost use Rattle.brk_model.specs.Base.{Base, empty_base};
 ghost use Rattle.brk_model.specs.Commands.{Command};
 ghost use Rattle.brk_model.specs.Records.{Key};
 ghost use Rattle.brk_model.specs.Tables.{Tables};
-ghost use Rattle.brk_changes.specs.Schemas.{abstract_schema};
-ghost use Rattle.brk_changes.specs.declared.schema.Schema.{Schema};
+ghost use Rattle.brk_trade_rows.specs.Schemas.{abstract_schema};
+ghost use Rattle.brk_trade_rows.specs.declared.schema.Schema.{Schema};
 ghost use Rattle.brk_store.specs.Audited.{StoresRowsWithAuditResult, AdoptPost, ConnectionTablesWithDeskNamesAreDeskTables};
 ghost use Rattle.brk_store.specs.Holds.{CreatePost};
 

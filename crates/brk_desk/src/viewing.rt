@@ -1,24 +1,24 @@
-//! The view of a query of any kind, and the view of an estimate. `brk_queries` returns the views of
+//! The view of a query of any kind, and the view of an estimate. `brk_desk_queries` returns the views of
 //! all other kinds.
 
 ghost use Rattle.std.specs.Prelude.{IfErr};
 ghost use Rattle.brk_model.specs.Queries.{EstimateOf};
 ghost use Rattle.brk_model.specs.Run.{IsCallFault};
-ghost use Rattle.brk_orders.specs.Records.{abstract_order};
-ghost use Rattle.brk_queries.specs.QueryResults.{AnswersQueryAsModel};
+ghost use Rattle.brk_ref_orders.specs.Records.{abstract_order};
+ghost use Rattle.brk_desk_queries.specs.QueryResults.{AnswersQueryAsModel};
 ghost use Rattle.brk_store.specs.Holds.{ReadPost};
-ghost use Rattle.brk_view.specs.Queries.{abstract_query};
+ghost use Rattle.brk_view_rows.specs.Queries.{abstract_query};
 
-use brk_decisions::compute_order_estimate;
-use brk_money::Planned;
-use brk_orders::Order;
-use brk_queries::{
+use brk_desk_decisions::compute_order_estimate;
+use brk_desk_queries::{
     view_of_account_trade_statuses, view_of_account_trades, view_of_account_values,
     view_of_account_values_by_tax_id, view_of_broker_volumes, view_of_recent_trades,
     view_of_submitted_trades, view_of_symbol_trades, view_of_touched_lots, view_of_trades_by_ids,
 };
+use brk_money::Planned;
+use brk_ref_orders::Order;
 use brk_store::Store;
-use brk_view::{Query, View};
+use brk_view_rows::{Query, View};
 use sqlite::Alter;
 use std::alloc::Global;
 

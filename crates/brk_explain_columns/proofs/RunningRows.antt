@@ -1,7 +1,7 @@
 -- Rows with running totals, and the total after them.
 use Rattle.std.proofs.Common.{◌≡◌, ◌+ℤ◌, ℤ, List, [], ◌∷◌, ◌++◌, ap, refl}
 use Rattle.brk_money.specs.Spelling.{Text}
-use Rattle.brk_explain_model.specs.Running.{lines_with_running_total}
+use Rattle.brk_model_explain.specs.Running.{lines_with_running_total}
 
 -- the total of all elements
 abbrev pub total_after : {M : Type 0} → (M → ℤ) → ℤ → List M → ℤ

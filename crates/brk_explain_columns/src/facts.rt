@@ -2,7 +2,7 @@
 
 ghost use Rattle.std.specs.Fmt.{signed_decimal};
 ghost use Rattle.std.specs.Prelude.{◌≡◌, ◌++◌, ◌∷◌, [], Err, OnErr, OnOk};
-ghost use Rattle.brk_explain_model.specs.Texts as texts;
+ghost use Rattle.brk_model_explain.specs.Texts as texts;
 ghost use Rattle.brk_model.specs.Statement.{left_aligned_text};
 ghost use Rattle.brk_money.specs.Spelling.{day_text};
 ghost use Rattle.brk_money.specs.declared.fault.Fault.TheVariants.{Memory};
@@ -28,7 +28,7 @@ pub fn put_label(out: &mut Vec<u8>, label: &str) -> Result<(), Fault>
 
 /// Appends to `out` a label, left-aligned in 15 places (a longer one whole), a space, and a text.
 /// Fails with `Memory` only; a part of these bytes may then be appended.
-#[tactic(auto, unfolding(brk_explain_model::specs::Texts::labeled_text))]
+#[tactic(auto, unfolding(brk_model_explain::specs::Texts::labeled_text))]
 pub fn put_labeled_text(out: &mut Vec<u8>, label: &str, text: &[u8]) -> Result<(), Fault>
     ensures ok { OnOk result (out.new.items ≡ out.old.items ++ texts.labeled_text label.now text.now) }
     ensures fault { OnErr result (result ≡ Err Memory) }
@@ -40,7 +40,7 @@ pub fn put_labeled_text(out: &mut Vec<u8>, label: &str, text: &[u8]) -> Result<(
 /// Appends to `out` a label, left-aligned in 15 places (a longer one whole), a space, and a number
 /// in decimal digits, right-aligned in 22 places. Fails with `Memory` only; a part of these bytes
 /// may then be appended.
-#[tactic(auto, unfolding(brk_explain_model::specs::Texts::labeled_number, brk_explain_model::specs::Texts::labeled_value))]
+#[tactic(auto, unfolding(brk_model_explain::specs::Texts::labeled_number, brk_model_explain::specs::Texts::labeled_value))]
 pub fn put_labeled_number(out: &mut Vec<u8>, label: &str, n: u64) -> Result<(), Fault>
     ensures ok { OnOk result (out.new.items ≡ out.old.items ++ texts.labeled_number label.now n) }
     ensures fault { OnErr result (result ≡ Err Memory) }
@@ -52,7 +52,7 @@ pub fn put_labeled_number(out: &mut Vec<u8>, label: &str, n: u64) -> Result<(), 
 /// Appends to `out` a label, left-aligned in 15 places, a space, and an amount in cents, written
 /// with two decimal places and right-aligned in 22 places. A longer label or amount is appended
 /// whole. Fails with `Memory` only; a part of these bytes may then be appended.
-#[tactic(auto, unfolding(brk_explain_model::specs::Texts::labeled_amount, brk_explain_model::specs::Texts::labeled_value))]
+#[tactic(auto, unfolding(brk_model_explain::specs::Texts::labeled_amount, brk_model_explain::specs::Texts::labeled_value))]
 pub fn put_labeled_amount(
     alloc: Global,
     out: &mut Vec<u8>,
@@ -80,7 +80,7 @@ pub fn put_labeled_text_line(out: &mut Vec<u8>, label: &str, text: &[u8]) -> Res
 /// Appends to `out` the line of a label, left-aligned in 15 places, a space, and a text `value`,
 /// right-aligned in 22 places, with its line feed. A longer label or text is appended whole. Fails
 /// with `Memory` only; a part of the line may then be appended.
-#[tactic(auto, unfolding(brk_explain_model::specs::Texts::labeled_value))]
+#[tactic(auto, unfolding(brk_model_explain::specs::Texts::labeled_value))]
 pub fn put_labeled_right_aligned_line(
     out: &mut Vec<u8>,
     label: &str,
@@ -108,7 +108,7 @@ pub fn put_labeled_number_line(out: &mut Vec<u8>, label: &str, n: u64) -> Result
 /// Appends to `out` the line of a label, left-aligned in 15 places (a longer one whole), a space,
 /// and a number in decimal digits, with a minus sign if it is below 0, right-aligned in 22 places,
 /// with its line feed. Fails with `Memory` only; a part of the line may then be appended.
-#[tactic(auto, unfolding(brk_explain_model::specs::Texts::labeled_value))]
+#[tactic(auto, unfolding(brk_model_explain::specs::Texts::labeled_value))]
 pub fn put_labeled_integer_line(out: &mut Vec<u8>, label: &str, n: i64) -> Result<(), Fault>
     ensures ok { OnOk result (out.new.items ≡ out.old.items ++ line_with_line_feed (texts.labeled_value label.now (signed_decimal n))) }
     ensures fault { OnErr result (result ≡ Err Memory) }
@@ -138,7 +138,7 @@ pub fn put_labeled_amount_line(
 /// Appends to `out` the line of a label, left-aligned in 15 places (a longer one whole), a space,
 /// and a day in the format YYYY-MM-DD, with its line feed. Fails with `Memory` only; a part of the
 /// line may then be appended.
-#[tactic(auto, unfolding(brk_explain_model::specs::Texts::labeled_text))]
+#[tactic(auto, unfolding(brk_model_explain::specs::Texts::labeled_text))]
 pub fn put_labeled_day_line(out: &mut Vec<u8>, label: &str, day: Day) -> Result<(), Fault>
     ensures ok { OnOk result (out.new.items ≡ out.old.items ++ line_with_line_feed (texts.labeled_text label.now (day_text day))) }
     ensures fault { OnErr result (result ≡ Err Memory) }

@@ -2,7 +2,7 @@
 
 ghost use Rattle.std.specs.Fmt.{signed_decimal};
 ghost use Rattle.std.specs.Prelude.{◌≡◌, ◌++◌, ◌∷◌, Err, OnErr, OnOk, decimal};
-ghost use Rattle.brk_explain_model.specs.Texts.{amount_column, blank_timestamp_text, leading_row_columns, shares_column, timestamp_text, value_column};
+ghost use Rattle.brk_model_explain.specs.Texts.{amount_column, blank_timestamp_text, leading_row_columns, shares_column, timestamp_text, value_column};
 ghost use Rattle.brk_model.specs.Rows.{nonnegative_cents_text};
 ghost use Rattle.brk_model.specs.Statement.{left_aligned_text, right_aligned_text};
 ghost use Rattle.brk_money.specs.declared.fault.Fault.TheVariants.{Memory};
@@ -59,7 +59,7 @@ fn put_id_shares_and_price(
 /// in 13, a number of shares, which may be below 0, in 11 and a price with two decimal places in 10
 /// places. A longer word, id, number or price is appended whole. Fails with `Memory` only; a part
 /// of these bytes may then be appended.
-#[tactic(auto, unfolding(brk_explain_model::specs::Texts::leading_row_columns))]
+#[tactic(auto, unfolding(brk_model_explain::specs::Texts::leading_row_columns))]
 pub fn put_leading_row_columns(
     alloc: Global,
     out: &mut Vec<u8>,
@@ -81,7 +81,7 @@ pub fn put_leading_row_columns(
 /// in 13, a number of shares, which may be below 0, in 11 and a price with two decimal places in 10
 /// places. A longer word, id, number or price is appended whole. Fails with `Memory` only; a part
 /// of these bytes may then be appended.
-#[tactic(auto, unfolding(brk_explain_model::specs::Texts::leading_row_columns))]
+#[tactic(auto, unfolding(brk_model_explain::specs::Texts::leading_row_columns))]
 pub fn put_leading_columns_without_stamp(
     alloc: Global,
     out: &mut Vec<u8>,
@@ -101,7 +101,7 @@ pub fn put_leading_columns_without_stamp(
 /// Appends to `out` a space, and an amount in cents, written with two decimal places and
 /// right-aligned in 16 places; a longer amount is appended whole. Fails with `Memory` only; a part
 /// of these bytes may then be appended.
-#[tactic(auto, unfolding(brk_explain_model::specs::Texts::value_column))]
+#[tactic(auto, unfolding(brk_model_explain::specs::Texts::value_column))]
 pub fn put_value_column(alloc: Global, out: &mut Vec<u8>, amount: Wide) -> Result<(), Fault>
     ensures ok { OnOk result (out.new.items ≡ out.old.items ++ value_column amount) }
     ensures fault { OnErr result (result ≡ Err Memory) }
@@ -112,7 +112,7 @@ pub fn put_value_column(alloc: Global, out: &mut Vec<u8>, amount: Wide) -> Resul
 /// Appends to `out` a space, and an amount in cents, written with two decimal places and
 /// right-aligned in 22 places; a longer amount is appended whole. Fails with `Memory` only; a part
 /// of these bytes may then be appended.
-#[tactic(auto, unfolding(brk_explain_model::specs::Texts::amount_column))]
+#[tactic(auto, unfolding(brk_model_explain::specs::Texts::amount_column))]
 pub fn put_amount_column(alloc: Global, out: &mut Vec<u8>, amount: Wide) -> Result<(), Fault>
     ensures ok { OnOk result (out.new.items ≡ out.old.items ++ amount_column amount) }
     ensures fault { OnErr result (result ≡ Err Memory) }
@@ -123,7 +123,7 @@ pub fn put_amount_column(alloc: Global, out: &mut Vec<u8>, amount: Wide) -> Resu
 /// Appends to `out` a space, and a number of shares, which may be below 0, right-aligned in 11
 /// places; a longer number is appended whole. Fails with `Memory` only; a part of these bytes may
 /// then be appended.
-#[tactic(auto, unfolding(brk_explain_model::specs::Texts::shares_column))]
+#[tactic(auto, unfolding(brk_model_explain::specs::Texts::shares_column))]
 pub fn put_shares_column(out: &mut Vec<u8>, shares: i64) -> Result<(), Fault>
     ensures ok { OnOk result (out.new.items ≡ out.old.items ++ shares_column shares) }
     ensures fault { OnErr result (result ≡ Err Memory) }

@@ -1,7 +1,7 @@
 //! The texts of stamps as date and time. The functions fail with `Memory` only.
 
 ghost use Rattle.std.specs.Prelude.{◌≡◌, ◌++◌, ◌<◌, Err, OnErr, OnOk};
-ghost use Rattle.brk_explain_model.specs.Texts.{time_of_day_text, timestamp_text};
+ghost use Rattle.brk_model_explain.specs.Texts.{time_of_day_text, timestamp_text};
 ghost use Rattle.brk_money.specs.Moments.{milliseconds_per_day};
 ghost use Rattle.brk_money.specs.Spelling.{padded_decimal};
 ghost use Rattle.brk_money.specs.declared.fault.Fault.TheVariants.{Memory};
@@ -40,7 +40,7 @@ fn put_three_digits(out: &mut Vec<u8>, n: u16) -> Result<(), Fault>
 
 // Appends to `out` the time of day, such as `09:05:00.021`, of a number of milliseconds after
 // midnight, below 86,400,000. Fails with `Memory` only; a part of these bytes may then be appended.
-#[tactic(auto, unfolding(brk_explain_model::specs::Texts::time_of_day_text))]
+#[tactic(auto, unfolding(brk_model_explain::specs::Texts::time_of_day_text))]
 fn put_time_of_day(out: &mut Vec<u8>, millis: u32) -> Result<(), Fault>
     requires { millis < milliseconds_per_day }
     ensures ok { OnOk result (out.new.items ≡ out.old.items ++ time_of_day_text millis) }
@@ -57,7 +57,7 @@ fn put_time_of_day(out: &mut Vec<u8>, millis: u32) -> Result<(), Fault>
 
 /// Appends to `out` the text of a stamp as date and time in UTC, such as `2024-03-01 09:05:00.021`.
 /// Fails with `Memory` only; a part of these bytes may then be appended.
-#[tactic(auto, unfolding(brk_explain_model::specs::Texts::timestamp_text))]
+#[tactic(auto, unfolding(brk_model_explain::specs::Texts::timestamp_text))]
 pub fn put_timestamp(out: &mut Vec<u8>, stamp: Stamp) -> Result<(), Fault>
     ensures ok { OnOk result (out.new.items ≡ out.old.items ++ timestamp_text stamp) }
     ensures fault { OnErr result (result ≡ Err Memory) }

@@ -1,8 +1,8 @@
 //! The lines of the explanation of an account.
 
 ghost use Rattle.std.specs.Prelude.{◌≡◌, ◌++◌, ◌∷◌, Err, IfErr, IfOk, OnErr, OnOk, codes, map};
-ghost use Rattle.brk_changes.specs.Rows.{abstract_holding_row, abstract_move_row};
-ghost use Rattle.brk_explain_model.specs.AccountLines as lines;
+ghost use Rattle.brk_trade_rows.specs.Rows.{abstract_holding_row, abstract_move_row};
+ghost use Rattle.brk_model_explain.specs.AccountLines as lines;
 ghost use Rattle.brk_explain_rows.specs.Details.{abstract_priced_holding};
 ghost use Rattle.brk_model.specs.Run.{IsCallFault};
 ghost use Rattle.brk_model.specs.Statement.{left_aligned_text, right_aligned_text, text_of_lines};
@@ -10,7 +10,6 @@ ghost use Rattle.brk_money.specs.declared.fault.Fault.TheVariants.{Memory};
 ghost use Rattle.brk_ref.specs.Records.{abstract_account_row};
 ghost use Rattle.brk_report_lines.specs.Written.{line_with_line_feed};
 
-use brk_changes::{HoldingRow, MoveRow};
 use brk_explain_columns::{
     add_amounts, end_line, put_amount_column, put_cents_column, put_column, put_integer_column,
     put_labeled_amount_line, put_labeled_number_line, put_labeled_text_line, put_number_column,
@@ -21,12 +20,13 @@ use brk_explain_rows::PricedHolding;
 use brk_money::{Cents, Fault, Id, Price, Wide};
 use brk_ref::AccountRow;
 use brk_report_lines::{append_left_aligned, lot_line};
+use brk_trade_rows::{HoldingRow, MoveRow};
 use std::alloc::Global;
 
 // Appends to `out` the first lines of the explanation of an account: the title, the name, the
 // customer, the broker, the tax status, the opening balance, and the column headings of the cash
 // rows. Fails with `Memory` only; a part of the lines may then be appended.
-#[tactic(auto, unfolding(brk_explain_model::specs::AccountLines::account_header_lines))]
+#[tactic(auto, unfolding(brk_model_explain::specs::AccountLines::account_header_lines))]
 fn put_account_header(alloc: Global, out: &mut Vec<u8>, row: &AccountRow) -> Result<(), Fault>
     ensures ok { OnOk result (out.new.items ≡ out.old.items ++ text_of_lines (lines.account_header_lines (abstract_account_row row.now))) }
     ensures fault { OnErr result (result ≡ Err Memory) }
@@ -71,7 +71,7 @@ fn put_trade_id_or_hyphen(out: &mut Vec<u8>, trade: Option<Id>) -> Result<(), Fa
 // Appends to `out` the line of a cash row, with a line feed: the word `Posted`, its timestamp, its
 // id, the id of its trade or a hyphen, its amount, `balance`, which is the balance after it in
 // cents, and its name. Fails with `Memory` only; a part of the line may then be appended.
-#[tactic(auto, unfolding(brk_explain_model::specs::AccountLines::cash_posting_line))]
+#[tactic(auto, unfolding(brk_model_explain::specs::AccountLines::cash_posting_line))]
 fn put_cash_posting(
     alloc: Global,
     out: &mut Vec<u8>,
@@ -103,7 +103,7 @@ pub fn cash_posting_text(alloc: Global, row: &MoveRow, balance: Wide) -> Result<
 
 // Appends to `out` the line of the balance of an account and the line of the column headings of its
 // lots and holdings. Fails with `Memory` only; a part of the lines may then be appended.
-#[tactic(auto, unfolding(brk_explain_model::specs::AccountLines::balance_and_lot_header_lines))]
+#[tactic(auto, unfolding(brk_model_explain::specs::AccountLines::balance_and_lot_header_lines))]
 fn put_balance_and_lot_header(
     alloc: Global,
     out: &mut Vec<u8>,
@@ -143,7 +143,7 @@ fn put_lot_word_and_text(out: &mut Vec<u8>, lot: &[u8]) -> Result<(), Fault>
 /// Returns the line of a lot of an account: the word `Lot`, its symbol, the id of the trade that
 /// opened it, its quantity, below 0 if it was sold short, and its price, with a line feed. Fails
 /// with `Memory` only.
-#[tactic(auto, unfolding(brk_explain_model::specs::AccountLines::open_lot_line))]
+#[tactic(auto, unfolding(brk_model_explain::specs::AccountLines::open_lot_line))]
 pub fn open_lot_text(alloc: Global, row: &HoldingRow) -> Result<Vec<u8>, Fault>
     ensures line { IfOk result (λ line. line.items ≡ line_with_line_feed (lines.open_lot_line (abstract_holding_row row.now))) }
     ensures fault { OnErr result (result ≡ Err Memory) }
@@ -180,7 +180,7 @@ fn market_value_of_holdings(all: &[PricedHolding]) -> Result<Wide, Fault>
 // Appends to `out` the first columns of the line of a holding, separated by spaces: the word
 // `Held`, left-aligned in 6 places, its symbol, left-aligned in 15 (a longer one whole), and an
 // empty column of 13 places. Fails with `Memory` only; a part of these bytes may then be appended.
-#[tactic(auto, unfolding(brk_explain_model::specs::AccountLines::holding_line_start))]
+#[tactic(auto, unfolding(brk_model_explain::specs::AccountLines::holding_line_start))]
 fn put_holding_line_start(out: &mut Vec<u8>, symbol: &[u8]) -> Result<(), Fault>
     ensures ok { OnOk result (out.new.items ≡ out.old.items ++ lines.holding_line_start symbol.now) }
     ensures fault { OnErr result (result ≡ Err Memory) }
@@ -193,7 +193,7 @@ fn put_holding_line_start(out: &mut Vec<u8>, symbol: &[u8]) -> Result<(), Fault>
 // Appends to `out`, each after a space and right-aligned, a quantity, which may be below 0, in 11
 // places, and a price with two decimal places in 10 places. A longer one is appended whole. Fails
 // with `Memory` only; a part of these bytes may then be appended.
-#[tactic(auto, unfolding(brk_explain_model::specs::AccountLines::quantity_and_price_columns))]
+#[tactic(auto, unfolding(brk_model_explain::specs::AccountLines::quantity_and_price_columns))]
 fn put_quantity_and_price(
     alloc: Global,
     out: &mut Vec<u8>,
@@ -210,7 +210,7 @@ fn put_quantity_and_price(
 // Appends to `out` the line of a holding, with a line feed: the word `Held`, its symbol, an empty
 // column, its quantity, its last price and its market value. Fails with `Memory` or `Store`; with
 // `Store` if the market value overflows. After an error a part of the line may be appended.
-#[tactic(auto, unfolding(brk_explain_model::specs::AccountLines::holding_line))]
+#[tactic(auto, unfolding(brk_model_explain::specs::AccountLines::holding_line))]
 fn put_holding_line(alloc: Global, out: &mut Vec<u8>, held: &PricedHolding) -> Result<(), Fault>
     ensures ok { OnOk result (out.new.items ≡ out.old.items ++ line_with_line_feed (lines.holding_line (abstract_priced_holding held.now))) }
     ensures fault { IfErr result IsCallFault }
@@ -256,7 +256,7 @@ fn put_account_counts_line(
 // assets, and of the numbers of cash rows (`cash`), lots and symbols. The assets are `balance` plus
 // `holdings`, in cents. Fails with `Memory` or `Store`; with `Store` if the assets overflow. After
 // an error a part of the lines may be appended.
-#[tactic(auto, unfolding(brk_explain_model::specs::AccountLines::account_total_lines))]
+#[tactic(auto, unfolding(brk_model_explain::specs::AccountLines::account_total_lines))]
 fn put_account_total_lines(
     alloc: Global,
     out: &mut Vec<u8>,

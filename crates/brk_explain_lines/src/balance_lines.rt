@@ -1,8 +1,8 @@
 //! The lines of the balance before and after a completed trade, and its last line.
 
 ghost use Rattle.std.specs.Prelude.{◌≡◌, ◌++◌, Err, IfErr, OnErr, OnOk, option_map};
-ghost use Rattle.brk_changes.specs.Rows.{abstract_move_row};
-ghost use Rattle.brk_explain_model.specs.TradeLines as lines;
+ghost use Rattle.brk_trade_rows.specs.Rows.{abstract_move_row};
+ghost use Rattle.brk_model_explain.specs.TradeLines as lines;
 ghost use Rattle.brk_explain_rows.specs.Details.{abstract_order_details, abstract_result_details};
 ghost use Rattle.brk_model.specs.Run.{IsCallFault};
 ghost use Rattle.brk_model.specs.Statement.{text_of_lines};
@@ -10,18 +10,18 @@ ghost use Rattle.brk_money.specs.declared.fault.Fault.TheVariants.{Memory};
 ghost use Rattle.brk_report_lines.specs.Written.{line_with_line_feed};
 
 use crate::sums::balance_change_of_trade;
-use brk_changes::MoveRow;
 use brk_explain_columns::{
     add_amounts, end_line, put_labeled_amount_line, put_labeled_number,
     put_labeled_right_aligned_line, put_space_and_text_line, put_text_and_number,
 };
 use brk_explain_rows::{OrderDetails, ResultDetails};
 use brk_money::{Fault, Wide};
+use brk_trade_rows::MoveRow;
 use std::alloc::Global;
 
 // Appends to `out` the line of the cash row of a trade: its id and its name, or `none` if the trade
 // has no cash row. Fails with `Memory` only; a part of the line may then be appended.
-#[tactic(auto, unfolding(brk_explain_model::specs::TradeLines::trade_cash_row_line))]
+#[tactic(auto, unfolding(brk_model_explain::specs::TradeLines::trade_cash_row_line))]
 fn put_cash_row_line(out: &mut Vec<u8>, row: &Option<MoveRow>) -> Result<(), Fault>
     ensures ok { OnOk result (out.new.items ≡ out.old.items ++ line_with_line_feed (lines.trade_cash_row_line (option_map abstract_move_row row.now))) }
     ensures fault { OnErr result (result ≡ Err Memory) }
@@ -38,7 +38,7 @@ fn put_cash_row_line(out: &mut Vec<u8>, row: &Option<MoveRow>) -> Result<(), Fau
 /// the balance before the trade, of the amount of the cash row (0.00 without one), and of the
 /// balance after the trade. Fails with `Memory` or `Store`; with `Store` if a balance overflows.
 /// After an error a part of the lines may be appended.
-#[tactic(auto, unfolding(brk_explain_model::specs::TradeLines::trade_balance_lines))]
+#[tactic(auto, unfolding(brk_model_explain::specs::TradeLines::trade_balance_lines))]
 pub(crate) fn put_balance_lines(
     alloc: Global,
     out: &mut Vec<u8>,
@@ -85,7 +85,7 @@ fn put_counts_line_of_trade(
 /// results `details`: the numbers of its status changes, of the lots of which it closed shares, and
 /// of the account's cash rows before the completion of the trade. Fails with `Memory` only; a part
 /// of the line may then be appended.
-#[tactic(auto, unfolding(brk_explain_model::specs::TradeLines::counts_lines_of_trade))]
+#[tactic(auto, unfolding(brk_model_explain::specs::TradeLines::counts_lines_of_trade))]
 pub(crate) fn put_counts_of_completed_trade(
     out: &mut Vec<u8>,
     order: &OrderDetails,

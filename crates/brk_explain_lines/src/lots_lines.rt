@@ -1,9 +1,9 @@
 //! The lines of the lots that a completed trade closed and opened, and of its gain.
 
 ghost use Rattle.std.specs.Prelude.{◌≡◌, ◌++◌, Err, IfErr, OnErr, OnOk, map, nat_abs, option_map};
-ghost use Rattle.brk_changes.specs.Rows.{abstract_lot_change_row, abstract_trade_row};
-ghost use Rattle.brk_explain_model.specs.TradeLines as lines;
-ghost use Rattle.brk_explain_model.specs.Trades as trades;
+ghost use Rattle.brk_trade_rows.specs.Rows.{abstract_lot_change_row, abstract_trade_row};
+ghost use Rattle.brk_model_explain.specs.TradeLines as lines;
+ghost use Rattle.brk_model_explain.specs.Trades as trades;
 ghost use Rattle.brk_explain_rows.specs.Details.{abstract_closing, abstract_order_details, abstract_result_details};
 ghost use Rattle.brk_model.specs.Run.{IsCallFault};
 ghost use Rattle.brk_model.specs.Statement.{text_of_lines};
@@ -14,18 +14,18 @@ use crate::sums::{
     buy_value_of_closing, buy_value_of_closings, sell_value_of_closing, sell_value_of_closings,
     shares_of_closing, total_closed_shares,
 };
-use brk_changes::{LotChange, TradeRow};
 use brk_explain_columns::{
     end_line, put_labeled_amount_line, put_labeled_number_line, put_leading_row_columns,
     put_shares_column, put_text_line, put_value_column, subtract_amounts, wide_amount_of_cents,
 };
 use brk_explain_rows::{Closing, OrderDetails, ResultDetails};
 use brk_money::{Fault, Price, Side, Wide};
+use brk_trade_rows::{LotChange, TradeRow};
 use std::alloc::Global;
 
 // Appends to `out` the line of the price of a completed trade, and the line of the column headings
 // of its lots. Fails with `Memory` only; a part of the lines may then be appended.
-#[tactic(auto, unfolding(brk_explain_model::specs::TradeLines::price_and_lot_header_lines))]
+#[tactic(auto, unfolding(brk_model_explain::specs::TradeLines::price_and_lot_header_lines))]
 fn put_price_and_lot_header_lines(
     alloc: Global,
     out: &mut Vec<u8>,
@@ -46,7 +46,7 @@ fn put_price_and_lot_header_lines(
 // the buy value and the sell value of these shares, and the lot's quantity after the closing. Fails
 // with `Memory` or `Store`; with `Store` if a value overflows. After an error a part of the line
 // may be appended.
-#[tactic(auto, unfolding(brk_explain_model::specs::TradeLines::lot_closing_line))]
+#[tactic(auto, unfolding(brk_model_explain::specs::TradeLines::lot_closing_line))]
 fn put_lot_closing_line(
     alloc: Global,
     out: &mut Vec<u8>,
@@ -97,7 +97,7 @@ fn put_lot_closing_lines(
 // Appends to `out` the line of the lot that `trade` opened at `price`: the word `Opened`, the stamp
 // and the id of the trade, the quantity after the change `lot`, and the price. Fails with `Memory`
 // only; a part of the line may then be appended.
-#[tactic(auto, unfolding(brk_explain_model::specs::TradeLines::opened_lot_line))]
+#[tactic(auto, unfolding(brk_model_explain::specs::TradeLines::opened_lot_line))]
 fn put_opened_lot_line(
     alloc: Global,
     out: &mut Vec<u8>,
@@ -116,7 +116,7 @@ fn put_opened_lot_line(
 
 // Appends to `out` the line of the lot that `trade` opened at `price` by the change `lot`, or
 // nothing if `lot` is `None`. Fails with `Memory` only; a part of these bytes may then be appended.
-#[tactic(auto, unfolding(brk_explain_model::specs::TradeLines::opened_lot_lines))]
+#[tactic(auto, unfolding(brk_model_explain::specs::TradeLines::opened_lot_lines))]
 fn put_opened_lot_line_if_any(
     alloc: Global,
     out: &mut Vec<u8>,
@@ -147,7 +147,7 @@ fn count_of_opened_shares(details: &ResultDetails) -> u64
 // Appends to `out` the lines of the number of shares that a trade closed and of the number of
 // shares that it opened. Fails with `Memory` or `Store`; with `Store` if the number of closed
 // shares overflows. After an error a part of the lines may be appended.
-#[tactic(auto, unfolding(brk_explain_model::specs::TradeLines::share_count_lines))]
+#[tactic(auto, unfolding(brk_model_explain::specs::TradeLines::share_count_lines))]
 fn put_share_count_lines(out: &mut Vec<u8>, details: &ResultDetails) -> Result<(), Fault>
     ensures ok { OnOk result (out.new.items ≡ out.old.items ++ text_of_lines (lines.share_count_lines (abstract_result_details details.now))) }
     ensures fault { IfErr result IsCallFault }
@@ -160,7 +160,7 @@ fn put_share_count_lines(out: &mut Vec<u8>, details: &ResultDetails) -> Result<(
 // Appends to `out` the lines of the buy value, the sell value and the realised gain of the shares
 // that a trade closed. Fails with `Memory` or `Store`; with `Store` if an amount overflows. After
 // an error a part of the lines may be appended.
-#[tactic(auto, unfolding(brk_explain_model::specs::TradeLines::realised_gain_lines))]
+#[tactic(auto, unfolding(brk_model_explain::specs::TradeLines::realised_gain_lines))]
 fn put_realised_gain_lines(
     alloc: Global,
     out: &mut Vec<u8>,
@@ -185,7 +185,7 @@ fn put_realised_gain_lines(
 /// of closed and opened shares, and of the buy value, the sell value and the realised gain. Fails
 /// with `Memory` or `Store`; with `Store` if a number of shares or an amount overflows. After an
 /// error a part of the lines may be appended.
-#[tactic(auto, unfolding(brk_explain_model::specs::TradeLines::lot_and_gain_lines, brk_explain_model::specs::TradeLines::lot_closing_lines))]
+#[tactic(auto, unfolding(brk_model_explain::specs::TradeLines::lot_and_gain_lines, brk_model_explain::specs::TradeLines::lot_closing_lines))]
 pub(crate) fn put_lot_and_gain_lines(
     alloc: Global,
     out: &mut Vec<u8>,

@@ -1,15 +1,14 @@
 //! The lines of a trade as ordered. The functions fail with `Memory` only.
 
 ghost use Rattle.std.specs.Prelude.{◌≡◌, ◌++◌, Err, OnErr, OnOk, map};
-ghost use Rattle.brk_changes.specs.Rows.{abstract_history_row};
-ghost use Rattle.brk_explain_model.specs.TradeLines as lines;
+ghost use Rattle.brk_trade_rows.specs.Rows.{abstract_history_row};
+ghost use Rattle.brk_model_explain.specs.TradeLines as lines;
 ghost use Rattle.brk_explain_rows.specs.Details.{abstract_order_details};
 ghost use Rattle.brk_model.specs.Rows.{cash_or_margin_word};
 ghost use Rattle.brk_model.specs.Statement.{text_of_lines};
 ghost use Rattle.brk_money.specs.declared.fault.Fault.TheVariants.{Memory};
 ghost use Rattle.brk_report_lines.specs.Written.{line_with_line_feed};
 
-use brk_changes::HistoryRow;
 use brk_explain_columns::{
     put_label, put_labeled_amount_line, put_labeled_number, put_labeled_number_line,
     put_labeled_text, put_labeled_text_line, put_space_and_text, put_space_and_text_line,
@@ -18,11 +17,12 @@ use brk_explain_columns::{
 use brk_explain_rows::OrderDetails;
 use brk_money::{Fault, Wide};
 use brk_report_lines::append_left_aligned;
+use brk_trade_rows::HistoryRow;
 use std::alloc::Global;
 
 // Appends to `out` the line of a status change: the word `Status`, its timestamp, and the code and
 // the name of the status. Fails with `Memory` only; a part of the line may then be appended.
-#[tactic(auto, unfolding(brk_explain_model::specs::TradeLines::status_change_line))]
+#[tactic(auto, unfolding(brk_model_explain::specs::TradeLines::status_change_line))]
 fn put_status_line(out: &mut Vec<u8>, row: &HistoryRow) -> Result<(), Fault>
     ensures ok { OnOk result (out.new.items ≡ out.old.items ++ line_with_line_feed (lines.status_change_line (abstract_history_row row.now))) }
     ensures fault { OnErr result (result ≡ Err Memory) }
@@ -56,7 +56,7 @@ fn put_account_line(out: &mut Vec<u8>, order: &OrderDetails) -> Result<(), Fault
 
 // Appends to `out` the title of the explanation of a trade, and the lines of its account, customer,
 // broker and executor. Fails with `Memory` only; a part of the lines may then be appended.
-#[tactic(auto, unfolding(brk_explain_model::specs::TradeLines::title_and_party_lines))]
+#[tactic(auto, unfolding(brk_model_explain::specs::TradeLines::title_and_party_lines))]
 fn put_title_and_party_lines(out: &mut Vec<u8>, order: &OrderDetails) -> Result<(), Fault>
     ensures ok { OnOk result (out.new.items ≡ out.old.items ++ text_of_lines (lines.title_and_party_lines (abstract_order_details order.now))) }
     ensures fault { OnErr result (result ≡ Err Memory) }
@@ -82,7 +82,7 @@ fn put_trade_type_line(out: &mut Vec<u8>, order: &OrderDetails) -> Result<(), Fa
 
 // Appends to `out` the line of the security of a trade: its symbol, left-aligned in 15 places, and
 // its name. Fails with `Memory` only; a part of the line may then be appended.
-#[tactic(auto, unfolding(brk_explain_model::specs::Texts::labeled_text))]
+#[tactic(auto, unfolding(brk_model_explain::specs::Texts::labeled_text))]
 fn put_security_line(out: &mut Vec<u8>, order: &OrderDetails) -> Result<(), Fault>
     ensures ok { OnOk result (out.new.items ≡ out.old.items ++ line_with_line_feed (lines.trade_security_line (abstract_order_details order.now))) }
     ensures fault { OnErr result (result ≡ Err Memory) }
@@ -114,7 +114,7 @@ fn lot_closing_sequence_text(is_lifo: bool) -> &'static str
 // Appends to `out` the lines of the terms of an order: its type, security, quantity and requested
 // price, whether it settles in cash or on margin, and the sequence in which it closes lots. Fails
 // with `Memory` only; a part of the lines may then be appended.
-#[tactic(auto, unfolding(brk_explain_model::specs::TradeLines::order_terms_lines))]
+#[tactic(auto, unfolding(brk_model_explain::specs::TradeLines::order_terms_lines))]
 fn put_order_terms_lines(
     alloc: Global,
     out: &mut Vec<u8>,
@@ -144,7 +144,7 @@ fn put_order_terms_lines(
 /// Appends to `out` the lines of the title of the explanation of a trade, of its parties, of the
 /// terms of its order, and of each of its status changes, in their order. Fails with `Memory` only;
 /// a part of the lines may then be appended.
-#[tactic(auto, unfolding(brk_explain_model::specs::TradeLines::order_and_status_lines))]
+#[tactic(auto, unfolding(brk_model_explain::specs::TradeLines::order_and_status_lines))]
 pub(crate) fn put_order_and_status_lines(
     alloc: Global,
     out: &mut Vec<u8>,

@@ -2,8 +2,8 @@
 
 ghost use Rattle.std.specs.Prelude.{◌≡◌, ◌++◌, Err, OnErr, OnOk, codes};
 ghost use Rattle.std.specs.Option.{option_map_or};
-ghost use Rattle.brk_explain_model.specs.Texts.{labeled_text};
-ghost use Rattle.brk_explain_model.specs.TradeLines as lines;
+ghost use Rattle.brk_model_explain.specs.Texts.{labeled_text};
+ghost use Rattle.brk_model_explain.specs.TradeLines as lines;
 ghost use Rattle.brk_explain_rows.specs.Details.{abstract_order_details, abstract_result_details};
 ghost use Rattle.brk_model.specs.Statement.{text_of_lines};
 ghost use Rattle.brk_money.specs.Spelling.{day_text};
@@ -11,18 +11,18 @@ ghost use Rattle.brk_money.specs.declared.fault.Fault.TheVariants.{Memory};
 ghost use Rattle.brk_report_lines.specs.Written.{line_with_line_feed};
 
 use crate::sums::{negated_charge, negated_commission, negated_withheld_tax, signed_trade_value};
-use brk_changes::days_to_settlement;
 use brk_explain_columns::{
     put_labeled_amount_line, put_labeled_day_line, put_labeled_number_line, put_labeled_text_line,
 };
 use brk_explain_rows::{OrderDetails, ResultDetails};
 use brk_money::{Day, Fault, Wide, day_of};
+use brk_trade_rows::days_to_settlement;
 use std::alloc::Global;
 
 /// Appends to `out` the lines of the value of a completed trade, negated for a purchase, of its
 /// charge, its commission and its withheld tax, each negated, of its recorded settlement amount,
 /// and of its cash type. Fails with `Memory` only; a part of the lines may then be appended.
-#[tactic(auto, unfolding(brk_explain_model::specs::TradeLines::trade_settlement_lines))]
+#[tactic(auto, unfolding(brk_model_explain::specs::TradeLines::trade_settlement_lines))]
 pub(crate) fn put_settlement_lines(
     alloc: Global,
     out: &mut Vec<u8>,
@@ -68,7 +68,7 @@ fn put_day_or_none_line(out: &mut Vec<u8>, label: &str, day: Option<Day>) -> Res
 /// one-day settlement (`none` if it is not set), of the number of days to settle that follows from
 /// these two days, and of the recorded due day. Fails with `Memory` only; a part of the lines may
 /// then be appended.
-#[tactic(auto, unfolding(brk_explain_model::specs::TradeLines::due_day_lines))]
+#[tactic(auto, unfolding(brk_model_explain::specs::TradeLines::due_day_lines))]
 pub(crate) fn put_due_day_lines(
     out: &mut Vec<u8>,
     order: &OrderDetails,

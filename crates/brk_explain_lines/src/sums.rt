@@ -1,7 +1,7 @@
 //! The amounts of a completed trade. A sum that overflows is the fault `Store`.
 
 ghost use Rattle.std.specs.Prelude.{◌≡◌, ◌*◌, IfErr, IfOk, map, neg_ℤ, pos, if◌then◌else◌};
-ghost use Rattle.brk_explain_model.specs.Trades as trades;
+ghost use Rattle.brk_model_explain.specs.Trades as trades;
 ghost use Rattle.brk_explain_rows.specs.Details.{abstract_closing, abstract_order_details, abstract_result_details};
 ghost use Rattle.brk_model.specs.Base as base;
 ghost use Rattle.brk_model.specs.Run.{IsCallFault};

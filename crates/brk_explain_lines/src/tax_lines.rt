@@ -1,8 +1,8 @@
 //! The lines of the tax and of the commission of a completed trade.
 
 ghost use Rattle.std.specs.Prelude.{◌≡◌, ◌++◌, Err, IfErr, OnErr, OnOk, codes, map, option_map};
-ghost use Rattle.brk_explain_model.specs.Texts.{labeled_number};
-ghost use Rattle.brk_explain_model.specs.TradeLines as lines;
+ghost use Rattle.brk_model_explain.specs.Texts.{labeled_number};
+ghost use Rattle.brk_model_explain.specs.TradeLines as lines;
 ghost use Rattle.brk_explain_rows.specs.Details.{abstract_order_details, abstract_result_details};
 ghost use Rattle.brk_model.specs.Run.{IsCallFault};
 ghost use Rattle.brk_model.specs.Statement.{text_of_lines};
@@ -25,7 +25,7 @@ use std::alloc::Global;
 // Appends to `out` the line of a tax rate: the word `Rate`, its id, the rate in
 // hundred-thousandths, and its name. Fails with `Memory` only; a part of the line may then be
 // appended.
-#[tactic(auto, unfolding(brk_explain_model::specs::TradeLines::tax_rate_line))]
+#[tactic(auto, unfolding(brk_model_explain::specs::TradeLines::tax_rate_line))]
 fn put_tax_rate_line(out: &mut Vec<u8>, rate: &Tax) -> Result<(), Fault>
     ensures ok { OnOk result (out.new.items ≡ out.old.items ++ line_with_line_feed (lines.tax_rate_line (abstract_tax_rate rate.now))) }
     ensures fault { OnErr result (result ≡ Err Memory) }
@@ -50,7 +50,7 @@ fn put_tax_rate_lines(out: &mut Vec<u8>, rates: &[Tax]) -> Result<(), Fault>
 
 // Appends to `out` the line of the number, 0 to 2, of the tax status of a trade's account. Fails
 // with `Memory` only; a part of the line may then be appended.
-#[tactic(auto, unfolding(brk_explain_model::specs::TradeLines::account_tax_status_lines))]
+#[tactic(auto, unfolding(brk_model_explain::specs::TradeLines::account_tax_status_lines))]
 fn put_tax_status_line(out: &mut Vec<u8>, order: &OrderDetails) -> Result<(), Fault>
     ensures ok { OnOk result (out.new.items ≡ out.old.items ++ text_of_lines (lines.account_tax_status_lines (abstract_order_details order.now))) }
     ensures fault { OnErr result (result ≡ Err Memory) }
@@ -75,7 +75,7 @@ fn put_tax_rate_sum_line(out: &mut Vec<u8>, rates: TaxRate) -> Result<(), Fault>
 // overflows, if the tax rates total more than the greatest rate, or if the account is taxable and
 // the absolute value of the gain exceeds the greatest amount. After an error a part of the lines
 // may be appended.
-#[tactic(auto, unfolding(brk_explain_model::specs::TradeLines::current_and_recorded_tax_lines))]
+#[tactic(auto, unfolding(brk_model_explain::specs::TradeLines::current_and_recorded_tax_lines))]
 fn put_current_and_recorded_tax_lines(
     alloc: Global,
     out: &mut Vec<u8>,
@@ -98,7 +98,7 @@ fn put_current_and_recorded_tax_lines(
 /// tax. Fails with `Memory` or `Store`; with `Store` if a sum overflows, if the tax rates total
 /// more than the greatest rate, or if the account is taxable and the absolute value of the gain
 /// exceeds the greatest amount. After an error a part of the lines may be appended.
-#[tactic(auto, unfolding(brk_explain_model::specs::TradeLines::trade_tax_lines))]
+#[tactic(auto, unfolding(brk_model_explain::specs::TradeLines::trade_tax_lines))]
 pub(crate) fn put_tax_lines(
     alloc: Global,
     out: &mut Vec<u8>,
@@ -117,7 +117,7 @@ pub(crate) fn put_tax_lines(
 // Appends to `out` the text after the rate of a commission band: ` of 10000 for `, its least
 // quantity, ` to ` and its greatest quantity, in shares. Fails with `Memory` only; a part of these
 // bytes may then be appended.
-#[tactic(auto, unfolding(brk_explain_model::specs::TradeLines::band_unit_and_bounds_text))]
+#[tactic(auto, unfolding(brk_model_explain::specs::TradeLines::band_unit_and_bounds_text))]
 fn put_rate_unit_and_band_bounds(out: &mut Vec<u8>, band: &Band) -> Result<(), Fault>
     ensures ok { OnOk result (out.new.items ≡ out.old.items ++ lines.band_unit_and_bounds_text (abstract_band band.now)) }
     ensures fault { OnErr result (result ≡ Err Memory) }
@@ -128,7 +128,7 @@ fn put_rate_unit_and_band_bounds(out: &mut Vec<u8>, band: &Band) -> Result<(), F
 
 // Appends to `out` the text after the quantities of a commission band: `, tier `, its tier, `, `
 // and its exchange. Fails with `Memory` only; a part of these bytes may then be appended.
-#[tactic(auto, unfolding(brk_explain_model::specs::TradeLines::band_tier_and_exchange_text))]
+#[tactic(auto, unfolding(brk_model_explain::specs::TradeLines::band_tier_and_exchange_text))]
 fn put_band_tier_and_exchange(out: &mut Vec<u8>, band: &Band) -> Result<(), Fault>
     ensures ok { OnOk result (out.new.items ≡ out.old.items ++ lines.band_tier_and_exchange_text (abstract_band band.now)) }
     ensures fault { OnErr result (result ≡ Err Memory) }
@@ -141,7 +141,7 @@ fn put_band_tier_and_exchange(out: &mut Vec<u8>, band: &Band) -> Result<(), Faul
 // Appends to `out` the line of the current commission band: its rate in ten-thousandths, its least
 // and its greatest quantity, its tier and its exchange, or `none` if there is no band. Fails with
 // `Memory` only; a part of the line may then be appended.
-#[tactic(auto, unfolding(brk_explain_model::specs::TradeLines::commission_band_line))]
+#[tactic(auto, unfolding(brk_model_explain::specs::TradeLines::commission_band_line))]
 fn put_commission_band_line(out: &mut Vec<u8>, band: &Option<Band>) -> Result<(), Fault>
     ensures ok { OnOk result (out.new.items ≡ out.old.items ++ line_with_line_feed (lines.commission_band_line (option_map abstract_band band.now))) }
     ensures fault { OnErr result (result ≡ Err Memory) }
@@ -158,7 +158,7 @@ fn put_commission_band_line(out: &mut Vec<u8>, band: &Option<Band>) -> Result<()
 // Appends to `out` the line of `commission`, which is the commission at the rate of the current
 // band, in cents, or of `none` if `commission` is `None`. Fails with `Memory` only; a part of the
 // line may then be appended.
-#[tactic(auto, unfolding(brk_explain_model::specs::TradeLines::current_commission_line))]
+#[tactic(auto, unfolding(brk_model_explain::specs::TradeLines::current_commission_line))]
 fn put_current_commission_line(
     alloc: Global,
     out: &mut Vec<u8>,
@@ -176,7 +176,7 @@ fn put_current_commission_line(
 /// Appends to `out` the line of the current commission band of a completed trade, and the line of
 /// the commission at its rate, each with `none` if there is no band. Fails with `Memory` only; a
 /// part of the lines may then be appended.
-#[tactic(auto, unfolding(brk_explain_model::specs::TradeLines::band_and_commission_lines))]
+#[tactic(auto, unfolding(brk_model_explain::specs::TradeLines::band_and_commission_lines))]
 pub(crate) fn put_band_and_commission_lines(
     alloc: Global,
     out: &mut Vec<u8>,

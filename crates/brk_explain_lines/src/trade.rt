@@ -1,7 +1,7 @@
 //! The text of the explanation of a trade.
 
 ghost use Rattle.std.specs.Prelude.{◌≡◌, ◌++◌, IfErr, IfOk, OnOk, option_map};
-ghost use Rattle.brk_explain_model.specs.TradeLines as lines;
+ghost use Rattle.brk_model_explain.specs.TradeLines as lines;
 ghost use Rattle.brk_explain_rows.specs.Details.{abstract_order_details, abstract_result_details, abstract_trade_details};
 ghost use Rattle.brk_model.specs.Run.{IsCallFault};
 ghost use Rattle.brk_model.specs.Statement.{text_of_lines};
@@ -20,7 +20,7 @@ use std::alloc::Global;
 // commission, settlement, due day, balance and counts. Fails with `Memory` or `Store`; with `Store`
 // if an amount or a number of shares overflows or exceeds its limit, or if the tax rates total more
 // than the greatest rate. After an error a part of the lines may be appended.
-#[tactic(auto, unfolding(brk_explain_model::specs::TradeLines::completed_trade_lines))]
+#[tactic(auto, unfolding(brk_model_explain::specs::TradeLines::completed_trade_lines))]
 fn put_completed_trade_lines(
     alloc: Global,
     out: &mut Vec<u8>,
@@ -45,7 +45,7 @@ fn put_completed_trade_lines(
 // `Memory` or `Store`; with `Store` if an amount or a number of shares overflows or exceeds its
 // limit, or if the tax rates total more than the greatest rate. After an error a part of the lines
 // may be appended.
-#[tactic(auto, unfolding(brk_explain_model::specs::TradeLines::lines_after_statuses))]
+#[tactic(auto, unfolding(brk_model_explain::specs::TradeLines::lines_after_statuses))]
 fn put_lines_after_statuses(
     alloc: Global,
     out: &mut Vec<u8>,
@@ -65,7 +65,7 @@ fn put_lines_after_statuses(
 /// Returns all lines of the explanation of a trade as one text, each line with its line feed. Fails
 /// with `Memory` or `Store`; with `Store` if an amount or a number of shares overflows or exceeds
 /// its limit, or if the tax rates total more than the greatest rate.
-#[tactic(auto, unfolding(brk_explain_model::specs::TradeLines::trade_explanation_lines))]
+#[tactic(auto, unfolding(brk_model_explain::specs::TradeLines::trade_explanation_lines))]
 pub fn trade_explanation_text(alloc: Global, details: &TradeDetails) -> Result<Vec<u8>, Fault>
     ensures text { IfOk result (λ text. text.items ≡ text_of_lines (lines.trade_explanation_lines (abstract_trade_details details.now))) }
     ensures fault { IfErr result IsCallFault }

@@ -1,21 +1,21 @@
 //! The lines of a trade that is not completed. The functions fail with `Memory` only.
 
 ghost use Rattle.std.specs.Prelude.{◌≡◌, ◌++◌, ◌∷◌, Err, OnErr, OnOk, codes, decimal};
-ghost use Rattle.brk_explain_model.specs.Texts.{labeled_amount, labeled_text};
-ghost use Rattle.brk_explain_model.specs.TradeLines as lines;
+ghost use Rattle.brk_model_explain.specs.Texts.{labeled_amount, labeled_text};
+ghost use Rattle.brk_model_explain.specs.TradeLines as lines;
 ghost use Rattle.brk_explain_rows.specs.Details.{abstract_order_details};
 ghost use Rattle.brk_model.specs.Rows.{nonnegative_cents_text};
 ghost use Rattle.brk_model.specs.Statement.{text_of_lines};
 ghost use Rattle.brk_money.specs.declared.fault.Fault.TheVariants.{Memory};
 ghost use Rattle.brk_report_lines.specs.Written.{line_with_line_feed};
 
-use brk_changes::TradeRow;
 use brk_explain_columns::{
     end_line, put_label, put_labeled_amount, put_labeled_amount_line, put_labeled_number_line,
     put_space_and_text_line, put_text, put_text_and_number,
 };
 use brk_explain_rows::OrderDetails;
 use brk_money::{Fault, Price, Status, TradeType, Wide, write_cents};
+use brk_trade_rows::TradeRow;
 use std::alloc::Global;
 
 // Returns the remark after the charge of a trade that is not completed: `never charged` if it is
@@ -88,7 +88,7 @@ fn put_awaited_event(
 
 // Appends to `out` the line of the label `Waits for` and the event for which a trade waits. Fails
 // with `Memory` only; a part of the line may then be appended.
-#[tactic(auto, unfolding(brk_explain_model::specs::Texts::labeled_text))]
+#[tactic(auto, unfolding(brk_model_explain::specs::Texts::labeled_text))]
 fn put_awaited_event_line(out: &mut Vec<u8>, trade: &TradeRow) -> Result<(), Fault>
     ensures ok { OnOk result (out.new.items
         ≡ out.old.items ++ line_with_line_feed (labeled_text (codes "Waits for") (lines.awaited_event_text trade.now.status trade.now.kind trade.now.bid))) }
@@ -131,7 +131,7 @@ fn put_status_count_line(out: &mut Vec<u8>, count: usize) -> Result<(), Fault>
 /// charge and its commission, each with a remark, the event for which it waits, 0 shares and 0.00
 /// of cash moved, and the number of its status changes. Fails with `Memory` only; a part of the
 /// lines may then be appended.
-#[tactic(auto, unfolding(brk_explain_model::specs::TradeLines::uncompleted_trade_lines))]
+#[tactic(auto, unfolding(brk_model_explain::specs::TradeLines::uncompleted_trade_lines))]
 pub(crate) fn put_uncompleted_trade_lines(
     alloc: Global,
     out: &mut Vec<u8>,

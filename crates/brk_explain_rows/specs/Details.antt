@@ -1,17 +1,17 @@
 -- The abstract value of each typed row of an explanation.
 use Rattle.std.specs.Prelude.{◌≡◌, ◌⊎◌, ◌==◌, ℕ, find, length, map, option_map, Option, Some, None, Result, Ok, Err}
-use Rattle.brk_changes.specs.Rows.{abstract_history_row, abstract_lot_change_row, abstract_move_row, abstract_settlement_row}
-use Rattle.brk_changes.specs.Rows.{abstract_summary_row, abstract_trade_row}
+use Rattle.brk_trade_rows.specs.Rows.{abstract_history_row, abstract_lot_change_row, abstract_move_row, abstract_settlement_row}
+use Rattle.brk_trade_rows.specs.Rows.{abstract_summary_row, abstract_trade_row}
 use Rattle.brk_ref.specs.Records.{abstract_account_row, abstract_band, abstract_broker_row, abstract_security_row, abstract_tax_rate}
 use Rattle.brk_money.specs.Spelling.{Text}
 use Rattle.brk_money.specs.declared.refusal.Refusal.{Refusal}
 use Rattle.brk_money.specs.declared.refusal.Refusal.TheVariants.{NoAccount, NoSecurity}
 use Rattle.brk_model.specs.Joins.{account_row_with_id, last_price_in_tables, security_row_with_symbol, trade_row_with_id}
 use Rattle.brk_model.specs.Tables.{AccountRow, Tables, TradeRow}
-use Rattle.brk_explain_model.specs.AccountLines.{PricedHolding, priced_holdings_of_account}
-use Rattle.brk_explain_model.specs.BrokerLines.{accounts_with_broker}
-use Rattle.brk_explain_model.specs.Holdings.{LotChange, LotDetails, completed_trades_in_symbol, lots_opened_in_symbol, summary_quantity_in_symbol}
-use Rattle.brk_explain_model.specs.Trades.{Closing, OrderDetails, ResultDetails, TradeDetails, details_of_trade}
+use Rattle.brk_model_explain.specs.AccountLines.{PricedHolding, priced_holdings_of_account}
+use Rattle.brk_model_explain.specs.BrokerLines.{accounts_with_broker}
+use Rattle.brk_model_explain.specs.Holdings.{LotChange, LotDetails, completed_trades_in_symbol, lots_opened_in_symbol, summary_quantity_in_symbol}
+use Rattle.brk_model_explain.specs.Trades.{Closing, OrderDetails, ResultDetails, TradeDetails, details_of_trade}
 use Rattle.brk_explain_rows.specs.declared.account_details.AccountDetails as account_details
 use Rattle.brk_explain_rows.specs.declared.account_details.PricedHolding as held
 use Rattle.brk_explain_rows.specs.declared.broker_details.BrokerDetails as broker_details

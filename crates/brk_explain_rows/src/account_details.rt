@@ -1,6 +1,6 @@
-use brk_changes::SummaryRow;
 use brk_money::Price;
 use brk_ref::AccountRow;
+use brk_trade_rows::SummaryRow;
 
 /// A holding summary, with the last price of its symbol.
 #[derive(Drop)]

@@ -1,7 +1,7 @@
 use crate::closing::Closing;
-use brk_changes::{HistoryRow, LotChange, MoveRow, SettlementRow, TradeRow};
 use brk_money::{Day, Price, Wide};
 use brk_ref::{AccountRow, Band, Security, Tax};
+use brk_trade_rows::{HistoryRow, LotChange, MoveRow, SettlementRow, TradeRow};
 
 /// A trade as ordered, with the rows of its account and its security, and its status changes.
 #[derive(Drop)]

@@ -3,7 +3,7 @@ use Rattle.std.proofs.Common.{◌≡◌, ◌∙◌, ℤ, List, [], ◌∷◌, �
 use Rattle.std.specs.Prelude.{unwrap_or}
 use Rattle.std.specs.List.{last_or}
 use Rattle.std.proofs.lemmas.List.{map_push}
-use Rattle.brk_explain_model.specs.Holdings.{LotChange}
+use Rattle.brk_model_explain.specs.Holdings.{LotChange}
 use Rattle.brk_explain_sums.specs.HoldingTexts.{quantity_after_changes}
 
 last_or-append : {X : Type 0} (o : Option X) (xs : List X) (x : X) → last_or o (xs ++ x ∷ []) ≡ Some x

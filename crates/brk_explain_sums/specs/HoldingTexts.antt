@@ -2,10 +2,10 @@
 use Rattle.std.specs.Prelude.{List, map, None, unwrap_or, ℤ}
 use Rattle.std.specs.List.{last_or}
 use Rattle.brk_money.specs.Spelling.{Text}
-use Rattle.brk_changes.specs.Rows.{abstract_trade_row}
+use Rattle.brk_trade_rows.specs.Rows.{abstract_trade_row}
 use Rattle.brk_ref.specs.Records.{abstract_account_row, abstract_security_row}
-use Rattle.brk_explain_model.specs.HoldingLines.{holding_lines_from_trades_and_lots}
-use Rattle.brk_explain_model.specs.Holdings.{LotChange}
+use Rattle.brk_model_explain.specs.HoldingLines.{holding_lines_from_trades_and_lots}
+use Rattle.brk_model_explain.specs.Holdings.{LotChange}
 use Rattle.brk_explain_rows.specs.Details.{abstract_lot_details}
 use Rattle.brk_explain_rows.specs.declared.holding_details.HoldingDetails.{HoldingDetails}
 

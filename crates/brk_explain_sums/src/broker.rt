@@ -1,14 +1,13 @@
 //! The parts of the explanation of a broker. The functions fail with `Memory` only.
 
 ghost use Rattle.std.specs.Prelude.{◌≡◌, ◌++◌, Err, IfOk, OnErr, OnOk};
-ghost use Rattle.brk_changes.specs.Rows.{abstract_trade_row};
-ghost use Rattle.brk_explain_model.specs.BrokerLines as lines;
+ghost use Rattle.brk_trade_rows.specs.Rows.{abstract_trade_row};
+ghost use Rattle.brk_model_explain.specs.BrokerLines as lines;
 ghost use Rattle.brk_model.specs.Statement.{text_of_lines};
 ghost use Rattle.brk_money.specs.declared.fault.Fault.TheVariants.{Memory};
 ghost use Rattle.brk_ref.specs.Records.{abstract_broker_row};
 ghost use Rattle.brk_report_lines.specs.Written.{line_with_line_feed};
 
-use brk_changes::TradeRow;
 use brk_explain_columns::{
     end_line, put_amount_column, put_labeled_amount_line, put_labeled_integer_line,
     put_labeled_text_line, put_number_column, put_text_and_number, put_text_line, put_title_line,
@@ -16,12 +15,13 @@ use brk_explain_columns::{
 };
 use brk_money::{Fault, Wide};
 use brk_ref::BrokerRow;
+use brk_trade_rows::TradeRow;
 use std::alloc::Global;
 
 // Appends to `out` the first lines of the explanation of a broker: the title, the name, and the
 // column headings of the trades. Fails with `Memory` only; a part of the lines may then be
 // appended.
-#[tactic(auto, unfolding(brk_explain_model::specs::BrokerLines::broker_header_lines))]
+#[tactic(auto, unfolding(brk_model_explain::specs::BrokerLines::broker_header_lines))]
 fn put_broker_header(out: &mut Vec<u8>, row: &BrokerRow) -> Result<(), Fault>
     ensures ok { OnOk result (out.new.items ≡ out.old.items ++ text_of_lines (lines.broker_header_lines (abstract_broker_row row.now))) }
     ensures fault { OnErr result (result ≡ Err Memory) }
@@ -49,7 +49,7 @@ pub fn broker_header_text(alloc: Global, row: &BrokerRow) -> Result<Vec<u8>, Fau
 // the word `Trade`, its timestamp, its id, its account, its commission, and `total`, in cents, the
 // sum of the commissions up to and including this trade. Fails with `Memory` only; a part of the
 // line may then be appended.
-#[tactic(auto, unfolding(brk_explain_model::specs::BrokerLines::trade_commission_line))]
+#[tactic(auto, unfolding(brk_model_explain::specs::BrokerLines::trade_commission_line))]
 fn put_trade_commission_line(
     alloc: Global,
     out: &mut Vec<u8>,
@@ -98,7 +98,7 @@ fn put_broker_counts_line(out: &mut Vec<u8>, accounts: usize, trades: u64) -> Re
 // Appends to `out` the last lines of the explanation of a broker: the commission total and the
 // trade count in its row, `accounts` as the number of its accounts, and `trades` as the number of
 // their completed trades. Fails with `Memory` only; a part of the lines may then be appended.
-#[tactic(auto, unfolding(brk_explain_model::specs::BrokerLines::broker_total_lines))]
+#[tactic(auto, unfolding(brk_model_explain::specs::BrokerLines::broker_total_lines))]
 fn put_broker_totals(
     alloc: Global,
     out: &mut Vec<u8>,

@@ -1,7 +1,7 @@
 //! The text of the explanation of a holding.
 
 ghost use Rattle.std.specs.Prelude.{◌≡◌, ◌++◌, Err, IfErr, IfOk, OnErr, OnOk};
-ghost use Rattle.brk_explain_model.specs.HoldingLines as lines;
+ghost use Rattle.brk_model_explain.specs.HoldingLines as lines;
 ghost use Rattle.brk_explain_sums.specs.HoldingTexts.{lines_of_holding_details};
 ghost use Rattle.brk_model.specs.Run.{IsCallFault};
 ghost use Rattle.brk_model.specs.Statement.{text_of_lines};
@@ -33,7 +33,7 @@ fn put_holding_title_line(out: &mut Vec<u8>, account: Id, symbol: &[u8]) -> Resu
 // Appends to `out` the title of the explanation of a holding, the names of the account and of the
 // security, and the column headings of the trades. Fails with `Memory` only; a part of the lines
 // may then be appended.
-#[tactic(auto, unfolding(brk_explain_model::specs::HoldingLines::holding_header_lines))]
+#[tactic(auto, unfolding(brk_model_explain::specs::HoldingLines::holding_header_lines))]
 fn put_holding_header_lines(
     out: &mut Vec<u8>,
     row: &AccountRow,
@@ -70,7 +70,7 @@ fn put_lot_columns_header(out: &mut Vec<u8>) -> Result<(), Fault>
 // column headings of the lots, its lots with their changes, and its totals. Fails with `Memory` or
 // `Store`; with `Store` if an amount, a quantity or a number of lots or changes overflows, or if a
 // trade has no price. After an error a part of the lines may be appended.
-#[tactic(auto, unfolding(brk_explain_model::specs::HoldingLines::holding_lines_from_trades_and_lots))]
+#[tactic(auto, unfolding(brk_model_explain::specs::HoldingLines::holding_lines_from_trades_and_lots))]
 fn put_holding_lines(
     alloc: Global,
     out: &mut Vec<u8>,

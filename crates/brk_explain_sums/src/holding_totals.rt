@@ -1,31 +1,31 @@
 //! The totals of a holding, and the last line of its explanation.
 
 ghost use Rattle.std.specs.Prelude.{◌≡◌, ◌++◌, Err, IfErr, OnErr, OnOk, map};
-ghost use Rattle.brk_changes.specs.Rows.{abstract_trade_row};
-ghost use Rattle.brk_explain_model.specs.HoldingLines as lines;
+ghost use Rattle.brk_trade_rows.specs.Rows.{abstract_trade_row};
+ghost use Rattle.brk_model_explain.specs.HoldingLines as lines;
 ghost use Rattle.brk_explain_rows.specs.Details.{abstract_lot_details};
 ghost use Rattle.brk_model.specs.Run.{IsCallFault};
 ghost use Rattle.brk_model.specs.Statement.{text_of_lines};
 ghost use Rattle.brk_money.specs.declared.fault.Fault.TheVariants.{Memory};
 ghost use Rattle.brk_report_lines.specs.Written.{line_with_line_feed};
 
-use crate::lots::{
+use crate::holding_lots::{
     count_of_lot_changes, count_of_open_lots, realised_gain_of_lots, remaining_cost_of_lots,
 };
 use crate::trades::{negated_total_sale_value, total_purchase_value};
-use brk_changes::TradeRow;
 use brk_explain_columns::{
     end_line, put_labeled_amount_line, put_labeled_integer_line, put_text_and_number,
     subtract_amounts, value_of_shares_at_price,
 };
 use brk_explain_rows::LotDetails;
 use brk_money::{Fault, Price, Wide};
+use brk_trade_rows::TradeRow;
 use std::alloc::Global;
 
 // Appends to `out` the lines of the total purchases `bought`, the negated total sales `sold`, the
 // realised gain `gain` and the cost basis `cost` of a holding, in cents. Fails with `Memory` only;
 // a part of the lines may then be appended.
-#[tactic(auto, unfolding(brk_explain_model::specs::HoldingLines::purchase_sale_gain_and_cost_lines))]
+#[tactic(auto, unfolding(brk_model_explain::specs::HoldingLines::purchase_sale_gain_and_cost_lines))]
 fn put_purchase_sale_gain_and_cost_lines(
     alloc: Global,
     out: &mut Vec<u8>,
@@ -47,7 +47,7 @@ fn put_purchase_sale_gain_and_cost_lines(
 // which is `shares` times `price`, and the unrealised gain of a holding, which is the market value
 // minus the cost basis `cost`; `price` and `cost` are given in cents. Fails with `Memory` or
 // `Store`; with `Store` if an amount overflows. After an error a part of the lines may be appended.
-#[tactic(auto, unfolding(brk_explain_model::specs::HoldingLines::holding_value_lines))]
+#[tactic(auto, unfolding(brk_model_explain::specs::HoldingLines::holding_value_lines))]
 fn put_holding_value_lines(
     alloc: Global,
     out: &mut Vec<u8>,
@@ -92,7 +92,7 @@ fn put_holding_counts_line(
 /// market value, the unrealised gain, and the numbers of trades, lots, open lots and changes. Fails
 /// with `Memory` or `Store`; with `Store` if an amount or a number of lots or changes overflows, or
 /// if a trade has no price. After an error a part of the lines may be appended.
-#[tactic(auto, unfolding(brk_explain_model::specs::HoldingLines::holding_total_lines))]
+#[tactic(auto, unfolding(brk_model_explain::specs::HoldingLines::holding_total_lines))]
 pub(crate) fn put_holding_total_lines(
     alloc: Global,
     out: &mut Vec<u8>,

@@ -3,9 +3,9 @@
 
 pub mod broker;
 pub mod holding;
+mod holding_lots;
 mod holding_totals;
 mod lot_rows;
-mod lots;
 mod trade_rows;
 mod trades;
 

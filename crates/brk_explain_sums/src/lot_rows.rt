@@ -1,13 +1,13 @@
 //! The lines of the lots of a holding. The functions fail with `Memory` or `Store`.
 
 ghost use Rattle.std.specs.Prelude.{◌≡◌, ◌++◌, IfErr, OnOk, flat_map, map};
-ghost use Rattle.brk_explain_model.specs.HoldingLines as lines;
+ghost use Rattle.brk_model_explain.specs.HoldingLines as lines;
 ghost use Rattle.brk_explain_rows.specs.Details.{abstract_priced_lot_change, abstract_lot_details};
 ghost use Rattle.brk_model.specs.Run.{IsCallFault};
 ghost use Rattle.brk_model.specs.Statement.{text_of_lines};
 ghost use Rattle.brk_report_lines.specs.Written.{line_with_line_feed};
 
-use crate::lots::{
+use crate::holding_lots::{
     quantity_increase_of_change, realised_gain_of_change, remaining_cost_of_lot,
     remaining_quantity_of_lot,
 };
@@ -24,7 +24,7 @@ use std::alloc::Global;
 // the trade that opened it, the opened quantity, the price, and their product. Fails with `Memory`
 // or `Store`; with `Store` if the product overflows or the trade that opened the lot has no price.
 // After an error a part of the line may be appended.
-#[tactic(auto, unfolding(brk_explain_model::specs::HoldingLines::lot_opening_line))]
+#[tactic(auto, unfolding(brk_model_explain::specs::HoldingLines::lot_opening_line))]
 fn put_lot_opening_line(alloc: Global, out: &mut Vec<u8>, lot: &LotDetails) -> Result<(), Fault>
     ensures ok { OnOk result (out.new.items ≡ out.old.items ++ line_with_line_feed (lines.lot_opening_line (abstract_lot_details lot.now))) }
     ensures fault { IfErr result IsCallFault }
@@ -43,7 +43,7 @@ fn put_lot_opening_line(alloc: Global, out: &mut Vec<u8>, lot: &LotDetails) -> R
 // quantity, the price of this trade, the realised gain, and the quantity after the change. Fails
 // with `Memory` or `Store`; with `Store` if the gain overflows. After an error a part of the line
 // may be appended.
-#[tactic(auto, unfolding(brk_explain_model::specs::HoldingLines::lot_change_line))]
+#[tactic(auto, unfolding(brk_model_explain::specs::HoldingLines::lot_change_line))]
 fn put_lot_change_line(
     alloc: Global,
     out: &mut Vec<u8>,
@@ -92,7 +92,7 @@ fn put_lot_change_lines(
 // lot was opened, and their product. Fails with `Memory` or `Store`; with `Store` if the product
 // overflows or the trade that opened the lot has no price. After an error a part of the line may be
 // appended.
-#[tactic(auto, unfolding(brk_explain_model::specs::HoldingLines::lot_remainder_line))]
+#[tactic(auto, unfolding(brk_model_explain::specs::HoldingLines::lot_remainder_line))]
 fn put_lot_remainder_line(alloc: Global, out: &mut Vec<u8>, lot: &LotDetails) -> Result<(), Fault>
     ensures ok { OnOk result (out.new.items ≡ out.old.items ++ line_with_line_feed (lines.lot_remainder_line (abstract_lot_details lot.now))) }
     ensures fault { IfErr result IsCallFault }
@@ -108,7 +108,7 @@ fn put_lot_remainder_line(alloc: Global, out: &mut Vec<u8>, lot: &LotDetails) ->
 // Appends to `out` the lines of a lot: its opening, each change after the opening, and its
 // remaining shares. Fails with `Memory` or `Store`; with `Store` if an amount overflows or the
 // trade that opened the lot has no price. After an error a part of the lines may be appended.
-#[tactic(auto, unfolding(brk_explain_model::specs::HoldingLines::lot_history_lines))]
+#[tactic(auto, unfolding(brk_model_explain::specs::HoldingLines::lot_history_lines))]
 fn put_lot_history_lines(alloc: Global, out: &mut Vec<u8>, lot: &LotDetails) -> Result<(), Fault>
     ensures ok { OnOk result (out.new.items ≡ out.old.items ++ text_of_lines (lines.lot_history_lines (abstract_lot_details lot.now))) }
     ensures fault { IfErr result IsCallFault }

@@ -1,8 +1,8 @@
 //! The lines of the trades of a holding. The functions fail with `Memory` or `Store`.
 
 ghost use Rattle.std.specs.Prelude.{◌≡◌, ◌++◌, IfErr, OnOk, map};
-ghost use Rattle.brk_changes.specs.Rows.{abstract_trade_row};
-ghost use Rattle.brk_explain_model.specs.HoldingLines as lines;
+ghost use Rattle.brk_trade_rows.specs.Rows.{abstract_trade_row};
+ghost use Rattle.brk_model_explain.specs.HoldingLines as lines;
 ghost use Rattle.brk_model.specs.Run.{IsCallFault};
 ghost use Rattle.brk_model.specs.Statement.{text_of_lines};
 ghost use Rattle.brk_report_lines.specs.Written.{line_with_line_feed};
@@ -11,18 +11,18 @@ use crate::trades::{
     completion_price_of_trade, quantity_held_after_trade, signed_quantity_of_trade,
     signed_value_of_trade,
 };
-use brk_changes::TradeRow;
 use brk_explain_columns::{
     put_leading_row_columns, put_shares_column, put_space_and_text_line, put_value_column,
 };
 use brk_money::Fault;
+use brk_trade_rows::TradeRow;
 use std::alloc::Global;
 
 // Appends to `out` the line of a completed trade: the word `Trade`, its stamp, its id, its
 // quantity, its price, its value, `held`, the quantity of the holding after it, and the code of its
 // type. Quantity and value are below 0 for a sale. Fails with `Memory` or `Store`; with `Store` if
 // the value overflows or the trade has no price. After an error a part of the line may be appended.
-#[tactic(auto, unfolding(brk_explain_model::specs::HoldingLines::holding_trade_line))]
+#[tactic(auto, unfolding(brk_model_explain::specs::HoldingLines::holding_trade_line))]
 fn put_holding_trade_line(
     alloc: Global,
     out: &mut Vec<u8>,

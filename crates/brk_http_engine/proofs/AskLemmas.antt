@@ -2,12 +2,12 @@
 use Rattle.std.proofs.Common.{◌≡◌, List, Some, None, true, false, refl, codes}
 use Rattle.std.specs.Prelude.{bytes_eq}
 use Rattle.brk_money.specs.Spelling.{Text}
-use Rattle.brk_http_model.specs.Asked.{ResponseOnly, RequestParsers, demand_of_texts, demand_of_request}
-use Rattle.brk_http_model.specs.Bodies.{texts_of_body}
-use Rattle.brk_http_model.specs.Found.{Request}
-use Rattle.brk_http_model.specs.Replies.{FromProblem}
-use Rattle.brk_http_model.specs.Routes.{Route, route_of_target}
-use Rattle.brk_http_model.specs.declared.problem.RequestProblem.TheVariants.{NotFound, NotAllowed, BadRequest}
+use Rattle.brk_model_http.specs.Asked.{ResponseOnly, RequestParsers, demand_of_texts, demand_of_request}
+use Rattle.brk_model_http.specs.Bodies.{texts_of_body}
+use Rattle.brk_model_http.specs.Found.{Request}
+use Rattle.brk_model_http.specs.Replies.{FromProblem}
+use Rattle.brk_model_http.specs.Routes.{Route, route_of_target}
+use Rattle.brk_model_http.specs.declared.problem.RequestProblem.TheVariants.{NotFound, NotAllowed, BadRequest}
 
 pub no_route : (forms : RequestParsers) (q : Request) → route_of_target forms.views q.target ≡ None → ResponseOnly (FromProblem NotFound) ≡ demand_of_request forms q
 unfolding demand_of_request

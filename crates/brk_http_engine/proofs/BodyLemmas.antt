@@ -13,7 +13,7 @@ use Rattle.serde_json.specs.Find.{as_str, as_array}
 use Rattle.serde_json.specs.Written.{has_float, items_have_float}
 use Rattle.serde_json.specs.declared.value.Value.{Value}
 use Rattle.brk_money.specs.Spelling.{Text}
-use Rattle.brk_http_model.specs.Bodies.{text_of_json_string, texts_of_json_array, texts_of_json_items, texts_of_body, json_array_of_texts}
+use Rattle.brk_model_http.specs.Bodies.{text_of_json_string, texts_of_json_array, texts_of_json_items, texts_of_body, json_array_of_texts}
 
 no_text : (d : Data) (t : List ℕ) → None ≡ as_str d → d ≡ string t → ⊥
 no_text d t e f = let g : as_str d ≡ Some t = ap as_str f in cc

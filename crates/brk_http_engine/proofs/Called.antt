@@ -2,9 +2,9 @@
 use Rattle.std.proofs.Common.{◌≡◌, ℕ, ◌+◌, ◌≤◌, List, [], ◌∷◌, ◌++◌, length, refl, arith, subst, sym, ap, ◌∙◌}
 use Rattle.std.proofs.lemmas.List.{length-append}
 use Rattle.brk_io.proofs.Calls.{made_then}
-use Rattle.brk_http_model.specs.Asked.{RequestDemand, ResponseOnly, DeskCall}
-use Rattle.brk_http_model.specs.Replies.{Response}
-use Rattle.brk_http_model.specs.Stream.{CallRelation, IsResponseToDemand, TakesClockReadings}
+use Rattle.brk_model_http.specs.Asked.{RequestDemand, ResponseOnly, DeskCall}
+use Rattle.brk_model_http.specs.Replies.{Response}
+use Rattle.brk_model_http.specs.Stream.{CallRelation, IsResponseToDemand, TakesClockReadings}
 use Rattle.brk_io.specs.Calls.{IsCallSequence}
 use Rattle.brk_io.specs.Moments.{ClockReturnsMomentsInSequence}
 use Rattle.brk_model.specs.Run.{Ask, Call, Do, Outcome}

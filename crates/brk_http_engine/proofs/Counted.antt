@@ -3,10 +3,10 @@ use Rattle.std.proofs.Common.{◌≡◌, ℕ, ◌+◌, ◌≤◌, List, [], ◌�
 use Rattle.std.specs.Prelude.{Result, Ok, Err}
 use Rattle.brk_money.specs.Spelling.{Text}
 use Rattle.brk_io.specs.Span.{IsUnchangedEnvironment, ClockAndWriterChange, EnvironmentChange, environment_change_with_bases}
-use Rattle.brk_http_model.specs.Asked.{RequestParsers, RequestDemand, ResponseOnly, DeskCall, demand_of_request}
-use Rattle.brk_http_model.specs.Found.{RequestReading, NoBytesLeft, Unreadable, CompleteRequest}
-use Rattle.brk_http_model.specs.Replies.{Response}
-use Rattle.brk_http_model.specs.Stream.{StreamState, Finished, Continues, RequestEffect, IsEffectOfFirstRequest, IsEffectOfReading, AreRepliesOfStream, AreFirstReplies, IsResponseToDemand}
+use Rattle.brk_model_http.specs.Asked.{RequestParsers, RequestDemand, ResponseOnly, DeskCall, demand_of_request}
+use Rattle.brk_model_http.specs.Found.{RequestReading, NoBytesLeft, Unreadable, CompleteRequest}
+use Rattle.brk_model_http.specs.Replies.{Response}
+use Rattle.brk_model_http.specs.Stream.{StreamState, Finished, Continues, RequestEffect, IsEffectOfFirstRequest, IsEffectOfReading, AreRepliesOfStream, AreFirstReplies, IsResponseToDemand}
 use Rattle.brk_http_engine.proofs.Effects.{effect_of}
 use Rattle.brk_http_engine.specs.Limits.{call_limit_at_fault, call_limit_of_stream}
 use Rattle.brk_http_engine.specs.Promises.{CallScript, StreamMatchesScript, IsNextScriptedCall}

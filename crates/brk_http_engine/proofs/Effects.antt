@@ -1,7 +1,7 @@
 -- Effects of requests, from their parts.
 use Rattle.std.proofs.Common.{ℕ, List}
 use Rattle.brk_money.specs.Spelling.{Text}
-use Rattle.brk_http_model.specs.Stream.{RequestEffect, StreamState}
+use Rattle.brk_model_http.specs.Stream.{RequestEffect, StreamState}
 
 -- The effect with these parts.
 abbrev pub effect_of : {B : Type 0} → B → List ℕ → Text → StreamState → B → RequestEffect B

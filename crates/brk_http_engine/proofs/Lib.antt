@@ -13,3 +13,4 @@ pub mod Counted
 pub mod RouteLemmas
 pub mod Seeking
 pub mod Routing
+pub mod Taking

@@ -8,7 +8,7 @@ use Rattle.brk_money.specs.declared.refusal.Refusal.TheVariants.{NoSecurity, NoT
 use Rattle.brk_money.specs.declared.refusal.Refusal.TheVariants.{NoRate, Range, ClockEnd, TooEarly}
 use Rattle.brk_money.specs.declared.refusal.Limit.TheVariants as limit
 use Rattle.brk_money.specs.declared.status.Status.TheVariants as status
-use Rattle.brk_http_model.specs.Routes.{split_at_byte}
+use Rattle.brk_model_http.specs.Routes.{split_at_byte}
 
 -- the fields of a refusal are those of its text
 pub refusal_parts : (refusal : Refusal) → split_at_byte 44 (refusal_text refusal) ≡ refusal_fields refusal

@@ -3,7 +3,7 @@ use Rattle.std.proofs.Common.{◌≡◌, ℕ, [], ◌∷◌, ◌++◌, Bool, ref
 use Rattle.std.specs.Prelude.{decimal, unwrap_or}
 use Rattle.http.specs.StatusCode.{code_digits, reason_phrase}
 use Rattle.brk_money.specs.Spelling.{Text}
-use Rattle.brk_http_model.specs.Replies.{http_head_line, head_line_if, reply_bytes}
+use Rattle.brk_model_http.specs.Replies.{http_head_line, head_line_if, reply_bytes}
 use Rattle.brk_http_engine.specs.Lines.{first_head_lines, status_text}
 
 pub digits_and_phrase : (code : ℕ) (digits phrase s1 s2 s3 : Text) → s1 ≡ digits → digits ≡ code_digits code → s2 ≡ s1 ++ 32 ∷ [] → s3 ≡ s2 ++ phrase

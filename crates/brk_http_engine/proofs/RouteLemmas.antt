@@ -7,7 +7,7 @@ use Rattle.std.proofs.lemmas.Str.{IsUtf8-from_is_utf8, is_utf8-from_IsUtf8}
 use Rattle.brk_money.specs.Spelling.{Text}
 use Rattle.brk_money.specs.declared.fault.Fault.{Fault}
 use Rattle.brk_ref.specs.Fields.{texts_of_fields}
-use Rattle.brk_http_model.specs.Routes.{split_at_byte, route_of_segments, route_of_target}
+use Rattle.brk_model_http.specs.Routes.{split_at_byte, route_of_segments, route_of_target}
 use Rattle.std.specs.Prelude.{is_some}
 use Rattle.std.proofs.Common.{ℕ, ◌<◌, get_or}
 use Rattle.std.specs.List.{list_all}

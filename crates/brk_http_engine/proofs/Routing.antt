@@ -11,7 +11,7 @@ use Rattle.brk_money.specs.Spelling.{Text}
 use Rattle.brk_money.specs.declared.refusal.Refusal.TheVariants.{BadText}
 use Rattle.brk_model.specs.Forms.{ReadResult, read_id}
 use Rattle.brk_model.specs.Records.{Key}
-use Rattle.brk_http_model.specs.Routes.{Route, ToRow, has_first_segment, split_at_byte, route_of_segments, key_of_batch_row}
+use Rattle.brk_model_http.specs.Routes.{Route, ToRow, has_first_segment, split_at_byte, route_of_segments, key_of_batch_row}
 use Rattle.brk_http_engine.specs.Rows.{is_nonempty, all_router_rows}
 use Rattle.brk_http_engine.proofs.Seeking.{seek_last, seek_two, seek_word}
 

@@ -2,11 +2,11 @@
 use Rattle.std.proofs.Common.{ℕ, ◌+◌, List, [], ◌∷◌, refl, sym, subst}
 use Rattle.brk_money.specs.Spelling.{Text}
 use Rattle.brk_model.specs.Run.{Call, Outcome}
-use Rattle.brk_http_model.specs.Asked.{RequestParsers, RequestDemand, ResponseOnly, DeskCall, demand_of_request}
-use Rattle.brk_http_model.specs.Found.{RequestReading, NoBytesLeft, Unreadable, CompleteRequest}
-use Rattle.brk_http_model.specs.Replies.{Response}
-use Rattle.brk_http_model.specs.Stream.{CallRelation, StreamState, Finished, Continues, RequestEffect, IsEffectOfFirstRequest, IsEffectOfReading}
-use Rattle.brk_http_model.specs.Stream.{AreRepliesOfStream, AreFirstReplies, IsResponseToDemand}
+use Rattle.brk_model_http.specs.Asked.{RequestParsers, RequestDemand, ResponseOnly, DeskCall, demand_of_request}
+use Rattle.brk_model_http.specs.Found.{RequestReading, NoBytesLeft, Unreadable, CompleteRequest}
+use Rattle.brk_model_http.specs.Replies.{Response}
+use Rattle.brk_model_http.specs.Stream.{CallRelation, StreamState, Finished, Continues, RequestEffect, IsEffectOfFirstRequest, IsEffectOfReading}
+use Rattle.brk_model_http.specs.Stream.{AreRepliesOfStream, AreFirstReplies, IsResponseToDemand}
 use Rattle.brk_http_engine.proofs.Effects.{effect_of, effect_between}
 
 module _ {D B : Type 0} (forms : RequestParsers) (acts : CallRelation D) (does : CallRelation B) (meets_disk_assumption : D → Type 0) (represents : D → B → Type 0)

@@ -8,9 +8,9 @@ use Rattle.std.proofs.lemmas.List.{append-nil, length_push}
 use Rattle.brk_money.specs.Spelling.{Text}
 use Rattle.brk_io.specs.Span.{EnvironmentChange}
 use Rattle.brk_io.specs.Moments.{ClockReturnsMomentsInSequence}
-use Rattle.brk_http_model.specs.Asked.{RequestParsers}
-use Rattle.brk_http_model.specs.Found.{NoBytesLeft, ReadsFirstRequest}
-use Rattle.brk_http_model.specs.Stream.{CallRelation, StreamState, Finished, Continues, IsEffectOfFirstRequest, AreRepliesOfStream, AreFirstReplies}
+use Rattle.brk_model_http.specs.Asked.{RequestParsers}
+use Rattle.brk_model_http.specs.Found.{NoBytesLeft, ReadsFirstRequest}
+use Rattle.brk_model_http.specs.Stream.{CallRelation, StreamState, Finished, Continues, IsEffectOfFirstRequest, AreRepliesOfStream, AreFirstReplies}
 use Rattle.brk_http_engine.proofs.Effects.{effect_of}
 use Rattle.brk_http_engine.specs.Turns.{ExchangeHasReply, ExchangeCompletesWith, ExchangeFailsWith, StreamFailsWith, IsStreamResult}
 use Rattle.brk_http_engine.specs.declared.turning.ExchangeResult.TheVariants as turn

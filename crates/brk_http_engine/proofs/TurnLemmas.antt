@@ -3,11 +3,11 @@ use Rattle.std.proofs.Common.{◌≡◌, ℕ, [], ◌++◌, drop, take, Bool, tr
 use Rattle.std.specs.Io.KnownBytes.{Appends, prepend_known}
 use Rattle.brk_money.specs.Spelling.{Text}
 use Rattle.brk_io.specs.Span.{IsUnchangedEnvironment, EnvironmentChange}
-use Rattle.brk_http_model.specs.Asked.{RequestParsers}
-use Rattle.brk_http_model.specs.Found.{Request, RequestReading, NoBytesLeft, Unreadable, CompleteRequest, ReadsFirstRequest}
-use Rattle.brk_http_model.specs.Replies.{FromProblem, reply_text}
-use Rattle.brk_http_model.specs.Stream.{CallRelation, Finished, stream_after_reply}
-use Rattle.brk_http_model.specs.declared.problem.RequestProblem.{RequestProblem}
+use Rattle.brk_model_http.specs.Asked.{RequestParsers}
+use Rattle.brk_model_http.specs.Found.{Request, RequestReading, NoBytesLeft, Unreadable, CompleteRequest, ReadsFirstRequest}
+use Rattle.brk_model_http.specs.Replies.{FromProblem, reply_text}
+use Rattle.brk_model_http.specs.Stream.{CallRelation, Finished, stream_after_reply}
+use Rattle.brk_model_http.specs.declared.problem.RequestProblem.{RequestProblem}
 use Rattle.brk_http_reader.specs.FirstRequests.{request_at_positions, MatchesNextRequest}
 use Rattle.brk_http_reader.specs.declared.next.RequestPositions.{RequestPositions}
 use Rattle.brk_http_reader.specs.declared.next.NextRequest.TheVariants.{Whole}

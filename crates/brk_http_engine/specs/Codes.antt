@@ -10,9 +10,9 @@ use Rattle.brk_model.specs.Records as records
 use Rattle.brk_model.specs.Run as run
 use Rattle.brk_ref.specs.Records.{abstract_key}
 use Rattle.brk_ref.specs.declared.key.Key as ref
-use Rattle.brk_http_model.specs.Asked as asked
-use Rattle.brk_http_model.specs.Replies.{Response, FromProblem, FromOutcome}
-use Rattle.brk_http_model.specs.Routes as routes
+use Rattle.brk_model_http.specs.Asked as asked
+use Rattle.brk_model_http.specs.Replies.{Response, FromProblem, FromOutcome}
+use Rattle.brk_model_http.specs.Routes as routes
 use Rattle.brk_http_engine.specs.declared.routes.Route.{Route}
 use Rattle.brk_http_engine.specs.declared.routes.Route.TheVariants as route
 use Rattle.brk_http_engine.specs.declared.asking.RequestedCall.{RequestedCall}

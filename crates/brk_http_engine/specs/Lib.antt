@@ -5,3 +5,4 @@ pub mod Codes
 pub mod Turns
 pub mod Limits
 pub mod Promises
+pub mod Listening

@@ -1,7 +1,7 @@
 -- The first lines of a reply's head.
 use Rattle.std.specs.Prelude.{ℕ, ◌∷◌, ◌++◌, [], codes, decimal, unwrap_or}
 use Rattle.brk_money.specs.Spelling.{Text}
-use Rattle.brk_http_model.specs.Replies.{http_head_line}
+use Rattle.brk_model_http.specs.Replies.{http_head_line}
 use Rattle.http.specs.StatusCode.{code_digits, reason_phrase}
 
 -- The status `code` as it is written in a head: its three digits, a space and its reason phrase,

@@ -6,8 +6,8 @@ use Rattle.brk_io.specs.Calls.{IsCallSequence}
 use Rattle.brk_io.specs.Span.{ClockAndWriterChange, environment_change_with_bases}
 use Rattle.brk_http_engine.specs.Turns.{IsStreamResult}
 use Rattle.brk_io.specs.declared.stream_fault.ServeFault.{ServeFault}
-use Rattle.brk_http_model.specs.Asked.{RequestParsers}
-use Rattle.brk_http_model.specs.Stream.{CallRelation}
+use Rattle.brk_model_http.specs.Asked.{RequestParsers}
+use Rattle.brk_model_http.specs.Stream.{CallRelation}
 
 -- The desk changed from `old` to `new` only by a sequence of calls, at most `most` of them.
 abbrev pub ChangesOnlyByCalls : {D : Type 0} → CallRelation D → ℕ → D → D → Type 0

@@ -10,11 +10,11 @@ use Rattle.std.specs.Prelude.{◌≡◌, ◌⊎◌, ◌==◌, ◌||◌, Bool, �
 use Rattle.std.specs.Io.KnownBytes.{Appends}
 use Rattle.std.specs.List.{concat}
 use Rattle.brk_money.specs.Spelling.{Text}
-use Rattle.brk_http_model.specs.Asked.{RequestParsers, demand_of_request}
-use Rattle.brk_http_model.specs.Found.{Request, ReadsFirstRequest, NoBytesLeft}
-use Rattle.brk_http_model.specs.Replies.{Response, is_fault_response, reply_text}
-use Rattle.brk_http_model.specs.Stream.{CallRelation, IsResponseToDemand, most_requests_per_stream, StreamState}
-use Rattle.brk_http_model.specs.Stream.{Finished, Continues, IsEffectOfFirstRequest, AreRepliesOfStream, AreFirstReplies}
+use Rattle.brk_model_http.specs.Asked.{RequestParsers, demand_of_request}
+use Rattle.brk_model_http.specs.Found.{Request, ReadsFirstRequest, NoBytesLeft}
+use Rattle.brk_model_http.specs.Replies.{Response, is_fault_response, reply_text}
+use Rattle.brk_model_http.specs.Stream.{CallRelation, IsResponseToDemand, most_requests_per_stream, StreamState}
+use Rattle.brk_model_http.specs.Stream.{Finished, Continues, IsEffectOfFirstRequest, AreRepliesOfStream, AreFirstReplies}
 use Rattle.brk_io.specs.Span.{IsUnchangedEnvironment, EnvironmentChange}
 use Rattle.brk_io.specs.Moments.{ClockReturnsMomentsInSequence}
 use Rattle.brk_http_engine.specs.declared.turning.ExchangeResult.{ExchangeResult}

@@ -1,14 +1,14 @@
 ghost use Rattle.std.specs.Prelude.{◌≡◌, ℕ, List};
 ghost use Rattle.brk_model.specs.Run.{Ask, Do, Outcome};
-ghost use Rattle.brk_http_model.specs.Replies.{FromOutcome};
+ghost use Rattle.brk_model_http.specs.Replies.{FromOutcome};
 ghost use Rattle.brk_io.specs.Moments.{ClockReturnsMomentsInSequence};
-ghost use Rattle.brk_http_model.specs.Stream.{IsResponseToDemand};
+ghost use Rattle.brk_model_http.specs.Stream.{IsResponseToDemand};
 ghost use Rattle.brk_http_engine.specs.Codes.{demand_in_model, key_in_model, response_in_model};
 
 use crate::asking::RequestedCall;
 use crate::service::Service;
-use brk_http_model::RequestProblem;
 use brk_io::Clock;
+use brk_model_http::RequestProblem;
 use brk_money::{Fault, Refusal, Stamp};
 use brk_ref::{Answer, Key};
 use std::alloc::Global;

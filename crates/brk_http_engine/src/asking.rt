@@ -1,7 +1,7 @@
 ghost use Rattle.std.specs.Prelude.{◌≡◌, Bool, Err, IfOk, OnErr, map, string_bytes};
 ghost use Rattle.std.specs.List.{list_all};
 ghost use Rattle.brk_http_engine.specs.Rows.{is_nonempty, all_router_rows};
-ghost use Rattle.brk_http_model.specs.Asked.{demand_of_texts, demand_of_request};
+ghost use Rattle.brk_model_http.specs.Asked.{demand_of_texts, demand_of_request};
 ghost use Rattle.brk_money.specs.declared.fault.Fault.TheVariants.{Memory};
 ghost use Rattle.brk_http_engine.specs.Codes.{demand_in_model, route_in_model};
 
@@ -10,7 +10,7 @@ use crate::pieces::borrow_bytes_of_texts;
 use crate::router::RouteKind;
 use crate::routes::{Route, route_of_target};
 use crate::service::Service;
-use brk_http_model::RequestProblem;
+use brk_model_http::RequestProblem;
 use brk_money::{Fault, Refusal};
 use brk_ref::Key;
 use matchit::Router;
@@ -61,7 +61,7 @@ fn parse_call_of_route<D: Service>(
 /// JSON list of strings in UTF-8 (`BadRequest`), or its row or query is malformed (`BadRow`,
 /// `BadQuery`). The result does not depend on the close flag of the request. The router must have
 /// exactly the three routes, and no view may have an empty name. Fails with `Memory` only.
-#[tactic(auto, unfolding(brk_http_model::specs::Asked::demand_of_request), using(crate::proofs::AskLemmas::demand_checks))]
+#[tactic(auto, unfolding(brk_model_http::specs::Asked::demand_of_request), using(crate::proofs::AskLemmas::demand_checks))]
 pub fn parse_call_of_request<D: Service>(
     alloc: Global,
     router: &Router<RouteKind>,

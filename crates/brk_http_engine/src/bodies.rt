@@ -1,7 +1,7 @@
 ghost use Rattle.std.specs.Prelude.{◌≡◌, ◌≢◌, List, ℕ, map, codes, string_bytes, IfOk, IfSome, IfNone, option_map};
 ghost use Rattle.serde_json.specs.Data.{Data, string, array, object, member, no_members};
 ghost use Rattle.serde_json.specs.View.{view, items_of};
-ghost use Rattle.brk_http_model.specs.Bodies as spec;
+ghost use Rattle.brk_model_http.specs.Bodies as spec;
 ghost use Rattle.brk_http_engine.specs.Codes.{bytes_of_texts};
 ghost use Rattle.brk_http_engine.specs.Words.{member_name_text};
 

@@ -1,6 +1,6 @@
 ghost use Rattle.std.specs.Prelude.{◌≡◌, ◌<◌, IfOk, map, string_bytes};
 ghost use Rattle.brk_ref.specs.Fields.{texts_of_fields as slices};
-ghost use Rattle.brk_http_model.specs.Routes as spec;
+ghost use Rattle.brk_model_http.specs.Routes as spec;
 ghost use Rattle.brk_http_engine.specs.Codes.{bytes_of_texts};
 
 use std::alloc::{AllocError, Global};
@@ -8,7 +8,7 @@ use std::alloc::{AllocError, Global};
 /// Returns the parts of `text` before, between and after the occurrences of the ASCII character
 /// `cut`, in order. A part may be empty; without an occurrence the text, also if it is empty, is
 /// the only part. Fails only if memory runs out.
-#[tactic(auto, unfolding(brk_http_model::specs::Routes::split_at_byte))]
+#[tactic(auto, unfolding(brk_model_http::specs::Routes::split_at_byte))]
 pub fn split_at_byte(alloc: Global, cut: char, text: &str) -> Result<Vec<&str>, AllocError>
     requires ascii { cut < 128 }
     ensures { IfOk result (λ parts. slices parts.items ≡ spec.split_at_byte cut text.now) }

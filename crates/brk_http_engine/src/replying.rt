@@ -1,11 +1,11 @@
 ghost use Rattle.std.specs.Prelude.{◌≡◌, ◌++◌, [], IfOk, OnOk, Bool, codes, decimal, map, string_bytes, unwrap_or};
 ghost use Rattle.http.specs.StatusCode.{reason_phrase};
-ghost use Rattle.brk_http_model.specs.Replies.{FromOutcome, FromProblem, is_method_not_allowed, response_body, fault_word, http_head_line, is_fault_response};
-ghost use Rattle.brk_http_model.specs.Replies.{http_status_of_problem, text_of_problem, reply_text, reply_bytes, http_status_of_response, head_line_if};
+ghost use Rattle.brk_model_http.specs.Replies.{FromOutcome, FromProblem, is_method_not_allowed, response_body, fault_word, http_head_line, is_fault_response};
+ghost use Rattle.brk_model_http.specs.Replies.{http_status_of_problem, text_of_problem, reply_text, reply_bytes, http_status_of_response, head_line_if};
 ghost use Rattle.brk_model.specs.Commands as model;
 ghost use Rattle.brk_model.specs.Queries as queries;
 ghost use Rattle.brk_model.specs.Run as run;
-ghost use Rattle.brk_http_model.specs.Routes.{split_at_byte};
+ghost use Rattle.brk_model_http.specs.Routes.{split_at_byte};
 ghost use Rattle.brk_http_engine.specs.Lines.{first_head_lines, status_text};
 ghost use Rattle.brk_http_engine.specs.Codes.{bytes_of_texts, response_in_model};
 
@@ -13,7 +13,7 @@ use crate::acting::ServiceResponse;
 use crate::bodies::{MemberName, json_object_with_texts, json_text_of_error, json_text_of_view};
 use crate::pieces::{copy_texts, split_at_byte};
 use crate::service::Service;
-use brk_http_model::RequestProblem;
+use brk_model_http::RequestProblem;
 use brk_money::{Fault, Refusal};
 use http::StatusCode;
 use std::alloc::{AllocError, Global};

@@ -1,7 +1,7 @@
 ghost use Rattle.std.specs.Prelude.{◌≡◌, ◌∷◌, [], Bool, Err, IfOk, OnErr, option_map};
 ghost use Rattle.std.specs.List.{list_all};
 ghost use Rattle.brk_http_engine.specs.Rows.{is_nonempty, all_router_rows};
-ghost use Rattle.brk_http_model.specs.Routes.{has_first_segment, key_of_batch_row, route_of_segments, route_of_target};
+ghost use Rattle.brk_model_http.specs.Routes.{has_first_segment, key_of_batch_row, route_of_segments, route_of_target};
 ghost use Rattle.brk_model.specs.Forms.{read_id};
 ghost use Rattle.brk_money.specs.declared.fault.Fault.TheVariants.{Memory};
 ghost use Rattle.brk_ref.specs.Fields.{texts_of_fields};
@@ -39,7 +39,7 @@ fn key_of_batch_row(alloc: Global, batch: &[u8], n: &[u8]) -> Result<Option<Key>
         return Ok(None);
     };
     let row = RowNumber::new(id.get()).unwrap();
-    Ok(Some(Key { batch, row }))
+    Ok(Some(Key { batch, n: row }))
 }
 
 // Returns true if a target that was split at `/` has the first segment `name`: its first part,
@@ -122,7 +122,7 @@ fn route_of_segments<D: Service>(
 /// Returns the route of a request target, or `None` if the target is not UTF-8 or has no route.
 /// Nothing in the target is decoded. The router must have exactly the three routes, and no view may
 /// have an empty name. Fails with `Memory` only.
-#[tactic(auto, unfolding(brk_http_model::specs::Routes::route_of_target))]
+#[tactic(auto, unfolding(brk_model_http::specs::Routes::route_of_target))]
 pub fn route_of_target<D: Service>(
     alloc: Global,
     router: &Router<RouteKind>,

@@ -9,7 +9,7 @@ ghost use Rattle.brk_model.specs.Rows.{reply_fields};
 ghost use Rattle.brk_model.specs.Run.{Ask, Call, Do, Outcome};
 ghost use Rattle.brk_ref.specs.Answers.{abstract_command_outcome};
 ghost use Rattle.brk_ref.specs.Fields.{ParsesAs, texts_of_fields};
-ghost use Rattle.brk_http_model.specs.Asked.{RequestParsers};
+ghost use Rattle.brk_model_http.specs.Asked.{RequestParsers};
 ghost use Rattle.brk_http_engine.specs.Codes.{key_in_model, bytes_of_texts, query_outcome_in_model, bytes_of_records};
 
 use brk_money::{Fault, Planned, Stamp};

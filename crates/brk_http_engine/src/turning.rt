@@ -2,7 +2,7 @@ ghost use Rattle.std.specs.Prelude.{◌≡◌, ◌==◌, ◌||◌, ◌+◌, ◌<
 ghost use Rattle.std.specs.Io.KnownBytes.{prepend_known};
 ghost use Rattle.std.specs.List.{list_all};
 ghost use Rattle.brk_http_engine.specs.Rows.{is_nonempty, all_router_rows};
-ghost use Rattle.brk_http_model.specs.Stream.{most_requests_per_stream};
+ghost use Rattle.brk_model_http.specs.Stream.{most_requests_per_stream};
 ghost use Rattle.httparse.specs.Spans.{IsWithin};
 ghost use Rattle.brk_http_reader.specs.FirstRequests.{request_at_positions};
 ghost use Rattle.brk_http_engine.specs.Limits.{call_limit_of_exchange};

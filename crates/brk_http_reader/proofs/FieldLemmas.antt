@@ -12,9 +12,9 @@ use Rattle.std.proofs.lemmas.Grind.{pow_more}
 use Rattle.httparse.proofs.ChunkLemmas.{digits_value_after_push}
 use Rattle.httparse.specs.Spans.{header_bytes}
 use Rattle.httparse.specs.declared.spans.HeaderSpan.{HeaderSpan}
-use Rattle.brk_http_model.specs.Fields.{HeadField, is_equal_ignoring_case, values_of_field, has_field_named, body_length_of_values, body_length_of_value}
+use Rattle.brk_model_http.specs.Fields.{HeadField, is_equal_ignoring_case, values_of_field, has_field_named, body_length_of_values, body_length_of_value}
 use Rattle.brk_http_reader.specs.FieldFactUpdates.{facts_with_field, facts_of_fields}
-use Rattle.brk_http_model.specs.declared.problem.RequestProblem.TheVariants.{BadRequest}
+use Rattle.brk_model_http.specs.declared.problem.RequestProblem.TheVariants.{BadRequest}
 use Rattle.brk_http_reader.specs.declared.fields.FieldFactsSoFar.{FieldFactsSoFar}
 
 or_last : (a b c : Bool) → a || (b || c) ≡ (a || b) || c

@@ -4,10 +4,10 @@ use Rattle.std.proofs.Common.{ap, ◌∙◌, subst, arith, append_assoc, IfSome}
 use Rattle.std.specs.Prelude.{◌==◌, ◌&&◌, nat_le, if◌then◌else◌}
 use Rattle.std.specs.Io.KnownBytes.{Consumes, IsAtEnd}
 use Rattle.std.proofs.lemmas.List.{append-nil, take_all, length-append, take-append-le}
-use Rattle.brk_http_model.specs.Heads.{leading_line_end_length, first_present_plus_one, line_end_length_after_line_feed, head_length, head_end_within}
+use Rattle.brk_model_http.specs.Heads.{leading_line_end_length, first_present_plus_one, line_end_length_after_line_feed, head_length, head_end_within}
 use Rattle.std.proofs.lemmas.Bool.Decides.{nat_tests}
 use Rattle.brk_http_reader.specs.Moves.{ReadsIntoBuffer}
-use Rattle.brk_http_model.specs.declared.head_end.HeadEnd.TheVariants.{Nothing, TooLong, Cut, At}
+use Rattle.brk_model_http.specs.declared.head_end.HeadEnd.TheVariants.{Nothing, TooLong, Cut, At}
 
 -- The number in the option plus `n`, or `None`.
 abbrev pub option_plus : ℕ → Option ℕ → Option ℕ

@@ -4,10 +4,10 @@ use Rattle.std.specs.Prelude.{◌==◌, ◌&&◌, if◌then◌else◌, nat_le}
 use Rattle.std.specs.List.{flat_map}
 use Rattle.std.proofs.lemmas.List.{length-append, nil_from_length}
 use Rattle.httparse.specs.Grammar.{LineEnd, crlf, lf, print_end, Field, print_field, print_section, RequestHead, print_request, ReadsRequest}
-use Rattle.brk_http_model.specs.Heads.{leading_line_end_length, first_present_plus_one, line_end_length_after_line_feed, head_length}
+use Rattle.brk_model_http.specs.Heads.{leading_line_end_length, first_present_plus_one, line_end_length_after_line_feed, head_length}
 use Rattle.brk_http_reader.proofs.FrontLemmas.{head_len-cons, head_len-nil}
-use Rattle.brk_http_model.specs.Heads.{head_end_within}
-use Rattle.brk_http_model.specs.declared.head_end.HeadEnd.TheVariants.{Nothing, TooLong, Cut, At}
+use Rattle.brk_model_http.specs.Heads.{head_end_within}
+use Rattle.brk_model_http.specs.declared.head_end.HeadEnd.TheVariants.{Nothing, TooLong, Cut, At}
 
 -- the list ends in LF
 abbrev EndsInLf : List ℕ → Type 0

@@ -8,18 +8,18 @@ use Rattle.std.proofs.lemmas.List.{append-nil, length-append, length-take, lengt
 use Rattle.httparse.specs.Grammar.{RequestHead}
 use Rattle.httparse.specs.Spans.{span_bytes, IsWithin}
 use Rattle.httparse.specs.declared.spans.Span.{Span}
-use Rattle.brk_http_model.specs.Heads.{head_length, head_end, most_head_bytes}
-use Rattle.brk_http_model.specs.Found.{RequestReading, Unreadable, CompleteRequest, IsRequestHead, reading_after_head, reading_with_body_length, ReadsFirstRequest, ReadsHeadAndBody, ReadsByHeadEnd}
+use Rattle.brk_model_http.specs.Heads.{head_length, head_end, most_head_bytes}
+use Rattle.brk_model_http.specs.Found.{RequestReading, Unreadable, CompleteRequest, IsRequestHead, reading_after_head, reading_with_body_length, ReadsFirstRequest, ReadsHeadAndBody, ReadsByHeadEnd}
 use Rattle.brk_http_reader.specs.Heads.{FactsDescribeHead}
 use Rattle.brk_http_reader.specs.Moves.{ReadsIntoBuffer}
 use Rattle.brk_http_reader.specs.FirstRequests.{MatchesNextRequest}
 use Rattle.brk_http_reader.specs.declared.head.HeadFacts.{HeadFacts}
 use Rattle.brk_http_reader.specs.declared.next.RequestPositions.{RequestPositions}
 use Rattle.brk_http_reader.specs.declared.next.NextRequest.TheVariants.{Whole}
-use Rattle.brk_http_model.specs.declared.problem.RequestProblem.{RequestProblem}
-use Rattle.brk_http_model.specs.declared.problem.RequestProblem.TheVariants.{BadRequest}
-use Rattle.brk_http_model.specs.declared.head_end.HeadEnd.{HeadEnd}
-use Rattle.brk_http_model.specs.declared.head_end.HeadEnd.TheVariants.{At}
+use Rattle.brk_model_http.specs.declared.problem.RequestProblem.{RequestProblem}
+use Rattle.brk_model_http.specs.declared.problem.RequestProblem.TheVariants.{BadRequest}
+use Rattle.brk_model_http.specs.declared.head_end.HeadEnd.{HeadEnd}
+use Rattle.brk_model_http.specs.declared.head_end.HeadEnd.TheVariants.{At}
 use Rattle.brk_http_reader.proofs.FrontLemmas.{moved_all, head_len_within}
 use Rattle.brk_http_reader.proofs.HeadLemmas.{head_whole, head_len-take, ends_at}
 

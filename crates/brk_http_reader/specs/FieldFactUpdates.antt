@@ -1,8 +1,8 @@
 -- The facts of the fields of a head that were read so far.
 use Rattle.std.specs.Prelude.{List, codes, ◌&&◌, ◌||◌, if◌then◌else◌, Err}
-use Rattle.brk_http_model.specs.Fields.{HeadField, is_equal_ignoring_case, has_field_named, has_connection_close}
-use Rattle.brk_http_model.specs.Fields.{body_length_of_values, values_of_field, body_length_of_value}
-use Rattle.brk_http_model.specs.declared.problem.RequestProblem.TheVariants.{BadRequest}
+use Rattle.brk_model_http.specs.Fields.{HeadField, is_equal_ignoring_case, has_field_named, has_connection_close}
+use Rattle.brk_model_http.specs.Fields.{body_length_of_values, values_of_field, body_length_of_value}
+use Rattle.brk_model_http.specs.declared.problem.RequestProblem.TheVariants.{BadRequest}
 use Rattle.brk_http_reader.specs.declared.fields.FieldFactsSoFar.{FieldFactsSoFar}
 
 -- The facts `s` of the head fields that were read so far, updated for one more field `p`, a name

@@ -2,7 +2,7 @@
 use Rattle.std.specs.Prelude.{◌≡◌, ℕ, List, drop, Option, Some, ⊤}
 use Rattle.std.specs.Io.KnownBytes.{prepend_known}
 use Rattle.httparse.specs.Spans.{span_bytes, IsWithin}
-use Rattle.brk_http_model.specs.Found.{Request, RequestReading, NoBytesLeft, Unreadable, CompleteRequest}
+use Rattle.brk_model_http.specs.Found.{Request, RequestReading, NoBytesLeft, Unreadable, CompleteRequest}
 use Rattle.brk_http_reader.specs.declared.next.RequestPositions.{RequestPositions}
 use Rattle.brk_http_reader.specs.declared.next.NextRequest.{NextRequest}
 use Rattle.brk_http_reader.specs.declared.next.NextRequest.TheVariants.{Ended, Broken, Whole}

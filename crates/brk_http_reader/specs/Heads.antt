@@ -3,8 +3,8 @@
 use Rattle.std.specs.Prelude.{◌≡◌, ◌≤◌, ℕ, List, map, length, ◌==◌, ◌||◌}
 use Rattle.httparse.specs.Grammar.{RequestHead, ReadsRequest}
 use Rattle.httparse.specs.Spans.{span_bytes, name_and_value}
-use Rattle.brk_http_model.specs.Fields.{body_length_of_fields, has_connection_close}
-use Rattle.brk_http_model.specs.Found.{most_head_fields}
+use Rattle.brk_model_http.specs.Fields.{body_length_of_fields, has_connection_close}
+use Rattle.brk_model_http.specs.Found.{most_head_fields}
 use Rattle.brk_http_reader.specs.declared.head.HeadFacts.{HeadFacts}
 
 -- The bytes `front` begin with the head `h`, which has at most `most_head_fields` fields, and

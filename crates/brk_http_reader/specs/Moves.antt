@@ -1,8 +1,8 @@
 -- The effect of a read on the remaining bytes of the reader and on the buffer.
 use Rattle.std.specs.Prelude.{◌≡◌, ◌≤◌, ℕ, List, ◌++◌, Option, ⊤}
 use Rattle.std.specs.Io.KnownBytes.{Consumes}
-use Rattle.brk_http_model.specs.declared.head_end.HeadEnd.{HeadEnd}
-use Rattle.brk_http_model.specs.declared.head_end.HeadEnd.TheVariants.{Nothing, TooLong, Cut, At}
+use Rattle.brk_model_http.specs.declared.head_end.HeadEnd.{HeadEnd}
+use Rattle.brk_model_http.specs.declared.head_end.HeadEnd.TheVariants.{Nothing, TooLong, Cut, At}
 
 -- The read changed the buffer from `buffer` to `buffer'` by appending bytes, perhaps none. These
 -- are the next bytes of the reader, whose remaining bytes are `left` before the read and `left'`

@@ -4,10 +4,10 @@ ghost use Rattle.std.specs.List.{list_all};
 ghost use Rattle.std.specs.Char.{is_ascii_digit};
 ghost use Rattle.std.specs.Str.Parse.{digits_value};
 ghost use Rattle.httparse.specs.Spans.{header_bytes, IsHeaderWithin};
-ghost use Rattle.brk_http_model.specs.Fields as spec;
+ghost use Rattle.brk_model_http.specs.Fields as spec;
 ghost use Rattle.brk_http_reader.specs.FieldFactUpdates.{facts_with_field};
 
-use brk_http_model::RequestProblem;
+use brk_model_http::RequestProblem;
 use httparse::spans::HeaderSpan;
 
 /// The greatest length of a request's body, in bytes.

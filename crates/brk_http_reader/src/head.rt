@@ -2,12 +2,12 @@
 ghost use Rattle.std.specs.Prelude.{◌≡◌, ◌||◌, ◌≤◌, ℕ, List, length, IfSome, IfNone, IfOk};
 ghost use Rattle.httparse.specs.Grammar.{RequestHead};
 ghost use Rattle.httparse.specs.Spans.{span_bytes, IsWithin};
-ghost use Rattle.brk_http_model.specs.Fields.{most_body_bytes};
-ghost use Rattle.brk_http_model.specs.Found.{IsRequestHead};
+ghost use Rattle.brk_model_http.specs.Fields.{most_body_bytes};
+ghost use Rattle.brk_model_http.specs.Found.{IsRequestHead};
 ghost use Rattle.brk_http_reader.specs.Heads.{FactsDescribeHead};
 
 use crate::fields::facts_from_fields;
-use brk_http_model::RequestProblem;
+use brk_model_http::RequestProblem;
 use httparse::Status;
 use httparse::spans::{EMPTY_HEADER_SPAN, Span, parse_request};
 

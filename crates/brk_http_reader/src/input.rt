@@ -1,10 +1,10 @@
 //! Reads of a request's head and body from a reader into a buffer.
 ghost use Rattle.std.specs.Prelude.{◌≡◌, ℕ, ◌+◌, ◌<◌, ◌≤◌, ◌++◌, List, length, true, false, Ok, IfOk, OnOk, IfSome};
 ghost use Rattle.std.specs.Io.KnownBytes.{IsAtEnd};
-ghost use Rattle.brk_http_model.specs.Heads as spec;
+ghost use Rattle.brk_model_http.specs.Heads as spec;
 ghost use Rattle.brk_http_reader.specs.Moves.{ReadsIntoBuffer, HeadEndIsWithin};
 
-use brk_http_model::HeadEnd;
+use brk_model_http::HeadEnd;
 use std::alloc::{AllocError, Global};
 use std::io::Read;
 

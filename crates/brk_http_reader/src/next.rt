@@ -1,12 +1,12 @@
 //! The next request of a stream.
 ghost use Rattle.std.specs.Prelude.{◌≡◌, ◌++◌, List, ℕ, length, IfOk, OnOk, IfSome};
-ghost use Rattle.brk_http_model.specs.Found.{RequestReading, ReadsFirstRequest};
+ghost use Rattle.brk_model_http.specs.Found.{RequestReading, ReadsFirstRequest};
 ghost use Rattle.brk_http_reader.specs.Moves.{ReadsIntoBuffer};
 ghost use Rattle.brk_http_reader.specs.FirstRequests.{MatchesNextRequest, IsRequestWithin};
 
 use crate::head::parse_head;
 use crate::input::{InputFault, read_head, read_to_length};
-use brk_http_model::{HeadEnd, RequestProblem};
+use brk_model_http::{HeadEnd, RequestProblem};
 use httparse::spans::Span;
 use std::io::Read;
 

@@ -12,7 +12,7 @@ use Rattle.brk_model.specs.Lists.{total_by}
 use Rattle.brk_model.specs.Shares.{Share, Deal, signed_by_side, net_share_count, realised_gain, replay, opened_share, closed_share_count_of_deal, shares_after_deal, buy_value}
 use Rattle.brk_lots.specs.declared.lot.Lot.{Lot}
 use Rattle.brk_lots.specs.Lots.{side_of_qty, share_of_lot, shares_of_lots, list_reversed_if_lifo}
-use Rattle.brk_closing.specs.Values.{buy_value_by_side, sell_value_by_side}
+use Rattle.brk_lots.specs.ClosedValues.{buy_value_by_side, sell_value_by_side}
 use Rattle.brk_lots.specs.Books.{lot_quantity_sum, cost_basis_of_lots, cost_basis_of_shares, deal_quantity_sum, realised_gain_sum, purchase_value_minus_sale_value}
 use Rattle.brk_lots.proofs.Runs.{cost, without, cost_run, signed_back}
 use Rattle.brk_lots.proofs.Ends.{all_join, cost_parts}

@@ -8,14 +8,14 @@ use Rattle.brk_lots.specs.declared.lot.Lot.{Lot}
 use Rattle.brk_lots.specs.Lots.{side_of_qty, shares_of_lots, list_reversed_if_lifo, abstract_touch}
 use Rattle.brk_lots.specs.Position.{IsPositionInAnyOrder, AreOpenedByOtherTrades}
 use Rattle.brk_lots.specs.Walks.{closed_share_count, touches_of_first_shares, cost_of_first_shares}
-use Rattle.brk_closing.specs.Values.{buy_value_by_side, sell_value_by_side, closing_values_by_side}
+use Rattle.brk_lots.specs.ClosedValues.{buy_value_by_side, sell_value_by_side, closing_values_by_side}
 use Rattle.brk_lots.proofs.Runs.{cost}
 use Rattle.brk_lots.proofs.Walks.{touches_more}
 use Rattle.brk_lots.proofs.Changes.{cost_taken}
 use Rattle.brk_lots.proofs.Ends.{shares_end}
 use Rattle.brk_lots.proofs.Plain.{bought_is, sold_is}
 use Rattle.brk_lots.proofs.Upon.{met_closes, rows_are}
-use Rattle.brk_closing.specs.declared.values.Values.{Values}
+use Rattle.brk_lots.specs.declared.closed_values.Values.{Values}
 use Rattle.brk_lots.specs.Values.{closing_values_of_deal}
 
 -- the shares that the walk takes cost what the shares that the deal closes cost

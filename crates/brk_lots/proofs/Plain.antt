@@ -14,7 +14,7 @@ use Rattle.brk_lots.specs.declared.lot.Lot.{Lot}
 use Rattle.brk_lots.specs.Lots.{side_of_qty, share_of_lot, shares_of_lots, list_reversed_if_lifo, abstract_lot, abstract_touch}
 use Rattle.brk_lots.specs.Position.{IsPositionInAnyOrder}
 use Rattle.brk_lots.specs.Walks.{closed_share_count}
-use Rattle.brk_closing.specs.Values.{buy_value_by_side, sell_value_by_side}
+use Rattle.brk_lots.specs.ClosedValues.{buy_value_by_side, sell_value_by_side}
 use Rattle.brk_lots.proofs.Runs.{count_of, cost, without, run_lots, size_positive, signed_back}
 use Rattle.brk_lots.proofs.Changes.{all_from, all_firsts, changes, row, firsts_walk, firsts_alike, count_alike, counts_are, shares_appended}
 use Rattle.brk_lots.proofs.Ends.{cost_end}

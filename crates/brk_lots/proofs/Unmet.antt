@@ -11,7 +11,7 @@ use Rattle.brk_lots.specs.Books.{lot_quantity_sum}
 use Rattle.brk_lots.specs.Lots.{list_reversed_if_lifo, shares_of_lots}
 use Rattle.brk_lots.specs.Position.{IsPositionInAnyOrder}
 use Rattle.brk_lots.specs.Values.{closing_values_of_deal}
-use Rattle.brk_closing.specs.Values.{closing_values_by_side}
+use Rattle.brk_lots.specs.ClosedValues.{closing_values_by_side}
 use Rattle.brk_lots.specs.Walks.{closed_share_count, cost_of_first_shares}
 use Rattle.brk_lots.proofs.Books.{lots_net}
 use Rattle.brk_lots.proofs.Closed.{values_are}

@@ -1,3 +1,4 @@
+pub mod ClosedValues
 pub mod Lots
 pub mod Position
 pub mod Sources

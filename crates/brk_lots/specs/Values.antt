@@ -5,8 +5,8 @@ use Rattle.brk_model.specs.Shares.{Share, Deal, buy_value, sell_value}
 use Rattle.brk_lots.specs.Walks.{closed_share_count, touches_of_first_shares, cost_of_first_shares}
 use Rattle.brk_lots.specs.declared.lot.Lot.{Lot}
 use Rattle.brk_lots.specs.declared.lot.Touch.{Touch}
-use Rattle.brk_closing.specs.declared.values.Values.{Values}
-use Rattle.brk_closing.specs.Values.{closing_values_by_side}
+use Rattle.brk_lots.specs.declared.closed_values.Values.{Values}
+use Rattle.brk_lots.specs.ClosedValues.{closing_values_by_side}
 
 -- The buy value and the sell value, in cents, of the shares that the deal `d` closes in the
 -- position with the shares `shares`.

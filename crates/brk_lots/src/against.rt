@@ -10,8 +10,8 @@ ghost use Rattle.brk_lots.specs.Lots.{shares_of_lots};
 ghost use Rattle.brk_lots.specs.Position.{AreOpenedByOtherTrades, IsPositionInAnyOrder};
 ghost use Rattle.brk_lots.specs.Values.{closing_values_of_deal};
 
+use crate::closed_values::Values;
 use crate::closing::{ClosedLots, opened_lot};
-use brk_closing::Values;
 use brk_money::{Amount, Id, Price, Qty, Side, Stamp};
 use std::alloc::Global;
 

@@ -8,10 +8,10 @@ ghost use Rattle.brk_lots.specs.Position.{AreOpenedByOtherTrades};
 ghost use Rattle.brk_lots.specs.Closing.{IsEffectOfDealOnLots, IsClosingOfDeal};
 ghost use Rattle.brk_lots.specs.Sources.{YieldsPosition, AreLotsOfFaithfulSource};
 
+use crate::closed_values::Values;
 use crate::lot::{Lot, Touch, signed_qty};
 use crate::source::LotSource;
 use crate::walk::close_lots_with_values;
-use brk_closing::Values;
 use brk_money::{Fault, Id, Price, Qty, Side, Stamp, Wide};
 use std::alloc::Global;
 

@@ -3,6 +3,7 @@
 #![tactic(auto)]
 
 pub mod against;
+pub mod closed_values;
 pub mod closing;
 mod cutting;
 pub mod deal;
@@ -13,17 +14,19 @@ pub mod lot;
 pub mod position;
 pub mod replay;
 mod rows;
+pub mod shares;
 pub mod source;
 pub mod values;
 mod walk;
 
 pub use against::{effect_of_trade_closing_no_lot, is_trade_closing_lots, zero_closing_values};
-pub use brk_closing::Values;
+pub use closed_values::{Values, values_of_closed_shares};
 pub use closing::{ClosedLots, Closing, close, close_lots_and_open_rest};
 pub use deal::Deal;
 pub use end::PositionEnd;
 pub use lot::{Lot, Touch, are_same_side};
 pub use position::Position;
 pub use replay::DealTouch;
+pub use shares::shares_to_close;
 pub use source::LotSource;
 pub use values::estimate_closing_values;

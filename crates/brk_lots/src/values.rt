@@ -6,10 +6,10 @@ ghost use Rattle.brk_lots.specs.Position.{AreOpenedByOtherTrades};
 ghost use Rattle.brk_lots.specs.Sources.{YieldsPosition, AreLotsOfFaithfulSource};
 ghost use Rattle.brk_lots.specs.Values.{closing_values_of_deal};
 
+use crate::closed_values::Values;
 use crate::rows::TouchDiscarder;
 use crate::source::LotSource;
 use crate::walk::close_lots_with_values;
-use brk_closing::Values;
 use brk_money::{Fault, Price, Qty, Side};
 
 /// Returns the buy value and the sell value, in cents, of the shares that an order at `price` would

@@ -7,10 +7,11 @@ ghost use Rattle.brk_lots.specs.Sources.{AreLotsOfFaithfulSource};
 ghost use Rattle.brk_lots.specs.Values.{IsResultOfTradeAgainstLots};
 ghost use Rattle.brk_lots.specs.Walks.{IsResultOfClosingLots, closed_share_count, touches_of_first_shares};
 
+use crate::closed_values::{Values, values_of_closed_shares};
 use crate::lot::are_same_side;
 use crate::rows::TouchReceiver;
+use crate::shares::shares_to_close;
 use crate::source::LotSource;
-use brk_closing::{Values, shares_to_close, values_of_closed_shares};
 use brk_money::{Fault, Price, Qty, Side};
 
 // The quantity that closed no share (`left`), and the value at which the closed shares were opened,

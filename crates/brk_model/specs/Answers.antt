@@ -48,7 +48,7 @@ result_of_row_and_later_rows step (Ok command) key base [] more = record { answe
 abbrev pub result_of_rows : {B C : Type 0} → (Fields → ReadResult C) → RowStep B C → Text → ℕ → B → List ℕ → List Fields → ResultOfRows B
 result_of_rows form step batch n base moments [] = record { answers = []; base = base; moments = moments }
 result_of_rows form step batch n base moments (row ∷ rows) =
-    result_of_row_and_later_rows step (form row) (record { batch = batch; row = n }) base moments
+    result_of_row_and_later_rows step (form row) (record { batch = batch; n = n }) base moments
     (λ after left. result_of_rows form step batch (n + 1) after left rows)
 
 -- The rows of the batch `batch`, numbered from 1, parsed by `form` and executed by `step` from

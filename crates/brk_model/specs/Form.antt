@@ -88,7 +88,7 @@ has_broker tables id = is_some (find (λ b. b.id == id) tables.brokers)
 -- True if the batch name of the key is well-formed and its row number is from 1 to `greatest_id`,
 -- both included.
 abbrev pub is_well_formed_key : Key → Bool
-is_well_formed_key key = is_batch_name key.batch && is_id key.row
+is_well_formed_key key = is_batch_name key.batch && is_id key.n
 
 -- True if the key of a row of KEPT is well-formed; the text of the row and the line of its reply
 -- are not checked.

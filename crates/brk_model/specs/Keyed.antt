@@ -11,7 +11,7 @@ use Rattle.brk_model.specs.Step.{step}
 -- The first row, with its reply, that `base` stores under the key `key`; none if the key was not
 -- recorded.
 abbrev pub stored_row_with_key : Base → Key → Option Kept
-stored_row_with_key base key = find (λ k. bytes_eq k.key.batch key.batch && (k.key.row == key.row)) base.kept
+stored_row_with_key base key = find (λ k. bytes_eq k.key.batch key.batch && (k.key.n == key.n)) base.kept
 
 -- The base `base` with the row of the command and the line of its reply stored under the key, after
 -- all rows stored before; unchanged without a key.

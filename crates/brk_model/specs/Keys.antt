@@ -45,7 +45,7 @@ insert_row_by_key key row rows = insert_by (is_row_key_less key) row rows
 
 -- The primary key of a row of KEPT: the batch name and the row number.
 abbrev pub kept_key : Kept → List KeyPart
-kept_key r = word r.key.batch ∷ number r.key.row ∷ []
+kept_key r = word r.key.batch ∷ number r.key.n ∷ []
 
 -- The primary key of a row of BROKER: the id.
 abbrev pub broker_key : BrokerRow → List KeyPart

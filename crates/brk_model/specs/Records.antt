@@ -128,7 +128,7 @@ SettleRule = Option ℕ
 -- The idempotency key of a row of a batch: the name of the batch, and the number of the row in it.
 pub record Key : Type 0 where
   pub batch : Text
-  pub row : ℕ
+  pub n : ℕ
 
 -- An accepted row of a batch: its key, its text, and the line of its reply, which a retry returns.
 pub record Kept : Type 0 where

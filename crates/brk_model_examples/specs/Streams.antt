@@ -2,8 +2,8 @@
 use Rattle.std.specs.Prelude.{◌≡◌, ℕ, List, [], ◌∷◌, ◌++◌, replicate, false, true, codes}
 use Rattle.brk_money.specs.Spelling.{Text}
 use Rattle.brk_model_examples.specs.Setting.{setting_base}
-use Rattle.brk_http_model.specs.Computed.{replies_to_requests}
-use Rattle.brk_http_model.specs.Found.{Request}
+use Rattle.brk_model_http.specs.Computed.{replies_to_requests}
+use Rattle.brk_model_http.specs.Found.{Request}
 
 -- Twenty clock readings, all of them the start of 2024-03-01, in milliseconds since 1970-01-01 UTC.
 abbrev pub twenty_http_clock_readings : List ℕ

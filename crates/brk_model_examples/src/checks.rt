@@ -3,14 +3,14 @@
 #![tactic(auto, unfolding(crate::proofs::WebOnLiterals::web_on_literals))]
 
 ghost use Rattle.std.specs.Prelude.{◌≡◌, ◌∷◌, [], ℕ, Ok, Err, Some, None, codes};
-ghost use Rattle.brk_http_model.specs.Asked.{ResponseOnly, RequestDemand, model_parsers, demand_of_request};
-ghost use Rattle.brk_http_model.specs.Bodies.{texts_of_body};
-ghost use Rattle.brk_http_model.specs.Fields.{body_length_of_fields};
-ghost use Rattle.brk_http_model.specs.Heads.{head_end, head_end_within};
-ghost use Rattle.brk_http_model.specs.Replies.{FromProblem};
-ghost use Rattle.brk_http_model.specs.Routes.{ToRow, ToView, split_at_byte, route_of_target};
-ghost use Rattle.brk_http_model.specs.declared.head_end.HeadEnd.TheVariants.{At, Cut, Nothing, TooLong};
-ghost use Rattle.brk_http_model.specs.declared.problem.RequestProblem.TheVariants.{BadRequest, NotAllowed, NotFound, NotImplemented, TooLarge};
+ghost use Rattle.brk_model_http.specs.Asked.{ResponseOnly, RequestDemand, model_parsers, demand_of_request};
+ghost use Rattle.brk_model_http.specs.Bodies.{texts_of_body};
+ghost use Rattle.brk_model_http.specs.Fields.{body_length_of_fields};
+ghost use Rattle.brk_model_http.specs.Heads.{head_end, head_end_within};
+ghost use Rattle.brk_model_http.specs.Replies.{FromProblem};
+ghost use Rattle.brk_model_http.specs.Routes.{ToRow, ToView, split_at_byte, route_of_target};
+ghost use Rattle.brk_model_http.specs.declared.head_end.HeadEnd.TheVariants.{At, Cut, Nothing, TooLong};
+ghost use Rattle.brk_model_http.specs.declared.problem.RequestProblem.TheVariants.{BadRequest, NotAllowed, NotFound, NotImplemented, TooLarge};
 ghost use Rattle.brk_model_examples.specs.Streams.{get_request, post_request};
 
 /// Shows four heads that end with their first empty line, whose lines end with CR LF or with a line
@@ -53,7 +53,7 @@ pub fn content_length_states_body_length()
 pub fn only_known_targets_have_routes()
     ensures row_without_key { route_of_target model_parsers.views (codes "/rows") ≡ Some (ToRow None) }
     ensures row_with_key { route_of_target model_parsers.views (codes "/rows/A.b-c_1/1000000000000")
-        ≡ Some (ToRow (Some (record { batch = codes "A.b-c_1"; row = 1000000000000 }))) }
+        ≡ Some (ToRow (Some (record { batch = codes "A.b-c_1"; n = 1000000000000 }))) }
     ensures view { route_of_target model_parsers.views (codes "/ask/lots") ≡ Some (ToView (codes "lots")) }
     ensures unknown_view { route_of_target model_parsers.views (codes "/ask/nope") ≡ None }
     ensures row_number_zero { route_of_target model_parsers.views (codes "/rows/A/0") ≡ None }

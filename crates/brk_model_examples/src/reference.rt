@@ -21,7 +21,7 @@ pub fn refused_reference_row_records_no_key()
         ∷ codes "3,ok,1709251200002"
         ∷ codes "4,no,2"
         ∷ codes "end,3,0,1" ∷ []) }
-    ensures recorded_keys { map {B = ℕ} (λ k. k.key.row) (base_after_batch empty_base
+    ensures recorded_keys { map {B = ℕ} (λ k. k.key.n) (base_after_batch empty_base
         (codes "broker,1,Bo"
         ∷ codes "customer,10,1,T10,Lee,Ann"
         ∷ codes "account,100,10,1,Main,1,10000.00"

@@ -54,7 +54,7 @@ in-turn-again name (row ∷ rows) (moment ∷ moments) (o ∷ others) (reply ∷
     (ap (λ a. a ∷ told) (s.0 ∙ ap (λ a. a.0) answered) ∙ ap (λ a. answer_to_retry reply ∷ a) rest.0, rest.1)
   where
     key : Key
-    key = record { batch = name; row = row.0 }
+    key = record { batch = name; n = row.0 }
 
     mid : Base
     mid = (keyed_step base moment row.1 (Some key)).1

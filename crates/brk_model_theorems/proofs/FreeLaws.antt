@@ -65,17 +65,17 @@ find-none p (y ∷ xs) x none h = one (p y) y (find p xs) (find p (xs ++ x ∷ [
     one false y found more none rest = rest none
 
 keyed_by : Text → ℕ → Key
-keyed_by batch row = record { batch = batch; row = row }
+keyed_by batch row = record { batch = batch; n = row }
 
 -- a row under another key is not found
 other_key : (key other : Key) (command : Command) (reply : Reply) → ¬ (other ≡ key) → matches key (row_kept other command reply) ≡ false
 unfolding keyed_by
-other_key key other command reply differs = at (bytes_eq other.batch key.batch) refl (other.row == key.row) refl
+other_key key other command reply differs = at (bytes_eq other.batch key.batch) refl (other.n == key.n) refl
   where
-    at : (b : Bool) → bytes_eq other.batch key.batch ≡ b → (r : Bool) → (other.row == key.row) ≡ r → (b && r) ≡ false
+    at : (b : Bool) → bytes_eq other.batch key.batch ≡ b → (r : Bool) → (other.n == key.n) ≡ r → (b && r) ≡ false
     at false h r k = refl
     at true h false k = refl
-    at true h true k = absurd (differs (ap (λ x. keyed_by x other.row) ((bytes_eq-Decides other.batch key.batch).0 h) ∙ ap (keyed_by key.batch) ((unsigned_Decides other.row key.row).0 k)))
+    at true h true k = absurd (differs (ap (λ x. keyed_by x other.n) ((bytes_eq-Decides other.batch key.batch).0 h) ∙ ap (keyed_by key.batch) ((unsigned_Decides other.n key.n).0 k)))
 
 -- a command without a key keeps no row
 by_step : (base : Base) (now : ℕ) (command : Command) (answer : Answer) (after : Base) (r : Result (Reply × Base) Refusal) → step base now command ≡ r

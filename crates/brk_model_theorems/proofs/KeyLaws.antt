@@ -29,10 +29,10 @@ done-inj {x = x} e = ap (reply_in x) e
 
 -- True if the stored row has the key `key`.
 abbrev pub matches : Key → Kept → Bool
-matches key k = bytes_eq k.key.batch key.batch && (k.key.row == key.row)
+matches key k = bytes_eq k.key.batch key.batch && (k.key.n == key.n)
 
-same_key : (key : Key) (row line : Text) → (bytes_eq key.batch key.batch && (key.row == key.row)) ≡ true
-same_key key row line = rw ((bytes_eq-Decides key.batch key.batch).1 refl) ((unsigned_Decides key.row key.row).1 refl)
+same_key : (key : Key) (row line : Text) → (bytes_eq key.batch key.batch && (key.n == key.n)) ≡ true
+same_key key row line = rw ((bytes_eq-Decides key.batch key.batch).1 refl) ((unsigned_Decides key.n key.n).1 refl)
 
 find-one : {X : Type 0} (p : X → Bool) (y : X) (ys zs : List X) (x : X) (b : Bool) → cond b (Some y) (find p ys) ≡ None → (find p ys ≡ None → find p zs ≡ Some x) → cond b (Some y) (find p zs) ≡ Some x
 find-one p y ys zs x true none rest = absurd (cc)

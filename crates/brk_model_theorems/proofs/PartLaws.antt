@@ -60,7 +60,7 @@ calls-joined name [] late [] ys e = refl
 calls-joined name [] late (x ∷ xs) ys e = absurd (omega (e, arith))
 calls-joined name (m ∷ early) late [] ys e = absurd (omega (e, arith))
 calls-joined name (m ∷ early) late (x ∷ xs) ys e =
-    ap (λ calls. record { key = record { batch = name; row = x.0 }; now = m; command = x.1 } ∷ calls) (calls-joined name early late xs ys (omega (e, arith)))
+    ap (λ calls. record { key = record { batch = name; n = x.0 }; now = m; command = x.1 } ∷ calls) (calls-joined name early late xs ys (omega (e, arith)))
 
 -- The answers to the calls in two parts, and the base between them.
 record Turned (base : Base) (front more : List (RowCall Command)) (answers : List Answer) (after : Base) : Type 0 where

@@ -28,12 +28,12 @@ module _ {B C : Type 0} (form : Fields → ReadResult C) (step : RowStep B C) (b
           → ((b : B) (left : List ℕ) (others : List Answer) → length left ≡ length rest → CallsHaveAnswers step b (calls_of_rows batch left rest) others after
           → more b left ≡ whole_result (woven others) after)
           → length moments ≡ length (rows_with_well_formed_row r n rest) → CallsHaveAnswers step base (calls_of_rows batch moments (rows_with_well_formed_row r n rest)) replies after
-          → result_of_row_and_later_rows step r (record { batch = batch; row = n }) base moments more ≡ whole_result (answers_to_row_and_rest r woven replies) after
+          → result_of_row_and_later_rows step r (record { batch = batch; n = n }) base moments more ≡ whole_result (answers_to_row_and_rest r woven replies) after
       one (Err refusal) rest more woven base moments replies each e r = ap (result_with_answer_in_front (Refused refusal)) (each base moments replies e r)
       one (Ok command) rest more woven base [] replies each e r = absurd (omega (e, arith))
       one (Ok command) rest more woven base (moment ∷ moments) [] each e r = absurd r
       one (Ok command) rest more woven base (moment ∷ moments) (reply ∷ replies) each e r =
-          let after : B = (step base moment command (record { batch = batch; row = n })).1 in
+          let after : B = (step base moment command (record { batch = batch; n = n })).1 in
           ap (λ (a : Answer). result_with_answer_in_front a (more after moments)) (sym r.0)
           ∙ ap (result_with_answer_in_front reply) (each after moments replies (omega (e, arith)) r.1)
 
@@ -60,16 +60,16 @@ module _ {B C : Type 0} (form : Fields → ReadResult C) (step : RowStep B C) (b
     where
       one : (r : ReadResult C) (rest : List (ℕ × C)) (more : B → List ℕ → ResultOfRows B) (woven : List Answer → List Answer) (size : ℕ) (base : B) (moments : List ℕ)
           → ((b : B) (left : List ℕ) → length (more b left).answers ≡ size → (more b left).moments ≡ [] → ResultByCalls b left rest woven (more b left))
-          → length (result_of_row_and_later_rows step r (record { batch = batch; row = n }) base moments more).answers ≡ suc size
-          → (result_of_row_and_later_rows step r (record { batch = batch; row = n }) base moments more).moments ≡ []
+          → length (result_of_row_and_later_rows step r (record { batch = batch; n = n }) base moments more).answers ≡ suc size
+          → (result_of_row_and_later_rows step r (record { batch = batch; n = n }) base moments more).moments ≡ []
           → ResultByCalls base moments (rows_with_well_formed_row r n rest) (answers_to_row_and_rest r woven)
-          (result_of_row_and_later_rows step r (record { batch = batch; row = n }) base moments more)
+          (result_of_row_and_later_rows step r (record { batch = batch; n = n }) base moments more)
       one (Err refusal) rest more woven size base moments each l h =
           let k = each base moments (omega (l, arith)) h in
           record { replies = k.replies; one_each = k.one_each; run = k.run; all = ap (λ (l : List Answer). Refused refusal ∷ l) k.all }
       one (Ok command) rest more woven size base [] each l h = absurd (omega (l, arith))
       one (Ok command) rest more woven size base (moment ∷ moments) each l h =
-          let answered : Answer × B = step base moment command (record { batch = batch; row = n }) in
+          let answered : Answer × B = step base moment command (record { batch = batch; n = n }) in
           let k = each answered.1 moments (omega (l, arith)) h in
           record { replies = answered.0 ∷ k.replies; one_each = ap suc k.one_each; run = (refl, k.run); all = ap (λ (l : List Answer). answered.0 ∷ l) k.all }
 
@@ -106,12 +106,12 @@ module _ {B C : Type 0} (form : Fields → ReadResult C) (step : RowStep B C) (b
       one : (r : ReadResult C) (rest : List (ℕ × C)) (more : B → List ℕ → ResultOfRows B) (size : ℕ) (base : B) (moments : List ℕ)
           → ((b : B) (left : List ℕ) → length rest ≤ length left → TakesFirst (length rest) (more b) left size)
           → length (rows_with_well_formed_row r n rest) ≤ length moments
-          → TakesFirst (length (rows_with_well_formed_row r n rest)) (λ ms. result_of_row_and_later_rows step r (record { batch = batch; row = n }) base ms more) moments (suc size)
+          → TakesFirst (length (rows_with_well_formed_row r n rest)) (λ ms. result_of_row_and_later_rows step r (record { batch = batch; n = n }) base ms more) moments (suc size)
       one (Err refusal) rest more size base moments each h =
           let k = each base moments h in (ap (result_with_answer_in_front (Refused refusal)) k.0, ap suc k.1)
       one (Ok command) rest more size base [] each h = absurd (omega (h, arith))
       one (Ok command) rest more size base (moment ∷ moments) each h =
-          let answered : Answer × B = step base moment command (record { batch = batch; row = n }) in
+          let answered : Answer × B = step base moment command (record { batch = batch; n = n }) in
           let k = each answered.1 moments (omega (h, arith)) in
           (ap (result_with_answer_in_front answered.0) k.0, ap suc k.1)
 

@@ -39,7 +39,7 @@ none-joined (a ∷ answers) answer none h = let k = none-first a answers none in
 module _ (form : Fields → ReadResult Command) (name : Text) (base mid stood : Base) (moments : List ℕ) (front : List Fields) (answers : List Answer)
     (one : BatchRowsAreDecided form step_of_row name base moments front answers mid)
     (moment : ℕ) (answer : Answer) (row : Fields) (command : Command) (formed : form row ≡ Ok command)
-    (booked : step_of_row mid moment command (record { batch = name; row = length front + 1 }) ≡ (answer, stood)) where
+    (booked : step_of_row mid moment command (record { batch = name; n = length front + 1 }) ≡ (answer, stood)) where
   -- the first rows and the one that was booked, as if it had been answered
   with-booked : AllByRecursion (λ row. ¬ (IsEndRecord row)) (front ++ row ∷ [])
       → BatchRowsAreDecided form step_of_row name base (moments ++ moment ∷ []) (front ++ row ∷ []) (answers ++ answer ∷ []) stood
@@ -56,8 +56,8 @@ module _ (form : Fields → ReadResult Command) (name : Text) (base mid stood : 
       lates : length (moment ∷ []) ≡ length (well_formed_rows_from form number (row ∷ []))
       lates = sym (ap (λ (l : List (ℕ × Command)). length l) calls)
 
-      same : step_of_row mid moment command (record { batch = name; row = number }) ≡ (answer, stood)
-      same = ap (λ (n : ℕ). step_of_row mid moment command (record { batch = name; row = n })) (omega arith) ∙ booked
+      same : step_of_row mid moment command (record { batch = name; n = number }) ≡ (answer, stood)
+      same = ap (λ (n : ℕ). step_of_row mid moment command (record { batch = name; n = n })) (omega arith) ∙ booked
 
       run : CallsHaveAnswers step_of_row mid (calls_of_rows name (moment ∷ []) (well_formed_rows_from form number (row ∷ []))) (answer ∷ []) stood
       run = subst (λ (l : List (ℕ × Command)). CallsHaveAnswers step_of_row mid (calls_of_rows name (moment ∷ []) l) (answer ∷ []) stood) (sym calls)

@@ -182,7 +182,7 @@ pub record NextRowLeadsTo (form : Fields → ReadResult Command) (name : Text) (
   pub command : Command
   pub formed : form row ≡ Ok command
   -- The answer to the row, and the base after it.
-  pub booked : step_of_row mid moment command (record { batch = name; row = length front + 1 }) ≡ (answer, stood)
+  pub booked : step_of_row mid moment command (record { batch = name; n = length front + 1 }) ≡ (answer, stood)
 
 -- The base `stood` may follow an interruption after the rows `front` of the batch `name`: it is the
 -- base `mid` after these rows, or the base after an execution of the next row, the first of `more`,

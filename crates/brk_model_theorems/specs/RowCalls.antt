@@ -42,7 +42,7 @@ well_formed_rows_from form n (row ∷ rows) = rows_with_well_formed_row (form ro
 -- commands; each call has the next clock reading. Surplus clock readings or rows are dropped.
 abbrev pub calls_of_rows : {C : Type 0} → Text → List ℕ → List (ℕ × C) → List (RowCall C)
 calls_of_rows batch (moment ∷ moments) (row ∷ rows) =
-    record { key = record { batch = batch; row = row.0 }; now = moment; command = row.1 } ∷ calls_of_rows batch moments rows
+    record { key = record { batch = batch; n = row.0 }; now = moment; command = row.1 } ∷ calls_of_rows batch moments rows
 calls_of_rows batch [] rows = []
 calls_of_rows batch (moment ∷ moments) [] = []
 

@@ -70,7 +70,7 @@ abstract_customer_tax x = record { customer = x.customer; tax = x.tax }
 
 -- The model's key of a command with the values of the typed key `k`.
 abbrev pub abstract_key : key.Key → Key
-abstract_key k = record { batch = k.batch; row = k.row }
+abstract_key k = record { batch = k.batch; n = k.n }
 
 -- The model's KEPT row with the values of the typed row `k`: its key, and the bytes of the stored
 -- request and of the stored reply.

@@ -146,7 +146,7 @@ pub fn is_overlapping_band(one: &Band, other: &Band) -> bool
 /// contain the quantity, or `None` if no band does.
 ///
 /// The tier, type and exchange of a band are not compared: pass the bands of one combination.
-pub fn commission_rate_for_quantity(bands: &[Band], qty: Qty) -> Option<Rate>
+pub fn band_for(bands: &[Band], qty: Qty) -> Option<Rate>
     ensures { result ≡ option_map (λ b. b.rate) (find (λ b. nat_le b.from_qty qty && nat_le qty b.to_qty) (map abstract_band bands.now)) }
 {
     let Some(band) = bands.iter().find(|band| has_quantity_in_bounds(band, qty)) else {
@@ -157,7 +157,7 @@ pub fn commission_rate_for_quantity(bands: &[Band], qty: Qty) -> Option<Rate>
 
 /// Returns true if one of `bands` overlaps `band`: it has the tier, the type and the exchange of
 /// `band`, and the lower bound of each of the two is at most the upper bound of the other.
-pub fn has_overlapping_band(bands: &[Band], band: &Band) -> bool
+pub fn overlaps(bands: &[Band], band: &Band) -> bool
     ensures { result ≡ list_any (bands_overlap (abstract_band band.now)) (map abstract_band bands.now) }
 {
     bands.iter().any(|other| is_overlapping_band(band, other))

@@ -6,7 +6,7 @@ use crate::row_number::RowNumber;
 #[derive(Clone, Drop)]
 pub struct Key {
     pub batch: BatchName,
-    pub row: RowNumber,
+    pub n: RowNumber,
 }
 
 /// An accepted row (a row of KEPT): its key, its canonical text and the stored reply line.

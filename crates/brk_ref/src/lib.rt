@@ -4,6 +4,7 @@
 pub mod account;
 pub mod acl;
 pub mod answer;
+pub mod authority;
 pub mod band;
 pub mod batch_name;
 pub mod broker;
@@ -34,9 +35,8 @@ pub mod volume;
 pub use account::{Account, AccountRow, check_account};
 pub use acl::Acl;
 pub use answer::Answer;
-pub use band::{
-    Band, check_band, commission_rate_for_quantity, has_overlapping_band, is_overlapping_band,
-};
+pub use authority::permitted;
+pub use band::{Band, band_for, check_band, is_overlapping_band, overlaps};
 pub use batch_name::BatchName;
 pub use broker::{Broker, BrokerRow, check_broker};
 pub use charge::{Charge, check_charge};
@@ -58,7 +58,7 @@ pub use permission::{Permission, check_permission};
 pub use row_number::RowNumber;
 pub use security::Security;
 pub use symbol::Symbol;
-pub use tax::{Tax, check_tax_rate};
+pub use tax::{Tax, check_tax};
 pub use tax_id::TaxId;
 pub use taxes::tax_sum;
 pub use text::{Form, Text};

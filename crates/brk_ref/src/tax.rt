@@ -21,7 +21,7 @@ pub struct Tax {
 ///
 /// Refuses with `BadText` (18) if there are not exactly three fields, or if one is malformed or out
 /// of range. Fails with `Memory` only.
-pub fn check_tax_rate(alloc: Global, fields: &[&[u8]]) -> Planned<Tax>
+pub fn check_tax(alloc: Global, fields: &[&[u8]]) -> Planned<Tax>
     ensures read { IfOk result (λ read. ParsesAs abstract_tax_rate read (read_tax_rate (texts_of_fields fields.now))) }
     ensures fault { OnErr result (result ≡ Err Memory) }
 {

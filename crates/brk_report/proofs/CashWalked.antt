@@ -10,14 +10,14 @@ use Rattle.sqlite.specs.Held.{Held, state}
 use Rattle.sqlite.specs.State.{HasCleanDisk}
 use Rattle.brk_money.specs.Spelling.{Text}
 use Rattle.brk_money.specs.declared.fault.Fault.TheVariants as fault
-use Rattle.brk_changes.specs.Rows.{abstract_move_row}
-use Rattle.brk_changes.specs.declared.move_row.MoveRow as typed
+use Rattle.brk_trade_rows.specs.Rows.{abstract_move_row}
+use Rattle.brk_trade_rows.specs.declared.move_row.MoveRow as typed
 use Rattle.brk_model.specs.Statement.{text_of_lines}
 use Rattle.brk_model.specs.Tables.{MoveRow, Tables}
 use Rattle.brk_store.specs.Holds.{HoldsRows}
 use Rattle.brk_store.specs.Walked.{WalkPost}
-use Rattle.brk_tables.specs.declared.views.walking.WalkError.{WalkError}
-use Rattle.brk_tables.specs.declared.views.walking.WalkError.TheVariants.{Failed, Cause}
+use Rattle.brk_tables_views.specs.declared.walking.WalkError.{WalkError}
+use Rattle.brk_tables_views.specs.declared.walking.WalkError.TheVariants.{Failed, Cause}
 use Rattle.brk_report_lines.specs.Written.{FailsWithinFirstLines, line_with_line_feed}
 use Rattle.brk_io.specs.declared.report_fault.LinesFault.{LinesFault}
 use Rattle.brk_io.specs.declared.report_fault.LinesFault.TheVariants.{Desk, Write}

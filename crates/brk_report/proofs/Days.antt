@@ -4,7 +4,7 @@ use Rattle.std.specs.Prelude.{nat_le, nat_lt}
 use Rattle.std.specs.List.{AllByRecursion}
 use Rattle.std.proofs.lemmas.Bool.{le-leb, leb-true, lt-ltb, ltb-true, ltb-false}
 use Rattle.std.proofs.lemmas.Bool.Decides.{nat_tests}
-use Rattle.brk_book_theorems.proofs.Order.{Sorted, nat_one_way, nat_splits, sorted_sort}
+use Rattle.brk_trade_books.proofs.Order.{Sorted, nat_one_way, nat_splits, sorted_sort}
 use Rattle.brk_money.specs.Moments.{day_of}
 use Rattle.brk_model.specs.Limits.{is_in_range}
 use Rattle.brk_model.specs.Joins.{cash_move_rows_of_account}

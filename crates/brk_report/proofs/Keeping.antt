@@ -7,7 +7,7 @@ use Rattle.sqlite.proofs.StateLemmas.{survives_then}
 use Rattle.brk_model.specs.Tables.{Tables}
 use Rattle.brk_store.specs.Holds.{ReadPost}
 use Rattle.brk_store.specs.Walked.{WalkPost}
-use Rattle.brk_tables.specs.declared.views.walking.WalkError.{WalkError}
+use Rattle.brk_tables_views.specs.declared.walking.WalkError.{WalkError}
 use Rattle.brk_report.specs.StatementOutput.{PreservesDesk}
 
 clean_before : (a b : State) → Survives a b (λ _. ⊥) → HasCleanDisk b → HasCleanDisk a

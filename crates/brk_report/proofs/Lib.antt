@@ -1,13 +1,9 @@
 pub mod CashLists
 pub mod CashWalked
 pub mod Days
-pub mod Explained
-pub mod FirstLines
 pub mod Handing
 pub mod Keeping
 pub mod Opened
 pub mod Reported
-pub mod RunningWalked
 pub mod Section
 pub mod Whole
-pub mod Words

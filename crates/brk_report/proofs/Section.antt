@@ -11,8 +11,8 @@ use Rattle.brk_model.specs.Statement.{text_of_lines}
 use Rattle.brk_model.specs.Tables.{Tables}
 use Rattle.brk_store.specs.Holds.{HoldsRows}
 use Rattle.brk_store.specs.Walked.{WalkPost}
-use Rattle.brk_tables.specs.declared.views.walking.WalkError.{WalkError}
-use Rattle.brk_tables.specs.declared.views.walking.WalkError.TheVariants.{Failed, Cause}
+use Rattle.brk_tables_views.specs.declared.walking.WalkError.{WalkError}
+use Rattle.brk_tables_views.specs.declared.walking.WalkError.TheVariants.{Failed, Cause}
 use Rattle.brk_report_lines.specs.Written.{FailsWithinLines, FailsWithinFirstLines, WritesLines, line_with_line_feed}
 use Rattle.brk_report.specs.StatementOutput.{IsLinesFaultOtherThanDamage}
 use Rattle.brk_io.specs.declared.report_fault.LinesFault.{LinesFault}

@@ -11,14 +11,14 @@ use Rattle.brk_model.specs.PositionView.{market_value_of_account_row}
 use Rattle.brk_model.specs.Statement.{amount_line, cash_move_rows_before_day, sorted_cash_rows_of_account, cash_row_line, cash_row_total}
 use Rattle.brk_model.specs.Statement.{cash_move_rows_within_days, text_of_lines, lot_line, holding_rows_of_account, statement, statement_lines}
 use Rattle.brk_model.specs.Tables.{AccountRow, Tables}
-use Rattle.brk_queries.specs.declared.head.StatementHead.{StatementHead}
+use Rattle.brk_desk_queries.specs.declared.statement_head.Head.{Head}
 use Rattle.brk_report.specs.StatementParts.{all_statement_lines, statement_header_lines}
 use Rattle.brk_report.specs.StatementOutput.{AreStatementLines, WritesStatement}
 use Rattle.brk_io.specs.Faults.{report_fault_of_lines_fault}
 use Rattle.brk_report_lines.specs.Written.{FailsWithinLines}
 use Rattle.brk_io.specs.declared.report_fault.LinesFault.{LinesFault}
 use Rattle.brk_io.specs.declared.report_fault.LinesFault.TheVariants.{Desk, Write}
-use Rattle.brk_queries.specs.Heads.{IsStatementHeadOfAccount}
+use Rattle.brk_desk_queries.specs.Heads.{IsStatementHeadOfAccount}
 
 pub passes_found : {X : Type 0} (p : X → Bool) (xs : List X) (x : X) → find p xs ≡ Some x → p x ≡ true
 passes_found p [] x e = absurd (let f = e in cc)
@@ -28,7 +28,7 @@ passes_found p (y ∷ ys) x e = go (passes_found p ys x) (p y) refl
     go more true k = let f : Some y ≡ Some x = rw k at e in let same : y ≡ x = cc in ap p (sym same) ∙ k
     go more false k = more (rw k at e)
 
-pub lines_whole : (t : Tables) (account : ℕ) (head : StatementHead) (from to : ℕ) (a : AccountRow) → account_row_with_id t account ≡ Some a → head.name ≡ a.name
+pub lines_whole : (t : Tables) (account : ℕ) (head : Head) (from to : ℕ) (a : AccountRow) → account_row_with_id t account ≡ Some a → head.name ≡ a.name
     → head.opening ≡ a.opening → head.holdings ≡ market_value_of_account_row t a
     → all_statement_lines t account head from to ≡ statement_lines t a from to (sorted_cash_rows_of_account t account)
 lines_whole t account head from to a found name opening holdings =
@@ -64,7 +64,7 @@ refused_account t account from to h none = rw (h, none) refl
 
 -- ---- with the head that was read
 
-module _ (t : Tables) (account : ℕ) (head : StatementHead) (from to : ℕ) (days : nat_lt to from ≡ false) (is_head : IsStatementHeadOfAccount account (Some head) t) (a b : Option Text) where
+module _ (t : Tables) (account : ℕ) (head : Head) (from to : ℕ) (days : nat_lt to from ≡ false) (is_head : IsStatementHeadOfAccount account (Some head) t) (a b : Option Text) where
   are_lines : AreStatementLines t account from to (all_statement_lines t account head from to)
   are_lines = (days, (is_head.0, is_head.1, lines_whole t account head from to is_head.0 is_head.1 is_head.2 is_head.3 is_head.4))
 

@@ -2,8 +2,3 @@ pub mod StatementOutput
 pub mod CashWalk
 pub mod WalkFaults
 pub mod StatementParts
-pub mod Requests
-pub mod LinesOutput
-pub mod ExplanationParts
-pub mod Printed
-pub mod Asked

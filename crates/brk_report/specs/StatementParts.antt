@@ -7,7 +7,7 @@ use Rattle.brk_money.specs.Spelling.{Text, day_text}
 use Rattle.brk_model.specs.Statement.{amount_line, cash_move_rows_before_day, sorted_cash_rows_of_account, cash_row_total}
 use Rattle.brk_model.specs.Statement.{cash_move_rows_within_days, text_of_lines, lot_line, holding_rows_of_account}
 use Rattle.brk_model.specs.Tables.{Tables}
-use Rattle.brk_queries.specs.declared.head.StatementHead.{StatementHead}
+use Rattle.brk_desk_queries.specs.declared.statement_head.Head.{Head}
 use Rattle.brk_report.specs.CashWalk.{opening_and_cash_lines}
 use Rattle.brk_report_lines.specs.Written.{FailsWithinLines}
 use Rattle.brk_io.specs.declared.report_fault.LinesFault.{LinesFault}
@@ -48,7 +48,7 @@ lot_and_total_lines t account holdings cash =
 
 -- All lines of the statement of `account` from the day `from` to the day `to`, both included, with
 -- the name, the opening balance and the market value of `head`.
-abbrev pub all_statement_lines : Tables → ℕ → StatementHead → ℕ → ℕ → List Text
+abbrev pub all_statement_lines : Tables → ℕ → Head → ℕ → ℕ → List Text
 all_statement_lines t account head from to =
     statement_header_lines account head.name from to ++ cash_and_closing_lines t account from to head.opening
     ++ lot_and_total_lines t account head.holdings (length (cash_move_rows_within_days from to (sorted_cash_rows_of_account t account)))

@@ -1,6 +1,6 @@
 -- The fault of writing lines for a walk that failed.
-use Rattle.brk_tables.specs.declared.views.walking.WalkError.{WalkError}
-use Rattle.brk_tables.specs.declared.views.walking.WalkError.TheVariants.{Failed, Cause}
+use Rattle.brk_tables_views.specs.declared.walking.WalkError.{WalkError}
+use Rattle.brk_tables_views.specs.declared.walking.WalkError.TheVariants.{Failed, Cause}
 use Rattle.brk_io.specs.declared.report_fault.LinesFault.{LinesFault}
 use Rattle.brk_io.specs.declared.report_fault.LinesFault.TheVariants.{Desk}
 

@@ -9,7 +9,7 @@ use brk_report_lines::LinesFault;
 
 /// Returns `total` plus `amount`, both in cents. Fails with `Desk(Store)` if the sum exceeds the
 /// range of 128 bits.
-pub(crate) fn total_plus_amount(total: Wide, amount: Cents) -> Result<Wide, LinesFault>
+pub fn total_plus_amount(total: Wide, amount: Cents) -> Result<Wide, LinesFault>
     ensures sum { IfOk result (λ sum. sum ≡ total +ℤ amount) }
     ensures fault { OnErr result (result ≡ Err (Desk fault.Store)) }
 {
@@ -21,7 +21,7 @@ pub(crate) fn total_plus_amount(total: Wide, amount: Cents) -> Result<Wide, Line
 
 /// Returns `total` plus `commission`, both in cents. Fails with `Desk(Store)` if the sum exceeds
 /// the range of 128 bits.
-pub(crate) fn total_plus_commission(total: Wide, commission: Amount) -> Result<Wide, LinesFault>
+pub fn total_plus_commission(total: Wide, commission: Amount) -> Result<Wide, LinesFault>
     ensures sum { IfOk result (λ sum. sum ≡ total +ℤ pos commission) }
     ensures fault { OnErr result (result ≡ Err (Desk fault.Store)) }
 {

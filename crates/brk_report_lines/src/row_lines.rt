@@ -2,13 +2,13 @@
 
 ghost use Rattle.std.specs.Prelude.{◌≡◌, Err, IfOk, OnErr};
 ghost use Rattle.brk_money.specs.declared.fault.Fault.TheVariants.{Memory};
-ghost use Rattle.brk_changes.specs.Rows.{abstract_holding_row, abstract_move_row};
+ghost use Rattle.brk_trade_rows.specs.Rows.{abstract_holding_row, abstract_move_row};
 ghost use Rattle.brk_model.specs.Statement as statement;
 ghost use Rattle.brk_report_lines.specs.Written.{line_with_line_feed};
 
 use crate::columns::{append_left_aligned, append_right_aligned};
-use brk_changes::{HoldingRow, MoveRow};
 use brk_money::{Fault, Wide, day_of, write_cents, write_day};
+use brk_trade_rows::{HoldingRow, MoveRow};
 use itoa::Buffer;
 use std::alloc::Global;
 

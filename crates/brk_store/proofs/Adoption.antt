@@ -24,21 +24,21 @@ use Rattle.brk_model.specs.Run.{IsCallFault}
 use Rattle.brk_model.specs.Schemas.{third_schema}
 use Rattle.brk_model.specs.Sheets.{sheets}
 use Rattle.brk_model.specs.Tables.{Tables, tables_without_rows}
-use Rattle.brk_changes.specs.declared.schema.Schema as known
-use Rattle.brk_changes.specs.declared.schema.Schema.TheVariants.{First, Second, Third}
-use Rattle.brk_changes.specs.Schemas.{abstract_schema}
-use Rattle.brk_sql.specs.Model.{IsTransactionStep}
-use Rattle.brk_sql.proofs.Inside.{clean_before, step_then}
-use Rattle.brk_book_theorems.proofs.Steps.{empty_books, empty_rows}
+use Rattle.brk_trade_rows.specs.declared.schema.Schema as known
+use Rattle.brk_trade_rows.specs.declared.schema.Schema.TheVariants.{First, Second, Third}
+use Rattle.brk_trade_rows.specs.Schemas.{abstract_schema}
+use Rattle.brk_tables_sql.specs.Model.{IsTransactionStep}
+use Rattle.brk_tables_sql.proofs.Inside.{clean_before, step_then}
+use Rattle.brk_trade_books.proofs.Steps.{empty_books, empty_rows}
 use Rattle.brk_audit_theorems.specs.Passing.{PassesAudit}
 use Rattle.brk_audit_theorems.proofs.UpgradedRows.{first_narrower, upgraded_rows, rows_upgraded_from, second_narrower}
 use Rattle.brk_audit_theorems.proofs.Passing.{passing_tables}
 use Rattle.brk_audit_theorems.proofs.Adopted.{sound_passes}
 use Rattle.brk_audit_theorems.proofs.SoundSteps.{empty_sound}
-use Rattle.brk_sql.specs.Desk.{HasNoWritingForeignKeysAt}
+use Rattle.brk_tables_sql.specs.Desk.{HasNoWritingForeignKeysAt}
 use Rattle.brk_tables_schema.specs.Desk.{DeskTable}
 use Rattle.brk_tables_schema.specs.Made.{HasDeskTables, IsTableOfSchema}
-use Rattle.brk_tables.specs.Upgrade.{PreservesTablesOutside, UpgradesTables}
+use Rattle.brk_tables_cash.specs.Upgrade.{PreservesTablesOutside, UpgradesTables}
 use Rattle.brk_tables_scan.specs.Schemas.{DatabaseHasSchema, TablesWithDeskNamesAreDeskTables, TablesWithSchemaNamesAreDeskTables}
 use Rattle.brk_tables_scan.proofs.Defined.{desk_is_there}
 use Rattle.brk_store.specs.Audited.{IsUpgradedDiskContent, StoresRowsWithAuditResult, IsDatabaseAuditResult, IsDatabaseAuditResultBySchema, UpgradesAuditedRows}

@@ -11,16 +11,16 @@ use Rattle.brk_model.specs.Audit.{ConditionHolds, IsAuditResult, IsFirstFailingC
 use Rattle.brk_model.specs.Form.{satisfies_form_condition, has_utf8_texts}
 use Rattle.brk_model.specs.Schemas.{Schema, third_schema}
 use Rattle.brk_model.specs.Tables.{Tables}
-use Rattle.brk_changes.specs.declared.schema.Schema as known
-use Rattle.brk_changes.specs.declared.schema.Schema.TheVariants.{Third}
-use Rattle.brk_changes.specs.Schemas.{abstract_schema}
-use Rattle.brk_changes.specs.Sheets.{abstract_sheets}
-use Rattle.brk_changes.specs.declared.sheets.Sheets.{Sheets}
+use Rattle.brk_trade_rows.specs.declared.schema.Schema as known
+use Rattle.brk_trade_rows.specs.declared.schema.Schema.TheVariants.{Third}
+use Rattle.brk_trade_rows.specs.Schemas.{abstract_schema}
+use Rattle.brk_trade_rows.specs.Sheets.{abstract_sheets}
+use Rattle.brk_trade_rows.specs.declared.sheets.Sheets.{Sheets}
 use Rattle.brk_ref.specs.declared.key.Kept as typed
 use Rattle.brk_ref.specs.Records.{abstract_key, abstract_kept_row, kept_row_with_empty_texts}
-use Rattle.brk_sql.specs.Model.{IsTransactionStep}
-use Rattle.brk_sql.proofs.Inside.{step_read, step_then}
-use Rattle.brk_sql.proofs.Order.{map_twice}
+use Rattle.brk_tables_sql.specs.Model.{IsTransactionStep}
+use Rattle.brk_tables_sql.proofs.Inside.{step_read, step_then}
+use Rattle.brk_tables_sql.proofs.Order.{map_twice}
 use Rattle.brk_tables.proofs.OneTables.{one_schema}
 use Rattle.brk_tables_schema.specs.Made.{HasDeskTablesInSchema}
 use Rattle.brk_tables_scan.specs.Schemas.{DatabaseHasSchema, TablesWithSchemaNamesAreDeskTables}

@@ -7,14 +7,14 @@ use Rattle.sqlite.specs.State.{HasCleanDisk}
 use Rattle.brk_money.specs.Spelling.{Text}
 use Rattle.brk_model.specs.Tables.{HoldingRow, Tables}
 use Rattle.brk_lots.specs.Lots.{list_reversed_if_lifo}
-use Rattle.brk_changes.specs.Rows.{abstract_holding_row, lots_oldest_first}
-use Rattle.brk_changes.specs.declared.holding_row.HoldingRow as row
-use Rattle.brk_tables.specs.Pages.{page_after_skipped}
+use Rattle.brk_trade_rows.specs.Rows.{abstract_holding_row, lots_oldest_first}
+use Rattle.brk_trade_rows.specs.declared.holding_row.HoldingRow as row
+use Rattle.brk_tables_trading.specs.Pages.{page_after_skipped}
 use Rattle.brk_tables.proofs.OneTables.{one_tables}
-use Rattle.brk_lot_index.specs.declared.age.LotAge.{LotAge}
-use Rattle.brk_lot_index.specs.declared.index.LotIndex.{LotIndex}
-use Rattle.brk_lot_index.specs.Ages.{IsIndexOf, in_closing_order, lots_at}
-use Rattle.brk_lot_index.proofs.Ordered.{page_found}
+use Rattle.brk_store_lots.specs.declared.age.LotAge.{LotAge}
+use Rattle.brk_store_lots.specs.declared.index.LotIndex.{LotIndex}
+use Rattle.brk_store_lots.specs.Ages.{IsIndexOf, in_closing_order, lots_at}
+use Rattle.brk_store_lots.proofs.Ordered.{page_found}
 use Rattle.brk_store.specs.Holds.{HoldsRows}
 use Rattle.brk_store.specs.Indexed.{HasRowOfEachAge, IndexIsTrue}
 use Rattle.brk_store.specs.Pages.{lot_rows_in_closing_order}

@@ -8,8 +8,8 @@ use Rattle.brk_money.specs.declared.fault.Fault.{Fault}
 use Rattle.brk_money.specs.declared.fault.Fault.TheVariants.{Memory, Store, Damaged}
 use Rattle.brk_model.specs.Run.{IsCallFault}
 use Rattle.brk_model.specs.Schemas.{third_schema}
-use Rattle.brk_sql.specs.Model.{IsTransactionStep}
-use Rattle.brk_sql.proofs.Inside.{clean_before}
+use Rattle.brk_tables_sql.specs.Model.{IsTransactionStep}
+use Rattle.brk_tables_sql.proofs.Inside.{clean_before}
 use Rattle.brk_store.specs.Audited.{IsDatabaseAuditResultBySchema, AuditPost, ConnectionTablesWithThirdSchemaNamesAreDeskTables, AuditAnswerSatisfies}
 use Rattle.brk_store.specs.Holds.{WasOpenAndIsUnchanged}
 use Rattle.brk_store.proofs.Answering.{AuditsByThirdSchema}

@@ -6,7 +6,7 @@ use Rattle.std.proofs.lemmas.List.{reverse-append}
 use Rattle.sqlite.specs.Effect.{Database}
 use Rattle.brk_model.specs.Limits.{greatest_id}
 use Rattle.brk_model.specs.Tables.{MoveRow, Tables}
-use Rattle.brk_book_theorems.specs.TradeReads.{last_cash_row_number_or_zero}
+use Rattle.brk_trade_books.specs.TradeReads.{last_cash_row_number_or_zero}
 use Rattle.brk_tables_schema.specs.Made.{HasDeskTables}
 use Rattle.brk_store.proofs.WalkedLists.{IsStrictlyAscendingBy, moves_climb}
 

@@ -10,9 +10,9 @@ use Rattle.sqlite.specs.declared.error.Error.{Error}
 use Rattle.sqlite.proofs.Callers.{survives_begin}
 use Rattle.sqlite.proofs.StateLemmas.{survives_then, survives_weaker}
 use Rattle.brk_model.specs.Tables.{Tables}
-use Rattle.brk_sql.specs.Desk.{ChangesTablesBy}
-use Rattle.brk_sql.specs.Model.{IsTransactionStep, IsUnchangedAndSatisfies}
-use Rattle.brk_sql.proofs.Inside.{clean_before, commits_all, commits_crash, step_then}
+use Rattle.brk_tables_sql.specs.Desk.{ChangesTablesBy}
+use Rattle.brk_tables_sql.specs.Model.{IsTransactionStep, IsUnchangedAndSatisfies}
+use Rattle.brk_tables_sql.proofs.Inside.{clean_before, commits_all, commits_crash, step_then}
 use Rattle.brk_money.specs.declared.fault.Fault.{Fault}
 use Rattle.brk_money.specs.declared.fault.Condition.TheVariants.{NotEmpty}
 use Rattle.brk_money.specs.declared.fault.Fault.TheVariants.{Damaged, Store}

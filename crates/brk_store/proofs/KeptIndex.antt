@@ -5,8 +5,8 @@ use Rattle.sqlite.specs.Held.{Held, state}
 use Rattle.sqlite.specs.State.{HasCleanDisk, Survives, IsRolledBack}
 use Rattle.brk_money.specs.declared.fault.Fault.{Fault}
 use Rattle.brk_model.specs.Tables.{Tables}
-use Rattle.brk_sql.specs.Model.{IsTransactionStep, IsUnchangedAndSatisfies}
-use Rattle.brk_sql.proofs.Inside.{clean_before}
+use Rattle.brk_tables_sql.specs.Model.{IsTransactionStep, IsUnchangedAndSatisfies}
+use Rattle.brk_tables_sql.proofs.Inside.{clean_before}
 use Rattle.brk_tables_schema.specs.Desk.{desk_tables}
 use Rattle.brk_tables_schema.specs.Made.{HasDeskTables}
 use Rattle.brk_tables_scan.specs.Schemas.{TablesWithDeskNamesAreDeskTables}
@@ -14,7 +14,7 @@ use Rattle.brk_store.specs.Audited.{AdoptPost}
 use Rattle.brk_store.specs.Holds.{ApplyPost, WasOpenAndIsUnchanged}
 use Rattle.brk_store.specs.Indexed.{IsIndexOfTables, IndexIsTrue}
 use Rattle.brk_store.proofs.Ending.{is_read, with_transaction_open}
-use Rattle.brk_lot_index.specs.declared.index.LotIndex.{LotIndex}
+use Rattle.brk_store_lots.specs.declared.index.LotIndex.{LotIndex}
 
 module _ {S : Type 0} (g : Ghosts S) (old new : Held S) (known : Bool) (index : Option LotIndex) where
   -- what is so of a database is so where it is unchanged

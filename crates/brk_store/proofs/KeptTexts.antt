@@ -26,7 +26,7 @@ use Rattle.brk_model.specs.Tables.{Tables, tables_of_base_in_schema}
 use Rattle.brk_model.specs.Ways.{satisfies_status_condition}
 
 abbrev parts : Key → List KeyPart
-parts key = word key.batch ∷ number key.row ∷ []
+parts key = word key.batch ∷ number key.n ∷ []
 
 -- the rows are sorted if their keys are
 sorted_by_keys : (ks : List Kept) → is_sorted_by_unique_key kept_key ks ≡ is_sorted_by_unique_key parts (map (λ k. k.key) ks)

@@ -1,12 +1,12 @@
 -- Changes that are made one after another.
 use Rattle.std.proofs.Common.{◌≡◌, Result, Ok, inl, refl, sym, subst, arith}
 use Rattle.sqlite.specs.State.{State}
-use Rattle.brk_sql.specs.Desk.{ChangesTablesBy}
-use Rattle.brk_sql.specs.Model.{IsTransactionStep}
-use Rattle.brk_sql.proofs.Strangers.{spares_itself}
+use Rattle.brk_tables_sql.specs.Desk.{ChangesTablesBy}
+use Rattle.brk_tables_sql.specs.Model.{IsTransactionStep}
+use Rattle.brk_tables_sql.proofs.Strangers.{spares_itself}
 use Rattle.brk_tables_schema.specs.Desk.{desk_tables}
-use Rattle.brk_changes.specs.Changes.{tables_after_change}
-use Rattle.brk_changes.specs.declared.change.Change.{Change}
+use Rattle.brk_trade_rows.specs.Changes.{tables_after_change}
+use Rattle.brk_trade_rows.specs.declared.change.Change.{Change}
 
 -- the statement of a change makes that change
 pub made : {V E : Type 0} (old new : State) (result : Result V E) (asked change : Change) → asked ≡ change

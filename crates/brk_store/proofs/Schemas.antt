@@ -4,11 +4,11 @@ use Rattle.sqlite_value.specs.Order.{Row}
 use Rattle.sqlite.specs.Effect.{Database}
 use Rattle.brk_model.specs.Schemas.{Schema, third_schema}
 use Rattle.brk_model.specs.Tables.{Tables}
-use Rattle.brk_changes.specs.declared.schema.Schema as known
-use Rattle.brk_changes.specs.declared.schema.Schema.TheVariants.{First, Second, Third}
-use Rattle.brk_changes.specs.Schemas.{abstract_schema}
-use Rattle.brk_sql.specs.Desk.{IsTableAt}
-use Rattle.brk_sql.proofs.Grown.{all_there, some_there}
+use Rattle.brk_trade_rows.specs.declared.schema.Schema as known
+use Rattle.brk_trade_rows.specs.declared.schema.Schema.TheVariants.{First, Second, Third}
+use Rattle.brk_trade_rows.specs.Schemas.{abstract_schema}
+use Rattle.brk_tables_sql.specs.Desk.{IsTableAt}
+use Rattle.brk_tables_sql.proofs.Grown.{all_there, some_there}
 use Rattle.brk_tables_schema.specs.Desk.{DeskTable, TheDesk, CashMoves, SettleRules, desk_tables_of_schema}
 use Rattle.brk_tables_schema.specs.Shapes.{desk_row_table}
 use Rattle.brk_tables_schema.specs.Made.{HasDeskTables, HasDeskTablesInSchema, IsTableOfSchema}

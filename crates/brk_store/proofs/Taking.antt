@@ -16,15 +16,15 @@ use Rattle.brk_model.specs.Form.{has_utf8_texts}
 use Rattle.brk_model.specs.Schemas.{third_schema}
 use Rattle.brk_model.specs.Sheets.{sheets}
 use Rattle.brk_model.specs.Tables.{Tables}
-use Rattle.brk_changes.specs.declared.schema.Schema as known
-use Rattle.brk_changes.specs.declared.schema.Schema.TheVariants.{First, Second, Third}
-use Rattle.brk_changes.specs.Schemas.{abstract_schema}
+use Rattle.brk_trade_rows.specs.declared.schema.Schema as known
+use Rattle.brk_trade_rows.specs.declared.schema.Schema.TheVariants.{First, Second, Third}
+use Rattle.brk_trade_rows.specs.Schemas.{abstract_schema}
 use Rattle.brk_audit_theorems.specs.Passing.{PassesAudit}
 use Rattle.brk_audit_theorems.proofs.UpgradedRows.{first_narrower, upgraded_rows, second_narrower}
 use Rattle.brk_audit_theorems.proofs.Passing.{passing_books, passing_tables}
 use Rattle.brk_audit_theorems.proofs.Adopted.{passing_sound, sound_passes}
 use Rattle.brk_tables.proofs.OneTables.{one_schema}
-use Rattle.brk_sql.proofs.Inside.{clean_before}
+use Rattle.brk_tables_sql.proofs.Inside.{clean_before}
 use Rattle.brk_tables_schema.specs.Made.{HasDeskTablesInSchema}
 use Rattle.brk_tables_scan.specs.Schemas.{DatabaseHasSchema}
 use Rattle.brk_tables_scan.proofs.Defined.{desk_is_there}

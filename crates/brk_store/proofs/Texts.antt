@@ -4,7 +4,7 @@ use Rattle.std.specs.List.{list_all, AllByRecursion}
 use Rattle.std.specs.Str.{is_utf8}
 use Rattle.std.specs.Prelude.{String, nat_lt, string_bytes}
 use Rattle.std.proofs.lemmas.Str.{IsUtf8-string_bytes, is_utf8-from_IsUtf8}
-use Rattle.brk_book_theorems.proofs.LotReading.{All-sort}
+use Rattle.brk_trade_books.proofs.LotReading.{All-sort}
 use Rattle.brk_model.specs.Adopted.{posting_of_cash_transaction_row, posting_of_cash_move_row, postings_of_tables}
 use Rattle.brk_model.specs.Derived.{Posting, postings_sorted_by_stamp}
 use Rattle.brk_model.specs.Form.{has_utf8_texts}
@@ -12,11 +12,11 @@ use Rattle.brk_model.specs.Upgraded.{tables_with_merged_cash_rows}
 use Rattle.brk_model.specs.Tables.{CashRow, MoveRow, Tables, numbered_move_rows}
 use Rattle.brk_ref.specs.declared.key.Kept as kept
 use Rattle.brk_ref.specs.Records.{abstract_kept_row}
-use Rattle.brk_changes.specs.Rows.{abstract_cash_row, abstract_move_row, abstract_trade_row}
-use Rattle.brk_changes.specs.declared.cash_row.CashRow as cash
-use Rattle.brk_changes.specs.declared.move_row.MoveRow as posted
-use Rattle.brk_changes.specs.declared.sheets.Sheets.{Sheets}
-use Rattle.brk_changes.specs.declared.trade_row.TradeRow as trade
+use Rattle.brk_trade_rows.specs.Rows.{abstract_cash_row, abstract_move_row, abstract_trade_row}
+use Rattle.brk_trade_rows.specs.declared.cash_row.CashRow as cash
+use Rattle.brk_trade_rows.specs.declared.move_row.MoveRow as posted
+use Rattle.brk_trade_rows.specs.declared.sheets.Sheets.{Sheets}
+use Rattle.brk_trade_rows.specs.declared.trade_row.TradeRow as trade
 use Rattle.brk_tables_scan.specs.KeptKeys.{tables_with_whole_kept_rows}
 
 and_both : (a b : Bool) → a ≡ true → b ≡ true → a && b ≡ true

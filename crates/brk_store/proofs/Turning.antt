@@ -8,14 +8,14 @@ use Rattle.sqlite_trees.specs.declared.store.Store.{Ghosts}
 use Rattle.sqlite.specs.Held.{Held}
 use Rattle.brk_lots.specs.Lots.{list_reversed_if_lifo}
 use Rattle.brk_lots.specs.declared.lot.Lot.{Lot}
-use Rattle.brk_book_theorems.specs.OrderReads.{lot_of_typed_row}
+use Rattle.brk_trade_books.specs.OrderReads.{lot_of_typed_row}
 use Rattle.brk_money.specs.Spelling.{Text}
 use Rattle.brk_store.specs.Holds.{HoldsRows}
 use Rattle.brk_model.specs.Tables.{Tables, HoldingRow}
-use Rattle.brk_changes.specs.Rows.{abstract_holding_row}
-use Rattle.brk_changes.specs.declared.holding_row.HoldingRow as row
-use Rattle.brk_tables.specs.Pages.{page_after_skipped, page_size}
-use Rattle.brk_book_theorems.specs.TradeReads.{lot_of_row}
+use Rattle.brk_trade_rows.specs.Rows.{abstract_holding_row}
+use Rattle.brk_trade_rows.specs.declared.holding_row.HoldingRow as row
+use Rattle.brk_tables_trading.specs.Pages.{page_after_skipped, page_size}
+use Rattle.brk_trade_books.specs.TradeReads.{lot_of_row}
 use Rattle.brk_store.specs.Pages.{remaining_lots, unread_rows, lot_rows_in_closing_order}
 
 pub page_turned : (rows : List HoldingRow) (read : ℕ) (page : List row.HoldingRow) → map abstract_holding_row page ≡ page_after_skipped read rows

@@ -13,10 +13,10 @@ use Rattle.sqlite_value.proofs.OrderLemmas.{value_cmp-Int}
 use Rattle.sqlite_trees.specs.declared.store.Store.{Ghosts}
 use Rattle.sqlite.specs.Effect.{Database}
 use Rattle.sqlite.specs.Held.{Held, state}
-use Rattle.brk_changes.specs.Rows.{abstract_holding_row, abstract_move_row, abstract_trade_row}
-use Rattle.brk_changes.specs.declared.move_row.MoveRow as row
-use Rattle.brk_changes.specs.declared.holding_row.HoldingRow as holding
-use Rattle.brk_changes.specs.declared.trade_row.TradeRow as trade
+use Rattle.brk_trade_rows.specs.Rows.{abstract_holding_row, abstract_move_row, abstract_trade_row}
+use Rattle.brk_trade_rows.specs.declared.move_row.MoveRow as row
+use Rattle.brk_trade_rows.specs.declared.holding_row.HoldingRow as holding
+use Rattle.brk_trade_rows.specs.declared.trade_row.TradeRow as trade
 use Rattle.brk_model.specs.Keys.{word, rows_sorted_by_key, is_row_key_less}
 use Rattle.brk_model.specs.Joins.{trade_rows_oldest_first}
 use Rattle.brk_model.specs.Lists.{insert_by, is_pair_less, sort_by, sort_by_key, is_text_less}
@@ -24,15 +24,15 @@ use Rattle.brk_model.specs.Statement.{holding_rows_of_account}
 use Rattle.brk_model.specs.Tables.{AccountRow, HoldingRow, MoveRow, Tables, TradeRow}
 use Rattle.brk_money.specs.Kinds.{is_same_trade_status}
 use Rattle.brk_money.specs.declared.status.Status.TheVariants.{Completed}
-use Rattle.brk_sql.specs.Rows.{IsStrictlyAscending}
+use Rattle.brk_tables_sql.specs.Rows.{IsStrictlyAscending}
 use Rattle.brk_tables_schema.specs.Desk.{Accounts, CashMoves, Holdings, Trades, ordering_by_primary_key}
 use Rattle.brk_tables_schema.specs.Made.{HasDeskTables}
-use Rattle.brk_book_theorems.proofs.Bools.{same_text, texts_back}
-use Rattle.brk_book_theorems.proofs.LotReading.{All-sort}
-use Rattle.brk_book_theorems.proofs.Order.{by_key-filter, key_total, nat_one_way, nat_splits, sort_filter}
-use Rattle.brk_tables.specs.Lists.{account_cash_rows_between, completed_trades_by_stamp_and_id, account_lots_by_symbol, cash_sort_key, lot_sort_key, stamp_and_id_key}
-use Rattle.brk_tables.specs.Walks.{TableWalkPost}
-use Rattle.brk_tables.specs.declared.views.walking.WalkError.{WalkError}
+use Rattle.brk_trade_books.proofs.Bools.{same_text, texts_back}
+use Rattle.brk_trade_books.proofs.LotReading.{All-sort}
+use Rattle.brk_trade_books.proofs.Order.{by_key-filter, key_total, nat_one_way, nat_splits, sort_filter}
+use Rattle.brk_tables_views.specs.Lists.{account_cash_rows_between, completed_trades_by_stamp_and_id, account_lots_by_symbol, cash_sort_key, lot_sort_key, stamp_and_id_key}
+use Rattle.brk_tables_views.specs.Walks.{TableWalkPost}
+use Rattle.brk_tables_views.specs.declared.walking.WalkError.{WalkError}
 use Rattle.brk_store.specs.Walked.{WalkPost, cash_rows_in_span, completed_trades_by_stamp}
 use Rattle.brk_store.proofs.Walking.{is_walked}
 

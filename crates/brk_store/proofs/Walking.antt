@@ -5,13 +5,13 @@ use Rattle.sqlite_trees.specs.declared.store.Store.{Ghosts}
 use Rattle.sqlite.specs.Held.{Held, state}
 use Rattle.sqlite.specs.State.{HasCleanDisk}
 use Rattle.brk_model.specs.Tables.{Tables}
-use Rattle.brk_sql.proofs.Inside.{clean_before}
+use Rattle.brk_tables_sql.proofs.Inside.{clean_before}
 use Rattle.brk_tables_schema.specs.Made.{HasDeskTables}
-use Rattle.brk_tables.specs.Walk.{IsWalkError}
-use Rattle.brk_tables.specs.Walks as tables
-use Rattle.brk_tables.specs.Walks.{TableWalkEndsEarly, TakesListSatisfying, TableWalkPost}
-use Rattle.brk_tables.specs.declared.views.walking.WalkError.{WalkError}
-use Rattle.brk_tables.specs.declared.views.walking.WalkError.TheVariants.{Failed, Cause}
+use Rattle.brk_tables_views.specs.Walk.{IsWalkError}
+use Rattle.brk_tables_views.specs.Walks as tables
+use Rattle.brk_tables_views.specs.Walks.{TableWalkEndsEarly, TakesListSatisfying, TableWalkPost}
+use Rattle.brk_tables_views.specs.declared.walking.WalkError.{WalkError}
+use Rattle.brk_tables_views.specs.declared.walking.WalkError.TheVariants.{Failed, Cause}
 use Rattle.brk_store.specs.Walked.{EqualsStoredList, IsPrefixOfStoredList, WalkPost}
 
 -- ---- one walk

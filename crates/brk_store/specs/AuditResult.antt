@@ -2,7 +2,7 @@
 use Rattle.std.specs.Prelude.{Some, None}
 use Rattle.sqlite.specs.Effect.{Database}
 use Rattle.brk_model.specs.Tables.{Tables}
-use Rattle.brk_changes.specs.Schemas.{abstract_schema}
+use Rattle.brk_trade_rows.specs.Schemas.{abstract_schema}
 use Rattle.brk_store.specs.Audited.{StoresRowsWithAuditResult, IsDatabaseAuditResult}
 use Rattle.brk_store.specs.declared.examining.AuditResult.{AuditResult}
 use Rattle.brk_store.specs.declared.examining.AuditResult.TheVariants.{Passes, Fails}

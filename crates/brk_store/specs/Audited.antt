@@ -22,13 +22,13 @@ use Rattle.brk_model.specs.Form.{has_utf8_texts}
 use Rattle.brk_model.specs.Schemas.{Schema, third_schema}
 use Rattle.brk_model.specs.Sheets.{sheets}
 use Rattle.brk_model.specs.Tables.{Tables}
-use Rattle.brk_changes.specs.declared.schema.Schema as typed_schema
-use Rattle.brk_changes.specs.declared.schema.Schema.TheVariants.{Third}
-use Rattle.brk_changes.specs.Schemas.{abstract_schema}
+use Rattle.brk_trade_rows.specs.declared.schema.Schema as typed_schema
+use Rattle.brk_trade_rows.specs.declared.schema.Schema.TheVariants.{Third}
+use Rattle.brk_trade_rows.specs.Schemas.{abstract_schema}
 use Rattle.brk_tables_schema.specs.Made.{HasDeskTables, HasDeskTablesInSchema, IsTableOfSchema}
-use Rattle.brk_tables.specs.Upgrade.{PreservesTablesOutside}
+use Rattle.brk_tables_cash.specs.Upgrade.{PreservesTablesOutside}
 use Rattle.brk_tables_scan.specs.Schemas.{DatabaseHasSchema, TablesWithDeskNamesAreDeskTables, TablesWithSchemaNamesAreDeskTables}
-use Rattle.brk_book_theorems.specs.Books.{BooksInvariant}
+use Rattle.brk_trade_books.specs.Books.{BooksInvariant}
 use Rattle.brk_audit_theorems.specs.Passing.{PassesAudit}
 use Rattle.brk_audit_theorems.specs.Sound.{AuditInvariant}
 use Rattle.brk_store.specs.Holds.{IsDiskContentOfRows, HoldsRows, WasOpenAndIsUnchanged}

@@ -39,7 +39,7 @@ use Rattle.brk_money.specs.declared.fault.Condition.TheVariants.{NotEmpty}
 use Rattle.brk_money.specs.declared.fault.Fault.{Fault}
 use Rattle.brk_money.specs.declared.fault.Fault.TheVariants.{Damaged, Store}
 use Rattle.brk_model.specs.Tables.{Tables, tables_without_rows}
-use Rattle.brk_sql.specs.Desk.{HasTables, PreservesAllTables, PreservesUnrelatedTables}
+use Rattle.brk_tables_sql.specs.Desk.{HasTables, PreservesAllTables, PreservesUnrelatedTables}
 use Rattle.brk_tables_schema.specs.Desk.{DeskTable, desk_tables}
 use Rattle.brk_tables_schema.specs.Made.{HasDeskTables}
 use Rattle.brk_tables_scan.specs.Present.{has_table_of_desk}

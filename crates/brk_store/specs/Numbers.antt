@@ -1,7 +1,7 @@
 -- The totals in the row of a broker.
 use Rattle.std.specs.Prelude.{◌≡◌, Option, Some, None, pos}
 use Rattle.brk_model.specs.Tables.{BrokerRow}
-use Rattle.brk_changes.specs.declared.broker_totals.BrokerTotals.{BrokerTotals}
+use Rattle.brk_trade_rows.specs.declared.broker_totals.BrokerTotals.{BrokerTotals}
 
 -- `Some n`: the broker has the row `row`, and `n` has its number of trades and its sum of
 -- commissions, in cents. `None`: the broker has no row.

@@ -5,10 +5,10 @@ use Rattle.brk_lots.specs.declared.lot.Lot.{Lot}
 use Rattle.brk_lots.specs.Lots.{list_reversed_if_lifo}
 use Rattle.brk_model.specs.Tables.{Tables, HoldingRow}
 use Rattle.brk_money.specs.Spelling.{Text}
-use Rattle.brk_changes.specs.Rows.{abstract_holding_row}
-use Rattle.brk_changes.specs.declared.holding_row.HoldingRow as row
-use Rattle.brk_tables.specs.Pages.{position_lots_by_age}
-use Rattle.brk_book_theorems.specs.TradeReads.{lot_of_row}
+use Rattle.brk_trade_rows.specs.Rows.{abstract_holding_row}
+use Rattle.brk_trade_rows.specs.declared.holding_row.HoldingRow as row
+use Rattle.brk_tables_trading.specs.Pages.{position_lots_by_age}
+use Rattle.brk_trade_books.specs.TradeReads.{lot_of_row}
 
 -- The rows of the lots of `account` in the security `symbol`, sorted by the stamp of their opening
 -- and then by trade: the newest first if `lifo` is true, otherwise the oldest first.

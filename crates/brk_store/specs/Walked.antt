@@ -13,10 +13,10 @@ use Rattle.brk_model.specs.Statement.{sorted_cash_rows_of_account}
 use Rattle.brk_model.specs.Tables.{Tables, MoveRow, TradeRow}
 use Rattle.brk_money.specs.Kinds.{is_same_trade_status}
 use Rattle.brk_money.specs.declared.status.Status.TheVariants.{Completed}
-use Rattle.brk_tables.specs.Walk.{IsWalkError}
-use Rattle.brk_tables.specs.Walks.{TableWalkEndsEarly, TakesListSatisfying}
-use Rattle.brk_tables.specs.declared.views.walking.WalkError.{WalkError}
-use Rattle.brk_tables.specs.declared.views.walking.WalkError.TheVariants.{Failed, Cause}
+use Rattle.brk_tables_views.specs.Walk.{IsWalkError}
+use Rattle.brk_tables_views.specs.Walks.{TableWalkEndsEarly, TakesListSatisfying}
+use Rattle.brk_tables_views.specs.declared.walking.WalkError.{WalkError}
+use Rattle.brk_tables_views.specs.declared.walking.WalkError.TheVariants.{Failed, Cause}
 use Rattle.brk_store.specs.Holds.{HoldsRows, WasOpenAndIsUnchanged}
 
 -- The cash rows of `account` whose stamps are from `from` to `to`, both included, sorted by stamp,

@@ -5,17 +5,17 @@ ghost use Rattle.brk_money.specs.declared.fault.Condition.TheVariants.{NotEmpty}
 ghost use Rattle.brk_money.specs.declared.fault.Fault.TheVariants as fault;
 ghost use Rattle.brk_model.specs.Run.{IsCallFault};
 ghost use Rattle.brk_model.specs.Schemas.{third_schema};
-ghost use Rattle.brk_changes.specs.Schemas.{abstract_schema};
-ghost use Rattle.brk_sql.specs.Model.{IsConnectionStep};
+ghost use Rattle.brk_trade_rows.specs.Schemas.{abstract_schema};
+ghost use Rattle.brk_tables_sql.specs.Model.{IsConnectionStep};
 ghost use Rattle.brk_store.specs.Audited.{IsDatabaseAuditResultBySchema, AuditPost};
 ghost use Rattle.brk_tables_scan.specs.Schemas.{DatabaseHasSchema, TablesWithSchemaNamesAreDeskTables};
 
 use crate::Store;
 use crate::beginning::begin_transaction;
 use brk_audit::audit_rows;
-use brk_changes::Schema;
 use brk_money::{Condition, Fault};
 use brk_tables_scan::{database_has_schema, read_typed_rows_of_schema};
+use brk_trade_rows::Schema;
 use sqlite::{Alter, Connection, Transaction};
 use std::alloc::Global;
 

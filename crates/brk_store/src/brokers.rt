@@ -4,7 +4,7 @@
 //! only states that a crash before it could expose.
 
 ghost use Rattle.std.specs.Prelude.{◌≡◌, ◌==◌, IfErr, bytes_eq, filter, map};
-ghost use Rattle.brk_changes.specs.Rows.{abstract_request_row};
+ghost use Rattle.brk_trade_rows.specs.Rows.{abstract_request_row};
 ghost use Rattle.brk_model.specs.Run.{IsCallFault};
 ghost use Rattle.brk_ref.specs.Records.{abstract_broker_row};
 ghost use Rattle.brk_store.specs.Holds.{ReadPost};
@@ -13,9 +13,9 @@ ghost use Rattle.brk_tables_schema.specs.Statements.{AreMatchingRows};
 
 use crate::Store;
 use crate::beginning::begin_transaction;
-use brk_changes::RequestRow;
 use brk_money::{Fault, Id};
 use brk_ref::{BrokerRow, Name};
+use brk_trade_rows::RequestRow;
 use sqlite::Alter;
 use std::alloc::Global;
 
@@ -27,7 +27,7 @@ impl<S: Alter> Store<S> {
         ensures fault { IfErr result IsCallFault }
     {
         let mut tx = begin_transaction(&mut self.conn);
-        brk_tables::views::brokers_with_name(&mut tx, alloc, name)
+        brk_tables_views::brokers_with_name(&mut tx, alloc, name)
     }
 
     /// Returns all requests (TRADE_REQUEST: pending trades), sorted by trade, ascending. If the
@@ -37,7 +37,7 @@ impl<S: Alter> Store<S> {
         ensures fault { IfErr result IsCallFault }
     {
         let mut tx = begin_transaction(&mut self.conn);
-        brk_tables::views::all_requests(&mut tx, alloc)
+        brk_tables_views::all_requests(&mut tx, alloc)
     }
 
     /// Returns the ids of the accounts of a broker, ascending. If the database is still open, it is
@@ -47,6 +47,6 @@ impl<S: Alter> Store<S> {
         ensures fault { IfErr result IsCallFault }
     {
         let mut tx = begin_transaction(&mut self.conn);
-        brk_tables::views::account_ids_of_broker(&mut tx, alloc, broker)
+        brk_tables_views::account_ids_of_broker(&mut tx, alloc, broker)
     }
 }

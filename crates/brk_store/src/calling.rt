@@ -1,8 +1,8 @@
 //! Visitors that call a closure.
 
-use brk_changes::HoldingRow;
 use brk_lots::Lot;
-use brk_tables::views::Visitor;
+use brk_tables_views::Visitor;
+use brk_trade_rows::HoldingRow;
 
 /// A visitor that calls a closure with each record and stops at the closure's first error.
 #[derive(Drop)]

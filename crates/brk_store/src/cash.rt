@@ -7,16 +7,16 @@ ghost use Rattle.std.specs.Prelude.{◌≡◌, ◌+◌, Err, OnErr, filter, is_n
 ghost use Rattle.brk_money.specs.declared.fault.Fault.TheVariants as fault;
 ghost use Rattle.brk_model.specs.Limits.{greatest_id};
 ghost use Rattle.brk_model.specs.LookupView.{is_cash_row_of_trade};
-ghost use Rattle.brk_changes.specs.Rows.{abstract_move_row};
-ghost use Rattle.brk_book_theorems.specs.TradeReads.{last_cash_row_number_or_zero};
+ghost use Rattle.brk_trade_rows.specs.Rows.{abstract_move_row};
+ghost use Rattle.brk_trade_books.specs.TradeReads.{last_cash_row_number_or_zero};
 ghost use Rattle.brk_store.specs.Holds.{ReadPost};
 ghost use Rattle.brk_tables_schema.specs.Desk.{CashMoves};
 ghost use Rattle.brk_tables_schema.specs.Statements.{IsFirstMatch};
 
 use crate::Store;
 use crate::beginning::begin_transaction;
-use brk_changes::MoveRow;
 use brk_money::{Day, Fault, Id, MoveId};
+use brk_trade_rows::MoveRow;
 use sqlite::Alter;
 
 // The limit on the count of deposits and withdrawals of a desk.
@@ -32,7 +32,7 @@ impl<S: Alter> Store<S> {
         ensures fault { OnErr result (result ≡ Err fault.Store) }
     {
         let mut tx = begin_transaction(&mut self.conn);
-        brk_tables::cash::one_day_settlement_start(&mut tx)
+        brk_tables_cash::one_day_settlement_start(&mut tx)
     }
 
     /// Returns the cash row of a trade, or `None` if it has none. If the database is still open, it
@@ -42,7 +42,7 @@ impl<S: Alter> Store<S> {
         ensures fault { OnErr result (result ≡ Err fault.Store) }
     {
         let mut tx = begin_transaction(&mut self.conn);
-        brk_tables::cash::cash_row_by_trade(&mut tx, trade)
+        brk_tables_cash::cash_row_by_trade(&mut tx, trade)
     }
 
     // Returns the cash row with the greatest number (CM_ID), or `None` if there is no cash row. If
@@ -52,7 +52,7 @@ impl<S: Alter> Store<S> {
         ensures fault { OnErr result (result ≡ Err fault.Store) }
     {
         let mut tx = begin_transaction(&mut self.conn);
-        brk_tables::cash::cash_row_with_greatest_number(&mut tx)
+        brk_tables_cash::cash_row_with_greatest_number(&mut tx)
     }
 
     // Returns whether there are at least `GREATEST_MOVEMENT_COUNT` deposits and withdrawals, which
@@ -63,7 +63,7 @@ impl<S: Alter> Store<S> {
         ensures fault { OnErr result (result ≡ Err fault.Store) }
     {
         let mut tx = begin_transaction(&mut self.conn);
-        brk_tables::cash::has_reached_movement_limit(&mut tx)
+        brk_tables_cash::has_reached_movement_limit(&mut tx)
     }
 
     /// Returns the number of the next cash row: one more than the greatest number, or 1 if there is

@@ -4,16 +4,16 @@ ghost use Rattle.std.specs.Prelude.{◌≡◌, ◌⊎◌, Err, IfErr, OnErr, fal
 ghost use Rattle.brk_money.specs.declared.fault.Condition.TheVariants.{NotEmpty};
 ghost use Rattle.brk_money.specs.declared.fault.Fault.TheVariants as fault;
 ghost use Rattle.sqlite.specs.Held.{state};
-ghost use Rattle.brk_sql.specs.Desk.{ChangesTablesBy};
-ghost use Rattle.brk_sql.specs.Model.{IsTransactionStep};
+ghost use Rattle.brk_tables_sql.specs.Desk.{ChangesTablesBy};
+ghost use Rattle.brk_tables_sql.specs.Model.{IsTransactionStep};
 ghost use Rattle.brk_tables_schema.specs.Desk.{desk_tables};
-ghost use Rattle.brk_changes.specs.Changes.{tables_after_change, tables_after_changes};
+ghost use Rattle.brk_trade_rows.specs.Changes.{tables_after_change, tables_after_changes};
 ghost use Rattle.brk_store.specs.Holds.{ApplyPost, CreatePost};
 
-use brk_changes::Change;
 use brk_money::{Condition, Fault};
 use brk_tables_schema::Table;
 use brk_tables_schema::calls::statement_compiles;
+use brk_trade_rows::Change;
 use sqlite::{Alter, Connection, Transaction};
 
 // Applies one change to the tables of a desk within the transaction, by one SQL statement. A change
@@ -29,68 +29,68 @@ fn apply_change<S: Alter>(tx: &mut Transaction<'_, S>, change: &Change) -> Resul
     ensures fault { OnErr result (result ≡ Err fault.Store) }
 {
     match change {
-        Change::AddBroker(broker) => brk_tables::reference::add_broker(tx, broker),
-        Change::AddCustomer(customer) => brk_tables::reference::add_customer(tx, customer),
-        Change::AddAccount(account) => brk_tables::reference::add_account(tx, account),
-        Change::AddPermission(permission) => brk_tables::reference::add_permission(tx, permission),
-        Change::AddSecurity(security) => brk_tables::reference::add_security(tx, security),
-        Change::AddLastTrade(last_trade) => brk_tables::reference::add_last_trade(tx, last_trade),
-        Change::AddCharge(charge) => brk_tables::reference::add_charge(tx, charge),
-        Change::AddBand(band) => brk_tables::reference::add_band(tx, band),
-        Change::AddTaxRate(tax) => brk_tables::reference::add_tax_rate(tx, tax),
-        Change::AddCustomerTax(pays) => brk_tables::reference::add_customer_tax(tx, pays),
-        Change::AddTrade(trade) => brk_tables::trading::add_trade(tx, trade),
+        Change::AddBroker(broker) => brk_tables_reference::add_broker(tx, broker),
+        Change::AddCustomer(customer) => brk_tables_reference::add_customer(tx, customer),
+        Change::AddAccount(account) => brk_tables_reference::add_account(tx, account),
+        Change::AddPermission(permission) => brk_tables_reference::add_permission(tx, permission),
+        Change::AddSecurity(security) => brk_tables_reference::add_security(tx, security),
+        Change::AddLastTrade(last_trade) => brk_tables_reference::add_last_trade(tx, last_trade),
+        Change::AddCharge(charge) => brk_tables_reference::add_charge(tx, charge),
+        Change::AddBand(band) => brk_tables_reference::add_band(tx, band),
+        Change::AddTaxRate(tax) => brk_tables_reference::add_tax_rate(tx, tax),
+        Change::AddCustomerTax(pays) => brk_tables_reference::add_customer_tax(tx, pays),
+        Change::AddTrade(trade) => brk_tables_trading::add_trade(tx, trade),
         Change::SetStatus {
             trade,
             status,
             stamp,
-        } => brk_tables::trading::set_trade_status(tx, *trade, *status, *stamp),
-        Change::AddHistory(mark) => brk_tables::trading::add_trade_history_row(tx, mark),
-        Change::AddRequest(request) => brk_tables::trading::add_request(tx, request),
-        Change::RemoveRequest(trade) => brk_tables::trading::remove_request(tx, *trade),
-        Change::SetLastTrade(last_trade) => brk_tables::trading::set_last_trade(tx, last_trade),
+        } => brk_tables_trading::set_trade_status(tx, *trade, *status, *stamp),
+        Change::AddHistory(mark) => brk_tables_trading::add_trade_history_row(tx, mark),
+        Change::AddRequest(request) => brk_tables_trading::add_request(tx, request),
+        Change::RemoveRequest(trade) => brk_tables_trading::remove_request(tx, *trade),
+        Change::SetLastTrade(last_trade) => brk_tables_trading::set_last_trade(tx, last_trade),
         Change::CompleteTrade {
             trade,
             stamp,
             price,
             commission,
             tax,
-        } => brk_tables::trading::complete_trade(tx, *trade, *stamp, *price, *commission, *tax),
-        Change::AddLot(lot) => brk_tables::trading::add_lot(tx, lot),
-        Change::SetLot { trade, qty } => brk_tables::trading::set_lot_quantity(tx, *trade, *qty),
-        Change::RemoveLot(trade) => brk_tables::trading::remove_lot(tx, *trade),
-        Change::AddLotChange(made) => brk_tables::trading::add_lot_change(tx, made),
-        Change::AddSummary(summary) => brk_tables::trading::add_holding_summary(tx, summary),
-        Change::SetSummary(summary) => brk_tables::trading::set_holding_summary_quantity(
+        } => brk_tables_trading::complete_trade(tx, *trade, *stamp, *price, *commission, *tax),
+        Change::AddLot(lot) => brk_tables_trading::add_lot(tx, lot),
+        Change::SetLot { trade, qty } => brk_tables_trading::set_lot_quantity(tx, *trade, *qty),
+        Change::RemoveLot(trade) => brk_tables_trading::remove_lot(tx, *trade),
+        Change::AddLotChange(made) => brk_tables_trading::add_lot_change(tx, made),
+        Change::AddSummary(summary) => brk_tables_trading::add_holding_summary(tx, summary),
+        Change::SetSummary(summary) => brk_tables_trading::set_holding_summary_quantity(
             tx, summary,
         ),
-        Change::RemoveSummary { account, symbol } => brk_tables::trading::remove_holding_summary(
+        Change::RemoveSummary { account, symbol } => brk_tables_trading::remove_holding_summary(
             tx, *account, symbol,
         ),
-        Change::AddSettlement(settlement) => brk_tables::trading::add_settlement(tx, settlement),
-        Change::AddMove(posted) => brk_tables::cash::add_cash_row(tx, posted),
-        Change::SetBalance { account, balance } => brk_tables::trading::set_account_balance(
+        Change::AddSettlement(settlement) => brk_tables_trading::add_settlement(tx, settlement),
+        Change::AddMove(posted) => brk_tables_cash::add_cash_row(tx, posted),
+        Change::SetBalance { account, balance } => brk_tables_trading::set_account_balance(
             tx, *account, *balance,
         ),
         Change::SetBrokerTotals {
             broker,
             trades,
             commissions,
-        } => brk_tables::trading::set_broker_totals(tx, *broker, *trades, *commissions),
-        Change::SetExecutor { trade, executor } => brk_tables::trading::set_executor(
+        } => brk_tables_trading::set_broker_totals(tx, *broker, *trades, *commissions),
+        Change::SetExecutor { trade, executor } => brk_tables_trading::set_executor(
             tx,
             *trade,
             executor.as_str(),
         ),
-        Change::SetCashType { trade, cash_type } => brk_tables::trading::set_cash_type(
+        Change::SetCashType { trade, cash_type } => brk_tables_trading::set_cash_type(
             tx, *trade, *cash_type,
         ),
-        Change::SetCashName { trade, name } => brk_tables::cash::set_cash_row_name(
+        Change::SetCashName { trade, name } => brk_tables_cash::set_cash_row_name(
             tx,
             *trade,
             name.as_str(),
         ),
-        Change::SetOneDaySettlementStart(day) => brk_tables::cash::set_one_day_settlement_start(
+        Change::SetOneDaySettlementStart(day) => brk_tables_cash::set_one_day_settlement_start(
             tx, *day,
         ),
         Change::AddStoredReply(kept) => brk_tables_schema::add_kept_row(tx, kept),

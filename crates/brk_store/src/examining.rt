@@ -4,16 +4,16 @@ ghost use Rattle.std.specs.Prelude.{◌≡◌, ◌≢◌, IfErr, IfOk, IsTrue, E
 ghost use Rattle.brk_money.specs.declared.fault.Condition.TheVariants.{NotEmpty};
 ghost use Rattle.brk_money.specs.declared.fault.Fault.TheVariants as fault;
 ghost use Rattle.brk_model.specs.Run.{IsCallFault};
-ghost use Rattle.brk_sql.specs.Model.{IsConnectionStep};
+ghost use Rattle.brk_tables_sql.specs.Model.{IsConnectionStep};
 ghost use Rattle.brk_store.specs.Audited.{IsSchemaOfDatabase};
 ghost use Rattle.brk_store.specs.AuditResult.{IsTrueAuditResult};
 ghost use Rattle.brk_store.specs.declared.examining.AuditResult.TheVariants as audit_result;
 ghost use Rattle.brk_tables_scan.specs.Schemas.{TablesWithDeskNamesAreDeskTables};
 
 use crate::auditing::audit_rows_of_schema;
-use brk_changes::Schema;
 use brk_money::{Condition, Fault};
 use brk_tables_scan::database_has_schema;
+use brk_trade_rows::Schema;
 use sqlite::{Alter, Transaction};
 use std::alloc::Global;
 

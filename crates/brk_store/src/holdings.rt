@@ -34,6 +34,6 @@ impl<S: Alter> Store<S> {
         ensures fault { IfErr result IsCallFault }
     {
         let mut tx = begin_transaction(&mut self.conn);
-        brk_tables::views::completed_trade_ids_of_position(&mut tx, alloc, account, symbol)
+        brk_tables_views::completed_trade_ids_of_position(&mut tx, alloc, account, symbol)
     }
 }

@@ -2,9 +2,9 @@
 
 ghost use Rattle.std.specs.Prelude.{◌≡◌, ◌==◌, ◌&&◌, Err, IfErr, OnErr, Some, bytes_eq, false, map};
 ghost use Rattle.std.specs.Option.{option_copied};
-ghost use Rattle.brk_changes.specs.Changes.{tables_after_changes};
-ghost use Rattle.brk_changes.specs.Rows.{abstract_holding_row};
-ghost use Rattle.brk_lot_index.specs.Ages.{IsIndexOf, ages_in, lot_of_age};
+ghost use Rattle.brk_trade_rows.specs.Changes.{tables_after_changes};
+ghost use Rattle.brk_trade_rows.specs.Rows.{abstract_holding_row};
+ghost use Rattle.brk_store_lots.specs.Ages.{IsIndexOf, ages_in, lot_of_age};
 ghost use Rattle.brk_model.specs.Run.{IsCallFault};
 ghost use Rattle.brk_model.specs.Tables.{Tables};
 ghost use Rattle.brk_money.specs.declared.fault.Fault.TheVariants as fault;
@@ -16,11 +16,11 @@ ghost use Rattle.brk_tables_schema.specs.Statements.{IsFirstMatch};
 
 use crate::Store;
 use crate::beginning::begin_transaction;
-use brk_changes::{Change, HoldingRow};
-use brk_lot_index::ages::age_in_closing_order;
-use brk_lot_index::{LotAge, LotIndex};
 use brk_money::{Fault, Id, Stamp};
 use brk_ref::Symbol;
+use brk_store_lots::ages::age_in_closing_order;
+use brk_store_lots::{LotAge, LotIndex};
+use brk_trade_rows::{Change, HoldingRow};
 use sqlite::{Alter, Connection};
 use std::alloc::Global;
 use std::collections::VecDeque;
@@ -68,7 +68,7 @@ fn read_lot_by_trade<S: Alter>(
     ensures fault { OnErr result (result ≡ Err fault.Store) }
 {
     let mut tx = begin_transaction(conn);
-    brk_tables::trading::lot_by_trade(&mut tx, trade)
+    brk_tables_trading::lot_by_trade(&mut tx, trade)
 }
 
 // Returns all lots, sorted by the trade that opened them. Fails with `Memory` or `Store`.
@@ -82,7 +82,7 @@ fn read_all_lots<S: Alter>(
     ensures fault { IfErr result IsCallFault }
 {
     let mut tx = begin_transaction(conn);
-    brk_tables::trading::all_lots(&mut tx, alloc)
+    brk_tables_trading::all_lots(&mut tx, alloc)
 }
 
 // Returns the index of all lots. Fails with `Memory` or `Store`; with `Memory` also if two lots have
@@ -181,12 +181,12 @@ fn read_page_of_ages<S: Alter>(
 
 impl<S: Alter> Store<S> {
     ghost use Rattle.std.specs.Prelude.{◌≡◌, IfErr, map};
-    ghost use Rattle.brk_changes.specs.Rows.{abstract_holding_row};
+    ghost use Rattle.brk_trade_rows.specs.Rows.{abstract_holding_row};
     ghost use Rattle.brk_model.specs.Run.{IsCallFault};
     ghost use Rattle.brk_store.specs.Holds.{ReadPost};
     ghost use Rattle.brk_store.specs.Pages.{lot_rows_in_closing_order};
     ghost use Rattle.brk_store.specs.ReadSequences.{IsUnchangedByReads};
-    ghost use Rattle.brk_tables.specs.Pages.{page_after_skipped};
+    ghost use Rattle.brk_tables_trading.specs.Pages.{page_after_skipped};
 
     // Makes the index of the lots, if there is none. If that fails, the store has no index any more.
     fn prepare_index(&mut self, alloc: Global)

@@ -28,7 +28,7 @@ mod upgrading;
 pub mod valuation;
 pub mod walks;
 
-pub use brk_tables::views::{Visitor, WalkError};
+pub use brk_tables_views::{Visitor, WalkError};
 pub use pages::{LotPages, Page, Pages};
 pub use store::Store;
 pub use trades_by_id::read_trades_by_ids;

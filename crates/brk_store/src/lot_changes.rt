@@ -4,7 +4,7 @@
 //! that a crash before it could expose.
 
 ghost use Rattle.std.specs.Prelude.{◌==◌, IfErr};
-ghost use Rattle.brk_changes.specs.Rows.{abstract_lot_change_row};
+ghost use Rattle.brk_trade_rows.specs.Rows.{abstract_lot_change_row};
 ghost use Rattle.brk_model.specs.Run.{IsCallFault};
 ghost use Rattle.brk_store.specs.Holds.{ReadPost};
 ghost use Rattle.brk_tables_schema.specs.Desk.{HoldingHistory};
@@ -12,8 +12,8 @@ ghost use Rattle.brk_tables_schema.specs.Statements.{AreMatchingRows};
 
 use crate::Store;
 use crate::beginning::begin_transaction;
-use brk_changes::LotChange;
 use brk_money::{Fault, Id};
+use brk_trade_rows::LotChange;
 use sqlite::Alter;
 use std::alloc::Global;
 
@@ -29,7 +29,7 @@ impl<S: Alter> Store<S> {
         ensures fault { IfErr result IsCallFault }
     {
         let mut tx = begin_transaction(&mut self.conn);
-        brk_tables::views::lot_changes_by_trade(&mut tx, alloc, trade)
+        brk_tables_views::lot_changes_by_trade(&mut tx, alloc, trade)
     }
 
     /// Returns all changes of the lot that the trade `lot` opened, sorted by the trade that made
@@ -40,6 +40,6 @@ impl<S: Alter> Store<S> {
         ensures fault { IfErr result IsCallFault }
     {
         let mut tx = begin_transaction(&mut self.conn);
-        brk_tables::views::lot_changes_of_lot(&mut tx, alloc, lot)
+        brk_tables_views::lot_changes_of_lot(&mut tx, alloc, lot)
     }
 }

@@ -4,15 +4,15 @@
 
 ghost use Rattle.std.specs.Prelude.{IfSome, IfNone, ℕ, ◌≤◌, pos, ◌≡◌, ◌==◌, Err, OnErr, find, option_map};
 ghost use Rattle.brk_money.specs.declared.fault.Fault.TheVariants as fault;
-ghost use Rattle.brk_changes.specs.declared.trade_count.TheConstants.TradeCount;
+ghost use Rattle.brk_trade_rows.specs.declared.trade_count.TheConstants.TradeCount;
 ghost use Rattle.brk_money.specs.declared.amount.TheConstants.Amount;
 ghost use Rattle.brk_store.specs.Holds.{ReadPost};
 ghost use Rattle.brk_store.specs.Numbers.{AreBrokerTotals};
 
 use crate::Store;
-use brk_changes::{Amount, BrokerTotals, TradeCount};
 use brk_money::{Cents, Fault, Id};
 use brk_ref::BrokerRow;
+use brk_trade_rows::{Amount, BrokerTotals, TradeCount};
 use sqlite::Alter;
 
 // Returns the totals in a broker's row, B_NUM_TRADES and B_COMM_TOTAL (in cents), or `None` only if
@@ -40,7 +40,7 @@ impl<S: Alter> Store<S> {
     /// Returns the totals in the row of a broker, B_NUM_TRADES and B_COMM_TOTAL (in cents), or
     /// `None` if the broker does not exist. If the database is still open, it is unchanged. Fails
     /// with `Store` only, also if a total is out of the range of its type (`TradeCount`, `Amount`).
-    pub fn broker_totals(&mut self, broker: Id) -> Result<Option<BrokerTotals>, Fault>
+    pub fn broker_numbers(&mut self, broker: Id) -> Result<Option<BrokerTotals>, Fault>
         ensures read { ReadPost S.Store self.old self.new result (λ numbers t. AreBrokerTotals numbers (find (λ r. r.id == broker) t.brokers)) }
         ensures fault { OnErr result (result ≡ Err fault.Store) }
     {
@@ -55,7 +55,7 @@ impl<S: Alter> Store<S> {
 
     /// Returns the balance of an account in cents (CA_BAL), or `None` if the account does not
     /// exist. If the database is still open, it is unchanged. Fails with `Store` only.
-    pub fn account_balance(&mut self, account: Id) -> Result<Option<Cents>, Fault>
+    pub fn balance_of(&mut self, account: Id) -> Result<Option<Cents>, Fault>
         ensures read { ReadPost S.Store self.old self.new result (λ balance t. balance ≡ option_map (λ r. r.balance) (find (λ r. r.id == account) t.accounts)) }
         ensures fault { OnErr result (result ≡ Err fault.Store) }
     {

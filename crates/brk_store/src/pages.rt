@@ -3,17 +3,17 @@
 ghost use Rattle.std.specs.Prelude.{◌≡◌, ◌≢◌, ◌≤◌, ◌+◌, IfErr, IfOk, IsTrue, length, map, pos};
 ghost use Rattle.std.specs.List.{All};
 ghost use Rattle.brk_model.specs.Run.{IsCallFault};
-ghost use Rattle.brk_changes.specs.Rows.{abstract_holding_row};
-ghost use Rattle.brk_tables.specs.Pages.{page_after_skipped, page_size};
-ghost use Rattle.brk_book_theorems.specs.OrderReads.{lot_of_typed_row};
+ghost use Rattle.brk_trade_rows.specs.Rows.{abstract_holding_row};
+ghost use Rattle.brk_tables_trading.specs.Pages.{page_after_skipped, page_size};
+ghost use Rattle.brk_trade_books.specs.OrderReads.{lot_of_typed_row};
 ghost use Rattle.brk_store.specs.Holds.{ReadPost};
 ghost use Rattle.brk_store.specs.Pages.{lot_rows_in_closing_order};
 
 use crate::Store;
-use brk_changes::HoldingRow;
 use brk_lots::{Lot, LotSource};
 use brk_money::{Fault, Id};
 use brk_ref::Symbol;
+use brk_trade_rows::HoldingRow;
 use sqlite::Alter;
 use std::alloc::Global;
 
@@ -123,7 +123,7 @@ impl<S: Alter> Store<S> {
     ghost use Rattle.brk_model.specs.Tables.{Tables};
     ghost use Rattle.brk_store.specs.Holds.{HoldsRows};
     ghost use Rattle.brk_store.specs.RemainingLots.{borrowed_store, number_of_rows_read};
-    ghost use Rattle.brk_book_theorems.specs.TradeReads.{lots_of_position};
+    ghost use Rattle.brk_trade_books.specs.TradeReads.{lots_of_position};
 
     /// Returns a source of the lots of an account in a security, sorted by the stamp of their
     /// opening and then by the id of the trade that opened them, both descending if `lifo`,
@@ -176,14 +176,14 @@ impl<S: Alter> Pages<'_, S, Page> {
     ghost use Rattle.sqlite.specs.Held.{state};
     ghost use Rattle.sqlite.specs.State.{HasCleanDisk};
     ghost use Rattle.brk_lots.specs.declared.lot.Lot.{Lot as TheLot};
-    ghost use Rattle.brk_changes.specs.Rows.{abstract_holding_row};
+    ghost use Rattle.brk_trade_rows.specs.Rows.{abstract_holding_row};
     ghost use Rattle.brk_model.specs.Run.{IsCallFault};
     ghost use Rattle.brk_model.specs.Tables.{Tables};
     ghost use Rattle.brk_store.specs.Holds.{HoldsRows};
     ghost use Rattle.brk_store.specs.ReadSequences.{IsUnchangedByReads};
     ghost use Rattle.brk_store.specs.Pages.{lot_rows_in_closing_order};
     ghost use Rattle.brk_store.specs.RemainingLots.{AreRemainingLots, number_of_rows_read};
-    ghost use Rattle.brk_tables.specs.Pages.{page_after_skipped, page_size};
+    ghost use Rattle.brk_tables_trading.specs.Pages.{page_after_skipped, page_size};
 
     /// Returns the number of rows that were read: at least the number of lots that were returned
     /// (`asked`), and at most 15 more.

@@ -39,7 +39,7 @@ impl<S: Alter> Store<S> {
         ensures fault { OnErr result (result ≡ Err fault.Store) }
     {
         let mut tx = begin_transaction(&mut self.conn);
-        brk_tables::reference::broker_by_id(&mut tx, id)
+        brk_tables_reference::broker_by_id(&mut tx, id)
     }
 
     /// Returns the customer with the id `id`, or `None` if there is none. If the database is still
@@ -49,7 +49,7 @@ impl<S: Alter> Store<S> {
         ensures fault { OnErr result (result ≡ Err fault.Store) }
     {
         let mut tx = begin_transaction(&mut self.conn);
-        brk_tables::reference::customer_by_id(&mut tx, id)
+        brk_tables_reference::customer_by_id(&mut tx, id)
     }
 
     /// Returns the customer with the tax number `tax_id` (C_TAX_ID), or `None` if there is none. If
@@ -59,7 +59,7 @@ impl<S: Alter> Store<S> {
         ensures fault { OnErr result (result ≡ Err fault.Store) }
     {
         let mut tx = begin_transaction(&mut self.conn);
-        brk_tables::reference::customer_by_tax_id(&mut tx, tax_id)
+        brk_tables_reference::customer_by_tax_id(&mut tx, tax_id)
     }
 
     /// Returns the account with the id `id`, or `None` if there is none. If the database is still
@@ -69,7 +69,7 @@ impl<S: Alter> Store<S> {
         ensures fault { OnErr result (result ≡ Err fault.Store) }
     {
         let mut tx = begin_transaction(&mut self.conn);
-        brk_tables::reference::account_by_id(&mut tx, id)
+        brk_tables_reference::account_by_id(&mut tx, id)
     }
 
     /// Returns the accounts of a customer, sorted by id, ascending. If the database is still open,
@@ -83,7 +83,7 @@ impl<S: Alter> Store<S> {
         ensures fault { IfErr result IsCallFault }
     {
         let mut tx = begin_transaction(&mut self.conn);
-        brk_tables::reference::accounts_of_customer(&mut tx, alloc, customer)
+        brk_tables_reference::accounts_of_customer(&mut tx, alloc, customer)
     }
 
     /// Returns the row of KEPT under `key`: the text of the accepted row and of its reply, or
@@ -91,7 +91,7 @@ impl<S: Alter> Store<S> {
     /// only.
     pub fn stored_reply_by_key(&mut self, key: &Key) -> Result<Option<Kept>, Fault>
         ensures read { ReadPost S.Store self.old self.new result (IsFirstMatch KeptRows abstract_kept_row (λ k. bytes_eq k.key.batch key.now.batch
-            && (k.key.row == key.now.row))) }
+            && (k.key.n == key.now.n))) }
         ensures fault { OnErr result (result ≡ Err fault.Store) }
     {
         let mut tx = begin_transaction(&mut self.conn);

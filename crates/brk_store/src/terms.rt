@@ -32,7 +32,7 @@ impl<S: Alter> Store<S> {
         ensures fault { OnErr result (result ≡ Err fault.Store) }
     {
         let mut tx = begin_transaction(&mut self.conn);
-        brk_tables::reference::permission_by_account_and_tax_id(&mut tx, account, tax_id)
+        brk_tables_reference::permission_by_account_and_tax_id(&mut tx, account, tax_id)
     }
 
     /// Returns the security with the symbol `symbol`, or `None` if there is none. If the database
@@ -42,7 +42,7 @@ impl<S: Alter> Store<S> {
         ensures fault { OnErr result (result ≡ Err fault.Store) }
     {
         let mut tx = begin_transaction(&mut self.conn);
-        brk_tables::reference::security_by_symbol(&mut tx, symbol)
+        brk_tables_reference::security_by_symbol(&mut tx, symbol)
     }
 
     /// Returns the charge of a trade type and a customer tier, or `None` if there is none. If the
@@ -53,7 +53,7 @@ impl<S: Alter> Store<S> {
         ensures fault { OnErr result (result ≡ Err fault.Store) }
     {
         let mut tx = begin_transaction(&mut self.conn);
-        brk_tables::reference::charge_by_type_and_tier(&mut tx, kind, tier)
+        brk_tables_reference::charge_by_type_and_tier(&mut tx, kind, tier)
     }
 
     /// Returns the commission bands of a customer tier, a trade type and an exchange, sorted by
@@ -71,7 +71,7 @@ impl<S: Alter> Store<S> {
         ensures fault { IfErr result IsCallFault }
     {
         let mut tx = begin_transaction(&mut self.conn);
-        brk_tables::reference::bands_by_tier_type_and_exchange(&mut tx, alloc, tier, kind, exchange)
+        brk_tables_reference::bands_by_tier_type_and_exchange(&mut tx, alloc, tier, kind, exchange)
     }
 
     /// Returns the tax with the id `id`, with its rate, or `None` if there is none. If the database
@@ -81,7 +81,7 @@ impl<S: Alter> Store<S> {
         ensures fault { OnErr result (result ≡ Err fault.Store) }
     {
         let mut tx = begin_transaction(&mut self.conn);
-        brk_tables::reference::tax_rate_by_id(&mut tx, id)
+        brk_tables_reference::tax_rate_by_id(&mut tx, id)
     }
 
     /// Returns the row of CUSTOMER_TAXRATE of a customer and a tax, or `None` if the customer does
@@ -92,7 +92,7 @@ impl<S: Alter> Store<S> {
         ensures fault { OnErr result (result ≡ Err fault.Store) }
     {
         let mut tx = begin_transaction(&mut self.conn);
-        brk_tables::reference::customer_tax_by_customer_and_tax(&mut tx, customer, tax)
+        brk_tables_reference::customer_tax_by_customer_and_tax(&mut tx, customer, tax)
     }
 
     /// Returns the rows of CUSTOMER_TAXRATE of a customer, one for each tax that the customer pays,
@@ -107,6 +107,6 @@ impl<S: Alter> Store<S> {
         ensures fault { IfErr result IsCallFault }
     {
         let mut tx = begin_transaction(&mut self.conn);
-        brk_tables::reference::taxes_of_customer(&mut tx, alloc, customer)
+        brk_tables_reference::taxes_of_customer(&mut tx, alloc, customer)
     }
 }

@@ -4,7 +4,7 @@
 //! it could expose.
 
 ghost use Rattle.std.specs.Prelude.{◌≡◌, ◌==◌, IfErr, map, take};
-ghost use Rattle.brk_changes.specs.Rows.{abstract_history_row, abstract_trade_row};
+ghost use Rattle.brk_trade_rows.specs.Rows.{abstract_history_row, abstract_trade_row};
 ghost use Rattle.brk_model.specs.Joins.{trade_rows_recent_first, trade_rows_of_account};
 ghost use Rattle.brk_model.specs.Run.{IsCallFault};
 ghost use Rattle.brk_store.specs.Holds.{ReadPost};
@@ -13,8 +13,8 @@ ghost use Rattle.brk_tables_schema.specs.Statements.{AreMatchingRows};
 
 use crate::Store;
 use crate::beginning::begin_transaction;
-use brk_changes::{HistoryRow, TradeRow};
 use brk_money::{Fault, Id};
+use brk_trade_rows::{HistoryRow, TradeRow};
 use sqlite::Alter;
 use std::alloc::Global;
 
@@ -32,7 +32,7 @@ impl<S: Alter> Store<S> {
         ensures fault { IfErr result IsCallFault }
     {
         let mut tx = begin_transaction(&mut self.conn);
-        brk_tables::trading::last_ten_trades_of_account(&mut tx, alloc, account)
+        brk_tables_trading::last_ten_trades_of_account(&mut tx, alloc, account)
     }
 
     /// Returns the fifty most recent trades of an account, or all if it has fewer, sorted by the
@@ -48,7 +48,7 @@ impl<S: Alter> Store<S> {
         ensures fault { IfErr result IsCallFault }
     {
         let mut tx = begin_transaction(&mut self.conn);
-        brk_tables::trading::last_fifty_trades_of_account(&mut tx, alloc, account)
+        brk_tables_trading::last_fifty_trades_of_account(&mut tx, alloc, account)
     }
 
     /// Returns the rows of TRADE_HISTORY of a trade: the statuses that it reached and their stamps,
@@ -59,6 +59,6 @@ impl<S: Alter> Store<S> {
         ensures fault { IfErr result IsCallFault }
     {
         let mut tx = begin_transaction(&mut self.conn);
-        brk_tables::trading::history_of_trade(&mut tx, alloc, trade)
+        brk_tables_trading::history_of_trade(&mut tx, alloc, trade)
     }
 }

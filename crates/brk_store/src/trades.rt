@@ -9,17 +9,17 @@ ghost use Rattle.brk_model.specs.Run.{IsCallFault};
 ghost use Rattle.brk_money.specs.Kinds.{is_same_trade_status, is_same_trade_type};
 ghost use Rattle.brk_money.specs.declared.status.Status.TheVariants.{Submitted};
 ghost use Rattle.brk_ref.specs.Records.{abstract_last_trade_row};
-ghost use Rattle.brk_changes.specs.Rows.{abstract_holding_row, abstract_request_row, abstract_summary_row, abstract_trade_row};
+ghost use Rattle.brk_trade_rows.specs.Rows.{abstract_holding_row, abstract_request_row, abstract_summary_row, abstract_trade_row};
 ghost use Rattle.brk_store.specs.Holds.{ReadPost};
 ghost use Rattle.brk_tables_schema.specs.Desk.{LastTrades, Requests, Summaries, Trades};
 ghost use Rattle.brk_tables_schema.specs.Statements.{IsFirstMatch, AreMatchingRows};
-ghost use Rattle.brk_tables.specs.Pages.{position_lots_by_age, page_after_skipped};
+ghost use Rattle.brk_tables_trading.specs.Pages.{position_lots_by_age, page_after_skipped};
 
 use crate::Store;
 use crate::beginning::begin_transaction;
-use brk_changes::{HoldingRow, RequestRow, SummaryRow, TradeRow};
 use brk_money::{Fault, Id, Price, TradeType};
 use brk_ref::{LastTrade, Symbol};
+use brk_trade_rows::{HoldingRow, RequestRow, SummaryRow, TradeRow};
 use sqlite::Alter;
 use std::alloc::Global;
 
@@ -31,7 +31,7 @@ impl<S: Alter> Store<S> {
         ensures fault { OnErr result (result ≡ Err fault.Store) }
     {
         let mut tx = begin_transaction(&mut self.conn);
-        brk_tables::trading::trade_by_id(&mut tx, id)
+        brk_tables_trading::trade_by_id(&mut tx, id)
     }
 
     /// Returns the greatest trade id, or `None` if there is no trade. If the database is still
@@ -41,7 +41,7 @@ impl<S: Alter> Store<S> {
         ensures fault { OnErr result (result ≡ Err fault.Store) }
     {
         let mut tx = begin_transaction(&mut self.conn);
-        brk_tables::trading::greatest_trade_id(&mut tx)
+        brk_tables_trading::greatest_trade_id(&mut tx)
     }
 
     /// Returns the trades with the status submitted, sorted by id, ascending. If the database is
@@ -51,7 +51,7 @@ impl<S: Alter> Store<S> {
         ensures fault { IfErr result IsCallFault }
     {
         let mut tx = begin_transaction(&mut self.conn);
-        brk_tables::trading::submitted_trades(&mut tx, alloc)
+        brk_tables_trading::submitted_trades(&mut tx, alloc)
     }
 
     /// Returns the requests (TRADE_REQUEST: pending trades) of a symbol and a trade type with an
@@ -70,7 +70,7 @@ impl<S: Alter> Store<S> {
         ensures fault { IfErr result IsCallFault }
     {
         let mut tx = begin_transaction(&mut self.conn);
-        brk_tables::trading::requests_with_bid_at_least(&mut tx, alloc, symbol, kind, price)
+        brk_tables_trading::requests_with_bid_at_least(&mut tx, alloc, symbol, kind, price)
     }
 
     /// Returns the requests (TRADE_REQUEST: pending trades) of a symbol and a trade type with an
@@ -89,7 +89,7 @@ impl<S: Alter> Store<S> {
         ensures fault { IfErr result IsCallFault }
     {
         let mut tx = begin_transaction(&mut self.conn);
-        brk_tables::trading::requests_with_bid_at_most(&mut tx, alloc, symbol, kind, price)
+        brk_tables_trading::requests_with_bid_at_most(&mut tx, alloc, symbol, kind, price)
     }
 
     /// Returns the row of LAST_TRADE of a symbol (its last trade on the market or, before the first
@@ -100,7 +100,7 @@ impl<S: Alter> Store<S> {
         ensures fault { OnErr result (result ≡ Err fault.Store) }
     {
         let mut tx = begin_transaction(&mut self.conn);
-        brk_tables::trading::last_trade_by_symbol(&mut tx, symbol)
+        brk_tables_trading::last_trade_by_symbol(&mut tx, symbol)
     }
 
     // Returns a page of the lots of an account in a security, sorted by opening stamp and then by
@@ -119,7 +119,7 @@ impl<S: Alter> Store<S> {
         ensures fault { IfErr result IsCallFault }
     {
         let mut tx = begin_transaction(&mut self.conn);
-        brk_tables::trading::page_of_lots_oldest_first(&mut tx, alloc, account, symbol, skipped)
+        brk_tables_trading::page_of_lots_oldest_first(&mut tx, alloc, account, symbol, skipped)
     }
 
     // Returns a page of the lots of an account in a security, sorted by opening stamp and then by
@@ -138,37 +138,29 @@ impl<S: Alter> Store<S> {
         ensures fault { IfErr result IsCallFault }
     {
         let mut tx = begin_transaction(&mut self.conn);
-        brk_tables::trading::page_of_lots_newest_first(&mut tx, alloc, account, symbol, skipped)
+        brk_tables_trading::page_of_lots_newest_first(&mut tx, alloc, account, symbol, skipped)
     }
 
     /// Returns the rows of HOLDING_SUMMARY of an account (its number of shares in each security),
     /// sorted by symbol, ascending. Shares sold short count below 0. If the database is still open,
     /// it is unchanged. Fails with `Memory` or `Store`.
-    pub fn holding_summaries_of_account(
-        &mut self,
-        alloc: Global,
-        account: Id,
-    ) -> Result<Vec<SummaryRow>, Fault>
+    pub fn summaries_of(&mut self, alloc: Global, account: Id) -> Result<Vec<SummaryRow>, Fault>
         ensures read { ReadPost S.Store self.old self.new result (AreMatchingRows Summaries abstract_summary_row (λ r. r.account == account)) }
         ensures fault { IfErr result IsCallFault }
     {
         let mut tx = begin_transaction(&mut self.conn);
-        brk_tables::trading::holding_summaries_of_account(&mut tx, alloc, account)
+        brk_tables_trading::holding_summaries_of_account(&mut tx, alloc, account)
     }
 
     /// Returns the row of HOLDING_SUMMARY of an account and a security, or `None` if there is none.
     /// The row has the number of shares of the position, below 0 if they were sold short. If the
     /// database is still open, it is unchanged. Fails with `Store` only.
-    pub fn holding_summary_of_position(
-        &mut self,
-        account: Id,
-        symbol: &Symbol,
-    ) -> Result<Option<SummaryRow>, Fault>
+    pub fn summary_of(&mut self, account: Id, symbol: &Symbol) -> Result<Option<SummaryRow>, Fault>
         ensures read { ReadPost S.Store self.old self.new result (IsFirstMatch Summaries abstract_summary_row (λ r. (r.account == account)
             && bytes_eq r.symbol symbol.now)) }
         ensures fault { OnErr result (result ≡ Err fault.Store) }
     {
         let mut tx = begin_transaction(&mut self.conn);
-        brk_tables::trading::holding_summary_by_account_and_symbol(&mut tx, account, symbol)
+        brk_tables_trading::holding_summary_by_account_and_symbol(&mut tx, account, symbol)
     }
 }

@@ -5,11 +5,11 @@ ghost use Rattle.std.specs.List.{list_any};
 ghost use Rattle.brk_model.specs.Joins.{trade_row_with_id};
 ghost use Rattle.brk_model.specs.Run.{IsCallFault};
 ghost use Rattle.brk_store.specs.ReadSequences.{ReadSequencePost};
-ghost use Rattle.brk_book_theorems.specs.TradeReads.{AreTradesWithIds};
+ghost use Rattle.brk_trade_books.specs.TradeReads.{AreTradesWithIds};
 
 use crate::Store;
-use brk_changes::TradeRow;
 use brk_money::{Fault, Id};
+use brk_trade_rows::TradeRow;
 use sqlite::Alter;
 use std::alloc::Global;
 

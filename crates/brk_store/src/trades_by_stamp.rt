@@ -5,7 +5,7 @@
 
 ghost use Rattle.std.specs.Prelude.{◌≡◌, ◌==◌, ◌&&◌, Err, IfErr, OnErr, bytes_eq, filter, map, nat_le, option_map, option_to_list, take};
 ghost use Rattle.brk_money.specs.declared.fault.Fault.TheVariants as fault;
-ghost use Rattle.brk_changes.specs.Rows.{abstract_trade_row};
+ghost use Rattle.brk_trade_rows.specs.Rows.{abstract_trade_row};
 ghost use Rattle.brk_model.specs.Joins.{trade_rows_oldest_first, trade_rows_of_account};
 ghost use Rattle.brk_model.specs.LookupView.{row_stamp_is_between};
 ghost use Rattle.brk_model.specs.Run.{IsCallFault};
@@ -13,10 +13,10 @@ ghost use Rattle.brk_store.specs.Holds.{ReadPost};
 
 use crate::Store;
 use crate::beginning::begin_transaction;
-use brk_changes::TradeRow;
 use brk_money::{Fault, Id, Stamp};
-use brk_orders::Span;
 use brk_ref::Symbol;
+use brk_ref_orders::Span;
+use brk_trade_rows::TradeRow;
 use sqlite::Alter;
 use std::alloc::Global;
 
@@ -36,7 +36,7 @@ impl<S: Alter> Store<S> {
         ensures fault { IfErr result IsCallFault }
     {
         let mut tx = begin_transaction(&mut self.conn);
-        brk_tables::views::first_twenty_trades_of_account(
+        brk_tables_views::first_twenty_trades_of_account(
             &mut tx, alloc, account, span.first, span.last,
         )
     }
@@ -55,7 +55,7 @@ impl<S: Alter> Store<S> {
         ensures fault { IfErr result IsCallFault }
     {
         let mut tx = begin_transaction(&mut self.conn);
-        brk_tables::views::first_twenty_trades_of_symbol(
+        brk_tables_views::first_twenty_trades_of_symbol(
             &mut tx, alloc, symbol, span.first, span.last,
         )
     }
@@ -74,6 +74,6 @@ impl<S: Alter> Store<S> {
         ensures fault { OnErr result (result ≡ Err fault.Store) }
     {
         let mut tx = begin_transaction(&mut self.conn);
-        brk_tables::views::first_trade_of_account_from_stamp(&mut tx, account, first)
+        brk_tables_views::first_trade_of_account_from_stamp(&mut tx, account, first)
     }
 }

@@ -6,18 +6,18 @@
 ghost use Rattle.std.specs.Prelude.{◌≡◌, ◌==◌, Err, IfErr, OnErr, map};
 ghost use Rattle.brk_money.specs.declared.fault.Fault.TheVariants as fault;
 ghost use Rattle.brk_model.specs.Run.{IsCallFault};
-ghost use Rattle.brk_changes.specs.Chosen as chosen;
-ghost use Rattle.brk_changes.specs.Rows.{abstract_settlement_row, abstract_trade_row};
+ghost use Rattle.brk_trade_rows.specs.Chosen as chosen;
+ghost use Rattle.brk_trade_rows.specs.Rows.{abstract_settlement_row, abstract_trade_row};
 ghost use Rattle.brk_store.specs.Holds.{ReadPost};
 ghost use Rattle.brk_tables_schema.specs.Desk.{Settlements};
 ghost use Rattle.brk_tables_schema.specs.Statements.{IsFirstMatch};
 
 use crate::Store;
 use crate::beginning::begin_transaction;
-use brk_changes::{SettlementRow, TradeRow};
 use brk_money::{Fault, Id};
-use brk_orders::Span;
 use brk_ref::Symbol;
+use brk_ref_orders::Span;
+use brk_trade_rows::{SettlementRow, TradeRow};
 use sqlite::Alter;
 use std::alloc::Global;
 
@@ -36,7 +36,7 @@ impl<S: Alter> Store<S> {
         ensures fault { IfErr result IsCallFault }
     {
         let mut tx = begin_transaction(&mut self.conn);
-        brk_tables::trading::first_twenty_completed_trades_of_account(
+        brk_tables_trading::first_twenty_completed_trades_of_account(
             &mut tx, alloc, account, span.first, span.last,
         )
     }
@@ -55,7 +55,7 @@ impl<S: Alter> Store<S> {
         ensures fault { IfErr result IsCallFault }
     {
         let mut tx = begin_transaction(&mut self.conn);
-        brk_tables::trading::first_twenty_completed_cash_trades_of_symbol(
+        brk_tables_trading::first_twenty_completed_cash_trades_of_symbol(
             &mut tx, alloc, symbol, span.first, span.last,
         )
     }
@@ -67,6 +67,6 @@ impl<S: Alter> Store<S> {
         ensures fault { OnErr result (result ≡ Err fault.Store) }
     {
         let mut tx = begin_transaction(&mut self.conn);
-        brk_tables::trading::settlement_by_trade(&mut tx, trade)
+        brk_tables_trading::settlement_by_trade(&mut tx, trade)
     }
 }

@@ -9,7 +9,7 @@ use crate::Store;
 use crate::beginning::begin_transaction;
 use crate::examining::{AuditResult, audit_by_own_schema};
 use brk_money::Fault;
-use brk_tables::cash::upgrade_tables;
+use brk_tables::upgrade_tables;
 use brk_tables_definitions::with_definitions_tested;
 use sqlite::{Alter, Connection};
 use std::alloc::Global;

@@ -2,16 +2,16 @@
 //! states that a crash before it could expose.
 
 ghost use Rattle.std.specs.Prelude.{◌≡◌, ◌+ℤ◌, ◌*ℤ◌, IfErr, IfSome, pos};
-ghost use Rattle.brk_changes.specs.Rows.{abstract_summary_row};
+ghost use Rattle.brk_trade_rows.specs.Rows.{abstract_summary_row};
 ghost use Rattle.brk_model.specs.Joins.{last_price_in_tables};
 ghost use Rattle.brk_model.specs.Run.{IsCallFault};
 ghost use Rattle.brk_store.specs.Holds.{ReadPost};
 ghost use Rattle.brk_store.specs.Valuation.{AreValuedSummariesOfAccount, market_value_of_summary, market_value_of_account};
 
 use crate::Store;
-use brk_changes::SummaryRow;
 use brk_money::{Fault, Id, Price, Wide};
 use brk_ref::Symbol;
+use brk_trade_rows::SummaryRow;
 use sqlite::Alter;
 use std::alloc::Global;
 
@@ -82,7 +82,7 @@ pub fn read_holding_summaries_and_value<S: Alter>(
     ensures fault { IfErr result IsCallFault }
 {
     let mut total = Wide::new(0);
-    let rows = store.holding_summaries_of_account(alloc, account)?;
+    let rows = store.summaries_of(alloc, account)?;
     for row in &rows {
         let sum = add_value_at_last_price(store, total, row)?;
         total = sum;

@@ -3,17 +3,17 @@
 //! malformed or if the `sqlite` crate runs out of memory, and `Memory` if decoding in a walk does.
 
 ghost use Rattle.std.specs.Fn.{CalledAt};
-ghost use Rattle.brk_changes.specs.Rows.{abstract_holding_row, abstract_move_row, abstract_trade_row};
+ghost use Rattle.brk_trade_rows.specs.Rows.{abstract_holding_row, abstract_move_row, abstract_trade_row};
 ghost use Rattle.brk_model.specs.Statement.{holding_rows_of_account};
 ghost use Rattle.brk_store.specs.Calling.{IsClosureCallWithLot};
 ghost use Rattle.brk_store.specs.Walked.{CallsClosureWithEachRecord, WalkPost, cash_rows_in_span, completed_trades_by_stamp};
 
 use crate::Store;
 use crate::calling::{ClosureVisitor, LotClosureVisitor};
-use brk_changes::{HoldingRow, MoveRow, TradeRow};
 use brk_lots::Lot;
 use brk_money::{Fault, Id, Stamp};
-use brk_tables::views::{Visitor, WalkError};
+use brk_tables_views::{Visitor, WalkError};
+use brk_trade_rows::{HoldingRow, MoveRow, TradeRow};
 use sqlite::Alter;
 
 impl<S: Alter> Store<S> {
@@ -43,7 +43,7 @@ impl<S: Alter> Store<S> {
         ensures walked { WalkPost S.Store self.old self.new abstract_move_row (cash_rows_in_span account from to)
             V.takes V.stops visitor.old visitor.new result }
     {
-        brk_tables::views::walk_cash_rows_of_account::<S, E, V>(
+        brk_tables_views::walk_cash_rows_of_account::<S, E, V>(
             &mut self.conn,
             account,
             from,
@@ -75,7 +75,7 @@ impl<S: Alter> Store<S> {
         ensures walked { WalkPost S.Store self.old self.new abstract_holding_row (λ t. holding_rows_of_account t account)
             V.takes V.stops visitor.old visitor.new result }
     {
-        brk_tables::views::walk_lots::<S, E, V>(&mut self.conn, account, visitor)
+        brk_tables_views::walk_lots::<S, E, V>(&mut self.conn, account, visitor)
     }
 
     /// Passes the completed trades of all accounts to a visitor, sorted by the stamp of completion,
@@ -99,7 +99,7 @@ impl<S: Alter> Store<S> {
         ensures leads { V.leads visitor.old visitor.new }
         ensures walked { WalkPost S.Store self.old self.new abstract_trade_row completed_trades_by_stamp V.takes V.stops visitor.old visitor.new result }
     {
-        brk_tables::views::walk_completed_trades::<S, E, V>(&mut self.conn, visitor)
+        brk_tables_views::walk_completed_trades::<S, E, V>(&mut self.conn, visitor)
     }
 
     /// Calls a closure with each cash row of an account with a stamp from `from` to `to`, both

@@ -1,4 +1,4 @@
--- Written by tools/tables.py: the record that a row of each table encodes.
+-- Written by tools/generate/tables.py: the record that a row of each table encodes.
 use Rattle.std.proofs.Common.{◌≡◌, ℕ, refl}
 use Rattle.sqlite_value.specs.Order.{Row}
 use Rattle.brk_tables_schema.specs.Desk.{RecordOfTable, DeskTable, encoded_row, table_definition_at_tree, TheDesk, KeptRows, Brokers, Customers, Accounts}

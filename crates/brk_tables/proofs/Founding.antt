@@ -9,12 +9,12 @@ use Rattle.sqlite.specs.State.{State}
 use Rattle.sqlite_value.specs.declared.value.Value.TheVariants.{Null, Int}
 use Rattle.brk_model.specs.Schemas.{third_schema}
 use Rattle.brk_model.specs.Tables.{tables_without_rows}
-use Rattle.brk_sql.specs.Desk.{CreatesTablesWithRecords, CreatesEachTable}
-use Rattle.brk_sql.specs.Model.{ExecutesStatement}
-use Rattle.brk_sql.proofs.Founded.{all_left, part_none, part_each, founded, first_sound}
-use Rattle.brk_sql.proofs.Texts.{read}
-use Rattle.brk_sql.proofs.Values.{cast_int, cast_null}
-use Rattle.brk_sql.proofs.Writes.{inserts_alone, inserts_as}
+use Rattle.brk_tables_sql.specs.Desk.{CreatesTablesWithRecords, CreatesEachTable}
+use Rattle.brk_tables_sql.specs.Model.{ExecutesStatement}
+use Rattle.brk_tables_sql.proofs.Founded.{all_left, part_none, part_each, founded, first_sound}
+use Rattle.brk_tables_sql.proofs.Texts.{read}
+use Rattle.brk_tables_sql.proofs.Values.{cast_int, cast_null}
+use Rattle.brk_tables_sql.proofs.Writes.{inserts_alone, inserts_as}
 use Rattle.brk_tables_schema.specs.Shapes.{desk_row_table}
 use Rattle.brk_tables_schema.specs.Desk.{TheDesk, all_tables, desk_rows, table_definition_at_tree}
 use Rattle.brk_tables.specs.Made.{CreatesDeskTables}

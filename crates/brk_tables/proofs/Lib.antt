@@ -6,3 +6,4 @@ pub mod Decode
 pub mod Values
 pub mod SameTables
 pub mod OneTables
+pub mod LaterTables

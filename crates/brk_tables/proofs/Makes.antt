@@ -1,11 +1,11 @@
--- Written by tools/tables.py: the table that each text creates.
+-- Written by tools/generate/tables.py: the table that each text creates.
 use Rattle.std.proofs.Common.{◌≡◌, ℕ, List, [], Ok, refl, inl, inr}
 use Rattle.sqlite.specs.State.{State, Executes}
 use Rattle.sqlite_tied.specs.Compute.{everything}
-use Rattle.brk_sql.specs.Desk.{CreatesTableOfShape}
-use Rattle.brk_sql.proofs.Texts.{read}
-use Rattle.brk_sql.proofs.Created.{makes}
-use Rattle.brk_sql.proofs.Founded.{Among}
+use Rattle.brk_tables_sql.specs.Desk.{CreatesTableOfShape}
+use Rattle.brk_tables_sql.proofs.Texts.{read}
+use Rattle.brk_tables_sql.proofs.Created.{makes}
+use Rattle.brk_tables_sql.proofs.Founded.{Among}
 use Rattle.brk_model.specs.Tables.{tables_without_rows}
 use Rattle.brk_tables_schema.specs.Shapes.{desk_row_table, kept_table, broker_table, customer_table, account_table, permission_table, security_table}
 use Rattle.brk_tables_schema.specs.Shapes.{last_trade_table, charge_table, band_table, tax_rate_table, customer_tax_table, trade_table, trade_history_table}

@@ -13,12 +13,12 @@ use Rattle.sqlite_rules.specs.Lists.{Has}
 use Rattle.sqlite.specs.Effect.{Database}
 use Rattle.brk_model.specs.Schemas.{Schema, third_schema}
 use Rattle.brk_model.specs.Tables.{Tables}
-use Rattle.brk_changes.specs.declared.schema.Schema as known
-use Rattle.brk_changes.specs.declared.schema.Schema.TheVariants.{First, Second, Third}
-use Rattle.brk_changes.specs.Schemas.{abstract_schema}
-use Rattle.brk_sql.specs.Desk.{IsTableAt}
-use Rattle.brk_sql.specs.Rows.{TreeHoldsRecords, IsStrictlyAscending, cells_in_column_order}
-use Rattle.brk_sql.proofs.Order.{has_permuted}
+use Rattle.brk_trade_rows.specs.declared.schema.Schema as known
+use Rattle.brk_trade_rows.specs.declared.schema.Schema.TheVariants.{First, Second, Third}
+use Rattle.brk_trade_rows.specs.Schemas.{abstract_schema}
+use Rattle.brk_tables_sql.specs.Desk.{IsTableAt}
+use Rattle.brk_tables_sql.specs.Rows.{TreeHoldsRecords, IsStrictlyAscending, cells_in_column_order}
+use Rattle.brk_tables_sql.proofs.Order.{has_permuted}
 use Rattle.brk_tables_schema.specs.Desk.{RecordOfTable, DeskTable, encoded_row, primary_key_of_record, ordering_by_primary_key, table_definition_has_tree}
 use Rattle.brk_tables_schema.specs.Desk.{table_definition_at_tree, TheDesk, rows_of_table_in_schema, schema_has_table}
 use Rattle.brk_tables_schema.specs.Made.{HasDeskTables, HasDeskTablesInSchema, IsTableOfSchema}

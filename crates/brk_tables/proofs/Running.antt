@@ -1,7 +1,7 @@
 -- Tables that are made one after another.
 use Rattle.std.proofs.Common.{◌≡◌, ℕ, zero, suc, ◌+◌, ◌<◌, List, [], ◌∷◌, map, take, length, get_or, refl, arith, add-one}
 use Rattle.sqlite.specs.Effect.{Database}
-use Rattle.brk_sql.specs.Desk.{CreatesTableOfShape, CreatesEachTable}
+use Rattle.brk_tables_sql.specs.Desk.{CreatesTableOfShape, CreatesEachTable}
 use Rattle.brk_tables_schema.specs.Desk.{table_definition_at_tree}
 use Rattle.brk_tables_schema.specs.Texts.{abstract_table}
 use Rattle.brk_tables_schema.specs.declared.table.Table.{Table}

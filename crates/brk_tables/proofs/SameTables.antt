@@ -1,4 +1,4 @@
--- Written by tools/tables.py: tables with the same lists of rows are the same.
+-- Written by tools/generate/tables.py: tables with the same lists of rows are the same.
 use Rattle.std.proofs.Common.{◌≡◌}
 use Rattle.brk_model.specs.Schemas.{Schema}
 use Rattle.brk_model.specs.Tables.{Tables}

@@ -2,7 +2,7 @@
 use Rattle.std.specs.Prelude.{ℕ, List, codes}
 use Rattle.sqlite.specs.Effect.{Database}
 use Rattle.brk_model.specs.Tables.{tables_without_rows}
-use Rattle.brk_sql.specs.Desk.{PreservesAllTables}
+use Rattle.brk_tables_sql.specs.Desk.{PreservesAllTables}
 use Rattle.brk_tables_schema.specs.Made.{HasDeskTables}
 
 -- The database `new` contains the tables of a desk in schema 3 (`HasDeskTables`), without rows,

@@ -3,8 +3,8 @@
 ghost use Rattle.std.specs.Prelude.{◌≡◌};
 ghost use Rattle.sqlite.specs.Effect.{Database};
 ghost use Rattle.brk_model.specs.Tables.{Tables};
-ghost use Rattle.brk_changes.specs.declared.schema.Schema.{Schema};
-ghost use Rattle.brk_changes.specs.Schemas.{abstract_schema};
+ghost use Rattle.brk_trade_rows.specs.declared.schema.Schema.{Schema};
+ghost use Rattle.brk_trade_rows.specs.Schemas.{abstract_schema};
 ghost use Rattle.brk_tables_schema.specs.Made.{HasDeskTables, HasDeskTablesInSchema};
 
 /// Proves that two sets of tables `t` and `u` are equal if one database contains the tables of a

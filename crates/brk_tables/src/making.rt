@@ -2,20 +2,20 @@
 
 ghost use Rattle.std.specs.Prelude.{◌≡◌, ℕ, List, [], Err, OnErr, map};
 ghost use Rattle.brk_money.specs.declared.fault.Fault.TheVariants.{Store};
-ghost use Rattle.brk_changes.specs.Schemas.{abstract_schema};
-ghost use Rattle.brk_sql.specs.Desk.{CreatesTableOfShape, CreatesEachTable};
-ghost use Rattle.brk_sql.specs.Model.{ExecutesStatement, IsConnectionStep};
+ghost use Rattle.brk_trade_rows.specs.Schemas.{abstract_schema};
+ghost use Rattle.brk_tables_sql.specs.Desk.{CreatesTableOfShape, CreatesEachTable};
+ghost use Rattle.brk_tables_sql.specs.Model.{ExecutesStatement, IsConnectionStep};
 ghost use Rattle.brk_tables_schema.specs.Desk.{table_definition_at_tree};
 ghost use Rattle.brk_tables_schema.specs.Desk.{tables_of_later_schemas};
 ghost use Rattle.brk_tables.specs.Made.{CreatesDeskTables, insert_desk_row_text};
 ghost use Rattle.brk_tables_schema.specs.Texts.{abstract_table};
 
-use brk_changes::Schema;
 use brk_money::Fault;
 use brk_tables_schema::calls::execute_statement;
 use brk_tables_schema::table::{
     ADDED_AFTER_FIRST, ADDED_AFTER_SECOND, TABLES_OF_THIRD_SCHEMA, Table,
 };
+use brk_trade_rows::Schema;
 use sqlite::{Alter, Transaction};
 
 // Creates the table `table` of a desk, without rows, and leaves the rows of existing tables

@@ -8,8 +8,8 @@ use Rattle.sqlite_rules.proofs.ListLemmas.{has_got, test_from}
 use Rattle.sqlite_rules.proofs.RuleLemmas.{same_table}
 use Rattle.sqlite.specs.Effect.{Database, IsDatabase}
 use Rattle.brk_model.specs.Schemas.{Schema}
-use Rattle.brk_changes.specs.Schemas.{abstract_schema}
-use Rattle.brk_sql.specs.Desk.{IsTableAt, has_no_writing_foreign_keys, has_no_writing_foreign_keys_if_at}
+use Rattle.brk_trade_rows.specs.Schemas.{abstract_schema}
+use Rattle.brk_tables_sql.specs.Desk.{IsTableAt, has_no_writing_foreign_keys, has_no_writing_foreign_keys_if_at}
 use Rattle.brk_tables_schema.specs.Desk.{DeskTable, table_definition_at_tree, table_definition_has_tree}
 use Rattle.brk_tables_scan.specs.Schemas.{HasDeskDefinitions, HasDistinctRowids, TablesWithDeskNamesAreDeskTables}
 use Rattle.brk_tables_definitions.specs.Definitions.{IsDefinedAsDeskDefines}

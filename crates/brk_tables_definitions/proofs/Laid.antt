@@ -12,7 +12,7 @@ use Rattle.sqlite_rules.specs.Lists.{Has}
 use Rattle.sqlite_rules.proofs.ListLemmas.{all_has}
 use Rattle.sqlite_catalog.proofs.LayoutLemmas.{laid_out, objects_rise}
 use Rattle.sqlite.specs.Held.{Serves}
-use Rattle.brk_sql.proofs.Adopted.{table_apart}
+use Rattle.brk_tables_sql.proofs.Adopted.{table_apart}
 use Rattle.brk_tables_scan.specs.Schemas.{HasDistinctRowids}
 
 module _ {v : View} {schema : Schema} (serves : Serves v schema) (listed : IsListed (v.trees catalog_tree) v.shape v.reals) (ordered : IsOrdered v.shape v.trees) where

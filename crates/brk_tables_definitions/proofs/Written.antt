@@ -1,8 +1,8 @@
--- Written by tools/tables.py: a desk's tables are known by their names, and their foreign keys write no rows.
+-- Written by tools/generate/tables.py: a desk's tables are known by their names, and their foreign keys write no rows.
 use Rattle.std.proofs.Common.{◌≡◌, ℕ, List, Option, Some, true, refl, sym, ap, ◌∙◌, slice_get}
 use Rattle.std.specs.Prelude.{bytes_eq, option_and_then}
 use Rattle.std.specs.List.{position_from}
-use Rattle.brk_sql.specs.Desk.{has_no_writing_foreign_keys}
+use Rattle.brk_tables_sql.specs.Desk.{has_no_writing_foreign_keys}
 use Rattle.brk_tables_schema.specs.Desk.{DeskTable, TheDesk, KeptRows, Brokers, Customers, Accounts, Permissions, Securities, LastTrades, Charges, Bands}
 use Rattle.brk_tables_schema.specs.Desk.{TaxRates, CustomerTaxes, Trades, TradeHistory, Requests, Holdings, Summaries, HoldingHistory, Settlements, CashRows}
 use Rattle.brk_tables_schema.specs.Desk.{CashMoves, SettleRules, all_tables, all_table_names, table_definition_at_tree}

@@ -7,7 +7,7 @@ use Rattle.sqlite_schema.specs.declared.schema.Column.{Column}
 use Rattle.sqlite_schema.specs.declared.schema.Kind.{Kind}
 use Rattle.sqlite_schema.specs.declared.schema.Reference.{Reference}
 use Rattle.sqlite_schema.specs.declared.schema.Table.{Table}
-use Rattle.brk_sql.specs.Desk.{foreign_key, table_without_checks}
+use Rattle.brk_tables_sql.specs.Desk.{foreign_key, table_without_checks}
 use Rattle.brk_tables_definitions.specs.declared.definition.Definition.{Definition}
 
 -- The column of a STRICT table with this name and of this kind, NOT NULL if `not_null`, without a

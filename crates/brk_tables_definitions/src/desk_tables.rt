@@ -1,4 +1,4 @@
-//! Written by tools/tables.py: the definitions of a desk's tables.
+//! Written by tools/generate/tables.py: the definitions of a desk's tables.
 
 use crate::definition::Definition;
 use sqlite_schema::schema::Kind;

@@ -3,7 +3,7 @@
 ghost use Rattle.std.specs.Borrow.{Bor};
 ghost use Rattle.std.specs.Prelude.{◌≡◌, ◌↔◌, ◌∷◌, ℕ, List, [], IsTrue, map};
 ghost use Rattle.sqlite_value.specs.Keys.{plain};
-ghost use Rattle.brk_sql.specs.Desk.{foreign_key};
+ghost use Rattle.brk_tables_sql.specs.Desk.{foreign_key};
 ghost use Rattle.brk_tables_definitions.specs.Written.{column_of_definition, reference_of_definition, strict_column};
 
 use crate::definition::{ColumnDefinition, ReferenceDefinition};

@@ -1,9 +1,9 @@
--- Written by tools/tables.py: what a SELECT means.
+-- Written by tools/generate/tables.py: what a SELECT means.
 use Rattle.std.proofs.Common.{ℕ, pos, negsuc, List, [], ◌∷◌, codes, false, None, refl}
 use Rattle.sqlite.specs.declared.types.Value.TheVariants.{Int}
 use Rattle.sqlite.specs.Term.{Term, lit}
 use Rattle.sqlite_tied.specs.Compute.{everything}
-use Rattle.brk_sql.proofs.Asked.{Ask, IsAsked, IsPlain, asks_plainly}
+use Rattle.brk_tables_sql.proofs.Asked.{Ask, IsAsked, IsPlain, asks_plainly}
 use Rattle.brk_tables_schema.specs.Shapes.{charge_table}
 
 abbrev pub statement : List ℕ

@@ -10,9 +10,9 @@ use Rattle.sqlite_schema.specs.declared.schema.Table.{Table}
 use Rattle.sqlite.specs.Effect.{Database}
 use Rattle.brk_model.specs.Schemas.{Schema}
 use Rattle.brk_model.specs.Tables.{Tables}
-use Rattle.brk_sql.proofs.Order.{has_permuted}
-use Rattle.brk_sql.specs.Desk.{HasNoWritingForeignKeysAt, IsTableAt}
-use Rattle.brk_sql.specs.Rows.{cells_in_column_order}
+use Rattle.brk_tables_sql.proofs.Order.{has_permuted}
+use Rattle.brk_tables_sql.specs.Desk.{HasNoWritingForeignKeysAt, IsTableAt}
+use Rattle.brk_tables_sql.specs.Rows.{cells_in_column_order}
 use Rattle.brk_tables_schema.specs.Cells.{optional_natural_as_value, natural_as_value}
 use Rattle.brk_tables_schema.specs.Desk.{DeskTable, TheDesk, all_tables, schema_has_table, table_name, table_definition_has_tree, table_definition_at_tree, tables_in_schema}
 use Rattle.brk_tables_schema.specs.Made.{HasDeskTablesInSchema, IsTableOfSchema}

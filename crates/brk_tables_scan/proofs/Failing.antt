@@ -9,8 +9,8 @@ use Rattle.sqlite.proofs.StateLemmas.{survives_then}
 use Rattle.brk_money.specs.declared.fault.Fault.{Fault}
 use Rattle.brk_money.specs.declared.fault.Fault.TheVariants.{Memory, Store}
 use Rattle.brk_model.specs.Run.{IsCallFault}
-use Rattle.brk_sql.specs.Model.{IsTransactionStep}
-use Rattle.brk_sql.proofs.Inside.{clean_before}
+use Rattle.brk_tables_sql.specs.Model.{IsTransactionStep}
+use Rattle.brk_tables_sql.proofs.Inside.{clean_before}
 
 -- two steps, with any results
 pub both : {U V E F : Type 0} {a b c : State} {r : Result U E} {s : Result V F} {P : U → State → State → Type 0} {Q : V → State → State → Type 0}

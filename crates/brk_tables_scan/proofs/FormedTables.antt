@@ -72,7 +72,7 @@ module _ (schema : Schema) (narrow : schema.greatest_qty ≤ third_schema.greate
   kept_formed : list_all (λ k. is_utf8 k.row_text && is_utf8 k.line) t.kept ≡ true → list_all (passes_all_cell_checks kept_column_cell_checks) (map kept_cells t.kept) ≡ true
   kept_formed texts = each_formed kept_column_cell_checks kept_cells (λ k. is_well_formed_kept_row k && (is_utf8 k.row_text && is_utf8 k.line))
       (λ k h. let a = and_parts (is_well_formed_kept_row k) (is_utf8 k.row_text && is_utf8 k.line) h in
-      let b = and_parts (is_batch_name k.key.batch) (is_id k.key.row) a.0 in let c = and_parts (is_utf8 k.row_text) (is_utf8 k.line) a.1 in
+      let b = and_parts (is_batch_name k.key.batch) (is_id k.key.n) a.0 in let c = and_parts (is_utf8 k.row_text) (is_utf8 k.line) a.1 in
       both b.0 (both b.1 (both c.0 (both c.1 refl)))) t.kept (all_both is_well_formed_kept_row _ t.kept p.kept texts)
 
   brokers_formed : list_all (passes_all_cell_checks broker_column_cell_checks) (map broker_cells t.brokers) ≡ true

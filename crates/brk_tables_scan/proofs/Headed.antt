@@ -13,12 +13,12 @@ use Rattle.sqlite_schema.specs.declared.schema.Table.{Table}
 use Rattle.sqlite_schema.specs.Names.{table_named}
 use Rattle.sqlite.specs.State.{State}
 use Rattle.brk_money.specs.declared.fault.Fault.{Fault}
-use Rattle.brk_sql.specs.Desk.{IsResultColumnCheckOutcome}
-use Rattle.brk_sql.specs.Model.{IsTransactionStep}
+use Rattle.brk_tables_sql.specs.Desk.{IsResultColumnCheckOutcome}
+use Rattle.brk_tables_sql.specs.Model.{IsTransactionStep}
 use Rattle.brk_model.specs.Schemas.{Schema as Desk}
-use Rattle.brk_changes.specs.declared.schema.Schema as known
-use Rattle.brk_changes.specs.declared.schema.Schema.TheVariants.{First, Second, Third}
-use Rattle.brk_changes.specs.Schemas.{abstract_schema}
+use Rattle.brk_trade_rows.specs.declared.schema.Schema as known
+use Rattle.brk_trade_rows.specs.declared.schema.Schema.TheVariants.{First, Second, Third}
+use Rattle.brk_trade_rows.specs.Schemas.{abstract_schema}
 use Rattle.brk_tables_schema.specs.Desk.{DeskTable, all_tables, table_name, table_definition_at_tree, tables_in_schema}
 use Rattle.brk_tables_schema.specs.Desk.{tables_of_later_schemas}
 use Rattle.brk_tables_scan.specs.Present.{has_exact_table_names, has_table_named}

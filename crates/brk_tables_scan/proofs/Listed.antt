@@ -1,4 +1,4 @@
--- Written by tools/tables.py: the names of a table and of its columns do not depend on its tree.
+-- Written by tools/generate/tables.py: the names of a table and of its columns do not depend on its tree.
 use Rattle.std.proofs.Common.{◌≡◌, ℕ, refl}
 use Rattle.brk_tables_schema.specs.Desk.{DeskTable, TheDesk, KeptRows, Brokers, Customers, Accounts, Permissions, Securities, LastTrades, Charges, Bands}
 use Rattle.brk_tables_schema.specs.Desk.{TaxRates, CustomerTaxes, Trades, TradeHistory, Requests, Holdings, Summaries, HoldingHistory, Settlements, CashRows}

@@ -1,11 +1,11 @@
--- Written by tools/tables.py: what preparing a statement on a table shows of it.
+-- Written by tools/generate/tables.py: what preparing a statement on a table shows of it.
 use Rattle.std.proofs.Common.{◌≡◌, ℕ, List, codes, Bool, refl}
 use Rattle.sqlite_schema.specs.declared.schema.Schema.{Schema}
 use Rattle.sqlite.specs.Listing.{listing_schema}
 use Rattle.sqlite_tied.specs.Compute.{everything}
-use Rattle.brk_sql.specs.Desk.{IsCompilationOutcome}
-use Rattle.brk_sql.proofs.Probe.{probed}
-use Rattle.brk_sql.proofs.Texts.{read}
+use Rattle.brk_tables_sql.specs.Desk.{IsCompilationOutcome}
+use Rattle.brk_tables_sql.proofs.Probe.{probed}
+use Rattle.brk_tables_sql.proofs.Texts.{read}
 use Rattle.brk_tables_schema.specs.Desk.{DeskTable, TheDesk, KeptRows, Brokers, Customers, Accounts, Permissions, Securities, LastTrades, Charges, Bands}
 use Rattle.brk_tables_schema.specs.Desk.{TaxRates, CustomerTaxes, Trades, TradeHistory, Requests, Holdings, Summaries, HoldingHistory, Settlements, CashRows}
 use Rattle.brk_tables_schema.specs.Desk.{CashMoves, SettleRules}

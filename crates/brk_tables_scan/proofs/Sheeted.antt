@@ -1,12 +1,13 @@
+-- Written by tools/generate/tables.py.
 -- The typed rows of all tables are the sheets.
 use Rattle.std.proofs.Common.{◌≡◌, ◌∙◌, map}
-use Rattle.brk_sql.proofs.Order.{map_twice}
+use Rattle.brk_tables_sql.proofs.Order.{map_twice}
 use Rattle.brk_model.specs.Schemas.{Schema}
 use Rattle.brk_ref.specs.Records.{abstract_kept_row, abstract_broker_row, abstract_customer, abstract_account_row, abstract_permission, abstract_security_row}
 use Rattle.brk_ref.specs.Records.{abstract_last_trade_row, abstract_charge, abstract_band, abstract_tax_rate, abstract_customer_tax}
-use Rattle.brk_changes.specs.Rows.{abstract_trade_row, abstract_history_row, abstract_request_row, abstract_holding_row, abstract_summary_row}
-use Rattle.brk_changes.specs.Rows.{abstract_lot_change_row, abstract_settlement_row, abstract_cash_row, abstract_move_row}
-use Rattle.brk_changes.specs.declared.sheets.Sheets.{Sheets}
+use Rattle.brk_trade_rows.specs.Rows.{abstract_trade_row, abstract_history_row, abstract_request_row, abstract_holding_row, abstract_summary_row}
+use Rattle.brk_trade_rows.specs.Rows.{abstract_lot_change_row, abstract_settlement_row, abstract_cash_row, abstract_move_row}
+use Rattle.brk_trade_rows.specs.declared.sheets.Sheets.{Sheets}
 use Rattle.brk_tables_schema.specs.Cells.{kept_cells, broker_cells, customer_cells, account_cells, permission_cells, security_cells, last_trade_cells}
 use Rattle.brk_tables_schema.specs.Cells.{charge_cells, band_cells, tax_rate_cells, customer_tax_cells, trade_cells, history_cells, request_cells}
 use Rattle.brk_tables_schema.specs.Cells.{holding_cells, summary_cells, holding_history_cells, settlement_cells, cash_cells, move_cells}

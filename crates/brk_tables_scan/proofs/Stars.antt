@@ -1,4 +1,4 @@
--- Written by tools/tables.py: what preparing a statement that shows all columns of a table tells of them.
+-- Written by tools/generate/tables.py: what preparing a statement that shows all columns of a table tells of them.
 use Rattle.std.proofs.Common.{◌≡◌, ℕ, codes, map, Some, Ok, refl, slice_get}
 use Rattle.sqlite_schema.specs.declared.schema.Schema.{Schema}
 use Rattle.sqlite_schema.specs.declared.schema.Table.{Table}
@@ -7,8 +7,8 @@ use Rattle.sqlite_resolve.specs.declared.compiled.Compiled.{Compiled}
 use Rattle.sqlite.specs.Listing.{listing_schema, understood}
 use Rattle.sqlite.specs.Steps.{column_names}
 use Rattle.sqlite_tied.specs.Compute.{everything}
-use Rattle.brk_sql.proofs.Stars.{shown_columns}
-use Rattle.brk_sql.proofs.Texts.{read}
+use Rattle.brk_tables_sql.proofs.Stars.{shown_columns}
+use Rattle.brk_tables_sql.proofs.Texts.{read}
 use Rattle.brk_tables_schema.specs.Desk.{DeskTable, TheDesk, KeptRows, Brokers, Customers, Accounts, Permissions, Securities, LastTrades, Charges, Bands}
 use Rattle.brk_tables_schema.specs.Desk.{TaxRates, CustomerTaxes, Trades, TradeHistory, Requests, Holdings, Summaries, HoldingHistory, Settlements, CashRows}
 use Rattle.brk_tables_schema.specs.Desk.{CashMoves, SettleRules, table_definition_at_tree}

@@ -9,8 +9,8 @@ use Rattle.sqlite_value.specs.Order.{Row}
 use Rattle.sqlite_schema.specs.Names.{table_named}
 use Rattle.sqlite.specs.Effect.{Database}
 use Rattle.brk_model.specs.Schemas.{Schema}
-use Rattle.brk_sql.specs.Desk.{IsTableAt}
-use Rattle.brk_sql.specs.Rows.{cells_in_column_order}
+use Rattle.brk_tables_sql.specs.Desk.{IsTableAt}
+use Rattle.brk_tables_sql.specs.Rows.{cells_in_column_order}
 use Rattle.brk_tables_schema.specs.Cells.{natural_as_value}
 use Rattle.brk_tables_schema.specs.Desk.{TheDesk, table_definition_at_tree}
 use Rattle.brk_tables_schema.specs.Shapes.{desk_row_table}

@@ -9,14 +9,14 @@ use Rattle.sqlite_value.specs.declared.keys.Key.{Key}
 use Rattle.sqlite_value.specs.Order.{Row}
 use Rattle.sqlite_sql.specs.Term.{Term, eval_all}
 use Rattle.sqlite.specs.State.{State, Shown}
-use Rattle.brk_sql.specs.Rows.{cells_in_column_order}
-use Rattle.brk_sql.proofs.Asked.{Ask, IsAsked, columns_of, key_at}
-use Rattle.brk_sql.proofs.Adopted.{adopted_in_order}
-use Rattle.brk_sql.proofs.Decode.{filter_true}
-use Rattle.brk_sql.proofs.Kept.{reads_rising}
-use Rattle.brk_sql.proofs.Order.{map_on}
-use Rattle.brk_sql.proofs.Pick.{sorted_by, whole_page}
-use Rattle.brk_sql.proofs.Told.{cells_cmp, compared_are, picked, query_at}
+use Rattle.brk_tables_sql.specs.Rows.{cells_in_column_order}
+use Rattle.brk_tables_sql.proofs.Asked.{Ask, IsAsked, columns_of, key_at}
+use Rattle.brk_tables_sql.proofs.Adopted.{adopted_in_order}
+use Rattle.brk_tables_sql.proofs.Decode.{filter_true}
+use Rattle.brk_tables_sql.proofs.Kept.{reads_rising}
+use Rattle.brk_tables_sql.proofs.Order.{map_on}
+use Rattle.brk_tables_sql.proofs.Pick.{sorted_by, whole_page}
+use Rattle.brk_tables_sql.proofs.Told.{cells_cmp, compared_are, picked, query_at}
 use Rattle.brk_tables_schema.specs.Desk.{DeskTable, RecordOfTable, table_definition_at_tree, encoded_row, ordering_by_primary_key, desk_tables}
 use Rattle.brk_tables_scan.specs.Whole.{ShowsAllRows}
 use Rattle.brk_tables_scan.proofs.Keyed.{IsOnce}

@@ -1,3 +1,4 @@
+-- Written by tools/generate/tables.py.
 -- The decoding of the raw rows of all tables into typed rows, and the test that each raw row is
 -- well-formed.
 use Rattle.std.specs.Prelude.{◌≡◌, ◌⊎◌, Bool, true, false, ◌&&◌, List, map}
@@ -6,11 +7,11 @@ use Rattle.sqlite.specs.State.{State}
 use Rattle.brk_model.specs.Schemas.{Schema}
 use Rattle.brk_ref.specs.Records.{abstract_broker_row, abstract_customer, abstract_account_row, abstract_permission, abstract_security_row}
 use Rattle.brk_ref.specs.Records.{abstract_last_trade_row, abstract_charge, abstract_band, abstract_tax_rate, abstract_customer_tax}
-use Rattle.brk_changes.specs.Rows.{abstract_trade_row, abstract_history_row, abstract_request_row, abstract_holding_row, abstract_summary_row}
-use Rattle.brk_changes.specs.Rows.{abstract_lot_change_row, abstract_settlement_row, abstract_cash_row, abstract_move_row}
+use Rattle.brk_trade_rows.specs.Rows.{abstract_trade_row, abstract_history_row, abstract_request_row, abstract_holding_row, abstract_summary_row}
+use Rattle.brk_trade_rows.specs.Rows.{abstract_lot_change_row, abstract_settlement_row, abstract_cash_row, abstract_move_row}
 use Rattle.brk_ref.specs.Records.{abstract_key}
 use Rattle.brk_ref.specs.declared.key.Kept as typed
-use Rattle.brk_changes.specs.declared.sheets.Sheets.{Sheets}
+use Rattle.brk_trade_rows.specs.declared.sheets.Sheets.{Sheets}
 use Rattle.brk_tables_schema.specs.Cells.{desk_row_cells, broker_cells, customer_cells, account_cells, permission_cells, security_cells}
 use Rattle.brk_tables_schema.specs.Cells.{last_trade_cells, charge_cells, band_cells, tax_rate_cells, customer_tax_cells, trade_cells, history_cells}
 use Rattle.brk_tables_schema.specs.Cells.{request_cells, holding_cells, summary_cells, holding_history_cells, settlement_cells, cash_cells}

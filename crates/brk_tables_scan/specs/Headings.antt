@@ -2,7 +2,7 @@
 use Rattle.std.specs.Prelude.{◌≡◌, ◌⊎◌, ℕ, List, [], ◌∷◌, ◌++◌, codes, map, Bool, true, false}
 use Rattle.std.specs.Borrow.{Bor}
 use Rattle.sqlite_schema.specs.declared.schema.Schema.{Schema}
-use Rattle.brk_sql.specs.Desk.{IsResultColumnCheckOutcome}
+use Rattle.brk_tables_sql.specs.Desk.{IsResultColumnCheckOutcome}
 use Rattle.brk_tables_schema.specs.Desk.{DeskTable, table_name, table_definition_at_tree}
 use Rattle.brk_tables_scan.specs.Schemas.{table_and_column_names}
 

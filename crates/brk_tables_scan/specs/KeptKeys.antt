@@ -6,8 +6,8 @@ use Rattle.brk_model.specs.Tables.{Tables}
 use Rattle.brk_ref.specs.declared.key.Key as typed_key
 use Rattle.brk_ref.specs.declared.key.Kept as typed
 use Rattle.brk_ref.specs.Records.{abstract_key, abstract_kept_row}
-use Rattle.brk_changes.specs.Sheets.{abstract_sheets}
-use Rattle.brk_changes.specs.declared.sheets.Sheets.{Sheets}
+use Rattle.brk_trade_rows.specs.Sheets.{abstract_sheets}
+use Rattle.brk_trade_rows.specs.declared.sheets.Sheets.{Sheets}
 use Rattle.brk_tables_schema.specs.Cells.{kept_cells}
 
 -- The keys of the typed rows `rows` of KEPT, in order.

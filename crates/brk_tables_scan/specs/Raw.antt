@@ -1,3 +1,4 @@
+-- Written by tools/generate/tables.py.
 -- The raw rows of all tables, as the reads return them: SQL values that are not yet decoded. In the
 -- code only the raw rows of one table are in memory at a time.
 use Rattle.std.specs.Prelude.{◌≡◌, List, IsTrue}

@@ -12,10 +12,10 @@ use Rattle.sqlite_schema.specs.declared.schema.Table.{Table}
 use Rattle.sqlite_schema.specs.Names.{table_named}
 use Rattle.sqlite.specs.Effect.{Database, IsDatabase}
 use Rattle.brk_model.specs.Schemas.{Schema}
-use Rattle.brk_changes.specs.declared.schema.Schema as known
-use Rattle.brk_changes.specs.Schemas.{abstract_schema}
-use Rattle.brk_sql.specs.Rows.{cells_in_column_order, has_same_rowid}
-use Rattle.brk_sql.specs.Desk.{IsTableAt, HasNoWritingForeignKeysAt}
+use Rattle.brk_trade_rows.specs.declared.schema.Schema as known
+use Rattle.brk_trade_rows.specs.Schemas.{abstract_schema}
+use Rattle.brk_tables_sql.specs.Rows.{cells_in_column_order, has_same_rowid}
+use Rattle.brk_tables_sql.specs.Desk.{IsTableAt, HasNoWritingForeignKeysAt}
 use Rattle.brk_tables_schema.specs.Cells.{natural_as_value}
 use Rattle.brk_tables_schema.specs.Shapes.{desk_row_table}
 use Rattle.brk_tables_schema.specs.Desk.{DeskTable, table_name, table_definition_at_tree, tables_in_schema}

@@ -9,12 +9,12 @@ use Rattle.sqlite.specs.declared.transaction.Transaction.{Transaction}
 use Rattle.brk_model.specs.Schemas.{Schema}
 use Rattle.brk_model.specs.Tables.{Tables}
 use Rattle.brk_model.specs.Form.{satisfies_form_condition, has_utf8_texts}
-use Rattle.brk_changes.specs.declared.sheets.Sheets.{Sheets}
+use Rattle.brk_trade_rows.specs.declared.sheets.Sheets.{Sheets}
 use Rattle.brk_ref.specs.declared.key.Kept as typed
 use Rattle.brk_ref.specs.Records.{abstract_key}
-use Rattle.brk_sql.specs.Rows.{cells_in_column_order, TreeHoldsRecords}
-use Rattle.brk_sql.specs.Desk.{IsTableAt}
-use Rattle.brk_sql.specs.Model.{IsConnectionStep}
+use Rattle.brk_tables_sql.specs.Rows.{cells_in_column_order, TreeHoldsRecords}
+use Rattle.brk_tables_sql.specs.Desk.{IsTableAt}
+use Rattle.brk_tables_sql.specs.Model.{IsConnectionStep}
 use Rattle.brk_tables_schema.specs.Desk.{DeskTable, RecordOfTable, table_definition_at_tree, encoded_row, ordering_by_primary_key, schema_has_table}
 use Rattle.brk_tables_schema.specs.Made.{HasDeskTablesInSchema, IsTableOfSchema}
 use Rattle.brk_tables_scan.specs.KeptKeys.{keys_of_kept_rows, tables_with_whole_kept_rows}

@@ -1,10 +1,11 @@
+//! Written by tools/generate/tables.py.
 //! The reads of all tables: each table is read and decoded, and its raw rows are dropped, before
 //! the next is read.
 
 ghost use Rattle.std.specs.Prelude.{◌≡◌, IfErr};
 ghost use Rattle.brk_model.specs.Run.{IsCallFault};
-ghost use Rattle.brk_changes.specs.Schemas.{abstract_schema};
-ghost use Rattle.brk_sql.specs.Model.{IsConnectionStep};
+ghost use Rattle.brk_trade_rows.specs.Schemas.{abstract_schema};
+ghost use Rattle.brk_tables_sql.specs.Model.{IsConnectionStep};
 ghost use Rattle.brk_tables_scan.specs.Decoded.{ReadsDeskBrokerAndCustomerTables, ReadsAccountAndSecurityTables, ReadsChargeAndRateTables};
 ghost use Rattle.brk_tables_scan.specs.Decoded.{ReadsTradeAndHoldingTables, ReadsSummaryHistoryAndCashTables, ReadsLaterSchemaTables};
 ghost use Rattle.brk_tables_scan.specs.Decoded.{ReadsAndDecodesDeskTables};
@@ -17,14 +18,14 @@ use crate::rows::{
     settle_rule_rows_in_schema, settlement_rows, tax_rate_rows, trade_history_rows,
     trade_request_rows, trade_rows,
 };
-use brk_changes::{
-    CashRow, HistoryRow, HoldingRow, LotChange, MoveRow, RequestRow, Schema, SettlementRow, Sheets,
-    SummaryRow, TradeRow,
-};
 use brk_money::{Day, Fault, Stamp};
 use brk_ref::{
     AccountRow, Band, BrokerRow, Charge, Customer, CustomerTax, Key, LastTrade, Permission,
     Security, Tax,
+};
+use brk_trade_rows::{
+    CashRow, HistoryRow, HoldingRow, LotChange, MoveRow, RequestRow, Schema, SettlementRow, Sheets,
+    SummaryRow, TradeRow,
 };
 use sqlite::{Alter, Transaction};
 use std::alloc::Global;

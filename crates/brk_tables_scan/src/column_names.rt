@@ -1,4 +1,4 @@
-//! Written by tools/tables.py: for each table a statement that selects all of its columns, and the
+//! Written by tools/generate/tables.py: for each table a statement that selects all of its columns, and the
 //! names of these columns, in order.
 
 /// For each table, those of later schemas last: the statement that selects all of its columns, and

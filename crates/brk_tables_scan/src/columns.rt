@@ -2,17 +2,17 @@
 
 ghost use Rattle.std.specs.Prelude.{◌≡◌, ◌↔◌, ◌≤◌, length, map, Err, OnErr, IsTrue};
 ghost use Rattle.brk_money.specs.declared.fault.Fault.TheVariants.{Store};
-ghost use Rattle.brk_sql.specs.Model.{IsConnectionStep};
+ghost use Rattle.brk_tables_sql.specs.Model.{IsConnectionStep};
 ghost use Rattle.brk_tables_scan.specs.Headings.{IsHeadingCheckOutcome, heading_of_borrowed_texts, heading_of_table};
-ghost use Rattle.brk_changes.specs.Schemas.{abstract_schema};
+ghost use Rattle.brk_trade_rows.specs.Schemas.{abstract_schema};
 ghost use Rattle.brk_tables_schema.specs.Desk.{tables_in_schema};
 ghost use Rattle.brk_tables_scan.specs.Schemas.{HasTablesOfSchema, LacksTablesOfLaterSchemas};
 
 use crate::column_names::COLUMNS_OF_ALL_TABLES;
 use crate::presence::has_exact_tables_by_name;
-use brk_changes::Schema;
 use brk_money::Fault;
 use brk_tables_schema::calls::statement_has_columns;
+use brk_trade_rows::Schema;
 use sqlite::{Alter, Transaction};
 
 // Returns true if the result of the statement of each heading has exactly the column names of the

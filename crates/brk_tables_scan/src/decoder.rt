@@ -5,7 +5,7 @@ ghost use Rattle.std.specs.Global.{Vec};
 ghost use Rattle.sqlite_value.specs.Order.{Row as Cells};
 ghost use Rattle.std.specs.List.{list_all};
 ghost use Rattle.brk_money.specs.declared.fault.Fault.TheVariants.{Memory};
-ghost use Rattle.brk_changes.specs.Schemas.{abstract_schema};
+ghost use Rattle.brk_trade_rows.specs.Schemas.{abstract_schema};
 ghost use Rattle.brk_tables_schema.specs.Cells.{desk_row_cells, rule_cells};
 ghost use Rattle.brk_tables_schema.specs.Desk.{desk_rows, rule_rows};
 ghost use Rattle.brk_tables_schema.specs.declared.decode_error.DecodeError.TheVariants.{Form as Formless};
@@ -13,13 +13,13 @@ ghost use Rattle.brk_tables_schema.specs.Formed.{has_at_most_one_valid_rule_row,
 ghost use Rattle.brk_tables_scan.specs.Decoded.{ContinuesDecoding};
 ghost use Rattle.brk_tables_scan.specs.KeptKeys.{AreKeysOfRawRows, IsKeyOfRawRow};
 
-use brk_changes::Schema;
 use brk_money::{Day, Fault, Stamp};
 use brk_ref::{Kept, Key};
 use brk_tables_schema::DecodeError;
 use brk_tables_schema::desk_row::last_stamp_in_desk_rows;
 use brk_tables_schema::record::Record;
 use brk_tables_schema::rule_row::one_day_settlement_start_in_rule_rows;
+use brk_trade_rows::Schema;
 use sqlite::Row;
 use std::alloc::Global;
 

@@ -4,18 +4,18 @@
 ghost use Rattle.std.specs.Prelude.{◌≡◌, ◌&&◌, Err, OnErr, IsTrue, not};
 ghost use Rattle.std.specs.List.{list_all, list_any};
 ghost use Rattle.brk_money.specs.declared.fault.Fault.TheVariants.{Store};
-ghost use Rattle.brk_changes.specs.Schemas.{abstract_schema};
-ghost use Rattle.brk_sql.specs.Model.{IsConnectionStep};
+ghost use Rattle.brk_trade_rows.specs.Schemas.{abstract_schema};
+ghost use Rattle.brk_tables_sql.specs.Model.{IsConnectionStep};
 ghost use Rattle.brk_tables_scan.specs.Present.{has_table_of_desk, has_exact_table_names, has_table_named};
 ghost use Rattle.brk_tables_schema.specs.Texts.{abstract_table};
 
-use brk_changes::Schema;
 use brk_money::Fault;
 use brk_tables_schema::calls::statement_compiles;
 use brk_tables_schema::table::{
     ADDED_AFTER_FIRST, ADDED_AFTER_SECOND, TABLES_OF_FIRST_SCHEMA, TABLES_OF_SECOND_SCHEMA,
     TABLES_OF_THIRD_SCHEMA, Table,
 };
+use brk_trade_rows::Schema;
 use sqlite::{Alter, Transaction};
 
 // Returns true if a table with the name of `table` exists. If the function returns a value, the

@@ -1,3 +1,4 @@
+//! Written by tools/generate/tables.py.
 //! Reads of all rows of each table, sorted by key, ascending. The rows are not decoded. The
 //! returned rows are specified only if the table is defined as a desk defines it, and their order
 //! only if they encode records with distinct keys (`AreTableRows`).
@@ -7,12 +8,12 @@ ghost use Rattle.brk_money.specs.declared.fault.Fault.TheVariants.{Store};
 ghost use Rattle.brk_tables_schema.specs.Desk.{TheDesk, KeptRows, Brokers, Customers, Accounts, Permissions, Securities, LastTrades, Charges, Bands};
 ghost use Rattle.brk_tables_schema.specs.Desk.{TaxRates, CustomerTaxes, Trades, TradeHistory, Requests, Holdings, Summaries, HoldingHistory};
 ghost use Rattle.brk_tables_schema.specs.Desk.{Settlements, CashRows, CashMoves, SettleRules};
-ghost use Rattle.brk_changes.specs.Schemas.{abstract_schema};
+ghost use Rattle.brk_trade_rows.specs.Schemas.{abstract_schema};
 ghost use Rattle.brk_tables_scan.specs.Whole.{ReadsRowsIfInSchema, ReadsAllRows};
 
-use brk_changes::Schema;
 use brk_money::Fault;
 use brk_tables_schema::calls::select_rows;
+use brk_trade_rows::Schema;
 use sqlite::{Alter, Row, Transaction};
 use std::alloc::Global;
 

@@ -2,14 +2,14 @@ ghost use Rattle.std.specs.Prelude.{◌≡◌, ◌≢◌, ◌↔◌, ◌<◌, Er
 ghost use Rattle.sqlite_value.specs.declared.value.Value.TheVariants.{Int};
 ghost use Rattle.sqlite_value.specs.Order.{column};
 ghost use Rattle.brk_money.specs.declared.fault.Fault.TheVariants.{Store};
-ghost use Rattle.brk_changes.specs.Schemas.{abstract_schema};
-ghost use Rattle.brk_sql.specs.Model.{IsConnectionStep};
+ghost use Rattle.brk_trade_rows.specs.Schemas.{abstract_schema};
+ghost use Rattle.brk_tables_sql.specs.Model.{IsConnectionStep};
 ghost use Rattle.brk_tables_scan.specs.Schemas.{DatabaseHasSchema, TablesWithSchemaNamesAreDeskTables, IsDeskRowOfSchema, IsOneDeskRowOfSchema};
 
 use crate::columns::has_exact_tables_and_columns;
 use crate::rows::desk_rows;
-use brk_changes::Schema;
 use brk_money::Fault;
+use brk_trade_rows::Schema;
 use sqlite::{Alter, Row, Transaction};
 use sqlite_value::value::ValueRef;
 

@@ -1,14 +1,14 @@
 ghost use Rattle.std.specs.Prelude.{◌≡◌, IfErr, IsTrue};
 ghost use Rattle.brk_model.specs.Run.{IsCallFault};
-ghost use Rattle.brk_changes.specs.Schemas.{abstract_schema};
-ghost use Rattle.brk_sql.specs.Model.{IsConnectionStep};
+ghost use Rattle.brk_trade_rows.specs.Schemas.{abstract_schema};
+ghost use Rattle.brk_tables_sql.specs.Model.{IsConnectionStep};
 ghost use Rattle.brk_tables_scan.specs.Schemas.{DatabaseHasSchema, TablesWithSchemaNamesAreDeskTables};
 ghost use Rattle.brk_tables_scan.specs.Whole.{AreSheetsOfDatabase};
 
 use crate::all_tables::read_all_tables;
 use crate::decoder::Decoder;
-use brk_changes::{Schema, Sheets};
 use brk_money::Fault;
+use brk_trade_rows::{Schema, Sheets};
 use sqlite::{Alter, Transaction};
 use std::alloc::Global;
 

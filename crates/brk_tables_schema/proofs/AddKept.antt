@@ -1,4 +1,4 @@
--- Written by tools/tables.py: what an INSERT means.
+-- Written by tools/generate/tables.py: what an INSERT means.
 use Rattle.std.proofs.Common.{◌≡◌, ℕ, List, [], ◌∷◌, codes, Ok, refl}
 use Rattle.sqlite.specs.declared.types.Value.TheVariants.{Null}
 use Rattle.sqlite.specs.Term.{Term, lit, col}
@@ -7,9 +7,9 @@ use Rattle.sqlite.specs.Source.TheVariants.{Values}
 use Rattle.sqlite.specs.Command.TheVariants.{Insert}
 use Rattle.sqlite_resolve.specs.Compile.{compiled}
 use Rattle.sqlite_tied.specs.Compute.{everything}
-use Rattle.brk_sql.specs.Desk.{IsTableAt}
-use Rattle.brk_sql.proofs.Meant.{meant, inserts}
-use Rattle.brk_sql.proofs.Texts.{read}
+use Rattle.brk_tables_sql.specs.Desk.{IsTableAt}
+use Rattle.brk_tables_sql.proofs.Meant.{meant, inserts}
+use Rattle.brk_tables_sql.proofs.Texts.{read}
 use Rattle.brk_tables_schema.specs.Shapes.{kept_table}
 
 abbrev pub statement : List ℕ

@@ -12,7 +12,7 @@ use Rattle.brk_money.specs.declared.trade_type.TradeType.TheVariants.{MarketBuy,
 use Rattle.brk_model.specs.Forms.{trade_type_with_code}
 use Rattle.brk_model.specs.Records.{Customer, Permission, Charge, Band, TaxRate, CustomerTax, Kept}
 use Rattle.brk_model.specs.Tables.{BrokerRow, AccountRow, SecurityRow, MoveRow}
-use Rattle.brk_sql.proofs.Decode.{text_in}
+use Rattle.brk_tables_sql.proofs.Decode.{text_in}
 use Rattle.brk_tables_schema.specs.Cells.{DeskRow, RuleRow, optional_natural_as_value, move_cells, rule_cells, desk_row_cells, kept_cells, broker_cells}
 use Rattle.brk_tables_schema.specs.Cells.{customer_cells, account_cells, permission_cells, security_cells, charge_cells, band_cells, tax_rate_cells}
 use Rattle.brk_tables_schema.specs.Cells.{customer_tax_cells}
@@ -50,7 +50,7 @@ unfolding desk_back
 desk_is_back r = ap (λ o. let d : DeskRow = record r { last = o } in d) (maybe_back r.last)
 
 pub kept_back : Row → Kept
-kept_back r = record { key = record { batch = text_in (column r 0); row = number_in (column r 1) }; row_text = text_in (column r 2); line = text_in (column r 3) }
+kept_back r = record { key = record { batch = text_in (column r 0); n = number_in (column r 1) }; row_text = text_in (column r 2); line = text_in (column r 3) }
 
 pub kept_is_back : (k : Kept) → kept_back (kept_cells k) ≡ k
 unfolding kept_back text_in

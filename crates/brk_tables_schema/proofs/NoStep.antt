@@ -3,7 +3,7 @@ use Rattle.std.proofs.Common.{Ok, refl, inl}
 use Rattle.std.proofs.Math.Nat.{le_refl}
 use Rattle.sqlite.specs.State.{State}
 use Rattle.brk_money.specs.declared.fault.Fault.{Fault}
-use Rattle.brk_sql.specs.Model.{IsTransactionStep}
+use Rattle.brk_tables_sql.specs.Model.{IsTransactionStep}
 
 pub nothing_done : (s : State) (made : State → State → Type 0) → made s s → IsTransactionStep {V = Unit {0}} {E = Fault} s s (Ok tt) (λ _ a b. made a b)
 nothing_done s made is = record {

@@ -6,7 +6,7 @@ use Rattle.sqlite_value.proofs.OrderLemmas.{then-Equal}
 use Rattle.brk_model.specs.Records.{Customer, Permission, Charge, Band, TaxRate, CustomerTax, Kept}
 use Rattle.brk_model.specs.Tables.{Tables, BrokerRow, AccountRow, SecurityRow, LastTradeRow}
 use Rattle.brk_model.specs.Keys.{kept_key, broker_key, customer_key, account_key, permission_key, security_key, last_trade_key, charge_key, band_key, tax_rate_key, customer_tax_key}
-use Rattle.brk_sql.proofs.Writes.{Place, IsRowidKey}
+use Rattle.brk_tables_sql.proofs.Writes.{Place, IsRowidKey}
 use Rattle.brk_tables_schema.specs.Shapes.{desk_row_table, broker_table, customer_table, account_table, tax_rate_table}
 use Rattle.brk_tables_schema.specs.Cells.{DeskRow, desk_row_cells, broker_cells, customer_cells, account_cells, tax_rate_cells}
 use Rattle.brk_tables_schema.specs.Desk.{DeskTable, TheDesk, KeptRows, Brokers, Customers, Accounts, Permissions, Securities, LastTrades, Charges, Bands}

@@ -1,4 +1,4 @@
--- Written by tools/tables.py: what an UPDATE means.
+-- Written by tools/generate/tables.py: what an UPDATE means.
 use Rattle.std.proofs.Common.{◌≡◌, ◌⊎◌, ℕ, List, [], ◌∷◌, codes, true, false, None, Some, Ok, Err, refl, slice_get}
 use Rattle.sqlite_value.specs.declared.keys.Collation.TheVariants.{Binary}
 use Rattle.sqlite.specs.declared.types.Value.TheVariants.{Null}
@@ -17,12 +17,12 @@ use Rattle.sqlite_resolve.specs.declared.error.CompileError.TheVariants.{Mismatc
 use Rattle.sqlite_draft.specs.declared.join.Step.TheVariants.{Inner}
 use Rattle.sqlite_draft.specs.declared.query.Draft.{Draft}
 use Rattle.sqlite_tied.specs.Compute.{everything}
-use Rattle.brk_sql.specs.Partly.{sql_lowering_definitions}
-use Rattle.brk_sql.specs.Desk.{integer_column, IsTableAt}
-use Rattle.brk_sql.proofs.Meant.{meant, updates_or}
-use Rattle.brk_sql.proofs.Pick.{selection, whole_page}
-use Rattle.brk_sql.proofs.Scoped.{column_is}
-use Rattle.brk_sql.proofs.Texts.{read}
+use Rattle.brk_tables_sql.specs.Partly.{sql_lowering_definitions}
+use Rattle.brk_tables_sql.specs.Desk.{integer_column, IsTableAt}
+use Rattle.brk_tables_sql.proofs.Meant.{meant, updates_or}
+use Rattle.brk_tables_sql.proofs.Pick.{selection, whole_page}
+use Rattle.brk_tables_sql.proofs.Scoped.{column_is}
+use Rattle.brk_tables_sql.proofs.Texts.{read}
 use Rattle.brk_tables_schema.specs.Shapes.{desk_row_table}
 
 abbrev pub statement : List ℕ

@@ -9,15 +9,15 @@ use Rattle.sqlite.specs.State.{State, Shown}
 use Rattle.brk_model.specs.Schemas.{third_schema}
 use Rattle.brk_model.specs.Tables.{Tables}
 use Rattle.brk_model.specs.Keys.{insert_row_by_key}
-use Rattle.brk_sql.specs.Desk.{HasTables, ChangesTablesBy, TablesSatisfy}
-use Rattle.brk_sql.specs.Model.{ExecutesStatement}
-use Rattle.brk_sql.proofs.Texts.{read}
-use Rattle.brk_sql.proofs.Values.{cast_int, cast_null, cast_whole}
-use Rattle.brk_sql.proofs.Writes.{Place, updates_as}
-use Rattle.brk_sql.proofs.Told.{told_rising}
+use Rattle.brk_tables_sql.specs.Desk.{HasTables, ChangesTablesBy, TablesSatisfy}
+use Rattle.brk_tables_sql.specs.Model.{ExecutesStatement}
+use Rattle.brk_tables_sql.proofs.Texts.{read}
+use Rattle.brk_tables_sql.proofs.Values.{cast_int, cast_null, cast_whole}
+use Rattle.brk_tables_sql.proofs.Writes.{Place, updates_as}
+use Rattle.brk_tables_sql.proofs.Told.{told_rising}
 use Rattle.brk_tables_schema.specs.Cells.{DeskRow, natural_as_value, desk_row_cells}
 use Rattle.brk_tables_schema.specs.Desk.{DeskTable, TheDesk, RecordOfTable, desk_tables, desk_rows, rule_rows, desk_key, primary_key_of_record, ordering_by_primary_key, rows_of_table}
-use Rattle.brk_changes.specs.Changes.{tables_with_last_stamp}
+use Rattle.brk_trade_rows.specs.Changes.{tables_with_last_stamp}
 use Rattle.brk_tables_schema.proofs.Order.{inserted, key_total}
 use Rattle.brk_tables_schema.proofs.Tests.{same_number}
 use Rattle.brk_tables_schema.proofs.Wide.{wide, wide_of, widened, narrowed}

@@ -12,7 +12,7 @@ use Rattle.sqlite_sql.specs.Ops.{binary, is_true}
 use Rattle.brk_money.specs.Kinds.{trade_type_code, is_same_trade_type}
 use Rattle.brk_money.specs.declared.trade_type.TradeType.{TradeType}
 use Rattle.brk_money.specs.declared.trade_type.TradeType.TheVariants.{MarketBuy, MarketSell, StopLoss, LimitSell, LimitBuy}
-use Rattle.brk_sql.proofs.Values.{equal_ints, equal_texts}
+use Rattle.brk_tables_sql.proofs.Values.{equal_ints, equal_texts}
 use Rattle.brk_tables_schema.specs.Cells.{optional_natural_as_value}
 
 numbers_tie : (m n : ℕ) → is_eq (int_cmp (pos m) (pos n)) ≡ (m == n)

@@ -7,7 +7,7 @@ use Rattle.brk_money.specs.Kinds.{trade_status_code, trade_type_code}
 use Rattle.brk_money.specs.declared.status.Status.{Status}
 use Rattle.brk_money.specs.declared.status.Status.TheVariants.{Completed, Active, Submitted, Pending, Canceled}
 use Rattle.brk_model.specs.Tables.{TradeRow, RequestRow, LastTradeRow, HistoryRow, HoldingRow, SummaryRow, HoldingHistoryRow, SettlementRow, CashRow}
-use Rattle.brk_sql.proofs.Decode.{text_in}
+use Rattle.brk_tables_sql.proofs.Decode.{text_in}
 use Rattle.brk_tables_schema.specs.Cells.{natural_as_value, flag_as_value, optional_natural_as_value, trade_cells, request_cells, last_trade_cells}
 use Rattle.brk_tables_schema.specs.Cells.{history_cells, holding_cells, summary_cells, holding_history_cells, settlement_cells, cash_cells}
 use Rattle.brk_tables_schema.proofs.Back.{number_in, maybe_in, maybe_back, type_at, type_back}

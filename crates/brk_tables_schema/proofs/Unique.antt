@@ -9,8 +9,8 @@ use Rattle.sqlite_value.proofs.OrderLemmas.{value_cmp-Int, value_cmp-Text}
 use Rattle.sqlite_schema.specs.Rules.{agree, equal}
 use Rattle.sqlite_sql.specs.Ops.{binary}
 use Rattle.brk_model.specs.Keys.{KeyPart, number, word, kept_key, permission_key, security_key, last_trade_key, charge_key, band_key, customer_tax_key}
-use Rattle.brk_sql.proofs.Values.{equal_ints, equal_texts}
-use Rattle.brk_sql.proofs.Writes.{IsUniqueKey}
+use Rattle.brk_tables_sql.proofs.Values.{equal_ints, equal_texts}
+use Rattle.brk_tables_sql.proofs.Writes.{IsUniqueKey}
 use Rattle.brk_tables_schema.specs.Shapes.{kept_table, permission_table, security_table, last_trade_table, charge_table, band_table, customer_tax_table}
 use Rattle.brk_tables_schema.specs.Cells.{kept_cells, permission_cells, security_cells, last_trade_cells, charge_cells, band_cells, customer_tax_cells}
 use Rattle.brk_tables_schema.specs.Desk.{KeptRows, Permissions, Securities, LastTrades, Charges, Bands, CustomerTaxes, ordering_by_primary_key}

@@ -1,4 +1,4 @@
--- Written by tools/tables.py: equality of tables is decidable.
+-- Written by tools/generate/tables.py: equality of tables is decidable.
 use Rattle.std.proofs.Common.{◌≡◌, ◌≢◌, ◌⊎◌, refl, inl, inr}
 use Rattle.sqlite_rules.specs.Lists.{Has}
 use Rattle.brk_tables_schema.specs.Desk.{DeskTable, TheDesk, KeptRows, Brokers, Customers, Accounts, Permissions, Securities, LastTrades, Charges, Bands}

@@ -3,8 +3,8 @@ use Rattle.std.proofs.Common.{◌≡◌, ◌≢◌, ℕ, List, refl, sym, subst}
 use Rattle.sqlite.specs.Effect.{Database}
 use Rattle.brk_model.specs.Schemas.{Schema}
 use Rattle.brk_model.specs.Tables.{Tables}
-use Rattle.brk_sql.specs.Rows.{TreeHoldsRecords}
-use Rattle.brk_sql.specs.Desk.{ProgramTables, HasTables}
+use Rattle.brk_tables_sql.specs.Rows.{TreeHoldsRecords}
+use Rattle.brk_tables_sql.specs.Desk.{ProgramTables, HasTables}
 use Rattle.brk_tables_schema.specs.Cells.{DeskRow, RuleRow}
 use Rattle.brk_tables_schema.specs.Desk.{DeskTable, TheDesk, SettleRules, RecordOfTable, table_definition_at_tree, table_definition_has_tree, encoded_row}
 use Rattle.brk_tables_schema.specs.Desk.{ordering_by_primary_key, rows_of_table, rows_of_table_in_schema, desk_tables_of_schema, desk_rows, rule_rows}

@@ -1,4 +1,4 @@
--- Written by tools/tables.py: the SQL values of the rows of each table.
+-- Written by tools/generate/tables.py: the SQL values of the rows of each table.
 use Rattle.std.specs.Prelude.{ℕ, pos, Bool, if◌then◌else◌, [], ◌∷◌, Option}
 use Rattle.sqlite_value.specs.declared.value.Value.{Value}
 use Rattle.sqlite_value.specs.declared.value.Value.TheVariants.{Int, Text as Words}
@@ -40,7 +40,7 @@ desk_row_cells r = natural_as_value r.id ∷ natural_as_value r.schema ∷ optio
 
 -- The SQL values of a row of KEPT, in the order of its columns.
 abbrev pub kept_cells : Kept → Row
-kept_cells r = Words r.key.batch ∷ natural_as_value r.key.row ∷ Words r.row_text ∷ Words r.line ∷ []
+kept_cells r = Words r.key.batch ∷ natural_as_value r.key.n ∷ Words r.row_text ∷ Words r.line ∷ []
 
 -- The SQL values of a row of BROKER, in the order of its columns.
 abbrev pub broker_cells : BrokerRow → Row

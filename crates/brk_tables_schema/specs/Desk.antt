@@ -1,4 +1,4 @@
--- Written by tools/tables.py: the tables of a desk, and the list of rows that each holds.
+-- Written by tools/generate/tables.py: the tables of a desk, and the list of rows that each holds.
 use Rattle.std.specs.Prelude.{◌≡◌, ℕ, Bool, true, List, [], ◌∷◌, Option, Some, None, map, filter, not, refl}
 use Rattle.std.specs.declared.cmp.Ordering.{Ordering}
 use Rattle.sqlite_value.specs.Order.{Row}
@@ -10,7 +10,7 @@ use Rattle.brk_model.specs.Tables.{HoldingHistoryRow, SettlementRow, CashRow, Mo
 use Rattle.brk_model.specs.Keys.{KeyPart, number, kept_key, broker_key, customer_key, account_key, permission_key, security_key, last_trade_key}
 use Rattle.brk_model.specs.Keys.{charge_key, band_key, tax_rate_key, customer_tax_key, trade_key, history_key, request_key, holding_key, summary_key}
 use Rattle.brk_model.specs.Keys.{holding_history_key, settlement_key, cash_transaction_key, cash_move_key}
-use Rattle.brk_sql.specs.Desk.{ProgramTables}
+use Rattle.brk_tables_sql.specs.Desk.{ProgramTables}
 use Rattle.brk_tables_schema.specs.Shapes.{desk_row_table, kept_table, broker_table, customer_table, account_table, permission_table, security_table}
 use Rattle.brk_tables_schema.specs.Shapes.{last_trade_table, charge_table, band_table, tax_rate_table, customer_tax_table, trade_table}
 use Rattle.brk_tables_schema.specs.Shapes.{trade_history_table, request_table, holding_table, summary_table, holding_history_table, settlement_table}

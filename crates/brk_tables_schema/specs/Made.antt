@@ -4,7 +4,7 @@ use Rattle.sqlite_schema.specs.Names.{table_named}
 use Rattle.sqlite.specs.Effect.{Database}
 use Rattle.brk_model.specs.Schemas.{Schema}
 use Rattle.brk_model.specs.Tables.{Tables}
-use Rattle.brk_sql.specs.Desk.{HasTables, HasSelectedTables}
+use Rattle.brk_tables_sql.specs.Desk.{HasTables, HasSelectedTables}
 use Rattle.brk_tables_schema.specs.Desk.{DeskTable, desk_tables, desk_tables_of_schema, schema_has_table, rows_of_table_in_schema, table_name}
 
 -- The database contains all tables of a desk in schema 3, with exactly the rows `t`, at some

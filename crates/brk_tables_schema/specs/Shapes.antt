@@ -1,7 +1,7 @@
--- Written by tools/tables.py: the definition of each table, with its rows at any tree.
+-- Written by tools/generate/tables.py: the definition of each table, with its rows at any tree.
 use Rattle.std.specs.Prelude.{ℕ, [], ◌∷◌, codes, Some, None}
 use Rattle.sqlite_schema.specs.declared.schema.Table.{Table}
-use Rattle.brk_sql.specs.Desk.{text_column, integer_column, nullable_integer_column, foreign_key, table_without_checks}
+use Rattle.brk_tables_sql.specs.Desk.{text_column, integer_column, nullable_integer_column, foreign_key, table_without_checks}
 
 -- The definition of the table DESK, whose rows the database stores under the number `tree`: its
 -- columns, its primary key, and its UNIQUE constraints and foreign keys, if any.

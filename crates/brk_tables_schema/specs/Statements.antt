@@ -4,7 +4,7 @@ use Rattle.std.specs.Global.{Vec}
 use Rattle.sqlite_trees.specs.declared.store.Store.{Ghosts}
 use Rattle.sqlite.specs.declared.transaction.Transaction.{Transaction}
 use Rattle.brk_model.specs.Tables.{Tables}
-use Rattle.brk_sql.specs.Model.{WritesTables, ReadsTables}
+use Rattle.brk_tables_sql.specs.Model.{WritesTables, ReadsTables}
 use Rattle.brk_tables_schema.specs.Desk.{DeskTable, RecordOfTable, desk_tables, rows_of_table}
 
 -- Under the disk assumption and within a transaction: if the call succeeds, it changes the rows of

@@ -1,4 +1,4 @@
--- Written by tools/tables.py: the tables as the code names them, and their SQL texts.
+-- Written by tools/generate/tables.py: the tables as the code names them, and their SQL texts.
 use Rattle.std.specs.Prelude.{ℕ, List, ◌++◌, codes}
 use Rattle.brk_tables_schema.specs.Desk.{DeskTable, TheDesk, KeptRows, Brokers, Customers, Accounts, Permissions, Securities, LastTrades, Charges}
 use Rattle.brk_tables_schema.specs.Desk.{Bands, TaxRates, CustomerTaxes, Trades, TradeHistory, Requests, Holdings, Summaries, HoldingHistory}

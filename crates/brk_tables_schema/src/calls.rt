@@ -8,8 +8,8 @@ ghost use Rattle.sqlite.specs.Listing.{understood};
 ghost use Rattle.sqlite.specs.Values.{bound};
 ghost use Rattle.sqlite_resolve.specs.declared.compiled.Compiled.{Compiled};
 ghost use Rattle.sqlite_schema.specs.declared.schema.Schema.{Schema};
-ghost use Rattle.brk_sql.specs.Desk.{IsResultColumnCheckOutcome, IsCompilationOutcome};
-ghost use Rattle.brk_sql.specs.Model.{ExecutesStatement, SelectsRows, IsConnectionStep};
+ghost use Rattle.brk_tables_sql.specs.Desk.{IsResultColumnCheckOutcome, IsCompilationOutcome};
+ghost use Rattle.brk_tables_sql.specs.Model.{ExecutesStatement, SelectsRows, IsConnectionStep};
 
 use brk_money::Fault;
 use sqlite::{Alter, Row, Transaction};
@@ -64,7 +64,7 @@ pub fn statement_compiles<S: Alter>(tx: &mut Transaction<'_, S>, text: &str) -> 
         × IsCompilationOutcome text.now has a.now.schema) }
     ensures fault { OnErr result (result ≡ Err Store) }
 {
-    match brk_sql::statement_compiles(tx, text) {
+    match brk_tables_sql::statement_compiles(tx, text) {
         Ok(has) => Ok(has),
         Err(_) => Err(Fault::Store),
     }
@@ -84,7 +84,7 @@ pub fn statement_has_columns<S: Alter>(
         × IsResultColumnCheckOutcome text.now (map (λ (name : Bor (List ℕ)). name.now) names.now) has a.now.schema) }
     ensures fault { OnErr result (result ≡ Err Store) }
 {
-    match brk_sql::statement_has_columns(tx, text, names) {
+    match brk_tables_sql::statement_has_columns(tx, text, names) {
         Ok(has) => Ok(has),
         Err(_) => Err(Fault::Store),
     }

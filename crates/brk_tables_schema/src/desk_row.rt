@@ -1,9 +1,9 @@
 ghost use Rattle.std.specs.Prelude.{◌≡◌, ◌∷◌, [], IfOk, map, Err, OnErr, false};
 ghost use Rattle.brk_money.specs.declared.fault.Fault.TheVariants.{Store};
-ghost use Rattle.brk_sql.specs.Model.{IsConnectionStep};
+ghost use Rattle.brk_tables_sql.specs.Model.{IsConnectionStep};
 ghost use Rattle.brk_model.specs.Schemas.{third_schema};
-ghost use Rattle.brk_changes.specs.Changes.{tables_with_last_stamp};
-ghost use Rattle.brk_changes.specs.Schemas.{abstract_schema};
+ghost use Rattle.brk_trade_rows.specs.Changes.{tables_with_last_stamp};
+ghost use Rattle.brk_trade_rows.specs.Schemas.{abstract_schema};
 ghost use Rattle.brk_tables_schema.specs.Cells.{desk_row_cells};
 ghost use Rattle.brk_tables_schema.specs.Desk.{desk_rows};
 ghost use Rattle.brk_tables_schema.specs.Formed.{passes_all_cell_checks, desk_column_cell_checks, has_one_valid_desk_row};
@@ -14,8 +14,8 @@ use crate::calls::{execute_statement, select_rows};
 use crate::cells::{check_column_count, natural_in_column, optional_stamp_in_column};
 use crate::decode_error::DecodeError;
 use crate::values::{integer_as_parameter, stamp_as_parameter};
-use brk_changes::Schema;
 use brk_money::{Fault, Stamp};
+use brk_trade_rows::Schema;
 use sqlite::{Alter, Row, Transaction};
 
 /// Sets the stamp of the last accepted command (D_LAST), in milliseconds since 1970-01-01 UTC.

@@ -1,7 +1,7 @@
 ghost use Rattle.std.specs.Prelude.{◌≡◌, ◌==◌, ◌&&◌, Err, OnErr, bytes_eq};
 ghost use Rattle.brk_money.specs.declared.fault.Fault.TheVariants.{Store};
 ghost use Rattle.brk_ref.specs.Records.{abstract_kept_row};
-ghost use Rattle.brk_changes.specs.Changes.{tables_with_stored_reply};
+ghost use Rattle.brk_trade_rows.specs.Changes.{tables_with_stored_reply};
 ghost use Rattle.brk_tables_schema.specs.Cells.{kept_cells};
 ghost use Rattle.brk_tables_schema.specs.Desk.{KeptRows};
 ghost use Rattle.brk_tables_schema.specs.Formed.{kept_column_cell_checks};
@@ -30,7 +30,7 @@ pub fn add_kept_row<S: Alter>(tx: &mut Transaction<'_, S>, kept: &Kept) -> Resul
         "INSERT INTO KEPT (K_BATCH, K_N, K_ROW, K_LINE) VALUES (?1, ?2, ?3, ?4)",
         &[
             text_as_parameter(kept.key.batch.as_str()),
-            row_number_as_parameter(kept.key.row),
+            row_number_as_parameter(kept.key.n),
             text_as_parameter(kept.row_text.as_str()),
             text_as_parameter(kept.line.as_str()),
         ],
@@ -48,7 +48,7 @@ impl Record for Kept {
         check_column_count(row, 4)?;
         let key = Key {
             batch: well_formed_text_in_column(row, 0)?,
-            row: row_number_in_column(row, 1)?,
+            n: row_number_in_column(row, 1)?,
         };
         Ok(Kept {
             key,
@@ -66,7 +66,7 @@ pub fn kept_row_by_key<S: Alter>(
 ) -> Result<Option<Kept>, Fault>
     ensures same_reference { tx.new.conn.ghost_name ≡ tx.old.conn.ghost_name }
     ensures step { ReadsFirstMatch S.Store tx.old tx.new result KeptRows abstract_kept_row (λ k. bytes_eq k.key.batch key.now.batch
-        && (k.key.row == key.now.row)) }
+        && (k.key.n == key.now.n)) }
     ensures fault { OnErr result (result ≡ Err Store) }
 {
     let rows = select_rows(
@@ -74,7 +74,7 @@ pub fn kept_row_by_key<S: Alter>(
         "SELECT K_BATCH, K_N, K_ROW, K_LINE FROM KEPT WHERE K_BATCH = ?1 AND K_N = ?2 ORDER BY K_BATCH, K_N",
         &[
             text_as_parameter(key.batch.as_str()),
-            row_number_as_parameter(key.row),
+            row_number_as_parameter(key.n),
         ],
     )?;
     decode_first_row(&rows)

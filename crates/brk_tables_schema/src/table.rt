@@ -1,4 +1,4 @@
-//! Written by tools/tables.py: the tables of a desk, and their SQL texts.
+//! Written by tools/generate/tables.py: the tables of a desk, and their SQL texts.
 
 ghost use Rattle.std.specs.Prelude.{◌≡◌};
 ghost use Rattle.brk_tables_schema.specs.Texts.{create_table_text, existence_probe_text, abstract_table};

@@ -2,8 +2,8 @@
 
 ghost use Rattle.std.specs.Prelude.{◌∷◌, []};
 ghost use Rattle.brk_ref.specs.Records.{abstract_last_trade_row};
-ghost use Rattle.brk_changes.specs.Rows.{abstract_cash_row, abstract_history_row, abstract_holding_row, abstract_lot_change_row, abstract_move_row};
-ghost use Rattle.brk_changes.specs.Rows.{abstract_request_row, abstract_settlement_row, abstract_summary_row, abstract_trade_row};
+ghost use Rattle.brk_trade_rows.specs.Rows.{abstract_cash_row, abstract_history_row, abstract_holding_row, abstract_lot_change_row, abstract_move_row};
+ghost use Rattle.brk_trade_rows.specs.Rows.{abstract_request_row, abstract_settlement_row, abstract_summary_row, abstract_trade_row};
 ghost use Rattle.brk_tables_schema.specs.Cells.{cash_cells, history_cells, holding_cells, holding_history_cells, last_trade_cells, move_cells};
 ghost use Rattle.brk_tables_schema.specs.Cells.{natural_as_value, request_cells, settlement_cells, summary_cells, trade_cells};
 ghost use Rattle.brk_tables_schema.specs.Formed.{cash_column_cell_checks, history_column_cell_checks, holding_column_cell_checks};
@@ -20,12 +20,12 @@ use crate::cells::{
 };
 use crate::decode_error::DecodeError;
 use crate::record::Record;
-use brk_changes::{
+use brk_money::Id;
+use brk_ref::LastTrade;
+use brk_trade_rows::{
     CashRow, HistoryRow, HoldingRow, LotChange, MoveRow, RequestRow, SettlementRow, SummaryRow,
     TradeRow,
 };
-use brk_money::Id;
-use brk_ref::LastTrade;
 use sqlite::Row;
 
 impl Record for HoldingRow {

@@ -6,8 +6,8 @@ use crate::desks::{
 use crate::faulty::{Failing, Narrow};
 use crate::tables::expect_all_tables;
 use crate::worked::{append_reply_lines, format_batch, lines_of_retry};
-use brk_interfaces::batches::{BatchFault, Counts, FaultKind};
-use brk_interfaces::brk_desk::Desk;
+use brk_desk::Desk;
+use brk_import::{BatchFault, Counts, FaultKind};
 use sqlite::{Alter, Connection};
 use std::alloc::Global;
 use std::io::ErrorKind;

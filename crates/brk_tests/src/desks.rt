@@ -5,12 +5,12 @@
 
 use crate::statements::Asked;
 use crate::worked::{FIRST_MOMENT, SET, SET_LINES};
-use brk_interfaces::batches::{BatchFault, Clock, Counts, run_batch};
-use brk_interfaces::brk_desk::Desk;
-use brk_interfaces::brk_desk::brk_store::Store;
-use brk_interfaces::http::{ServeFault, serve_stream};
+use brk_desk::Desk;
+use brk_http::{ServeFault, serve_stream};
+use brk_import::{BatchFault, Clock, Counts, run_batch};
 use brk_money::{Fault, Stamp};
 use brk_report::{ReportFault, statement};
+use brk_store::Store;
 use sqlite::{Alter, Connection, MemStore};
 use std::alloc::Global;
 use std::fmt::Display;

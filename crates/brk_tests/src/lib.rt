@@ -1,4 +1,4 @@
-//! Tests of a desk that no transcript of `cases/` can show: readers, writers and disks that fail,
+//! Tests of a desk that no transcript of `crates/brk_tests_cases/data/` can show: readers, writers and disks that fail,
 //! crashes, files, streams in pieces, runs of calls, walks, and the number of rows that a sale
 //! reads. The command `test` of a transcript runs one of them. A test fails if what it checks is
 //! not so, and also if a desk for it cannot be set up or memory runs out.

@@ -1,7 +1,7 @@
 //! Parsing of rows and queries into calls.
 
 use crate::worked::FIRST_MOMENT;
-use brk_interfaces::brk_desk::{Call, parse_query, parse_row};
+use brk_desk::{Call, parse_query, parse_row};
 use brk_money::Stamp;
 use brk_ref::{BatchName, Key, RowNumber};
 use std::alloc::{AllocError, Global};
@@ -22,7 +22,7 @@ pub fn split_fields<'a>(alloc: Global, row: &'a str) -> Result<Vec<&'a [u8]>, Al
 fn key_of_row(alloc: Global, batch: &[u8], row: u64) -> Result<Key, Fail> {
     let row = RowNumber::new(row).ok_or("a row's number")?;
     let batch = BatchName::parse(alloc, batch)?.ok_or("a batch's name")?;
-    Ok(Key { batch, row })
+    Ok(Key { batch, n: row })
 }
 
 /// Parses a row without quotes and returns its call at 2024-03-01 00:00 UTC, under the key `key` or

@@ -9,11 +9,11 @@ use crate::files::machine::{
     perform_job_until_crash, run_batch_until_crash,
 };
 use crate::worked::{FIRST_MOMENT, append_end_record, append_purchase};
-use brk_changes::Change;
-use brk_interfaces::brk_desk::brk_store::Store;
 use brk_lots::{Closing, LotSource, close};
 use brk_money::{Id, Price, Qty, Side, Stamp};
 use brk_ref::Symbol;
+use brk_store::Store;
+use brk_trade_rows::Change;
 use sqlite::{Alter, Connection};
 use std::alloc::Global;
 use std::test::Fail;

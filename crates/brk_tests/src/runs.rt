@@ -3,12 +3,12 @@
 use crate::desks::{desk_with_reference_data, expect, new_desk, open_in_memory, run_batch_at_desk};
 use crate::row_calls::{parse_keyed_row_call, parse_query_call, parse_row_call, split_fields};
 use crate::worked::append_end_record;
-use brk_interfaces::batches::{BatchFault, Counts};
-use brk_interfaces::brk_desk::brk_store::Store;
-use brk_interfaces::brk_desk::{Answer, Call, Desk, Outcome, line_text};
+use brk_desk::{Answer, Call, Desk, Outcome, line_text};
+use brk_import::{BatchFault, Counts};
 use brk_money::{Id, Stamp};
+use brk_store::Store;
 use brk_trade::Reply;
-use brk_view::View;
+use brk_view_rows::View;
 use sqlite::{Alter, Connection};
 use std::alloc::{AllocError, Global};
 use std::test::Fail;
@@ -173,10 +173,10 @@ fn format_batch_of_rows(alloc: Global, rows: &[String]) -> Result<String, Fail> 
 fn expect_totals_after_trades<S: Alter>(alloc: Global, store: &mut Store<S>) -> Result<(), Fail> {
     let account = Id::new(100).ok_or("account")?;
     let broker = Id::new(1).ok_or("broker")?;
-    let summaries = store.holding_summaries_of_account(alloc, account)?;
+    let summaries = store.summaries_of(alloc, account)?;
     let summary = summaries.first().ok_or("no summary")?;
     expect(summaries.len() == 1 && summary.qty == 42_084, "the summary")?;
-    match store.broker_totals(broker)? {
+    match store.broker_numbers(broker)? {
         Some(numbers) => expect(
             numbers.trades.get() == 500 && numbers.commissions.get() == 1_252_500,
             "the broker's totals",

@@ -4,12 +4,12 @@ use crate::desks::{
     Step, desk_with_reference_data, expect, expect_batch_result, open_in_memory, write_statement,
 };
 use crate::faulty::Narrow;
-use brk_changes::MoveRow;
-use brk_interfaces::brk_desk::Desk;
+use brk_desk::Desk;
 use brk_lots::Lot;
 use brk_money::{Day, Fault, Id, Stamp, Wide, parse_day};
 use brk_report::ReportFault;
 use brk_report_lines::amount_line;
+use brk_trade_rows::MoveRow;
 use sqlite::{Alter, Connection};
 use std::alloc::Global;
 use std::io::ErrorKind;

@@ -2,7 +2,7 @@
 //! part.
 
 use crate::desks::expect_lines;
-use brk_interfaces::brk_desk::brk_store::Store;
+use brk_store::Store;
 use sqlite::types::ValueRef;
 use sqlite::{Alter, Connection, Row};
 use std::alloc::Global;

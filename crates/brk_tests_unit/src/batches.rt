@@ -6,7 +6,7 @@ ghost use Rattle.brk_tests_unit.specs.declared.batches.Asked.{Asked};
 ghost use Rattle.brk_tests_unit.specs.declared.batches.Asked.TheVariants as asks;
 
 use crate::expect::{expect, expect_equal};
-use brk_batch_engine::{
+use brk_import_engine::{
     BatchFault, Clock, Counts, FaultKind, MAXIMUM_INPUT_BYTES, Rows, execute_batch_on_desk,
 };
 use brk_money::{Fault, Limit, Planned, Refusal, Stamp};

@@ -1,7 +1,7 @@
 //! Tests of the program's clock.
 
 use crate::expect::expect_equal;
-use brk_exit::brk_io::{Clock, ProgramClock};
+use brk_cli_exit::brk_io::{Clock, ProgramClock};
 use brk_money::Stamp;
 use std::io::{self, ErrorKind};
 use std::rt;

@@ -1,7 +1,7 @@
 use crate::expect::expect_equal;
-use brk_args::UsageFault;
-use brk_exit::brk_io::{BatchFault, FaultKind, ReportFault};
-use brk_exit::{Ending, end_with};
+use brk_cli_args::UsageFault;
+use brk_cli_exit::brk_io::{BatchFault, FaultKind, ReportFault};
+use brk_cli_exit::{Ending, end_with};
 use brk_http_engine::{FaultKind as StreamFault, ServeFault};
 use brk_money::{Condition, Fault, Refusal};
 use std::alloc::Global;
@@ -53,13 +53,13 @@ pub fn batch_faults_have_their_exit_status_and_line(alloc: Global) -> Result<(),
 /// fault `Store`, or because writing failed, has the exit status 3 and the error line of its fault.
 /// Fails if not, and if memory runs out.
 pub fn report_faults_have_their_exit_status_and_line(alloc: Global) -> Result<(), Fail> {
-    let stranger = Ending::Report(ReportFault::Refused(Refusal::NoAccount));
+    let stranger = Ending::Statement(ReportFault::Refused(Refusal::NoAccount));
     expect_status_and_line(alloc, stranger, 1, "brk: refused: 1\n")?;
-    let days = Ending::Report(ReportFault::Refused(Refusal::BadText));
+    let days = Ending::Statement(ReportFault::Refused(Refusal::BadText));
     expect_status_and_line(alloc, days, 1, "brk: refused: 18\n")?;
-    let store = Ending::Report(ReportFault::Desk(Fault::Store));
+    let store = Ending::Statement(ReportFault::Desk(Fault::Store));
     expect_status_and_line(alloc, store, 3, "brk: fault: store\n")?;
-    let writer = Ending::Report(ReportFault::Write);
+    let writer = Ending::Statement(ReportFault::Write);
     expect_status_and_line(alloc, writer, 3, "brk: fault: write\n")
 }
 

@@ -1,7 +1,7 @@
 use crate::planned_reply::expect_planned_reply;
 use brk_money::{Cents, Day, Id, MoveId, Stamp};
-use brk_orders::{Direction, Movement};
 use brk_ref::MovedAmount;
+use brk_ref_orders::{Direction, Movement};
 use brk_trade::{MovementPlanFacts, plan_move, plan_oneday};
 use std::alloc::Global;
 use std::test::Fail;

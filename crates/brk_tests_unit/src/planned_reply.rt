@@ -1,5 +1,5 @@
 use crate::expect::expect_text;
-use brk_commands::line_text;
+use brk_desk_commands::line_text;
 use brk_money::{Fault, Refusal};
 use brk_trade::Plan;
 use std::alloc::Global;

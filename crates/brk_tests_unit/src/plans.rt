@@ -5,8 +5,8 @@ use crate::expect::expect;
 use crate::planned_reply::expect_planned_reply;
 use brk_lots::Position;
 use brk_money::{Id, Price, Rate, Stamp, TaxRate, TaxStatus, TradeType, Wide};
-use brk_orders::{parse_market_feed, parse_trade_order};
 use brk_ref::{ChargeAmount, LastTrade, Symbol, Volume};
+use brk_ref_orders::{parse_market_feed, parse_trade_order};
 use brk_trade::{
     OrderAccount, OrderPlanFacts, Quote, is_triggered_at_price, plan_feed, plan_order,
 };

@@ -1,5 +1,5 @@
 use crate::expect::expect;
-use brk_args::{Job, UsageFault, read_words};
+use brk_cli_args::{Job, UsageFault, read_words};
 use brk_money::Stamp;
 use std::alloc::{AllocError, Global};
 use std::test::Fail;

@@ -4,7 +4,7 @@ use Rattle.std.proofs.lemmas.Int.{ints}
 use Rattle.brk_trade.specs.Estimates.{tax_on_gain_at_status}
 use Rattle.brk_trade.specs.Outcomes.{greatest_trade_value}
 use Rattle.brk_model.specs.Limits.{greatest_price, greatest_qty, greatest_commission_rate, greatest_tax_rate}
-use Rattle.brk_closing.specs.declared.values.Values.{Values}
+use Rattle.brk_lots.specs.declared.closed_values.Values.{Values}
 use Rattle.brk_money.specs.Amounts.{commission, half_up, tax}
 use Rattle.brk_money.specs.declared.tax_status.TaxStatus.{TaxStatus}
 use Rattle.brk_money.specs.declared.tax_status.TaxStatus.TheVariants.{Untaxed, Withheld, Reported}

@@ -9,12 +9,12 @@ use Rattle.brk_model.specs.Commands.{Order}
 use Rattle.brk_model.specs.Derived.{shares_of_position}
 use Rattle.brk_model.specs.Orders.{deal_of_order, tax_on_deal, commission_by_band, bid_price_of_order, estimate_against_shares, estimate}
 use Rattle.brk_model.specs.Shares.{Share, Deal, buy_value, sell_value}
-use Rattle.brk_plans.specs.declared.estimate.Estimate.{Estimate}
+use Rattle.brk_trade_plans.specs.declared.estimate.Estimate.{Estimate}
 use Rattle.brk_trade.specs.declared.estimate.Terms.{Terms}
-use Rattle.brk_closing.specs.declared.values.Values.{Values}
+use Rattle.brk_lots.specs.declared.closed_values.Values.{Values}
 use Rattle.brk_trade.specs.Estimates.{AreOrderTermsInBase, commission_from_terms, tax_on_gain_at_status}
 use Rattle.brk_lots.specs.Values.{closing_values_of_deal}
-use Rattle.brk_plans.specs.Replies.{estimate_from_model}
+use Rattle.brk_trade_plans.specs.Replies.{estimate_from_model}
 
 -- a number of a record that was found
 rate_found : {X : Type 0} (f : X → ℕ) (h : ℕ → ℕ) (n : ℕ) (x : Option X) → option_map f x ≡ Some n → h n ≡ unwrap_or (option_map (λ a. h (f a)) x) 0

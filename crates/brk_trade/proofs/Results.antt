@@ -6,17 +6,17 @@ use Rattle.brk_lots.specs.Closing.{IsEffectOfDealOnLots}
 use Rattle.brk_lots.specs.Lots.{shares_of_lots}
 use Rattle.brk_lots.specs.declared.closing.ClosedLots.{ClosedLots}
 use Rattle.brk_lots.specs.declared.lot.Lot.{Lot}
-use Rattle.brk_closing.specs.declared.values.Values.{Values}
+use Rattle.brk_lots.specs.declared.closed_values.Values.{Values}
 use Rattle.brk_model.specs.Shares.{Share, buy_value, buy_value_for_side, sell_value, sell_value_for_side}
 use Rattle.brk_model.specs.Tests.{RefusalCheck, first_refusal}
 use Rattle.brk_money.specs.Kinds.{side_of_trade_type}
 use Rattle.brk_money.specs.declared.refusal.Refusal.{Refusal}
 use Rattle.brk_money.specs.declared.side.Side.{Side}
 use Rattle.brk_money.specs.declared.side.Side.TheVariants.{Buy, Sell}
-use Rattle.brk_plans.proofs.Refusals.{first_joined, first_of}
+use Rattle.brk_trade_plans.proofs.Refusals.{first_joined, first_of}
 use Rattle.brk_trade.specs.Outcomes.{deal_of_trade_row, checks_before_reading_lots, checks_after_reading_lots, result_checks}
 use Rattle.brk_trade.specs.declared.result_found.ResultPlanFacts.{ResultPlanFacts}
-use Rattle.brk_changes.specs.declared.trade_row.TradeRow.{TradeRow}
+use Rattle.brk_trade_rows.specs.declared.trade_row.TradeRow.{TradeRow}
 
 -- where the first tests find no cause, the first refusal is that of the others
 pub first_after : (ts us : List RefusalCheck) → first_refusal ts ≡ None → first_refusal (ts ++ us) ≡ first_refusal us

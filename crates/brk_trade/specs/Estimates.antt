@@ -14,7 +14,7 @@ use Rattle.brk_lots.specs.Lots.{shares_of_lots}
 use Rattle.brk_lots.specs.Position.{AreOpenedByOtherTrades}
 use Rattle.brk_lots.specs.Sources.{YieldsPosition}
 use Rattle.brk_lots.specs.declared.lot.Lot.{Lot}
-use Rattle.brk_closing.specs.declared.values.Values.{Values}
+use Rattle.brk_lots.specs.declared.closed_values.Values.{Values}
 
 -- The tax on the realised gain of `values`, in whole cents, rounded half up (`tax`), where `rates`
 -- is the sum of the tax rates in hundred-thousandths. The tax is 0 if gains are not taxable at the

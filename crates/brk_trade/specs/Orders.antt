@@ -3,8 +3,8 @@ use Rattle.std.specs.Prelude.{◌≡◌, ℕ, ◌+◌, Bool, not, nat_le, is_non
 use Rattle.std.specs.Prelude.{List, [], ◌∷◌, ◌++◌, map, Option, Some, None, option_to_list}
 use Rattle.std.specs.Option.{option_map_or}
 use Rattle.brk_trade.specs.Estimates.{AreOrderTermsInBase, commission_from_terms}
-use Rattle.brk_plans.specs.Replies.{estimate_from_model}
-use Rattle.brk_plans.specs.declared.estimate.Estimate.{Estimate}
+use Rattle.brk_trade_plans.specs.Replies.{estimate_from_model}
+use Rattle.brk_trade_plans.specs.declared.estimate.Estimate.{Estimate}
 use Rattle.brk_trade.specs.declared.estimate.Terms.{Terms}
 use Rattle.brk_lots.specs.Lots.{shares_of_lots}
 use Rattle.brk_lots.specs.Books.{lot_quantity_sum}
@@ -24,18 +24,18 @@ use Rattle.brk_money.specs.Spelling.{Text}
 use Rattle.brk_money.specs.declared.refusal.Limit.TheVariants as limit
 use Rattle.brk_money.specs.declared.refusal.Refusal.TheVariants.{NoAccount, NoSecurity, NotPermitted, NoCharge, NoRate, Range}
 use Rattle.brk_money.specs.declared.tax_status.TaxStatus.TheVariants.{Untaxed}
-use Rattle.brk_orders.specs.declared.order.Order.{Order}
+use Rattle.brk_ref_orders.specs.declared.order.Order.{Order}
 use Rattle.brk_ref.specs.Records.{abstract_executor}
-use Rattle.brk_plans.specs.Reference.{later_stamp_check}
-use Rattle.brk_changes.specs.Rows.{abstract_trade_row}
-use Rattle.brk_changes.specs.declared.change.Change.{Change}
-use Rattle.brk_changes.specs.declared.change.Change.TheVariants as change
+use Rattle.brk_trade_plans.specs.Reference.{later_stamp_check}
+use Rattle.brk_trade_rows.specs.Rows.{abstract_trade_row}
+use Rattle.brk_trade_rows.specs.declared.change.Change.{Change}
+use Rattle.brk_trade_rows.specs.declared.change.Change.TheVariants as change
 use Rattle.brk_trade.specs.declared.order.Placement.{Placement}
 use Rattle.brk_trade.specs.declared.order.OrderPlanFacts.{OrderPlanFacts}
-use Rattle.brk_plans.specs.declared.plan.Plan.{Plan}
-use Rattle.brk_plans.specs.declared.reply.Reply.TheVariants.{Ordered}
-use Rattle.brk_changes.specs.declared.request_row.RequestRow.{RequestRow}
-use Rattle.brk_changes.specs.declared.trade_row.TradeRow.{TradeRow}
+use Rattle.brk_trade_plans.specs.declared.plan.Plan.{Plan}
+use Rattle.brk_trade_plans.specs.declared.reply.Reply.TheVariants.{Ordered}
+use Rattle.brk_trade_rows.specs.declared.request_row.RequestRow.{RequestRow}
+use Rattle.brk_trade_rows.specs.declared.trade_row.TradeRow.{TradeRow}
 
 -- The checks of an order against the facts `found`, in this order: its account and its security
 -- exist (`NoAccount`, `NoSecurity`), its executor is permitted (`NotPermitted`), and a charge and a

@@ -2,7 +2,7 @@
 use Rattle.std.specs.Prelude.{ℕ, ◌+◌, ◌*◌, ◌&&◌, true, not, nat_lt, nat_abs, is_none, unwrap_or, if◌then◌else◌, ℤ, pos, ◌+ℤ◌, ◌-ℤ◌, List, [], ◌∷◌, ◌++◌, Option}
 use Rattle.std.specs.Option.{option_map_or}
 use Rattle.brk_trade.specs.Estimates.{tax_on_gain_at_status}
-use Rattle.brk_closing.specs.declared.values.Values.{Values}
+use Rattle.brk_lots.specs.declared.closed_values.Values.{Values}
 use Rattle.brk_model.specs.Base.{is_withholding_status}
 use Rattle.brk_model.specs.Derived.{due_day_of_completion_stamp, signed_proceeds}
 use Rattle.brk_model.specs.Limits.{greatest_amount, greatest_price, greatest_qty, greatest_summary_quantity}
@@ -14,10 +14,10 @@ use Rattle.brk_money.specs.Moments.{greatest_day}
 use Rattle.brk_money.specs.declared.refusal.Limit.TheVariants as limit
 use Rattle.brk_money.specs.declared.refusal.Refusal.TheVariants.{WrongStatus, NoRate, Range, ClockEnd}
 use Rattle.brk_money.specs.declared.status.Status.TheVariants.{Submitted}
-use Rattle.brk_plans.specs.declared.reply.Completed.{Completed}
+use Rattle.brk_trade_plans.specs.declared.reply.Completed.{Completed}
 use Rattle.brk_trade.specs.declared.outcome.ResultFigures.{ResultFigures}
 use Rattle.brk_trade.specs.declared.result_found.ResultPlanFacts.{ResultPlanFacts}
-use Rattle.brk_changes.specs.declared.trade_row.TradeRow.{TradeRow}
+use Rattle.brk_trade_rows.specs.declared.trade_row.TradeRow.{TradeRow}
 
 -- The greatest value of a trade, in cents: the greatest quantity times the greatest price.
 abbrev pub greatest_trade_value : ℕ

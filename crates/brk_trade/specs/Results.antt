@@ -22,19 +22,19 @@ use Rattle.brk_money.specs.Spelling.{Text}
 use Rattle.brk_money.specs.declared.refusal.Refusal.{Refusal}
 use Rattle.brk_money.specs.declared.refusal.Refusal.TheVariants.{NoTrade}
 use Rattle.brk_money.specs.declared.status.Status.TheVariants as status
-use Rattle.brk_changes.specs.Rows.{abstract_move_row}
+use Rattle.brk_trade_rows.specs.Rows.{abstract_move_row}
 use Rattle.brk_trade.specs.Outcomes.{deal_of_trade_row, checks_before_reading_lots, result_checks, figures_of_result, reply_figures_of_result}
-use Rattle.brk_changes.specs.declared.cash_type.CashType.{CashType}
-use Rattle.brk_changes.specs.declared.cash_type.CashType.TheVariants as cash_type
-use Rattle.brk_changes.specs.declared.change.Change.{Change}
-use Rattle.brk_changes.specs.declared.change.Change.TheVariants as change
-use Rattle.brk_changes.specs.declared.move_row.MoveRow.{MoveRow}
+use Rattle.brk_trade_rows.specs.declared.cash_type.CashType.{CashType}
+use Rattle.brk_trade_rows.specs.declared.cash_type.CashType.TheVariants as cash_type
+use Rattle.brk_trade_rows.specs.declared.change.Change.{Change}
+use Rattle.brk_trade_rows.specs.declared.change.Change.TheVariants as change
+use Rattle.brk_trade_rows.specs.declared.move_row.MoveRow.{MoveRow}
 use Rattle.brk_trade.specs.declared.outcome.ResultFigures.{ResultFigures}
 use Rattle.brk_trade.specs.declared.result_found.ResultPlanFacts.{ResultPlanFacts}
-use Rattle.brk_plans.specs.declared.plan.Plan.{Plan}
-use Rattle.brk_plans.specs.declared.reply.Completed.{Completed}
-use Rattle.brk_plans.specs.declared.reply.Reply.TheVariants as reply
-use Rattle.brk_changes.specs.declared.trade_row.TradeRow.{TradeRow}
+use Rattle.brk_trade_plans.specs.declared.plan.Plan.{Plan}
+use Rattle.brk_trade_plans.specs.declared.reply.Completed.{Completed}
+use Rattle.brk_trade_plans.specs.declared.reply.Reply.TheVariants as reply
+use Rattle.brk_trade_rows.specs.declared.trade_row.TradeRow.{TradeRow}
 
 -- The row change of the HOLDING row of the lot of `touch`: the lot is deleted if none of its shares
 -- remains, and otherwise its quantity is set.

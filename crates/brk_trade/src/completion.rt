@@ -4,18 +4,18 @@ ghost use Rattle.std.specs.Prelude.{◌≡◌, ◌++◌, flat_map, option_map, o
 ghost use Rattle.brk_money.specs.declared.fault.Fault.TheVariants.{Memory};
 ghost use Rattle.brk_trade.specs.Results as spec;
 ghost use Rattle.brk_trade.specs.Results.{AreResultChanges};
-ghost use Rattle.brk_changes.specs.Rows.{abstract_move_row};
+ghost use Rattle.brk_trade_rows.specs.Rows.{abstract_move_row};
 
 use crate::outcome::ResultFigures;
 use crate::result_found::ResultPlanFacts;
-use brk_changes::{
+use brk_lots::{ClosedLots, Lot, Touch};
+use brk_money::{Fault, Id, Price, Qty, Status};
+use brk_ref::Name;
+use brk_trade_plans::Completed;
+use brk_trade_rows::{
     Amount, CashType, Change, HistoryRow, HoldingRow, LotChange, MoveRow, SettlementRow,
     SummaryRow, TradeRow,
 };
-use brk_lots::{ClosedLots, Lot, Touch};
-use brk_money::{Fault, Id, Price, Qty, Status};
-use brk_plans::Completed;
-use brk_ref::Name;
 use std::alloc::{AllocError, Global};
 
 // Appends to `changes` the row changes of the completed trade itself: the status, stamp, price,

@@ -11,7 +11,7 @@ ghost use Rattle.brk_lots.specs.Books.{lot_quantity_sum};
 ghost use Rattle.brk_lots.specs.Sources.{YieldsPosition, AreLotsOfFaithfulSource};
 ghost use Rattle.brk_lots.specs.Values.{closing_values_of_deal};
 ghost use Rattle.brk_trade.specs.Estimates.{AreOrderTermsInBase, OrderReadsAtMostOneLotMore, commission_from_terms, deal_from_terms, tax_on_gain_at_status};
-ghost use Rattle.brk_plans.specs.Replies.{estimate_from_model};
+ghost use Rattle.brk_trade_plans.specs.Replies.{estimate_from_model};
 
 use brk_lots::{
     LotSource, Values, estimate_closing_values, is_trade_closing_lots, zero_closing_values,
@@ -19,8 +19,8 @@ use brk_lots::{
 use brk_money::{
     Amount, Cents, Fault, Price, Qty, Rate, Side, TaxRate, TaxStatus, Wide, commission, tax,
 };
-use brk_plans::Estimate;
 use brk_ref::ChargeAmount;
+use brk_trade_plans::Estimate;
 
 /// The terms of an order, from which it is estimated.
 #[derive(Clone, Copy, PartialEq, Eq)]

@@ -13,10 +13,10 @@ use crate::settling::{
     commissions_after_trade_if_within_limit, due_day_if_in_calendar, settlement_amount_of_trade,
     tax_on_closed_shares,
 };
-use brk_changes::{Amount, Schema, is_submitted};
 use brk_lots::ClosedLots;
 use brk_money::{Limit, Price, Rate, Refusal, Side, Stamp};
-use brk_plans::Completed;
+use brk_trade_plans::Completed;
+use brk_trade_rows::{Amount, Schema, is_submitted};
 
 /// The figures of a completed trade (Trade-Result). The amounts are in cents.
 #[derive(Clone, Copy, PartialEq, Eq)]

@@ -19,7 +19,7 @@ use brk_lots::{
     is_trade_closing_lots,
 };
 use brk_money::{Fault, Planned, Price, Refusal, Stamp, stamp_after};
-use brk_plans::{Plan, Reply};
+use brk_trade_plans::{Plan, Reply};
 use std::alloc::Global;
 
 // Returns the effect of the trade at `price` and `stamp` on the lots: the lots that it closes or

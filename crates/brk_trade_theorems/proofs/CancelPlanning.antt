@@ -12,13 +12,13 @@ use Rattle.brk_model.specs.Sheets.{sheets}
 use Rattle.brk_model.specs.Step.{step}
 use Rattle.brk_model.specs.Tables.{TradeRow}
 use Rattle.brk_model.specs.Tests.{first_refusal, refusal_of_command}
-use Rattle.brk_plans.specs.Cancel as planner
-use Rattle.brk_plans.specs.Cancel.{IsCancelPlan}
-use Rattle.brk_changes.specs.Changes.{tables_after_changes}
-use Rattle.brk_plans.specs.Reference.{later_stamp_check}
-use Rattle.brk_plans.specs.Replies.{abstract_reply}
-use Rattle.brk_plans.specs.declared.plan.Plan.{Plan}
-use Rattle.brk_book_theorems.specs.Steps.{base_after_command}
+use Rattle.brk_trade_plans.specs.Cancel as planner
+use Rattle.brk_trade_plans.specs.Cancel.{IsCancelPlan}
+use Rattle.brk_trade_rows.specs.Changes.{tables_after_changes}
+use Rattle.brk_trade_plans.specs.Reference.{later_stamp_check}
+use Rattle.brk_trade_plans.specs.Replies.{abstract_reply}
+use Rattle.brk_trade_plans.specs.declared.plan.Plan.{Plan}
+use Rattle.brk_trade_books.specs.Steps.{base_after_command}
 use Rattle.brk_trade_theorems.specs.Plans.{PlanImplementsCommand}
 use Rattle.brk_trade_theorems.specs.TradePlans.{PlanCancelPrecondition}
 use Rattle.brk_trade_theorems.specs.TradeTests.{cancel_checks_on_trade_row}

@@ -15,10 +15,10 @@ use Rattle.brk_model.specs.Records.{StatusChange, Trade}
 use Rattle.brk_model.specs.Sheets.{sheets}
 use Rattle.brk_model.specs.Tables.{TradeRow, trade_row}
 use Rattle.brk_model.specs.Updates.{trade_stamp_is_between, trades_oldest_first}
-use Rattle.brk_changes.specs.Chosen.{first_twenty_completed_cash_trade_rows_of_symbol, first_twenty_completed_trade_rows_of_account, first_twenty_completed_trade_rows}
-use Rattle.brk_book_theorems.proofs.LotReading.{All-sort}
-use Rattle.brk_book_theorems.proofs.Same.{All-filter}
-use Rattle.brk_book_theorems.proofs.TradeReading.{trades_in_order}
+use Rattle.brk_trade_rows.specs.Chosen.{first_twenty_completed_cash_trade_rows_of_symbol, first_twenty_completed_trade_rows_of_account, first_twenty_completed_trade_rows}
+use Rattle.brk_trade_books.proofs.LotReading.{All-sort}
+use Rattle.brk_trade_books.proofs.Same.{All-filter}
+use Rattle.brk_trade_books.proofs.TradeReading.{trades_in_order}
 use Rattle.brk_trade_theorems.proofs.Through.{All-both, All-passed, All-take, filter-both, filter-map, sort-map, take-map}
 
 -- the trades that are chosen

@@ -25,38 +25,38 @@ use Rattle.brk_model.specs.Tests.{first_refusal, stamp_of_next_command, refusal_
 use Rattle.brk_model.specs.Updates.{updated_cash_row_name, updated_cash_type, updated_executor_name, selected_trade_ids_of_account}
 use Rattle.brk_model.specs.Updates.{selected_trade_ids_of_symbol, trade_stamp_is_between, base_with_updated_cash_names, base_with_updated_cash_types}
 use Rattle.brk_model.specs.Updates.{base_with_updated_executors}
-use Rattle.brk_orders.specs.Records.{text_update_command}
-use Rattle.brk_orders.specs.declared.update.Update as told
-use Rattle.brk_orders.specs.declared.update.Update.TheVariants as update
-use Rattle.brk_changes.specs.Changes.{tables_after_change, tables_after_changes, tables_with_last_stamp}
-use Rattle.brk_changes.specs.Chosen.{first_twenty_completed_cash_trade_rows_of_symbol, first_twenty_completed_trade_rows_of_account}
-use Rattle.brk_changes.specs.Rows.{cash_type_text, abstract_trade_row}
-use Rattle.brk_changes.specs.declared.change.Change.{Change}
-use Rattle.brk_changes.specs.declared.trade_row.TradeRow as row
-use Rattle.brk_plans.specs.Reference.{later_stamp_check}
-use Rattle.brk_plans.specs.Replies.{abstract_reply}
-use Rattle.brk_plans.specs.Update as planner
-use Rattle.brk_plans.specs.Update.{IsUpdatePlan, tables_with_toggled_cash_text, tables_with_toggled_cash_type, count_of_updated_trades}
-use Rattle.brk_plans.specs.Update.{tables_with_updated_executor_name, missing_target_refusal, update_checks, table_updates_of_text_update}
-use Rattle.brk_plans.specs.declared.corrected.TextUpdate.{TextUpdate}
-use Rattle.brk_plans.specs.declared.corrected.TextUpdate.TheVariants as corrected
-use Rattle.brk_plans.specs.declared.corrected.CashText.{CashText}
-use Rattle.brk_plans.specs.declared.corrected.SettlementText.{SettlementText}
-use Rattle.brk_plans.specs.declared.plan.Plan.{Plan}
-use Rattle.brk_book_theorems.specs.Books.{BooksInvariant}
+use Rattle.brk_ref_orders.specs.Records.{text_update_command}
+use Rattle.brk_ref_orders.specs.declared.update.Update as told
+use Rattle.brk_ref_orders.specs.declared.update.Update.TheVariants as update
+use Rattle.brk_trade_rows.specs.Changes.{tables_after_change, tables_after_changes, tables_with_last_stamp}
+use Rattle.brk_trade_rows.specs.Chosen.{first_twenty_completed_cash_trade_rows_of_symbol, first_twenty_completed_trade_rows_of_account}
+use Rattle.brk_trade_rows.specs.Rows.{cash_type_text, abstract_trade_row}
+use Rattle.brk_trade_rows.specs.declared.change.Change.{Change}
+use Rattle.brk_trade_rows.specs.declared.trade_row.TradeRow as row
+use Rattle.brk_trade_plans.specs.Reference.{later_stamp_check}
+use Rattle.brk_trade_plans.specs.Replies.{abstract_reply}
+use Rattle.brk_trade_plans.specs.Update as planner
+use Rattle.brk_trade_plans.specs.Update.{IsUpdatePlan, tables_with_toggled_cash_text, tables_with_toggled_cash_type, count_of_updated_trades}
+use Rattle.brk_trade_plans.specs.Update.{tables_with_updated_executor_name, missing_target_refusal, update_checks, table_updates_of_text_update}
+use Rattle.brk_trade_plans.specs.declared.corrected.TextUpdate.{TextUpdate}
+use Rattle.brk_trade_plans.specs.declared.corrected.TextUpdate.TheVariants as corrected
+use Rattle.brk_trade_plans.specs.declared.corrected.CashText.{CashText}
+use Rattle.brk_trade_plans.specs.declared.corrected.SettlementText.{SettlementText}
+use Rattle.brk_trade_plans.specs.declared.plan.Plan.{Plan}
+use Rattle.brk_trade_books.specs.Books.{BooksInvariant}
 use Rattle.brk_trade_theorems.specs.Plans.{PlanImplementsCommand}
-use Rattle.brk_book_theorems.specs.Steps.{base_after_command}
-use Rattle.brk_book_theorems.proofs.Bools.{same_text}
+use Rattle.brk_trade_books.specs.Steps.{base_after_command}
+use Rattle.brk_trade_books.proofs.Bools.{same_text}
 use Rattle.brk_trade_theorems.proofs.Planning.{clock_read}
-use Rattle.brk_book_theorems.proofs.Reading.{is_none-map, reads_account}
-use Rattle.brk_book_theorems.proofs.RunKeeping.{books_command}
-use Rattle.brk_book_theorems.proofs.Same.{All-filter, All-map, All-of, map-same}
-use Rattle.brk_book_theorems.proofs.TermReading.{reads_security}
+use Rattle.brk_trade_books.proofs.Reading.{is_none-map, reads_account}
+use Rattle.brk_trade_books.proofs.RunKeeping.{books_command}
+use Rattle.brk_trade_books.proofs.Same.{All-filter, All-map, All-of, map-same}
+use Rattle.brk_trade_books.proofs.TermReading.{reads_security}
 use Rattle.brk_trade_theorems.proofs.TradePlanning.{refused_step, stamp_read}
-use Rattle.brk_book_theorems.proofs.TradeReading.{reads_trade}
-use Rattle.brk_book_theorems.proofs.Trades.{whole}
-use Rattle.brk_book_theorems.proofs.Volumes.{any-same}
-use Rattle.brk_book_theorems.specs.TradeReads.{AreTradesWithIds}
+use Rattle.brk_trade_books.proofs.TradeReading.{reads_trade}
+use Rattle.brk_trade_books.proofs.Trades.{whole}
+use Rattle.brk_trade_books.proofs.Volumes.{any-same}
+use Rattle.brk_trade_books.specs.TradeReads.{AreTradesWithIds}
 use Rattle.brk_trade_theorems.specs.Corrections.{CashTextsMatchTables, SettlementTextsMatchTables, SelectedTradesMatchTables}
 use Rattle.brk_trade_theorems.specs.Corrections.{UpdateFactsMatchTables, SecurityHasName, PlanUpdatePrecondition, CashTextRow, SettlementTextRow}
 use Rattle.brk_trade_theorems.specs.Corrections.{cash_row_of_trade, cash_text_row_in_tables, cash_text_row_of_typed_row, settlement_text_row_in_tables}

@@ -13,29 +13,29 @@ use Rattle.brk_model.specs.Sheets.{sheets}
 use Rattle.brk_model.specs.Step.{step}
 use Rattle.brk_model.specs.Tables.{Tables}
 use Rattle.brk_model.specs.Tests.{first_refusal, refusal_of_command}
-use Rattle.brk_orders.specs.Records.{abstract_ticks}
-use Rattle.brk_orders.specs.declared.tick.Tick.{Tick}
-use Rattle.brk_changes.specs.Changes.{tables_after_changes}
-use Rattle.brk_plans.specs.Feed as planner
-use Rattle.brk_plans.specs.Feed.{SymbolState, IsFeedPlan, row_changes_of_ticks, has_volume_above_limit, trades_triggered_by_ticks, is_state_of_symbol}
-use Rattle.brk_plans.specs.Feed.{has_no_state_of_symbol, states_after_ticks, IsTickedReply}
-use Rattle.brk_plans.specs.Reference.{later_stamp_check}
-use Rattle.brk_plans.specs.Replies.{abstract_reply}
-use Rattle.brk_changes.specs.declared.change.Change.TheVariants.{SetLastStamp}
-use Rattle.brk_plans.specs.declared.plan.Plan.{Plan}
-use Rattle.brk_plans.specs.declared.reply.Reply.{Reply}
-use Rattle.brk_plans.specs.declared.reply.Reply.TheVariants as reply
-use Rattle.brk_book_theorems.specs.Steps.{base_after_command}
+use Rattle.brk_ref_orders.specs.Records.{abstract_ticks}
+use Rattle.brk_ref_orders.specs.declared.tick.Tick.{Tick}
+use Rattle.brk_trade_rows.specs.Changes.{tables_after_changes}
+use Rattle.brk_trade_plans.specs.Feed as planner
+use Rattle.brk_trade_plans.specs.Feed.{SymbolState, IsFeedPlan, row_changes_of_ticks, has_volume_above_limit, trades_triggered_by_ticks, is_state_of_symbol}
+use Rattle.brk_trade_plans.specs.Feed.{has_no_state_of_symbol, states_after_ticks, IsTickedReply}
+use Rattle.brk_trade_plans.specs.Reference.{later_stamp_check}
+use Rattle.brk_trade_plans.specs.Replies.{abstract_reply}
+use Rattle.brk_trade_rows.specs.declared.change.Change.TheVariants.{SetLastStamp}
+use Rattle.brk_trade_plans.specs.declared.plan.Plan.{Plan}
+use Rattle.brk_trade_plans.specs.declared.reply.Reply.{Reply}
+use Rattle.brk_trade_plans.specs.declared.reply.Reply.TheVariants as reply
+use Rattle.brk_trade_books.specs.Steps.{base_after_command}
 use Rattle.brk_trade_theorems.specs.Plans.{PlanImplementsCommand}
 use Rattle.brk_trade_theorems.specs.TradePlans.{HasQuoteIfSymbolHasLastTrade, PlanFeedPrecondition, HasDistinctQuoteSymbols}
-use Rattle.brk_book_theorems.specs.TradeReads.{last_trade_row_of_symbol}
-use Rattle.brk_book_theorems.specs.Ticks.{is_symbol_volume_above_limit, is_tick_of_unknown_symbol}
+use Rattle.brk_trade_books.specs.TradeReads.{last_trade_row_of_symbol}
+use Rattle.brk_trade_books.specs.Ticks.{is_symbol_volume_above_limit, is_tick_of_unknown_symbol}
 use Rattle.brk_trade_theorems.specs.TradeTests.{feed_checks_on_tables}
-use Rattle.brk_book_theorems.specs.Trading.{trade_ids_triggered_by_feed}
-use Rattle.brk_book_theorems.proofs.Same.{All-map, any-none}
-use Rattle.brk_book_theorems.proofs.Tested.{not_not}
-use Rattle.brk_book_theorems.proofs.Ticks.{base_apart}
-use Rattle.brk_book_theorems.proofs.Bools.{both_ways}
+use Rattle.brk_trade_books.specs.Trading.{trade_ids_triggered_by_feed}
+use Rattle.brk_trade_books.proofs.Same.{All-map, any-none}
+use Rattle.brk_trade_books.proofs.Tested.{not_not}
+use Rattle.brk_trade_books.proofs.Ticks.{base_apart}
+use Rattle.brk_trade_books.proofs.Bools.{both_ways}
 use Rattle.brk_trade_theorems.proofs.TradePlanning.{feed_refusal, feed_done, refused_first, refused_step}
 use Rattle.brk_trade_theorems.proofs.Quotes.{IsHeld, is_held, quote_of}
 use Rattle.brk_trade_theorems.proofs.QuotedTicks.{HaveQuotes, Quoted, after_more, ticks_changes, ticks_ids}

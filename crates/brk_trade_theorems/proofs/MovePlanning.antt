@@ -21,29 +21,29 @@ use Rattle.brk_model.specs.Sheets.{sheets, tables_sorted_by_key}
 use Rattle.brk_model.specs.Step.{reply_to_command, step}
 use Rattle.brk_model.specs.Tables.{AccountRow, MoveRow, Tables, account_row, tables_of_base_in_schema}
 use Rattle.brk_model.specs.Tests.{RefusalCheck, duplicate_check, first_refusal, checks_of_movement, stamp_of_next_command, refusal_of_command, checks_of_command}
-use Rattle.brk_changes.specs.Changes.{tables_after_changes, tables_with_balance, tables_with_last_stamp, tables_with_cash_row, tables_with_one_day_settlement_start}
-use Rattle.brk_changes.specs.Rows.{abstract_move_row}
-use Rattle.brk_changes.specs.declared.change.Change.TheVariants as change
-use Rattle.brk_orders.specs.Records.{cash_movement_command, movement_command}
-use Rattle.brk_orders.specs.declared.movement.Direction.{Direction}
-use Rattle.brk_orders.specs.declared.movement.Direction.TheVariants.{Deposit, Withdrawal}
-use Rattle.brk_orders.specs.declared.movement.Movement.{Movement}
-use Rattle.brk_plans.specs.Movement as planner
-use Rattle.brk_plans.specs.Movement.{IsMovementPlan, row_changes_of_movement, movement_checks, cash_text_of_direction, signed_cash_amount}
-use Rattle.brk_plans.specs.OneDay.{IsOneDaySettlementPlan, later_one_day_settlement_start_check, one_day_settlement_checks}
-use Rattle.brk_plans.specs.Reference.{later_stamp_check}
-use Rattle.brk_plans.specs.Replies.{abstract_reply}
-use Rattle.brk_plans.specs.declared.movement.MovementPlanFacts.{MovementPlanFacts}
-use Rattle.brk_plans.specs.declared.plan.Plan.{Plan}
-use Rattle.brk_book_theorems.specs.Books.{BooksInvariant}
-use Rattle.brk_book_theorems.specs.Movements.{account_balance_after_movement, numbered_cash_row_of_movement, tables_after_movement}
-use Rattle.brk_book_theorems.specs.Steps.{HasTableEffect, IsAcceptedWithEffect, PreservesBooksInvariant, base_after_command}
-use Rattle.brk_book_theorems.proofs.MoveReading.{moves_counted, reads_last_move}
-use Rattle.brk_book_theorems.proofs.Movements.{books_deposit, books_one_day, books_withdrawal, step_deposit, step_one_day, step_withdrawal}
-use Rattle.brk_book_theorems.proofs.Order.{append_nil}
-use Rattle.brk_book_theorems.proofs.Places.{FoundAt, filter-one, find-at}
-use Rattle.brk_book_theorems.proofs.Postings.{postings_moved, total_one}
-use Rattle.brk_book_theorems.proofs.Reading.{is_none-map, reads_account}
+use Rattle.brk_trade_rows.specs.Changes.{tables_after_changes, tables_with_balance, tables_with_last_stamp, tables_with_cash_row, tables_with_one_day_settlement_start}
+use Rattle.brk_trade_rows.specs.Rows.{abstract_move_row}
+use Rattle.brk_trade_rows.specs.declared.change.Change.TheVariants as change
+use Rattle.brk_ref_orders.specs.Records.{cash_movement_command, movement_command}
+use Rattle.brk_ref_orders.specs.declared.movement.Direction.{Direction}
+use Rattle.brk_ref_orders.specs.declared.movement.Direction.TheVariants.{Deposit, Withdrawal}
+use Rattle.brk_ref_orders.specs.declared.movement.Movement.{Movement}
+use Rattle.brk_trade_plans.specs.Movement as planner
+use Rattle.brk_trade_plans.specs.Movement.{IsMovementPlan, row_changes_of_movement, movement_checks, cash_text_of_direction, signed_cash_amount}
+use Rattle.brk_trade_plans.specs.OneDay.{IsOneDaySettlementPlan, later_one_day_settlement_start_check, one_day_settlement_checks}
+use Rattle.brk_trade_plans.specs.Reference.{later_stamp_check}
+use Rattle.brk_trade_plans.specs.Replies.{abstract_reply}
+use Rattle.brk_trade_plans.specs.declared.movement.MovementPlanFacts.{MovementPlanFacts}
+use Rattle.brk_trade_plans.specs.declared.plan.Plan.{Plan}
+use Rattle.brk_trade_books.specs.Books.{BooksInvariant}
+use Rattle.brk_trade_books.specs.Movements.{account_balance_after_movement, numbered_cash_row_of_movement, tables_after_movement}
+use Rattle.brk_trade_books.specs.Steps.{HasTableEffect, IsAcceptedWithEffect, PreservesBooksInvariant, base_after_command}
+use Rattle.brk_trade_books.proofs.MoveReading.{moves_counted, reads_last_move}
+use Rattle.brk_trade_books.proofs.Movements.{books_deposit, books_one_day, books_withdrawal, step_deposit, step_one_day, step_withdrawal}
+use Rattle.brk_trade_books.proofs.Order.{append_nil}
+use Rattle.brk_trade_books.proofs.Places.{FoundAt, filter-one, find-at}
+use Rattle.brk_trade_books.proofs.Postings.{postings_moved, total_one}
+use Rattle.brk_trade_books.proofs.Reading.{is_none-map, reads_account}
 use Rattle.brk_trade_theorems.specs.MovePlans.{MovementFactsMatchTables, PlanMovementPrecondition, PlanOneDaySettlementPrecondition}
 use Rattle.brk_trade_theorems.specs.Plans.{PlanImplementsCommand}
 use Rattle.brk_trade_theorems.proofs.OrderFinding.{Alike, same_first}

@@ -2,8 +2,8 @@
 use Rattle.std.proofs.Common.{◌≡◌, ℕ, ◌+◌, Bool, true, false, not, cond, List, [], ◌∷◌, ◌++◌, refl, sym, ◌∙◌, ap, length, Option, Some, None}
 use Rattle.std.specs.Prelude.{nat_le, nat_lt, option_map, unwrap_or, Ok, Err}
 use Rattle.std.specs.Option.{option_map_or}
-use Rattle.brk_plans.specs.Replies.{estimate_from_model}
-use Rattle.brk_plans.specs.declared.estimate.Estimate.{Estimate}
+use Rattle.brk_trade_plans.specs.Replies.{estimate_from_model}
+use Rattle.brk_trade_plans.specs.declared.estimate.Estimate.{Estimate}
 use Rattle.brk_trade.specs.declared.estimate.Terms.{Terms}
 use Rattle.brk_lots.specs.declared.lot.Lot.{Lot}
 use Rattle.brk_model.specs.Ask.{view_of_base, ask, checks_of_query}
@@ -27,32 +27,32 @@ use Rattle.brk_money.specs.Moments.{greatest_stamp, stamp_after}
 use Rattle.brk_money.specs.declared.refusal.Limit.TheVariants as limit
 use Rattle.brk_money.specs.declared.refusal.Refusal.{Refusal}
 use Rattle.brk_money.specs.declared.refusal.Refusal.TheVariants.{Range, ClockEnd}
-use Rattle.brk_orders.specs.Records.{abstract_order}
-use Rattle.brk_orders.specs.declared.order.Order.{Order}
-use Rattle.brk_changes.specs.Changes.{tables_after_changes, tables_with_history_row, tables_with_last_stamp, tables_with_request, tables_with_trade}
+use Rattle.brk_ref_orders.specs.Records.{abstract_order}
+use Rattle.brk_ref_orders.specs.declared.order.Order.{Order}
+use Rattle.brk_trade_rows.specs.Changes.{tables_after_changes, tables_with_history_row, tables_with_last_stamp, tables_with_request, tables_with_trade}
 use Rattle.brk_trade.specs.Orders.{EstimatesCheckedOrder, IsOrderPlan, row_changes_of_order, next_trade_id, order_checks, request_row_of_order, terms_of_order, trade_row_of_order, free_trade_id_check}
-use Rattle.brk_plans.specs.Reference.{later_stamp_check}
-use Rattle.brk_plans.specs.Replies.{abstract_estimate, abstract_reply}
-use Rattle.brk_changes.specs.Rows.{abstract_request_row, abstract_trade_row}
+use Rattle.brk_trade_plans.specs.Reference.{later_stamp_check}
+use Rattle.brk_trade_plans.specs.Replies.{abstract_estimate, abstract_reply}
+use Rattle.brk_trade_rows.specs.Rows.{abstract_request_row, abstract_trade_row}
 use Rattle.brk_trade.specs.declared.order.OrderPlanFacts.{OrderPlanFacts}
-use Rattle.brk_plans.specs.declared.plan.Plan.{Plan}
-use Rattle.brk_changes.specs.declared.request_row.RequestRow.{RequestRow}
-use Rattle.brk_changes.specs.declared.trade_row.TradeRow.{TradeRow}
-use Rattle.brk_book_theorems.specs.Books.{BooksInvariant}
+use Rattle.brk_trade_plans.specs.declared.plan.Plan.{Plan}
+use Rattle.brk_trade_rows.specs.declared.request_row.RequestRow.{RequestRow}
+use Rattle.brk_trade_rows.specs.declared.trade_row.TradeRow.{TradeRow}
+use Rattle.brk_trade_books.specs.Books.{BooksInvariant}
 use Rattle.brk_trade_theorems.specs.OrderPlans.{OrderPositionLotsSatisfy, EstimateFactsMatchTables, OrderFactsMatchTables, PlanOrderPrecondition}
 use Rattle.brk_trade_theorems.specs.Plans.{PlanImplementsCommand}
-use Rattle.brk_book_theorems.specs.Steps.{IsAcceptedWithEffect, base_after_command}
-use Rattle.brk_book_theorems.specs.TradeReads.{lots_of_position}
-use Rattle.brk_book_theorems.specs.Trading.{tables_after_order, request_row_of_pending_trade, tables_with_request_if_pending, history_row_of_status}
-use Rattle.brk_book_theorems.proofs.Holding.{lots_given}
-use Rattle.brk_book_theorems.proofs.LotOrder.{shares_read}
+use Rattle.brk_trade_books.specs.Steps.{IsAcceptedWithEffect, base_after_command}
+use Rattle.brk_trade_books.specs.TradeReads.{lots_of_position}
+use Rattle.brk_trade_books.specs.Trading.{tables_after_order, request_row_of_pending_trade, tables_with_request_if_pending, history_row_of_status}
+use Rattle.brk_trade_books.proofs.Holding.{lots_given}
+use Rattle.brk_trade_books.proofs.LotOrder.{shares_read}
 use Rattle.brk_trade_theorems.proofs.OrderFinding.{AllFound, all_found, all_passed, terms_read, tests_read}
 use Rattle.brk_trade_theorems.proofs.Planning.{clock_read}
-use Rattle.brk_book_theorems.proofs.Tested.{none_refuse}
-use Rattle.brk_book_theorems.proofs.TradeKeepers.{books_order}
+use Rattle.brk_trade_books.proofs.Tested.{none_refuse}
+use Rattle.brk_trade_books.proofs.TradeKeepers.{books_order}
 use Rattle.brk_trade_theorems.proofs.TradePlanning.{is_done, refused_step, stamp_read}
-use Rattle.brk_book_theorems.proofs.TradeReading.{reads_number}
-use Rattle.brk_book_theorems.proofs.Trades.{step_order}
+use Rattle.brk_trade_books.proofs.TradeReading.{reads_number}
+use Rattle.brk_trade_books.proofs.Trades.{step_order}
 
 -- ---- the refusal
 

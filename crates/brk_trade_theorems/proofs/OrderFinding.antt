@@ -20,27 +20,27 @@ use Rattle.brk_money.specs.OrderTypes.{trade_type_of_order_type, price_of_order_
 use Rattle.brk_money.specs.declared.refusal.Refusal.{Refusal}
 use Rattle.brk_money.specs.declared.refusal.Refusal.TheVariants.{NoAccount, NoSecurity, NotPermitted, NoCharge, NoRate}
 use Rattle.brk_money.specs.declared.tax_status.TaxStatus.TheVariants.{Untaxed}
-use Rattle.brk_orders.specs.Records.{abstract_order}
-use Rattle.brk_orders.specs.declared.order.Order.{Order}
+use Rattle.brk_ref_orders.specs.Records.{abstract_order}
+use Rattle.brk_ref_orders.specs.declared.order.Order.{Order}
 use Rattle.brk_ref.specs.Records.{abstract_executor}
 use Rattle.brk_trade.specs.Orders.{order_checks, terms_of_order}
 use Rattle.brk_trade.specs.declared.order.OrderPlanFacts.{OrderPlanFacts}
 use Rattle.brk_model.specs.Names.{CustomerOfAccountExists}
 use Rattle.brk_lots.specs.Books.{lot_quantity_sum}
-use Rattle.brk_book_theorems.specs.Books.{BooksInvariant}
-use Rattle.brk_book_theorems.specs.OrderReads.{CustomerOfAccountSatisfies, charge_of_type_and_tier}
+use Rattle.brk_trade_books.specs.Books.{BooksInvariant}
+use Rattle.brk_trade_books.specs.OrderReads.{CustomerOfAccountSatisfies, charge_of_type_and_tier}
 use Rattle.brk_trade_theorems.specs.OrderPlans.{EstimateFactsMatchTables, PassesFirstOrderChecks, order_account_of_row}
-use Rattle.brk_book_theorems.specs.Reads.{customer_tax_rate_sum}
-use Rattle.brk_book_theorems.specs.TradeReads.{commission_band_of_quantity, permission_list_for_tax_id, lots_of_position}
-use Rattle.brk_book_theorems.proofs.Holding.{held_read, total_is}
-use Rattle.brk_book_theorems.proofs.Same.{find-All}
-use Rattle.brk_book_theorems.proofs.Places.{some_of}
-use Rattle.brk_book_theorems.proofs.Reading.{is_none-map, reads_account, reads_customer}
-use Rattle.brk_book_theorems.proofs.TermReading.{reads_charge, reads_last_trade, reads_rates, reads_security}
-use Rattle.brk_book_theorems.proofs.Permitting.{reads_named}
-use Rattle.brk_book_theorems.proofs.BandReading.{reads_band}
-use Rattle.brk_book_theorems.proofs.Tested.{none_refuse, not_not}
-use Rattle.brk_book_theorems.proofs.Worth.{reads_assets}
+use Rattle.brk_trade_books.specs.Reads.{customer_tax_rate_sum}
+use Rattle.brk_trade_books.specs.TradeReads.{commission_band_of_quantity, permission_list_for_tax_id, lots_of_position}
+use Rattle.brk_trade_books.proofs.Holding.{held_read, total_is}
+use Rattle.brk_trade_books.proofs.Same.{find-All}
+use Rattle.brk_trade_books.proofs.Places.{some_of}
+use Rattle.brk_trade_books.proofs.Reading.{is_none-map, reads_account, reads_customer}
+use Rattle.brk_trade_books.proofs.TermReading.{reads_charge, reads_last_trade, reads_rates, reads_security}
+use Rattle.brk_trade_books.proofs.Permitting.{reads_named}
+use Rattle.brk_trade_books.proofs.BandReading.{reads_band}
+use Rattle.brk_trade_books.proofs.Tested.{none_refuse, not_not}
+use Rattle.brk_trade_books.proofs.Worth.{reads_assets}
 
 -- ---- an account that is there, with its customer
 

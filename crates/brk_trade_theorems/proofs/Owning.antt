@@ -12,13 +12,13 @@ use Rattle.brk_model.specs.Names.{TradesAreNumberedFrom}
 use Rattle.brk_model.specs.Records.{Movement, Trade}
 use Rattle.brk_model.specs.Sheets.{sheets, tables_sorted_by_key}
 use Rattle.brk_model.specs.Tables.{MoveRow, settlement_row, tables_of_base_in_schema, trade_row}
-use Rattle.brk_book_theorems.proofs.Bools.{numbers_back}
-use Rattle.brk_book_theorems.proofs.MoveReading.{rows_posted, turn_filter}
-use Rattle.brk_book_theorems.proofs.Numbering.{numbered_after}
-use Rattle.brk_book_theorems.proofs.Places.{filter-append}
-use Rattle.brk_book_theorems.proofs.Reading.{find-id, find-map}
-use Rattle.brk_book_theorems.proofs.Same.{All-filter, All-map, NonePass}
-use Rattle.brk_book_theorems.proofs.TradeReading.{reads_trade}
+use Rattle.brk_trade_books.proofs.Bools.{numbers_back}
+use Rattle.brk_trade_books.proofs.MoveReading.{rows_posted, turn_filter}
+use Rattle.brk_trade_books.proofs.Numbering.{numbered_after}
+use Rattle.brk_trade_books.proofs.Places.{filter-append}
+use Rattle.brk_trade_books.proofs.Reading.{find-id, find-map}
+use Rattle.brk_trade_books.proofs.Same.{All-filter, All-map, NonePass}
+use Rattle.brk_trade_books.proofs.TradeReading.{reads_trade}
 use Rattle.brk_trade_theorems.specs.Corrections.{cash_row_of_trade, settlement_row_of_trade}
 use Rattle.brk_trade_theorems.proofs.Through.{All-both, filter-map}
 

@@ -14,25 +14,25 @@ use Rattle.brk_model.specs.Sheets.{sheets}
 use Rattle.brk_model.specs.Commands.{Booked}
 use Rattle.brk_model.specs.Tests.{checks_of_command, refusal_of_command, first_refusal, duplicate_check, stamp_of_next_command}
 use Rattle.brk_model.specs.Step.{reply_to_command, step, value_unless_refused}
-use Rattle.brk_changes.specs.Changes.{tables_after_changes}
-use Rattle.brk_plans.specs.Reference.{IsReferencePlan, later_stamp_check, is_sum_above_greatest_tax_rate, row_changes_adding_record, reference_checks}
-use Rattle.brk_changes.specs.declared.change.Change.TheVariants as change
-use Rattle.brk_plans.specs.declared.plan.Plan.{Plan}
-use Rattle.brk_plans.specs.declared.reference.ReferenceFacts.{ReferenceFacts}
-use Rattle.brk_plans.specs.declared.reference.Reference.{Reference}
-use Rattle.brk_plans.specs.declared.reference.Reference.TheVariants as reference
+use Rattle.brk_trade_rows.specs.Changes.{tables_after_changes}
+use Rattle.brk_trade_plans.specs.Reference.{IsReferencePlan, later_stamp_check, is_sum_above_greatest_tax_rate, row_changes_adding_record, reference_checks}
+use Rattle.brk_trade_rows.specs.declared.change.Change.TheVariants as change
+use Rattle.brk_trade_plans.specs.declared.plan.Plan.{Plan}
+use Rattle.brk_trade_plans.specs.declared.reference.ReferenceFacts.{ReferenceFacts}
+use Rattle.brk_trade_plans.specs.declared.reference.Reference.{Reference}
+use Rattle.brk_trade_plans.specs.declared.reference.Reference.TheVariants as reference
 use Rattle.brk_ref.specs.Records.{abstract_broker, abstract_customer, abstract_account, abstract_permission, abstract_listing, abstract_charge, abstract_band, abstract_tax_rate, abstract_customer_tax}
-use Rattle.brk_book_theorems.specs.Books.{BooksInvariant}
-use Rattle.brk_book_theorems.specs.Reads.{customer_tax_rate_sum}
-use Rattle.brk_plans.specs.Replies.{abstract_reply}
-use Rattle.brk_plans.specs.Commands.{command_adding_record}
-use Rattle.brk_book_theorems.specs.Steps.{base_after_command, PreservesBooksInvariant}
+use Rattle.brk_trade_books.specs.Books.{BooksInvariant}
+use Rattle.brk_trade_books.specs.Reads.{customer_tax_rate_sum}
+use Rattle.brk_trade_plans.specs.Replies.{abstract_reply}
+use Rattle.brk_trade_plans.specs.Commands.{command_adding_record}
+use Rattle.brk_trade_books.specs.Steps.{base_after_command, PreservesBooksInvariant}
 use Rattle.brk_trade_theorems.specs.Plans.{PlanReferencePrecondition, PlanImplementsCommand}
-use Rattle.brk_book_theorems.proofs.Reading.{is_none-map, reads_has_broker, reads_has_customer, reads_same_customer, reads_tax_id, reads_has_account, reads_count, reads_last}
-use Rattle.brk_book_theorems.proofs.TermReading.{reads_has_permission, reads_has_security, reads_has_charge, reads_overlap, reads_has_tax_rate, reads_pays_tax, reads_rate, reads_rates, map-or}
-use Rattle.brk_book_theorems.proofs.Stamps.{stamp_left, stamp_is}
-use Rattle.brk_book_theorems.proofs.Steps.{step_broker, step_customer, step_account, step_permission, step_security, step_charge, step_band, step_tax_rate, step_customer_tax}
-use Rattle.brk_book_theorems.proofs.Keepers.{books_broker, books_customer, books_account, books_permission, books_security, books_charge, books_band, books_tax_rate, books_customer_tax}
+use Rattle.brk_trade_books.proofs.Reading.{is_none-map, reads_has_broker, reads_has_customer, reads_same_customer, reads_tax_id, reads_has_account, reads_count, reads_last}
+use Rattle.brk_trade_books.proofs.TermReading.{reads_has_permission, reads_has_security, reads_has_charge, reads_overlap, reads_has_tax_rate, reads_pays_tax, reads_rate, reads_rates, map-or}
+use Rattle.brk_trade_books.proofs.Stamps.{stamp_left, stamp_is}
+use Rattle.brk_trade_books.proofs.Steps.{step_broker, step_customer, step_account, step_permission, step_security, step_charge, step_band, step_tax_rate, step_customer_tax}
+use Rattle.brk_trade_books.proofs.Keepers.{books_broker, books_customer, books_account, books_permission, books_security, books_charge, books_band, books_tax_rate, books_customer_tax}
 
 pub clock_read : (base : Base) (last : Option ℕ) (now : ℕ) → BooksInvariant base → last ≡ (sheets base).last → now ≤ greatest_stamp
     → is_none (stamp_after last now) ≡ nat_lt greatest_stamp (stamp_of_next_command base now)

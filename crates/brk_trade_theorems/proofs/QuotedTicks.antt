@@ -8,28 +8,28 @@ use Rattle.brk_money.specs.Spelling.{Text}
 use Rattle.brk_money.specs.declared.status.Status.TheVariants.{Submitted}
 use Rattle.brk_model.specs.Feed.{is_triggering_price}
 use Rattle.brk_model.specs.Tables.{Tables, RequestRow}
-use Rattle.brk_orders.specs.Records.{abstract_tick, abstract_ticks}
-use Rattle.brk_orders.specs.declared.tick.Tick.{Tick}
+use Rattle.brk_ref_orders.specs.Records.{abstract_tick, abstract_ticks}
+use Rattle.brk_ref_orders.specs.declared.tick.Tick.{Tick}
 use Rattle.brk_ref.specs.Records.{abstract_last_trade_row}
-use Rattle.brk_changes.specs.Changes.{tables_after_changes, tables_with_last_trade_replaced}
-use Rattle.brk_plans.specs.Feed.{SymbolState, row_changes_of_tick_on_state, row_changes_of_tick, row_changes_of_ticks, trades_triggered_by_tick}
-use Rattle.brk_plans.specs.Feed.{trades_triggered_by_ticks, is_state_of_symbol, is_request_triggered, last_trade_after_tick, state_after_tick}
-use Rattle.brk_plans.specs.Feed.{states_after_tick, row_changes_of_submissions, trades_triggered_at_price, requests_not_triggered_at_price}
-use Rattle.brk_plans.specs.declared.span.Span.{Span}
-use Rattle.brk_changes.specs.Rows.{abstract_request_row}
-use Rattle.brk_changes.specs.declared.change.Change.{Change}
-use Rattle.brk_changes.specs.declared.request_row.RequestRow as request
-use Rattle.brk_book_theorems.specs.TradeReads.{last_trade_row_of_symbol, requests_of_symbol}
-use Rattle.brk_book_theorems.specs.Trading.{trade_ids_triggered_by_feed, tables_after_feed, trade_ids_triggered_by_tick, is_triggered_request}
-use Rattle.brk_book_theorems.specs.Trading.{tables_after_change_from_pending, last_trade_row_after_tick, tables_with_trades_submitted, tables_after_tick}
-use Rattle.brk_book_theorems.specs.Trading.{tables_with_last_trade_after_tick}
+use Rattle.brk_trade_rows.specs.Changes.{tables_after_changes, tables_with_last_trade_replaced}
+use Rattle.brk_trade_plans.specs.Feed.{SymbolState, row_changes_of_tick_on_state, row_changes_of_tick, row_changes_of_ticks, trades_triggered_by_tick}
+use Rattle.brk_trade_plans.specs.Feed.{trades_triggered_by_ticks, is_state_of_symbol, is_request_triggered, last_trade_after_tick, state_after_tick}
+use Rattle.brk_trade_plans.specs.Feed.{states_after_tick, row_changes_of_submissions, trades_triggered_at_price, requests_not_triggered_at_price}
+use Rattle.brk_trade_plans.specs.declared.span.Span.{Span}
+use Rattle.brk_trade_rows.specs.Rows.{abstract_request_row}
+use Rattle.brk_trade_rows.specs.declared.change.Change.{Change}
+use Rattle.brk_trade_rows.specs.declared.request_row.RequestRow as request
+use Rattle.brk_trade_books.specs.TradeReads.{last_trade_row_of_symbol, requests_of_symbol}
+use Rattle.brk_trade_books.specs.Trading.{trade_ids_triggered_by_feed, tables_after_feed, trade_ids_triggered_by_tick, is_triggered_request}
+use Rattle.brk_trade_books.specs.Trading.{tables_after_change_from_pending, last_trade_row_after_tick, tables_with_trades_submitted, tables_after_tick}
+use Rattle.brk_trade_books.specs.Trading.{tables_with_last_trade_after_tick}
 use Rattle.brk_trade_theorems.specs.TradePlans.{HasDistinctQuoteSymbols}
-use Rattle.brk_book_theorems.proofs.Bools.{same_text}
-use Rattle.brk_book_theorems.proofs.Same.{NonePass, All-map, All-of, filter-same}
-use Rattle.brk_book_theorems.proofs.Places.{All-updated, filter-all}
-use Rattle.brk_book_theorems.proofs.LotReading.{filter-swap}
-use Rattle.brk_book_theorems.proofs.References.{append_nil}
-use Rattle.brk_book_theorems.proofs.Ticks.{AreApart, filter-filter, tick_last, tick_symbol, tick_apart}
+use Rattle.brk_trade_books.proofs.Bools.{same_text}
+use Rattle.brk_trade_books.proofs.Same.{NonePass, All-map, All-of, filter-same}
+use Rattle.brk_trade_books.proofs.Places.{All-updated, filter-all}
+use Rattle.brk_trade_books.proofs.LotReading.{filter-swap}
+use Rattle.brk_trade_books.proofs.References.{append_nil}
+use Rattle.brk_trade_books.proofs.Ticks.{AreApart, filter-filter, tick_last, tick_symbol, tick_apart}
 use Rattle.brk_trade_theorems.proofs.Quotes.{IsHeld, QuoteOf, quote_of}
 use Rattle.brk_trade_theorems.proofs.Waiting.{is_within, may, triggered_may}
 

@@ -11,20 +11,20 @@ use Rattle.brk_model.specs.Lists.{update_where}
 use Rattle.brk_model.specs.Records.{Security}
 use Rattle.brk_model.specs.Sheets.{sheets}
 use Rattle.brk_model.specs.Tables.{Tables, last_trade_row}
-use Rattle.brk_orders.specs.Records.{abstract_tick, abstract_ticks}
-use Rattle.brk_orders.specs.declared.tick.Tick.{Tick}
+use Rattle.brk_ref_orders.specs.Records.{abstract_tick, abstract_ticks}
+use Rattle.brk_ref_orders.specs.declared.tick.Tick.{Tick}
 use Rattle.brk_ref.specs.Records.{abstract_last_trade_row}
-use Rattle.brk_plans.specs.Feed.{SymbolState, has_volume_above_limit, is_state_of_symbol, state_after_tick, states_after_ticks, states_after_tick}
-use Rattle.brk_book_theorems.specs.Books.{BooksInvariant, HasDistinctSymbols, HasVolumeWithinLimit}
-use Rattle.brk_book_theorems.specs.TradeReads.{volume_of_symbol}
+use Rattle.brk_trade_plans.specs.Feed.{SymbolState, has_volume_above_limit, is_state_of_symbol, state_after_tick, states_after_ticks, states_after_tick}
+use Rattle.brk_trade_books.specs.Books.{BooksInvariant, HasDistinctSymbols, HasVolumeWithinLimit}
+use Rattle.brk_trade_books.specs.TradeReads.{volume_of_symbol}
 use Rattle.brk_trade_theorems.specs.TradePlans.{HasDistinctQuoteSymbols}
-use Rattle.brk_book_theorems.specs.Ticks.{is_symbol_volume_above_limit, tick_quantity_sum_of_symbol}
-use Rattle.brk_book_theorems.proofs.Same.{All-map, All-mapped, find-All}
-use Rattle.brk_book_theorems.proofs.Reading.{find-map, is_some-map, some-is-any}
-use Rattle.brk_book_theorems.proofs.TermReading.{reads_last_trade}
-use Rattle.brk_book_theorems.proofs.TradeReading.{reads_volume}
-use Rattle.brk_book_theorems.proofs.Feeding.{KnowsTicks}
-use Rattle.brk_book_theorems.proofs.Volumes.{reads_exceeds}
+use Rattle.brk_trade_books.specs.Ticks.{is_symbol_volume_above_limit, tick_quantity_sum_of_symbol}
+use Rattle.brk_trade_books.proofs.Same.{All-map, All-mapped, find-All}
+use Rattle.brk_trade_books.proofs.Reading.{find-map, is_some-map, some-is-any}
+use Rattle.brk_trade_books.proofs.TermReading.{reads_last_trade}
+use Rattle.brk_trade_books.proofs.TradeReading.{reads_volume}
+use Rattle.brk_trade_books.proofs.Feeding.{KnowsTicks}
+use Rattle.brk_trade_books.proofs.Volumes.{reads_exceeds}
 use Rattle.brk_trade_theorems.proofs.Quotes.{IsHeld, quote_of, quote_volume}
 use Rattle.brk_trade_theorems.proofs.QuotedTicks.{HaveQuotes}
 

@@ -8,21 +8,21 @@ use Rattle.brk_money.specs.Spelling.{Text}
 use Rattle.brk_model.specs.Base.{Base}
 use Rattle.brk_model.specs.Sheets.{sheets}
 use Rattle.brk_model.specs.Tables.{Tables, LastTradeRow, RequestRow}
-use Rattle.brk_orders.specs.declared.tick.Tick.{Tick}
+use Rattle.brk_ref_orders.specs.declared.tick.Tick.{Tick}
 use Rattle.brk_ref.specs.Records.{abstract_last_trade_row}
-use Rattle.brk_plans.specs.Feed.{SymbolState, states_of_quotes, state_of_quote, is_state_of_symbol, price_span_of_first_symbol}
-use Rattle.brk_changes.specs.Rows.{abstract_request_row}
-use Rattle.brk_changes.specs.declared.request_row.RequestRow as request
-use Rattle.brk_plans.specs.declared.quote.Quote.{Quote}
-use Rattle.brk_plans.specs.declared.span.Span.{Span}
-use Rattle.brk_book_theorems.specs.Books.{BooksInvariant}
-use Rattle.brk_book_theorems.specs.TradeReads.{last_trade_row_of_symbol, requests_of_symbol, volume_of_symbol}
+use Rattle.brk_trade_plans.specs.Feed.{SymbolState, states_of_quotes, state_of_quote, is_state_of_symbol, price_span_of_first_symbol}
+use Rattle.brk_trade_rows.specs.Rows.{abstract_request_row}
+use Rattle.brk_trade_rows.specs.declared.request_row.RequestRow as request
+use Rattle.brk_trade_plans.specs.declared.quote.Quote.{Quote}
+use Rattle.brk_trade_plans.specs.declared.span.Span.{Span}
+use Rattle.brk_trade_books.specs.Books.{BooksInvariant}
+use Rattle.brk_trade_books.specs.TradeReads.{last_trade_row_of_symbol, requests_of_symbol, volume_of_symbol}
 use Rattle.brk_trade_theorems.specs.TradePlans.{AreQuotesOfTicks, IsQuoteOfTick, IsQuoteOfSomeTick, HasQuoteIfSymbolHasLastTrade, HasDistinctQuoteSymbols}
-use Rattle.brk_book_theorems.proofs.Bools.{same_text, texts_back}
-use Rattle.brk_book_theorems.proofs.Same.{NonePass, All-append, All-map, any-none, filter-none, find-All, map-last}
-use Rattle.brk_book_theorems.proofs.Places.{FoundAt, filter-one, find-at, some_of}
-use Rattle.brk_book_theorems.proofs.Reading.{some-is-any}
-use Rattle.brk_book_theorems.proofs.Orders.{ascends, ascends_map}
+use Rattle.brk_trade_books.proofs.Bools.{same_text, texts_back}
+use Rattle.brk_trade_books.proofs.Same.{NonePass, All-append, All-map, any-none, filter-none, find-All, map-last}
+use Rattle.brk_trade_books.proofs.Places.{FoundAt, filter-one, find-at, some_of}
+use Rattle.brk_trade_books.proofs.Reading.{some-is-any}
+use Rattle.brk_trade_books.proofs.Orders.{ascends, ascends_map}
 use Rattle.brk_trade_theorems.proofs.Waiting.{Spans, in_order, may, span_spans}
 
 -- ---- tests

@@ -30,40 +30,40 @@ use Rattle.brk_money.specs.Spelling.{Text}
 use Rattle.brk_money.specs.declared.side.Side.{Side}
 use Rattle.brk_money.specs.declared.side.Side.TheVariants.{Buy, Sell}
 use Rattle.brk_money.specs.declared.status.Status.TheVariants.{Completed}
-use Rattle.brk_changes.specs.Changes.{tables_after_change, tables_after_changes, tables_with_balance, tables_with_broker_totals, tables_with_trade_completed}
-use Rattle.brk_changes.specs.Changes.{tables_with_history_row, tables_with_last_stamp, tables_with_lot_change, tables_with_cash_row, tables_with_settlement}
+use Rattle.brk_trade_rows.specs.Changes.{tables_after_change, tables_after_changes, tables_with_balance, tables_with_broker_totals, tables_with_trade_completed}
+use Rattle.brk_trade_rows.specs.Changes.{tables_with_history_row, tables_with_last_stamp, tables_with_lot_change, tables_with_cash_row, tables_with_settlement}
 use Rattle.brk_trade.specs.Outcomes.{deal_of_trade_row, figures_of_result, result_checks, shares_held_after_trade}
-use Rattle.brk_plans.specs.Replies.{abstract_reply}
+use Rattle.brk_trade_plans.specs.Replies.{abstract_reply}
 use Rattle.brk_trade.specs.Results as planner
 use Rattle.brk_trade.specs.Results.{CompletesExistingTrade, row_changes_of_cash_row, row_changes_of_result, first_cash_type_of_trade, row_changes_of_opened_lot}
 use Rattle.brk_trade.specs.Results.{summary_broker_settlement_changes, row_change_of_summary, row_changes_of_touched_lot, row_changes_of_completed_trade}
-use Rattle.brk_changes.specs.Rows.{cash_type_text, abstract_move_row, abstract_trade_row}
-use Rattle.brk_changes.specs.declared.move_row.MoveRow.{MoveRow}
-use Rattle.brk_changes.specs.declared.change.Change.{Change}
-use Rattle.brk_changes.specs.declared.change.Change.TheVariants as change
+use Rattle.brk_trade_rows.specs.Rows.{cash_type_text, abstract_move_row, abstract_trade_row}
+use Rattle.brk_trade_rows.specs.declared.move_row.MoveRow.{MoveRow}
+use Rattle.brk_trade_rows.specs.declared.change.Change.{Change}
+use Rattle.brk_trade_rows.specs.declared.change.Change.TheVariants as change
 use Rattle.brk_trade.specs.declared.outcome.ResultFigures.{ResultFigures}
 use Rattle.brk_trade.specs.declared.result_found.ResultPlanFacts.{ResultPlanFacts}
-use Rattle.brk_plans.specs.declared.plan.Plan.{Plan}
-use Rattle.brk_plans.specs.declared.reply.Reply.TheVariants as reply
-use Rattle.brk_changes.specs.declared.summary_row.SummaryRow as summary
-use Rattle.brk_changes.specs.declared.trade_row.TradeRow as planned
-use Rattle.brk_book_theorems.specs.Books.{BooksInvariant}
+use Rattle.brk_trade_plans.specs.declared.plan.Plan.{Plan}
+use Rattle.brk_trade_plans.specs.declared.reply.Reply.TheVariants as reply
+use Rattle.brk_trade_rows.specs.declared.summary_row.SummaryRow as summary
+use Rattle.brk_trade_rows.specs.declared.trade_row.TradeRow as planned
+use Rattle.brk_trade_books.specs.Books.{BooksInvariant}
 use Rattle.brk_trade_theorems.specs.Plans.{PlanImplementsCommand}
-use Rattle.brk_book_theorems.specs.Steps.{IsAcceptedWithEffect, base_after_command}
+use Rattle.brk_trade_books.specs.Steps.{IsAcceptedWithEffect, base_after_command}
 use Rattle.brk_trade_theorems.specs.ResultPlans.{PlanResultPrecondition, PassesFirstResultChecks}
-use Rattle.brk_book_theorems.specs.Results.{tables_with_cash_row_if_cash_trade, tables_with_trade_completed_and_history, tables_with_lots_opened}
-use Rattle.brk_book_theorems.specs.Results.{tables_after_result, result_rows_of_trade, tables_with_summary_changed, tables_with_lots_touched}
-use Rattle.brk_book_theorems.specs.TradeReads.{lots_of_position, summary_row_if_nonzero, summary_row_of_position}
-use Rattle.brk_book_theorems.specs.Trading.{history_row_of_status}
+use Rattle.brk_trade_books.specs.Results.{tables_with_cash_row_if_cash_trade, tables_with_trade_completed_and_history, tables_with_lots_opened}
+use Rattle.brk_trade_books.specs.Results.{tables_after_result, result_rows_of_trade, tables_with_summary_changed, tables_with_lots_touched}
+use Rattle.brk_trade_books.specs.TradeReads.{lots_of_position, summary_row_if_nonzero, summary_row_of_position}
+use Rattle.brk_trade_books.specs.Trading.{history_row_of_status}
 use Rattle.brk_trade_theorems.proofs.QuotedTicks.{after_more}
 use Rattle.brk_trade_theorems.proofs.ResultFinding.{TradeFound, amount_read, balance_read, broker_found, commission_read, commissions_read, held_found}
 use Rattle.brk_trade_theorems.proofs.ResultFinding.{account_found, next_found, passes_rate, passes_status, passes_summary, result_refusal, result_values}
 use Rattle.brk_trade_theorems.proofs.ResultFinding.{rule_found, security_found, summary_found, summary_read, tax_read, trade_found}
-use Rattle.brk_book_theorems.proofs.ResultKeeping.{Found, books_result, found_at, step_result, submitted}
-use Rattle.brk_book_theorems.proofs.ResultRows.{IsResult, moment_then}
-use Rattle.brk_book_theorems.proofs.ResultSums.{count_grows}
-use Rattle.brk_book_theorems.proofs.Summaries.{reads_summary_row}
-use Rattle.brk_book_theorems.proofs.Tested.{none_refuse}
+use Rattle.brk_trade_books.proofs.ResultKeeping.{Found, books_result, found_at, step_result, submitted}
+use Rattle.brk_trade_books.proofs.ResultRows.{IsResult, moment_then}
+use Rattle.brk_trade_books.proofs.ResultSums.{count_grows}
+use Rattle.brk_trade_books.proofs.Summaries.{reads_summary_row}
+use Rattle.brk_trade_books.proofs.Tested.{none_refuse}
 use Rattle.brk_trade_theorems.proofs.TradePlanning.{is_done, stamp_read}
 use Rattle.brk_trade_theorems.proofs.ResultRefusing.{at_market, deal_read, held_by_row, lots_met, lots_shares, trade_of}
 

@@ -4,7 +4,7 @@ use Rattle.std.specs.Prelude.{is_some, is_none, nat_abs, nat_lt, option_map, unw
 use Rattle.std.specs.Option.{option_map_or}
 use Rattle.std.proofs.lemmas.Bool.{eqb-true}
 use Rattle.brk_lots.specs.Values.{closing_values_of_deal}
-use Rattle.brk_closing.specs.declared.values.Values.{Values}
+use Rattle.brk_lots.specs.declared.closed_values.Values.{Values}
 use Rattle.brk_model.specs.Base as base_spec
 use Rattle.brk_model.specs.Base.{Base, commission_band_for_quantity, is_taxable_status, broker_id_of_account, broker_with_id, completed_trades}
 use Rattle.brk_model.specs.Base.{customer_id_of_account, exchange_of_security, has_last_status, last_status_change, security_name, security_with_symbol}
@@ -31,28 +31,28 @@ use Rattle.brk_money.specs.declared.status.Status.TheVariants.{Canceled, Submitt
 use Rattle.brk_money.specs.declared.tax_status.TaxStatus.TheVariants.{Untaxed}
 use Rattle.brk_trade.specs.Outcomes.{settlement_amount_of_result, balance_after_result, commission_of_result, broker_commissions_after_result, due_day_check}
 use Rattle.brk_trade.specs.Outcomes.{result_checks, shares_held_after_trade, tax_of_result}
-use Rattle.brk_changes.specs.Rows.{abstract_trade_row}
+use Rattle.brk_trade_rows.specs.Rows.{abstract_trade_row}
 use Rattle.brk_trade.specs.declared.result_found.ResultAccount.{ResultAccount}
 use Rattle.brk_trade.specs.declared.result_found.ResultPlanFacts.{ResultPlanFacts}
 use Rattle.brk_model.specs.Names.{AccountOfTradeExists, BrokerOfAccountExists, SecurityOfTradeExists}
-use Rattle.brk_book_theorems.specs.Books.{BooksInvariant}
-use Rattle.brk_book_theorems.specs.OrderReads.{CustomerOfAccountSatisfies}
-use Rattle.brk_book_theorems.specs.Reads.{customer_tax_rate_sum}
+use Rattle.brk_trade_books.specs.Books.{BooksInvariant}
+use Rattle.brk_trade_books.specs.OrderReads.{CustomerOfAccountSatisfies}
+use Rattle.brk_trade_books.specs.Reads.{customer_tax_rate_sum}
 use Rattle.brk_trade_theorems.specs.ResultPlans.{ResultFactsMatchTables, PassesFirstResultChecks, result_account_of_row}
-use Rattle.brk_book_theorems.specs.TradeReads.{commission_band_of_quantity, summary_row_of_position}
-use Rattle.brk_book_theorems.proofs.Holding.{held_read}
-use Rattle.brk_book_theorems.proofs.Same.{find-All}
-use Rattle.brk_book_theorems.proofs.MoveReading.{reads_last_move}
-use Rattle.brk_book_theorems.proofs.Places.{FoundAt, find-at, some_of}
-use Rattle.brk_book_theorems.proofs.Reading.{is_none-map, reads_broker}
-use Rattle.brk_book_theorems.proofs.TermReading.{reads_rates, reads_security}
-use Rattle.brk_book_theorems.proofs.BandReading.{reads_band}
+use Rattle.brk_trade_books.specs.TradeReads.{commission_band_of_quantity, summary_row_of_position}
+use Rattle.brk_trade_books.proofs.Holding.{held_read}
+use Rattle.brk_trade_books.proofs.Same.{find-All}
+use Rattle.brk_trade_books.proofs.MoveReading.{reads_last_move}
+use Rattle.brk_trade_books.proofs.Places.{FoundAt, find-at, some_of}
+use Rattle.brk_trade_books.proofs.Reading.{is_none-map, reads_broker}
+use Rattle.brk_trade_books.proofs.TermReading.{reads_rates, reads_security}
+use Rattle.brk_trade_books.proofs.BandReading.{reads_band}
 use Rattle.brk_trade_theorems.proofs.OrderFinding.{Alike, OwnerFound, of_account, of_customer, owner_found, same_first, tier_found}
 use Rattle.brk_trade_theorems.proofs.Planning.{clock_read}
-use Rattle.brk_book_theorems.proofs.ResultKeeping.{Found, found_at}
-use Rattle.brk_book_theorems.proofs.ResultRows.{IsResult}
-use Rattle.brk_book_theorems.proofs.ResultSums.{balance_grows, balance_stays, commissions_grow, summary_grows}
-use Rattle.brk_book_theorems.proofs.Tested.{not_not}
+use Rattle.brk_trade_books.proofs.ResultKeeping.{Found, found_at}
+use Rattle.brk_trade_books.proofs.ResultRows.{IsResult}
+use Rattle.brk_trade_books.proofs.ResultSums.{balance_grows, balance_stays, commissions_grow, summary_grows}
+use Rattle.brk_trade_books.proofs.Tested.{not_not}
 use Rattle.brk_trade_theorems.proofs.TradePlanning.{stamp_read}
 
 -- ---- a trade that was found

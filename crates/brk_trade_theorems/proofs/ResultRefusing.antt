@@ -23,20 +23,20 @@ use Rattle.brk_money.specs.declared.status.Status.TheVariants.{Submitted}
 use Rattle.brk_trade.specs.Outcomes.{deal_of_trade_row, checks_before_reading_lots, result_checks}
 use Rattle.brk_trade.specs.Results.{AreLotsBeforeTrade, IsResultRefusal, shares_held_before_trade}
 use Rattle.brk_trade.proofs.Results.{first_refuses}
-use Rattle.brk_changes.specs.Rows.{abstract_trade_row}
+use Rattle.brk_trade_rows.specs.Rows.{abstract_trade_row}
 use Rattle.brk_trade.specs.declared.result_found.ResultPlanFacts.{ResultPlanFacts}
-use Rattle.brk_book_theorems.specs.Books.{BooksInvariant}
+use Rattle.brk_trade_books.specs.Books.{BooksInvariant}
 use Rattle.brk_trade_theorems.specs.ResultPlans.{TradePositionLotsSatisfy, PlanResultPrecondition, PassesFirstResultChecks}
-use Rattle.brk_book_theorems.specs.TradeReads.{lots_of_position}
-use Rattle.brk_book_theorems.proofs.Holding.{lots_given, total_is}
-use Rattle.brk_book_theorems.proofs.LotOrder.{shares_read}
-use Rattle.brk_book_theorems.proofs.Places.{FoundAt, find-at}
+use Rattle.brk_trade_books.specs.TradeReads.{lots_of_position}
+use Rattle.brk_trade_books.proofs.Holding.{lots_given, total_is}
+use Rattle.brk_trade_books.proofs.LotOrder.{shares_read}
+use Rattle.brk_trade_books.proofs.Places.{FoundAt, find-at}
 use Rattle.brk_trade_theorems.proofs.ResultFinding.{TradeFound, held_found, mark_status, nothing_refused, passes_rate, passes_status, result_refusal, result_values, trade_found}
-use Rattle.brk_book_theorems.proofs.ResultKeeping.{new_of_waiting}
-use Rattle.brk_book_theorems.proofs.ResultRows.{submitted_not_completed}
-use Rattle.brk_book_theorems.proofs.Tested.{none_refuse}
+use Rattle.brk_trade_books.proofs.ResultKeeping.{new_of_waiting}
+use Rattle.brk_trade_books.proofs.ResultRows.{submitted_not_completed}
+use Rattle.brk_trade_books.proofs.Tested.{none_refuse}
 use Rattle.brk_trade_theorems.proofs.TradePlanning.{refused_step}
-use Rattle.brk_book_theorems.proofs.TradeReading.{reads_trade}
+use Rattle.brk_trade_books.proofs.TradeReading.{reads_trade}
 
 -- ---- the trade and its lots
 

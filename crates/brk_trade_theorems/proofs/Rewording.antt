@@ -19,7 +19,7 @@ use Rattle.brk_model.specs.Tables.{summary_rows, tables_of_base_in_schema, table
 use Rattle.brk_model.specs.Schemas.{third_schema}
 use Rattle.brk_model.specs.Keys.{account_key, broker_key, rows_sorted_by_key, history_key, holding_history_key, holding_key, cash_move_key, request_key, settlement_key, summary_key, trade_key}
 use Rattle.brk_model.specs.Sheets.{sheets, tables_sorted_by_key}
-use Rattle.brk_book_theorems.proofs.Places.{map-append}
+use Rattle.brk_trade_books.proofs.Places.{map-append}
 use Rattle.brk_trade_theorems.proofs.Through.{filter-map, flat_map-map, map-map, sort-map, sum-map, total-map}
 
 -- a posting without its text

@@ -5,9 +5,9 @@ use Rattle.brk_money.specs.Spelling.{Text}
 use Rattle.brk_model.specs.Keys.{KeyPart, rows_sorted_by_key}
 use Rattle.brk_model.specs.Lists.{contains_number, update_where}
 use Rattle.brk_model.specs.Records.{Trade}
-use Rattle.brk_book_theorems.proofs.Bools.{numbers_back}
-use Rattle.brk_book_theorems.proofs.Order.{by_key-map}
-use Rattle.brk_book_theorems.proofs.Same.{All-map, map-same}
+use Rattle.brk_trade_books.proofs.Bools.{numbers_back}
+use Rattle.brk_trade_books.proofs.Order.{by_key-map}
+use Rattle.brk_trade_books.proofs.Same.{All-map, map-same}
 use Rattle.brk_trade_theorems.proofs.Through.{map-map}
 
 -- changes one after another, and the last

@@ -12,9 +12,9 @@ use Rattle.brk_model.specs.Step.{base_after_command_unstamped}
 use Rattle.brk_model.specs.Tables.{MoveRow, SettlementRow, TradeRow, numbered_move_rows, settlement_row, tables_of_base_in_schema, trade_row}
 use Rattle.brk_model.specs.Tests.{stamp_of_next_command}
 use Rattle.brk_model.specs.Updates.{selected_trade_ids_of_account, selected_trade_ids_of_symbol, base_with_updated_cash_names, base_with_updated_cash_types, base_with_updated_executors}
-use Rattle.brk_changes.specs.Changes.{tables_with_last_stamp}
-use Rattle.brk_book_theorems.proofs.Order.{by_key-map}
-use Rattle.brk_book_theorems.proofs.Trades.{whole}
+use Rattle.brk_trade_rows.specs.Changes.{tables_with_last_stamp}
+use Rattle.brk_trade_books.proofs.Order.{by_key-map}
+use Rattle.brk_trade_books.proofs.Trades.{whole}
 use Rattle.brk_trade_theorems.specs.Corrections.{ChangesOnlyExecutorNames, ChangesOnlyCashTexts, ChangesOnlySettlementTexts, trade_row_without_executor_name}
 use Rattle.brk_trade_theorems.specs.Corrections.{cash_row_without_text, settlement_row_without_text, tables_after_command}
 use Rattle.brk_trade_theorems.proofs.Correcting.{cash_names_rows, cash_types_rows, executors_rows, name_then, text_then, texts_with, word_then}

@@ -10,10 +10,10 @@ use Rattle.brk_model.specs.Lists.{contains_number, update_where}
 use Rattle.brk_model.specs.LookupView.{is_cash_row_of_trade}
 use Rattle.brk_model.specs.Records.{Account, Movement, Trade}
 use Rattle.brk_model.specs.Tables.{MoveRow, cash_move_row, numbered_move_rows}
-use Rattle.brk_book_theorems.proofs.Bools.{numbers_back}
-use Rattle.brk_book_theorems.proofs.Order.{by_key-map}
-use Rattle.brk_book_theorems.proofs.Places.{map-append}
-use Rattle.brk_book_theorems.proofs.Same.{All-map, map-same}
+use Rattle.brk_trade_books.proofs.Bools.{numbers_back}
+use Rattle.brk_trade_books.proofs.Order.{by_key-map}
+use Rattle.brk_trade_books.proofs.Places.{map-append}
+use Rattle.brk_trade_books.proofs.Same.{All-map, map-same}
 use Rattle.brk_trade_theorems.proofs.Through.{map-map, sort-map}
 
 -- ---- other texts of rows are other texts of postings

@@ -4,7 +4,7 @@ use Rattle.std.specs.Prelude.{flat_map, sum_by}
 use Rattle.std.specs.List.{AllByRecursion}
 use Rattle.std.proofs.lemmas.List.Sums.{sum_by-cons}
 use Rattle.brk_model.specs.Lists.{insert_by, sort_by, total_by}
-use Rattle.brk_book_theorems.proofs.Order.{map-insert_by}
+use Rattle.brk_trade_books.proofs.Order.{map-insert_by}
 
 pub map-map : {X Y Z : Type 0} (g : Y → Z) (f : X → Y) (xs : List X) → map g (map f xs) ≡ map (λ x. g (f x)) xs
 map-map g f [] = refl

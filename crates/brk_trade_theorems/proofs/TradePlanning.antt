@@ -20,24 +20,24 @@ use Rattle.brk_model.specs.Commands.{Command, Reply, Tick, FeedTicks, CancelTrad
 use Rattle.brk_model.specs.Feed.{base_after_ticks}
 use Rattle.brk_model.specs.Tests.{RefusalCheck, checks_of_command, refusal_of_command, first_refusal, stamp_of_next_command, status_check}
 use Rattle.brk_model.specs.Step.{reply_to_command, step, value_unless_refused}
-use Rattle.brk_changes.specs.Changes.{tables_with_last_stamp}
-use Rattle.brk_plans.specs.Reference.{later_stamp_check}
-use Rattle.brk_plans.proofs.Refusals.{first_joined, first_of}
-use Rattle.brk_book_theorems.specs.Books.{BooksInvariant}
-use Rattle.brk_book_theorems.specs.Steps.{base_after_command, HasTableEffect, IsAcceptedWithEffect, PreservesBooksInvariant}
-use Rattle.brk_book_theorems.specs.Trading.{tables_after_cancel, tables_after_feed, trade_ids_triggered_by_feed}
+use Rattle.brk_trade_rows.specs.Changes.{tables_with_last_stamp}
+use Rattle.brk_trade_plans.specs.Reference.{later_stamp_check}
+use Rattle.brk_trade_plans.proofs.Refusals.{first_joined, first_of}
+use Rattle.brk_trade_books.specs.Books.{BooksInvariant}
+use Rattle.brk_trade_books.specs.Steps.{base_after_command, HasTableEffect, IsAcceptedWithEffect, PreservesBooksInvariant}
+use Rattle.brk_trade_books.specs.Trading.{tables_after_cancel, tables_after_feed, trade_ids_triggered_by_feed}
 use Rattle.brk_trade_theorems.specs.TradeTests.{cancel_checks_on_trade_row, feed_checks_on_tables}
-use Rattle.brk_book_theorems.specs.Ticks.{is_symbol_volume_above_limit, is_tick_of_unknown_symbol}
-use Rattle.brk_book_theorems.proofs.Same.{All-map, any-none}
-use Rattle.brk_book_theorems.proofs.Reading.{is_none-map, reads_last}
-use Rattle.brk_book_theorems.proofs.TermReading.{reads_last_trade}
-use Rattle.brk_book_theorems.proofs.Stamps.{stamp_is}
-use Rattle.brk_book_theorems.proofs.Tested.{not_not}
+use Rattle.brk_trade_books.specs.Ticks.{is_symbol_volume_above_limit, is_tick_of_unknown_symbol}
+use Rattle.brk_trade_books.proofs.Same.{All-map, any-none}
+use Rattle.brk_trade_books.proofs.Reading.{is_none-map, reads_last}
+use Rattle.brk_trade_books.proofs.TermReading.{reads_last_trade}
+use Rattle.brk_trade_books.proofs.Stamps.{stamp_is}
+use Rattle.brk_trade_books.proofs.Tested.{not_not}
 use Rattle.brk_trade_theorems.proofs.Planning.{clock_read}
-use Rattle.brk_book_theorems.proofs.TradeReading.{reads_trade}
-use Rattle.brk_book_theorems.proofs.Volumes.{any-same, reads_exceeds}
-use Rattle.brk_book_theorems.proofs.Trades.{step_cancel, step_feed, step_triggered}
-use Rattle.brk_book_theorems.proofs.TradeKeepers.{books_cancel, books_feed}
+use Rattle.brk_trade_books.proofs.TradeReading.{reads_trade}
+use Rattle.brk_trade_books.proofs.Volumes.{any-same, reads_exceeds}
+use Rattle.brk_trade_books.proofs.Trades.{step_cancel, step_feed, step_triggered}
+use Rattle.brk_trade_books.proofs.TradeKeepers.{books_cancel, books_feed}
 
 -- ---- of any command
 

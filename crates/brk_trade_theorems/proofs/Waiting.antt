@@ -20,17 +20,17 @@ use Rattle.brk_model.specs.Feed.{is_triggering_price}
 use Rattle.brk_model.specs.Records.{Account, Trade}
 use Rattle.brk_model.specs.Sheets.{sheets}
 use Rattle.brk_model.specs.Tables.{RequestRow, Tables, request_row}
-use Rattle.brk_orders.specs.declared.tick.Tick.{Tick}
-use Rattle.brk_plans.specs.Feed.{price_span_of_first_symbol, span_including_price, span_including_tick}
-use Rattle.brk_plans.specs.declared.span.Span.{Span}
-use Rattle.brk_book_theorems.specs.Books.{BooksInvariant}
+use Rattle.brk_ref_orders.specs.declared.tick.Tick.{Tick}
+use Rattle.brk_trade_plans.specs.Feed.{price_span_of_first_symbol, span_including_price, span_including_tick}
+use Rattle.brk_trade_plans.specs.declared.span.Span.{Span}
+use Rattle.brk_trade_books.specs.Books.{BooksInvariant}
 use Rattle.brk_trade_theorems.specs.TradePlans.{is_request_triggered_in_span}
-use Rattle.brk_book_theorems.specs.TradeReads.{requests_of_symbol}
-use Rattle.brk_book_theorems.proofs.LotReading.{IdsRise, numbered_rise, rise_filter}
-use Rattle.brk_book_theorems.proofs.Orders.{Ascends, Rises, one_order, permuted}
-use Rattle.brk_book_theorems.proofs.Same.{All-filter, All-of, filter-same}
-use Rattle.brk_book_theorems.proofs.Ticks.{filter-filter}
-use Rattle.brk_book_theorems.proofs.TradeReading.{requests_in_order}
+use Rattle.brk_trade_books.specs.TradeReads.{requests_of_symbol}
+use Rattle.brk_trade_books.proofs.LotReading.{IdsRise, numbered_rise, rise_filter}
+use Rattle.brk_trade_books.proofs.Orders.{Ascends, Rises, one_order, permuted}
+use Rattle.brk_trade_books.proofs.Same.{All-filter, All-of, filter-same}
+use Rattle.brk_trade_books.proofs.Ticks.{filter-filter}
+use Rattle.brk_trade_books.proofs.TradeReading.{requests_in_order}
 
 -- ---- the prices of a symbol's ticks lie within their span
 

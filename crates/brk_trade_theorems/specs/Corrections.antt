@@ -11,18 +11,18 @@ use Rattle.brk_model.specs.Sheets.{sheets}
 use Rattle.brk_model.specs.LookupView.{is_cash_row_of_trade}
 use Rattle.brk_model.specs.Tables.{MoveRow, SettlementRow, Tables, TradeRow}
 use Rattle.brk_model.specs.Tests.{stamp_of_next_command}
-use Rattle.brk_orders.specs.declared.update.Update as told
-use Rattle.brk_orders.specs.declared.update.Update.TheVariants as update
-use Rattle.brk_changes.specs.Changes.{tables_with_last_stamp}
-use Rattle.brk_changes.specs.Chosen.{first_twenty_completed_cash_trade_rows_of_symbol, first_twenty_completed_trade_rows_of_account}
-use Rattle.brk_changes.specs.Rows.{cash_type_text}
-use Rattle.brk_plans.specs.declared.corrected.TextUpdate.{TextUpdate}
-use Rattle.brk_plans.specs.declared.corrected.TextUpdate.TheVariants as corrected
-use Rattle.brk_plans.specs.declared.corrected.CashText.{CashText}
-use Rattle.brk_plans.specs.declared.corrected.SettlementText.{SettlementText}
-use Rattle.brk_book_theorems.specs.Books.{BooksInvariant}
-use Rattle.brk_book_theorems.specs.Steps.{base_after_command}
-use Rattle.brk_book_theorems.specs.TradeReads.{AreTradesWithIds}
+use Rattle.brk_ref_orders.specs.declared.update.Update as told
+use Rattle.brk_ref_orders.specs.declared.update.Update.TheVariants as update
+use Rattle.brk_trade_rows.specs.Changes.{tables_with_last_stamp}
+use Rattle.brk_trade_rows.specs.Chosen.{first_twenty_completed_cash_trade_rows_of_symbol, first_twenty_completed_trade_rows_of_account}
+use Rattle.brk_trade_rows.specs.Rows.{cash_type_text}
+use Rattle.brk_trade_plans.specs.declared.corrected.TextUpdate.{TextUpdate}
+use Rattle.brk_trade_plans.specs.declared.corrected.TextUpdate.TheVariants as corrected
+use Rattle.brk_trade_plans.specs.declared.corrected.CashText.{CashText}
+use Rattle.brk_trade_plans.specs.declared.corrected.SettlementText.{SettlementText}
+use Rattle.brk_trade_books.specs.Books.{BooksInvariant}
+use Rattle.brk_trade_books.specs.Steps.{base_after_command}
+use Rattle.brk_trade_books.specs.TradeReads.{AreTradesWithIds}
 
 -- ---- facts
 

@@ -6,8 +6,8 @@ use Rattle.brk_model.specs.Sheets.{sheets}
 use Rattle.brk_model.specs.Commands.{Command}
 use Rattle.brk_model.specs.Step.{step}
 use Rattle.brk_model.specs.Tables.{Tables}
-use Rattle.brk_plans.specs.declared.plan.Plan.{Plan}
-use Rattle.brk_book_theorems.specs.Books.{BooksInvariant}
+use Rattle.brk_trade_plans.specs.declared.plan.Plan.{Plan}
+use Rattle.brk_trade_books.specs.Books.{BooksInvariant}
 use Rattle.brk_trade_theorems.specs.Plans.{PlanImplementsCommand}
 
 -- `planned` is the decision of the model on `command` at the clock reading `now`, in milliseconds

@@ -3,12 +3,12 @@ use Rattle.std.specs.Prelude.{◌≡◌, ◌≤◌, ℕ, SomeIff}
 use Rattle.brk_model.specs.Limits.{greatest_tax_rate}
 use Rattle.brk_model.specs.Tables.{Tables}
 use Rattle.brk_ref.specs.Records.{abstract_band}
-use Rattle.brk_plans.specs.declared.reference.ReferenceFacts.{ReferenceFacts}
-use Rattle.brk_plans.specs.declared.reference.Reference.{Reference}
-use Rattle.brk_plans.specs.declared.reference.Reference.TheVariants as reference
+use Rattle.brk_trade_plans.specs.declared.reference.ReferenceFacts.{ReferenceFacts}
+use Rattle.brk_trade_plans.specs.declared.reference.Reference.{Reference}
+use Rattle.brk_trade_plans.specs.declared.reference.Reference.TheVariants as reference
 use Rattle.brk_model.specs.Form.{has_account, has_broker, has_customer, has_security}
-use Rattle.brk_book_theorems.specs.Reads.{contains_customer_with_tax_id, account_count_of_customer, contains_permission, contains_charge, overlaps_some_band}
-use Rattle.brk_book_theorems.specs.Reads.{contains_tax_rate, rate_of_tax_rate_with_id, contains_customer_tax, customer_tax_rate_sum}
+use Rattle.brk_trade_books.specs.Reads.{contains_customer_with_tax_id, account_count_of_customer, contains_permission, contains_charge, overlaps_some_band}
+use Rattle.brk_trade_books.specs.Reads.{contains_tax_rate, rate_of_tax_rate_with_id, contains_customer_tax, customer_tax_rate_sum}
 
 -- The facts `found` about a new account are true of the tables: whether an account with the id `id`
 -- exists, whether the customer `customer` exists, whether the broker `broker` exists, and how many

@@ -10,16 +10,16 @@ use Rattle.brk_model.specs.Commands.{CancelTrade, CompleteTrade, FeedTicks}
 use Rattle.brk_model.specs.Step.{step}
 use Rattle.brk_model.specs.Tables.{Tables}
 use Rattle.brk_model.specs.Tests.{first_refusal, refusal_of_command}
-use Rattle.brk_orders.specs.Records.{abstract_ticks}
-use Rattle.brk_orders.specs.declared.tick.Tick.{Tick}
-use Rattle.brk_plans.specs.Cancel.{IsCancelPlan, cancel_checks}
-use Rattle.brk_plans.specs.Feed.{SymbolState, IsFeedPlan, feed_checks, states_of_quotes, state_of_quote, is_state_of_symbol}
-use Rattle.brk_plans.specs.Reference.{later_stamp_check}
-use Rattle.brk_plans.specs.declared.plan.Plan.{Plan}
-use Rattle.brk_plans.specs.declared.quote.Quote.{Quote}
+use Rattle.brk_ref_orders.specs.Records.{abstract_ticks}
+use Rattle.brk_ref_orders.specs.declared.tick.Tick.{Tick}
+use Rattle.brk_trade_plans.specs.Cancel.{IsCancelPlan, cancel_checks}
+use Rattle.brk_trade_plans.specs.Feed.{SymbolState, IsFeedPlan, feed_checks, states_of_quotes, state_of_quote, is_state_of_symbol}
+use Rattle.brk_trade_plans.specs.Reference.{later_stamp_check}
+use Rattle.brk_trade_plans.specs.declared.plan.Plan.{Plan}
+use Rattle.brk_trade_plans.specs.declared.quote.Quote.{Quote}
 use Rattle.brk_trade.specs.Results.{CompletesExistingTrade, IsResultRefusal}
 use Rattle.brk_trade.specs.declared.result_found.ResultPlanFacts.{ResultPlanFacts}
-use Rattle.brk_book_theorems.specs.TradeReads.{last_trade_row_of_symbol}
+use Rattle.brk_trade_books.specs.TradeReads.{last_trade_row_of_symbol}
 use Rattle.brk_trade_theorems.specs.Plans.{PlanImplementsCommand}
 use Rattle.brk_trade_theorems.specs.TradePlans.{AreQuotesOfTicks, IsQuoteOfTick}
 

@@ -7,10 +7,10 @@ use Rattle.brk_model.specs.Joins.{account_row_with_id}
 use Rattle.brk_model.specs.Limits.{greatest_id}
 use Rattle.brk_model.specs.Sheets.{sheets}
 use Rattle.brk_model.specs.Tables.{Tables}
-use Rattle.brk_orders.specs.declared.movement.Movement.{Movement}
-use Rattle.brk_plans.specs.declared.movement.MovementPlanFacts.{MovementPlanFacts}
-use Rattle.brk_book_theorems.specs.Books.{BooksInvariant}
-use Rattle.brk_book_theorems.specs.TradeReads.{last_cash_row_number_or_zero}
+use Rattle.brk_ref_orders.specs.declared.movement.Movement.{Movement}
+use Rattle.brk_trade_plans.specs.declared.movement.MovementPlanFacts.{MovementPlanFacts}
+use Rattle.brk_trade_books.specs.Books.{BooksInvariant}
+use Rattle.brk_trade_books.specs.TradeReads.{last_cash_row_number_or_zero}
 
 -- ---- a movement
 

@@ -10,16 +10,16 @@ use Rattle.brk_model.specs.Tables.{AccountRow, Tables}
 use Rattle.brk_model.specs.Tests.{first_refusal}
 use Rattle.brk_money.specs.OrderTypes.{trade_type_of_order_type}
 use Rattle.brk_money.specs.Moments.{greatest_stamp}
-use Rattle.brk_orders.specs.declared.order.Order.{Order}
+use Rattle.brk_ref_orders.specs.declared.order.Order.{Order}
 use Rattle.brk_ref.specs.Records.{abstract_executor}
 use Rattle.brk_trade.specs.Orders.{order_checks}
 use Rattle.brk_trade.specs.declared.order.OrderAccount.{OrderAccount}
 use Rattle.brk_trade.specs.declared.order.OrderPlanFacts.{OrderPlanFacts}
-use Rattle.brk_book_theorems.specs.Books.{BooksInvariant}
-use Rattle.brk_book_theorems.specs.Reads.{customer_tax_rate_sum}
-use Rattle.brk_book_theorems.specs.TradeReads.{commission_band_of_quantity, permission_list_for_tax_id, summary_row_of_position}
-use Rattle.brk_book_theorems.specs.OrderReads.{PositionLotsSatisfy, CustomerOfAccountSatisfies, charge_of_type_and_tier}
-use Rattle.brk_book_theorems.specs.OrderReads.{last_price_of_symbol, trade_id_in_last_row}
+use Rattle.brk_trade_books.specs.Books.{BooksInvariant}
+use Rattle.brk_trade_books.specs.Reads.{customer_tax_rate_sum}
+use Rattle.brk_trade_books.specs.TradeReads.{commission_band_of_quantity, permission_list_for_tax_id, summary_row_of_position}
+use Rattle.brk_trade_books.specs.OrderReads.{PositionLotsSatisfy, CustomerOfAccountSatisfies, charge_of_type_and_tier}
+use Rattle.brk_trade_books.specs.OrderReads.{last_price_of_symbol, trade_id_in_last_row}
 
 -- ---- lookups
 

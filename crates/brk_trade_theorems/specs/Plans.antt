@@ -6,14 +6,14 @@ use Rattle.brk_model.specs.Base.{Base}
 use Rattle.brk_model.specs.Sheets.{sheets}
 use Rattle.brk_model.specs.Commands.{Command}
 use Rattle.brk_model.specs.Step.{step}
-use Rattle.brk_changes.specs.Changes.{tables_after_changes}
-use Rattle.brk_plans.specs.declared.plan.Plan.{Plan}
-use Rattle.brk_plans.specs.declared.reference.ReferenceFacts.{ReferenceFacts}
-use Rattle.brk_plans.specs.declared.reference.Reference.{Reference}
-use Rattle.brk_book_theorems.specs.Books.{BooksInvariant}
-use Rattle.brk_plans.specs.Replies.{abstract_reply}
+use Rattle.brk_trade_rows.specs.Changes.{tables_after_changes}
+use Rattle.brk_trade_plans.specs.declared.plan.Plan.{Plan}
+use Rattle.brk_trade_plans.specs.declared.reference.ReferenceFacts.{ReferenceFacts}
+use Rattle.brk_trade_plans.specs.declared.reference.Reference.{Reference}
+use Rattle.brk_trade_books.specs.Books.{BooksInvariant}
+use Rattle.brk_trade_plans.specs.Replies.{abstract_reply}
 use Rattle.brk_trade_theorems.specs.Found.{ReferenceFactsMatchTables}
-use Rattle.brk_book_theorems.specs.Steps.{base_after_command}
+use Rattle.brk_trade_books.specs.Steps.{base_after_command}
 
 -- The precondition of planning a record of reference data: the base satisfies the books invariant,
 -- the facts `found` and the last stamp are read from its tables, and the clock reading `now` is

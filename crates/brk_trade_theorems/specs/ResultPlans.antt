@@ -8,14 +8,14 @@ use Rattle.brk_model.specs.Tables.{AccountRow, Tables}
 use Rattle.brk_model.specs.Tests.{first_refusal}
 use Rattle.brk_money.specs.Moments.{greatest_stamp}
 use Rattle.brk_trade.specs.Outcomes.{checks_before_reading_lots}
-use Rattle.brk_changes.specs.Rows.{abstract_trade_row}
+use Rattle.brk_trade_rows.specs.Rows.{abstract_trade_row}
 use Rattle.brk_trade.specs.declared.result_found.ResultAccount.{ResultAccount}
 use Rattle.brk_trade.specs.declared.result_found.ResultPlanFacts.{ResultPlanFacts}
-use Rattle.brk_changes.specs.declared.trade_row.TradeRow.{TradeRow}
-use Rattle.brk_book_theorems.specs.Books.{BooksInvariant}
-use Rattle.brk_book_theorems.specs.OrderReads.{PositionLotsSatisfy, CustomerOfAccountSatisfies}
-use Rattle.brk_book_theorems.specs.Reads.{customer_tax_rate_sum}
-use Rattle.brk_book_theorems.specs.TradeReads.{commission_band_of_quantity, last_cash_row_number_or_zero, summary_row_of_position}
+use Rattle.brk_trade_rows.specs.declared.trade_row.TradeRow.{TradeRow}
+use Rattle.brk_trade_books.specs.Books.{BooksInvariant}
+use Rattle.brk_trade_books.specs.OrderReads.{PositionLotsSatisfy, CustomerOfAccountSatisfies}
+use Rattle.brk_trade_books.specs.Reads.{customer_tax_rate_sum}
+use Rattle.brk_trade_books.specs.TradeReads.{commission_band_of_quantity, last_cash_row_number_or_zero, summary_row_of_position}
 
 -- ---- facts
 

@@ -11,14 +11,14 @@ use Rattle.brk_model.specs.Base.{Base}
 use Rattle.brk_model.specs.Joins.{trade_row_with_id}
 use Rattle.brk_model.specs.Sheets.{sheets}
 use Rattle.brk_model.specs.Tables.{Tables}
-use Rattle.brk_orders.specs.declared.tick.Tick.{Tick}
+use Rattle.brk_ref_orders.specs.declared.tick.Tick.{Tick}
 use Rattle.brk_ref.specs.Records.{abstract_last_trade_row}
-use Rattle.brk_plans.specs.Feed.{SymbolState, is_state_of_symbol, price_span_of_first_symbol}
-use Rattle.brk_plans.specs.declared.span.Span.{Span}
-use Rattle.brk_changes.specs.declared.request_row.RequestRow as request
-use Rattle.brk_changes.specs.Rows.{abstract_request_row}
-use Rattle.brk_book_theorems.specs.Books.{BooksInvariant}
-use Rattle.brk_book_theorems.specs.TradeReads.{last_trade_row_of_symbol, requests_of_symbol}
+use Rattle.brk_trade_plans.specs.Feed.{SymbolState, is_state_of_symbol, price_span_of_first_symbol}
+use Rattle.brk_trade_plans.specs.declared.span.Span.{Span}
+use Rattle.brk_trade_rows.specs.declared.request_row.RequestRow as request
+use Rattle.brk_trade_rows.specs.Rows.{abstract_request_row}
+use Rattle.brk_trade_books.specs.Books.{BooksInvariant}
+use Rattle.brk_trade_books.specs.TradeReads.{last_trade_row_of_symbol, requests_of_symbol}
 
 -- ---- a cancel
 

@@ -8,8 +8,8 @@ use Rattle.brk_money.specs.declared.status.Status.TheVariants.{Pending}
 use Rattle.brk_model.specs.Tables.{Tables, TradeRow}
 use Rattle.brk_model.specs.Commands.{Tick}
 use Rattle.brk_model.specs.Tests.{RefusalCheck}
-use Rattle.brk_plans.specs.Reference.{later_stamp_check}
-use Rattle.brk_book_theorems.specs.Ticks.{is_symbol_volume_above_limit, is_tick_of_unknown_symbol}
+use Rattle.brk_trade_plans.specs.Reference.{later_stamp_check}
+use Rattle.brk_trade_books.specs.Ticks.{is_symbol_volume_above_limit, is_tick_of_unknown_symbol}
 
 -- ---- a cancel
 

@@ -7,12 +7,12 @@ ghost use Rattle.brk_model.specs.Base.{Base};
 ghost use Rattle.brk_model.specs.Commands.{ChangeCashNames, ChangeCashTypes, ChangeExecutors};
 ghost use Rattle.brk_model.specs.Step.{step};
 ghost use Rattle.brk_model.specs.Tests.{first_refusal, refusal_of_command};
-ghost use Rattle.brk_orders.specs.Records.{text_update_command};
-ghost use Rattle.brk_orders.specs.declared.update.Update.{Update};
-ghost use Rattle.brk_plans.specs.Reference.{later_stamp_check};
-ghost use Rattle.brk_plans.specs.Update.{IsUpdatePlan, update_checks};
-ghost use Rattle.brk_plans.specs.declared.corrected.TextUpdate.{TextUpdate};
-ghost use Rattle.brk_plans.specs.declared.plan.Plan.{Plan};
+ghost use Rattle.brk_ref_orders.specs.Records.{text_update_command};
+ghost use Rattle.brk_ref_orders.specs.declared.update.Update.{Update};
+ghost use Rattle.brk_trade_plans.specs.Reference.{later_stamp_check};
+ghost use Rattle.brk_trade_plans.specs.Update.{IsUpdatePlan, update_checks};
+ghost use Rattle.brk_trade_plans.specs.declared.corrected.TextUpdate.{TextUpdate};
+ghost use Rattle.brk_trade_plans.specs.declared.plan.Plan.{Plan};
 ghost use Rattle.brk_trade_theorems.specs.Plans.{PlanImplementsCommand};
 ghost use Rattle.brk_trade_theorems.specs.Corrections.{ChangesOnlyExecutorNames, ChangesOnlyCashTexts, ChangesOnlySettlementTexts, PlanUpdatePrecondition};
 

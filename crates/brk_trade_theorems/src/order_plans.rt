@@ -2,8 +2,8 @@
 
 ghost use Rattle.std.specs.Prelude.{◌≡◌, ◌∷◌, ◌++◌, [], ℕ, Err, List, None, Ok, Option, Some};
 ghost use Rattle.brk_trade.specs.Estimates.{AreOrderTermsInBase};
-ghost use Rattle.brk_plans.specs.Replies.{estimate_from_model};
-ghost use Rattle.brk_plans.specs.declared.estimate.Estimate.{Estimate};
+ghost use Rattle.brk_trade_plans.specs.Replies.{estimate_from_model};
+ghost use Rattle.brk_trade_plans.specs.declared.estimate.Estimate.{Estimate};
 ghost use Rattle.brk_lots.specs.Sources.{EqualsLots};
 ghost use Rattle.brk_lots.specs.declared.lot.Lot.{Lot};
 ghost use Rattle.brk_model.specs.Ask.{ask};
@@ -16,14 +16,14 @@ ghost use Rattle.brk_model.specs.Sheets.{sheets};
 ghost use Rattle.brk_model.specs.Step.{step};
 ghost use Rattle.brk_model.specs.Tests.{first_refusal, refusal_of_command};
 ghost use Rattle.brk_money.specs.declared.refusal.Refusal.{Refusal};
-ghost use Rattle.brk_orders.specs.Records.{abstract_order};
-ghost use Rattle.brk_orders.specs.declared.order.Order.{Order};
+ghost use Rattle.brk_ref_orders.specs.Records.{abstract_order};
+ghost use Rattle.brk_ref_orders.specs.declared.order.Order.{Order};
 ghost use Rattle.brk_trade.specs.Orders.{EstimatesCheckedOrder, IsOrderPlan, order_checks, terms_of_order, free_trade_id_check};
-ghost use Rattle.brk_plans.specs.Reference.{later_stamp_check};
-ghost use Rattle.brk_plans.specs.Replies.{abstract_estimate};
+ghost use Rattle.brk_trade_plans.specs.Reference.{later_stamp_check};
+ghost use Rattle.brk_trade_plans.specs.Replies.{abstract_estimate};
 ghost use Rattle.brk_trade.specs.declared.order.OrderPlanFacts.{OrderPlanFacts};
-ghost use Rattle.brk_plans.specs.declared.plan.Plan.{Plan};
-ghost use Rattle.brk_book_theorems.specs.Books.{BooksInvariant};
+ghost use Rattle.brk_trade_plans.specs.declared.plan.Plan.{Plan};
+ghost use Rattle.brk_trade_books.specs.Books.{BooksInvariant};
 ghost use Rattle.brk_trade_theorems.specs.OrderPlans.{OrderPositionLotsSatisfy, EstimateFactsMatchTables, PlanOrderPrecondition};
 ghost use Rattle.brk_trade_theorems.specs.Plans.{PlanImplementsCommand};
 

@@ -5,11 +5,11 @@ ghost use Rattle.brk_money.specs.declared.refusal.Refusal.{Refusal};
 ghost use Rattle.brk_model.specs.Base.{Base};
 ghost use Rattle.brk_model.specs.Step.{step};
 ghost use Rattle.brk_model.specs.Tests.{first_refusal, refusal_of_command};
-ghost use Rattle.brk_plans.specs.Reference.{IsReferencePlan, later_stamp_check, reference_checks};
-ghost use Rattle.brk_plans.specs.declared.plan.Plan.{Plan};
-ghost use Rattle.brk_plans.specs.declared.reference.ReferenceFacts.{ReferenceFacts};
-ghost use Rattle.brk_plans.specs.declared.reference.Reference.{Reference};
-ghost use Rattle.brk_plans.specs.Commands.{command_adding_record};
+ghost use Rattle.brk_trade_plans.specs.Reference.{IsReferencePlan, later_stamp_check, reference_checks};
+ghost use Rattle.brk_trade_plans.specs.declared.plan.Plan.{Plan};
+ghost use Rattle.brk_trade_plans.specs.declared.reference.ReferenceFacts.{ReferenceFacts};
+ghost use Rattle.brk_trade_plans.specs.declared.reference.Reference.{Reference};
+ghost use Rattle.brk_trade_plans.specs.Commands.{command_adding_record};
 ghost use Rattle.brk_trade_theorems.specs.Plans.{PlanImplementsCommand, PlanReferencePrecondition};
 
 /// Proves, under `PlanReferencePrecondition`, that the checks of a record of reference data against

@@ -12,12 +12,12 @@ ghost use Rattle.brk_model.specs.Joins.{trade_row_with_id};
 ghost use Rattle.brk_model.specs.Sheets.{sheets};
 ghost use Rattle.brk_model.specs.Step.{step};
 ghost use Rattle.brk_model.specs.Tests.{first_refusal, refusal_of_command};
-ghost use Rattle.brk_book_theorems.specs.Books.{BooksInvariant};
-ghost use Rattle.brk_book_theorems.specs.Steps.{IsAcceptedWithEffect};
-ghost use Rattle.brk_book_theorems.specs.TradeReads.{volume_of_symbol};
+ghost use Rattle.brk_trade_books.specs.Books.{BooksInvariant};
+ghost use Rattle.brk_trade_books.specs.Steps.{IsAcceptedWithEffect};
+ghost use Rattle.brk_trade_books.specs.TradeReads.{volume_of_symbol};
 ghost use Rattle.brk_trade_theorems.specs.TradeTests.{cancel_checks_on_trade_row, feed_checks_on_tables};
-ghost use Rattle.brk_book_theorems.specs.Ticks.{tick_quantity_sum_of_symbol};
-ghost use Rattle.brk_book_theorems.specs.Trading.{tables_after_cancel, trade_ids_triggered_by_feed, tables_after_feed};
+ghost use Rattle.brk_trade_books.specs.Ticks.{tick_quantity_sum_of_symbol};
+ghost use Rattle.brk_trade_books.specs.Trading.{tables_after_cancel, trade_ids_triggered_by_feed, tables_after_feed};
 
 /// Proves that the model's step returns the refusal of the first check of the command that fails,
 /// if one fails.

@@ -1,39 +1,19 @@
-//! Queries to a desk and its views: queries parsed from texts, and views made of typed rows.
+//! The views of a desk, of typed rows, and their records of texts.
 #![tactic(auto)]
 
-pub mod broker_names;
-pub mod lookups;
-pub mod lots;
-pub mod named_trades;
-pub mod ordering;
-pub mod parse;
-mod parse_accounts;
-mod parse_lookups;
-pub mod query;
-pub mod recents;
-pub mod statuses;
-pub mod submitted_rows;
-pub mod theorems;
-pub mod view;
-pub mod view_name;
-pub mod volumes;
-pub mod worths;
+mod account_fields;
+pub mod fields;
+mod lookup_fields;
+mod lot_fields;
+mod texts;
+mod volume_fields;
 
-pub use broker_names::{BrokerNames, parse_broker_names};
-pub use lookups::{
-    LookedUp, create_looked_up_trade, lookup_account, lookup_ids, lookup_symbol,
-    sort_trades_oldest_first,
+pub use brk_view_rows::{
+    AccountStatus, AccountWorth, Activity, BrokerNames, BrokerVolume, LookedUp, LotTouch,
+    MOST_CHANGES, NamedTrades, Query, SubmittedTrade, TouchedLots, TradeStatus, View, ViewName,
+    broker_volume, create_looked_up_trade, lookup_account, lookup_ids, lookup_lots, lookup_symbol,
+    merge_lot_changes_into_first_twenty, parse_broker_names, parse_named_trades, parse_query,
+    parse_query_of_view, position, recent, sort_trades_oldest_first, status, submitted,
+    total_bid_value_of_requests, trade_with_security,
 };
-pub use lots::{
-    LotTouch, MOST_CHANGES, TouchedLots, lookup_lots, merge_lot_changes_into_first_twenty,
-};
-pub use named_trades::{NamedTrades, parse_named_trades};
-pub use parse::{parse_query, parse_query_of_view};
-pub use query::Query;
-pub use recents::{Activity, recent};
-pub use statuses::{AccountStatus, TradeStatus, status, trade_with_security};
-pub use submitted_rows::submitted;
-pub use view::{SubmittedTrade, View};
-pub use view_name::ViewName;
-pub use volumes::{BrokerVolume, broker_volume, total_bid_value_of_requests};
-pub use worths::{AccountWorth, position};
+pub use fields::view_fields;

@@ -13,7 +13,7 @@ use Rattle.brk_model.specs.StatusView.{submitted_trades_view}
 use Rattle.brk_model.specs.Tables.{TradeRow, tables_of_base}
 use Rattle.brk_model.specs.Views.{view_of_tables}
 use Rattle.brk_audit_theorems.specs.Sound.{AuditInvariant}
-use Rattle.brk_book_theorems.specs.Books.{BooksInvariant}
+use Rattle.brk_trade_books.specs.Books.{BooksInvariant}
 use Rattle.brk_view_theorems.proofs.LookupRows.{same_lookup}
 use Rattle.brk_view_theorems.proofs.RecentRows.{same_recent}
 use Rattle.brk_view_theorems.proofs.StatusRows.{same_status_view}

@@ -3,12 +3,12 @@ use Rattle.std.proofs.Common.{◌≡◌, ◌==◌, true, false, List, [], ◌∷
 use Rattle.std.specs.List.{AllByRecursion}
 use Rattle.brk_model.specs.Base.{Base, completed_trades, is_completed, last_status_stamp_of_trade, trade_with_id}
 use Rattle.brk_model.specs.Records.{Movement, Trade}
-use Rattle.brk_book_theorems.specs.Books.{BooksInvariant, HasLastStatusAtOtherStamp, HasDistinctLastStatusStamps, HasDistinctMovementStamps}
-use Rattle.brk_book_theorems.proofs.Bools.{numbers_back}
-use Rattle.brk_book_theorems.proofs.LotReading.{IdsApart, numbered_rise, rise_apart}
-use Rattle.brk_book_theorems.proofs.Places.{FoundAt, filter-one, find-at}
-use Rattle.brk_book_theorems.proofs.Same.{NonePass, All-filter}
-use Rattle.brk_book_theorems.proofs.Tested.{All-back}
+use Rattle.brk_trade_books.specs.Books.{BooksInvariant, HasLastStatusAtOtherStamp, HasDistinctLastStatusStamps, HasDistinctMovementStamps}
+use Rattle.brk_trade_books.proofs.Bools.{numbers_back}
+use Rattle.brk_trade_books.proofs.LotReading.{IdsApart, numbered_rise, rise_apart}
+use Rattle.brk_trade_books.proofs.Places.{FoundAt, filter-one, find-at}
+use Rattle.brk_trade_books.proofs.Same.{NonePass, All-filter}
+use Rattle.brk_trade_books.proofs.Tested.{All-back}
 
 -- where a completed trade stands, and that it alone has its number and its moment
 pub record Among (base : Base) (t : Trade) : Type 0 where

@@ -21,16 +21,16 @@ use Rattle.brk_model.specs.Keys.{rows_sorted_by_key, settlement_key}
 use Rattle.brk_model.specs.Records.{Account, Band, Customer, CustomerTax, Security, SettleRule, TaxRate, Trade}
 use Rattle.brk_model.specs.Sheets.{sheets, tables_sorted_by_key}
 use Rattle.brk_model.specs.Tables.{AccountRow, SettlementRow, Tables, account_row, security_row, settlement_row, tables_of_base_in_schema, trade_row}
-use Rattle.brk_explain_model.specs.Trades.{band_for_customer_and_security, band_of_trade, band_for_tier_and_exchange, commission_in_current_band}
-use Rattle.brk_explain_model.specs.Trades.{zero_settlement_row, tax_rates_of_customer, sum_of_tax_rates, settlement_of_trade_or_zeros, tax_at_current_rates}
-use Rattle.brk_explain_model.specs.Trades.{signed_trade_value, withheld_tax_of_trade}
-use Rattle.brk_book_theorems.specs.Books.{BooksInvariant}
-use Rattle.brk_book_theorems.specs.Reads.{rate_of_tax_rate_with_id}
-use Rattle.brk_book_theorems.proofs.BandReading.{reads_band}
-use Rattle.brk_book_theorems.proofs.Places.{some_of}
-use Rattle.brk_book_theorems.proofs.Reading.{find-id, find-map, reads_account, reads_customer}
-use Rattle.brk_book_theorems.proofs.Same.{find-All}
-use Rattle.brk_book_theorems.proofs.TermReading.{reads_rates, reads_security}
+use Rattle.brk_model_explain.specs.Trades.{band_for_customer_and_security, band_of_trade, band_for_tier_and_exchange, commission_in_current_band}
+use Rattle.brk_model_explain.specs.Trades.{zero_settlement_row, tax_rates_of_customer, sum_of_tax_rates, settlement_of_trade_or_zeros, tax_at_current_rates}
+use Rattle.brk_model_explain.specs.Trades.{signed_trade_value, withheld_tax_of_trade}
+use Rattle.brk_trade_books.specs.Books.{BooksInvariant}
+use Rattle.brk_trade_books.specs.Reads.{rate_of_tax_rate_with_id}
+use Rattle.brk_trade_books.proofs.BandReading.{reads_band}
+use Rattle.brk_trade_books.proofs.Places.{some_of}
+use Rattle.brk_trade_books.proofs.Reading.{find-id, find-map, reads_account, reads_customer}
+use Rattle.brk_trade_books.proofs.Same.{find-All}
+use Rattle.brk_trade_books.proofs.TermReading.{reads_rates, reads_security}
 use Rattle.brk_view_theorems.specs.Before.{shares_before_trade}
 use Rattle.brk_view_theorems.specs.Closings.{PrintedClosingsMatchDeal, result_details_in_base}
 use Rattle.brk_view_theorems.specs.Equations.{PrintedSettlementMatchesBase, order_details_in_base}

@@ -16,16 +16,16 @@ use Rattle.brk_model.specs.Lists.{total_by}
 use Rattle.brk_model.specs.Records.{Account, Movement, Trade}
 use Rattle.brk_model.specs.Results.{trade_after_completion}
 use Rattle.brk_model.specs.Tests.{stamp_of_next_command, refusal_of_command}
-use Rattle.brk_book_theorems.specs.Books.{BooksInvariant, TradeStampIsAtMostLastStamp, MovementStampIsAtMostLastStamp}
-use Rattle.brk_book_theorems.specs.Steps.{base_after_command}
-use Rattle.brk_book_theorems.proofs.LotReading.{filter-map, filter-swap}
-use Rattle.brk_book_theorems.proofs.Places.{filter-all, filter-append}
-use Rattle.brk_book_theorems.proofs.Postings.{balance_parts}
-use Rattle.brk_book_theorems.proofs.References.{known_completed}
-use Rattle.brk_book_theorems.proofs.RunKeeping.{books_command, run_books}
-use Rattle.brk_book_theorems.proofs.ResultRows.{moment_then, status_then}
-use Rattle.brk_book_theorems.proofs.Same.{All-filter, All-map, All-mapped, find-All, find-more, total_by-same}
-use Rattle.brk_book_theorems.proofs.SumReading.{total-map}
+use Rattle.brk_trade_books.specs.Books.{BooksInvariant, TradeStampIsAtMostLastStamp, MovementStampIsAtMostLastStamp}
+use Rattle.brk_trade_books.specs.Steps.{base_after_command}
+use Rattle.brk_trade_books.proofs.LotReading.{filter-map, filter-swap}
+use Rattle.brk_trade_books.proofs.Places.{filter-all, filter-append}
+use Rattle.brk_trade_books.proofs.Postings.{balance_parts}
+use Rattle.brk_trade_books.proofs.References.{known_completed}
+use Rattle.brk_trade_books.proofs.RunKeeping.{books_command, run_books}
+use Rattle.brk_trade_books.proofs.ResultRows.{moment_then, status_then}
+use Rattle.brk_trade_books.proofs.Same.{All-filter, All-map, All-mapped, find-All, find-more, total_by-same}
+use Rattle.brk_trade_books.proofs.SumReading.{total-map}
 use Rattle.brk_view_theorems.specs.Balances.{RunsPreservePrintedBalanceAfterTrade, balance_at_stamp, postings_up_to_stamp}
 use Rattle.brk_view_theorems.proofs.BalanceSums.{balances_as_told}
 use Rattle.brk_view_theorems.proofs.Kept.{Keeps, core, done_by, keeps_run, moved_by}

@@ -17,16 +17,16 @@ use Rattle.brk_model.specs.Records.{Account, Movement, Trade}
 use Rattle.brk_model.specs.Sheets.{sheets}
 use Rattle.brk_model.specs.Statement.{sorted_cash_rows_of_account}
 use Rattle.brk_model.specs.Tables.{AccountRow, MoveRow, account_row, trade_row}
-use Rattle.brk_explain_model.specs.Running.{running_totals}
-use Rattle.brk_explain_model.specs.Trades.{balance_change_of_trade, result_details_of_trade}
-use Rattle.brk_book_theorems.specs.Books.{BooksInvariant}
-use Rattle.brk_book_theorems.proofs.LotReading.{filter-both, filter-map, filter-swap}
-use Rattle.brk_book_theorems.proofs.MoveReading.{rows_posted, turn_filter}
-use Rattle.brk_book_theorems.proofs.Places.{FoundAt, filter-one, find-at}
-use Rattle.brk_book_theorems.proofs.Postings.{postings_none, postings_one, total_sort}
-use Rattle.brk_book_theorems.proofs.Reading.{find-map, reads_account}
-use Rattle.brk_book_theorems.proofs.Same.{All-append, All-filter, All-mapped, filter-none, filter-same}
-use Rattle.brk_book_theorems.proofs.SumReading.{balance_sums, total-map}
+use Rattle.brk_model_explain.specs.Running.{running_totals}
+use Rattle.brk_model_explain.specs.Trades.{balance_change_of_trade, result_details_of_trade}
+use Rattle.brk_trade_books.specs.Books.{BooksInvariant}
+use Rattle.brk_trade_books.proofs.LotReading.{filter-both, filter-map, filter-swap}
+use Rattle.brk_trade_books.proofs.MoveReading.{rows_posted, turn_filter}
+use Rattle.brk_trade_books.proofs.Places.{FoundAt, filter-one, find-at}
+use Rattle.brk_trade_books.proofs.Postings.{postings_none, postings_one, total_sort}
+use Rattle.brk_trade_books.proofs.Reading.{find-map, reads_account}
+use Rattle.brk_trade_books.proofs.Same.{All-append, All-filter, All-mapped, filter-none, filter-same}
+use Rattle.brk_trade_books.proofs.SumReading.{balance_sums, total-map}
 use Rattle.brk_view_theorems.specs.Balances.{PrintedBalancesMatchBase, printed_balance_before_trade, last_number_or_default, postings_before_stamp, postings_up_to_stamp}
 use Rattle.brk_view_theorems.proofs.Among.{Among, among}
 use Rattle.brk_view_theorems.proofs.SortedRows.{find_first, first, total_sorted}

@@ -17,16 +17,16 @@ use Rattle.brk_lots.specs.Walks.{closed_share_count, touches_of_first_shares}
 use Rattle.brk_lots.specs.declared.lot.Touch.{Touch}
 use Rattle.brk_lots.proofs.Ends.{reverse_first, walk_of}
 use Rattle.brk_lots.proofs.Upon.{rows_are}
-use Rattle.brk_explain_model.specs.Trades.{Closing, recorded_closing, closings_of_trade, reversed_if_lifo, is_closing_by_trade, trade_stamp_or_zero}
-use Rattle.brk_book_theorems.specs.Books.{BooksInvariant, HasDistinctLastStatusStamps}
-use Rattle.brk_book_theorems.proofs.Bools.{numbers_back}
-use Rattle.brk_book_theorems.proofs.Completing.{is_here, of_here}
-use Rattle.brk_book_theorems.proofs.LotOrder.{Follows, InOrder, trades_held}
-use Rattle.brk_book_theorems.proofs.LotReading.{filter-both, filter-map}
-use Rattle.brk_book_theorems.proofs.Order.{append_nil, sort_filter}
-use Rattle.brk_book_theorems.proofs.Places.{filter-append}
-use Rattle.brk_book_theorems.proofs.Same.{All-filter, All-map, filter-none, filter-same}
-use Rattle.brk_book_theorems.proofs.Touching.{Without, unchanged}
+use Rattle.brk_model_explain.specs.Trades.{Closing, recorded_closing, closings_of_trade, reversed_if_lifo, is_closing_by_trade, trade_stamp_or_zero}
+use Rattle.brk_trade_books.specs.Books.{BooksInvariant, HasDistinctLastStatusStamps}
+use Rattle.brk_trade_books.proofs.Bools.{numbers_back}
+use Rattle.brk_trade_books.proofs.Completing.{is_here, of_here}
+use Rattle.brk_trade_books.proofs.LotOrder.{Follows, InOrder, trades_held}
+use Rattle.brk_trade_books.proofs.LotReading.{filter-both, filter-map}
+use Rattle.brk_trade_books.proofs.Order.{append_nil, sort_filter}
+use Rattle.brk_trade_books.proofs.Places.{filter-append}
+use Rattle.brk_trade_books.proofs.Same.{All-filter, All-map, filter-none, filter-same}
+use Rattle.brk_trade_books.proofs.Touching.{Without, unchanged}
 use Rattle.brk_view_theorems.proofs.Held.{Precedes, back_follows, front_in_order, front_precedes, left_by, lots_by, lots_new, lots_position, lots_shares, none_yet, touches_by}
 use Rattle.brk_view_theorems.proofs.SortedRows.{Apart, apart_filter, apart_map, apart_same, by, by_one_way, by_splits, sort_again, sort_map, sort_same}
 use Rattle.brk_view_theorems.proofs.TradeRows.{IsPlaced, done_found, passes, placed_order, row_by, rows_found, stamp_is}

@@ -16,21 +16,21 @@ use Rattle.brk_model.specs.Tables.{HoldingHistoryRow, Tables, trade_row}
 use Rattle.brk_lots.specs.Lots.{list_reversed_if_lifo, shares_of_lots}
 use Rattle.brk_lots.specs.Position.{IsPositionInAnyOrder}
 use Rattle.brk_lots.specs.Values.{closing_values_of_deal}
-use Rattle.brk_closing.specs.Values.{closing_values_by_side, buy_value_by_side, sell_value_by_side}
+use Rattle.brk_lots.specs.ClosedValues.{closing_values_by_side, buy_value_by_side, sell_value_by_side}
 use Rattle.brk_lots.specs.Walks.{cost_of_first_shares, touches_of_first_shares}
 use Rattle.brk_lots.specs.declared.lot.Lot.{Lot}
-use Rattle.brk_closing.specs.declared.values.Values.{Values}
+use Rattle.brk_lots.specs.declared.closed_values.Values.{Values}
 use Rattle.brk_lots.proofs.Books.{count_fits}
 use Rattle.brk_lots.proofs.Closed.{values_are}
 use Rattle.brk_lots.proofs.Ends.{all_end, shares_end, walk_of}
 use Rattle.brk_lots.proofs.Upon.{met_closes}
-use Rattle.brk_explain_model.specs.Trades.{buy_value_of_closings, closings_of_trade, trade_price_or_zero, opened_lot_row, completion_price_or_zero}
-use Rattle.brk_explain_model.specs.Trades.{sell_value_of_closings, shares_of_closing, total_closed_shares}
-use Rattle.brk_book_theorems.specs.Books.{BooksInvariant}
-use Rattle.brk_book_theorems.proofs.LotOrder.{InOrder, of_held, trades_held}
-use Rattle.brk_book_theorems.proofs.Same.{All-map}
-use Rattle.brk_book_theorems.proofs.Tested.{All-front}
-use Rattle.brk_book_theorems.proofs.TradeReading.{reads_trade}
+use Rattle.brk_model_explain.specs.Trades.{buy_value_of_closings, closings_of_trade, trade_price_or_zero, opened_lot_row, completion_price_or_zero}
+use Rattle.brk_model_explain.specs.Trades.{sell_value_of_closings, shares_of_closing, total_closed_shares}
+use Rattle.brk_trade_books.specs.Books.{BooksInvariant}
+use Rattle.brk_trade_books.proofs.LotOrder.{InOrder, of_held, trades_held}
+use Rattle.brk_trade_books.proofs.Same.{All-map}
+use Rattle.brk_trade_books.proofs.Tested.{All-front}
+use Rattle.brk_trade_books.proofs.TradeReading.{reads_trade}
 use Rattle.brk_view_theorems.specs.Before.{shares_before_trade}
 use Rattle.brk_view_theorems.specs.Closings.{HoldsForAllButLast, PrintedClosingsMatchDeal, ClosesWholeLot}
 use Rattle.brk_view_theorems.proofs.ClosedLots.{closing_at, closings_are, taken_by}

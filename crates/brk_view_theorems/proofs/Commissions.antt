@@ -8,12 +8,12 @@ use Rattle.brk_model.specs.Base.{Base}
 use Rattle.brk_model.specs.Lists.{total_by}
 use Rattle.brk_model.specs.Sheets.{sheets}
 use Rattle.brk_model.specs.Tables.{BrokerRow, TradeRow}
-use Rattle.brk_explain_model.specs.BrokerLines.{completed_trades_of_broker}
-use Rattle.brk_book_theorems.specs.Books.{BooksInvariant}
-use Rattle.brk_book_theorems.specs.Sums.{completed_trade_rows_of_broker}
-use Rattle.brk_book_theorems.proofs.Places.{FoundAt, find-at}
-use Rattle.brk_book_theorems.proofs.Postings.{length_sort}
-use Rattle.brk_book_theorems.proofs.SumReading.{broker_counts, broker_sums}
+use Rattle.brk_model_explain.specs.BrokerLines.{completed_trades_of_broker}
+use Rattle.brk_trade_books.specs.Books.{BooksInvariant}
+use Rattle.brk_trade_books.specs.Sums.{completed_trade_rows_of_broker}
+use Rattle.brk_trade_books.proofs.Places.{FoundAt, find-at}
+use Rattle.brk_trade_books.proofs.Postings.{length_sort}
+use Rattle.brk_trade_books.proofs.SumReading.{broker_counts, broker_sums}
 use Rattle.brk_view_theorems.specs.Brokers.{PrintedBrokerMatchesTotals}
 use Rattle.brk_view_theorems.proofs.BalanceSums.{running_ends}
 use Rattle.brk_view_theorems.proofs.Products.{no_more}

@@ -24,16 +24,16 @@ use Rattle.brk_lots.specs.Walks.{closed_share_count, touches_of_first_shares}
 use Rattle.brk_lots.specs.declared.lot.Lot.{Lot}
 use Rattle.brk_lots.specs.declared.lot.Touch.{Touch}
 use Rattle.brk_lots.proofs.Ends.{all_end}
-use Rattle.brk_explain_model.specs.Trades.{Closing, balance_change_of_trade, closings_of_trade, trade_price_or_zero, trade_stamp_or_zero, sorted_statuses_of_trade}
-use Rattle.brk_book_theorems.specs.Books.{BooksInvariant, TradeStampIsAtMostLastStamp}
-use Rattle.brk_book_theorems.proofs.Histories.{filter-flat_map}
-use Rattle.brk_book_theorems.proofs.LotOrder.{is_some_left, lot_upon, lots_left, of_held, trades_held}
-use Rattle.brk_book_theorems.proofs.LotReading.{IdsApart, filter-map, numbered_rise, rise_apart}
-use Rattle.brk_book_theorems.proofs.Order.{append_nil, by_key-filter}
-use Rattle.brk_book_theorems.proofs.Places.{FoundAt, filter-all, find-at}
-use Rattle.brk_book_theorems.proofs.RunKeeping.{run_books}
-use Rattle.brk_book_theorems.proofs.Same.{NonePass, All-map, All-mapped, All-of, filter-none, find-All, flat_map-append, flat_map-empty}
-use Rattle.brk_book_theorems.proofs.Tested.{All-back, All-front}
+use Rattle.brk_model_explain.specs.Trades.{Closing, balance_change_of_trade, closings_of_trade, trade_price_or_zero, trade_stamp_or_zero, sorted_statuses_of_trade}
+use Rattle.brk_trade_books.specs.Books.{BooksInvariant, TradeStampIsAtMostLastStamp}
+use Rattle.brk_trade_books.proofs.Histories.{filter-flat_map}
+use Rattle.brk_trade_books.proofs.LotOrder.{is_some_left, lot_upon, lots_left, of_held, trades_held}
+use Rattle.brk_trade_books.proofs.LotReading.{IdsApart, filter-map, numbered_rise, rise_apart}
+use Rattle.brk_trade_books.proofs.Order.{append_nil, by_key-filter}
+use Rattle.brk_trade_books.proofs.Places.{FoundAt, filter-all, find-at}
+use Rattle.brk_trade_books.proofs.RunKeeping.{run_books}
+use Rattle.brk_trade_books.proofs.Same.{NonePass, All-map, All-mapped, All-of, filter-none, find-All, flat_map-append, flat_map-empty}
+use Rattle.brk_trade_books.proofs.Tested.{All-back, All-front}
 use Rattle.brk_view_theorems.specs.Before.{trades_completed_before_stamp}
 use Rattle.brk_view_theorems.specs.Balances.{printed_balance_after_trade, balance_at_stamp, printed_balance_before_trade}
 use Rattle.brk_view_theorems.specs.Closings.{result_details_in_base}

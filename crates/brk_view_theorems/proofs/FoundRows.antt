@@ -21,13 +21,13 @@ use Rattle.brk_audit_theorems.proofs.Climbs.{Climbs}
 use Rattle.brk_audit_theorems.proofs.Parts.{KeyParts, key_parts}
 use Rattle.brk_audit_theorems.specs.Sound.{AuditInvariant}
 use Rattle.brk_audit_theorems.proofs.FormKeys.{keys_of}
-use Rattle.brk_book_theorems.specs.Books.{BooksInvariant}
-use Rattle.brk_book_theorems.proofs.Bools.{numbers_back}
-use Rattle.brk_book_theorems.proofs.LotReading.{numbered_rise, rise_apart, rise_filter}
-use Rattle.brk_book_theorems.proofs.MoveReading.{postings_back, turn_filter}
-use Rattle.brk_book_theorems.proofs.Order.{Splits, append_nil}
-use Rattle.brk_book_theorems.proofs.Places.{filter-append}
-use Rattle.brk_book_theorems.proofs.Postings.{numbered_stay}
+use Rattle.brk_trade_books.specs.Books.{BooksInvariant}
+use Rattle.brk_trade_books.proofs.Bools.{numbers_back}
+use Rattle.brk_trade_books.proofs.LotReading.{numbered_rise, rise_apart, rise_filter}
+use Rattle.brk_trade_books.proofs.MoveReading.{postings_back, turn_filter}
+use Rattle.brk_trade_books.proofs.Order.{Splits, append_nil}
+use Rattle.brk_trade_books.proofs.Places.{filter-append}
+use Rattle.brk_trade_books.proofs.Postings.{numbered_stay}
 use Rattle.brk_view_theorems.proofs.Gathering.{Excludes, same_pieces, sort_gathered}
 use Rattle.brk_view_theorems.proofs.OneRow.{found_is_all}
 use Rattle.brk_view_theorems.proofs.Sorting.{AllApart, same_rows}

@@ -20,23 +20,23 @@ use Rattle.brk_lots.specs.HistoryRows.{has_quantity_change, lot_rows_with_quanti
 use Rattle.brk_lots.specs.Books.{realised_gain_sum, cost_basis_of_lots, purchase_value_minus_sale_value}
 use Rattle.brk_lots.specs.Chains.{ShrinksTowardZero, IsLotHistory}
 use Rattle.brk_lots.specs.declared.lot.Lot.{Lot}
-use Rattle.brk_explain_model.specs.Holdings.{LotChange, LotDetails, realised_gain_of_change, remaining_cost_of_lot, remaining_cost_of_lots}
-use Rattle.brk_explain_model.specs.Holdings.{completed_trades_in_symbol, realised_gain_in_symbol, remaining_quantity_of_lot, recorded_lot_change}
-use Rattle.brk_explain_model.specs.Holdings.{realised_gain_of_lot, lot_with_changes_by_others, lots_opened_in_symbol, total_purchase_value, negated_total_sale_value}
-use Rattle.brk_explain_model.specs.Holdings.{signed_quantity_of_trade, signed_value_of_trade}
-use Rattle.brk_explain_model.specs.Running.{running_totals}
-use Rattle.brk_explain_model.specs.Trades.{has_completed_status, trade_price_or_zero, opened_lot_row}
-use Rattle.brk_book_theorems.specs.Books.{BooksInvariant}
-use Rattle.brk_book_theorems.specs.Lives.{BeginsWithTradeOfLot}
-use Rattle.brk_book_theorems.specs.TradeReads.{lots_of_position}
-use Rattle.brk_book_theorems.proofs.Bools.{same_text}
-use Rattle.brk_book_theorems.proofs.LotOrder.{both_hold, held_in_order, is_some_left, lot_upon, lots_read, of_held, of_its_account, of_its_symbol, trades_held}
-use Rattle.brk_book_theorems.proofs.LotReading.{All-sort, IdsApart, all_pass, filter-both, filter-map}
-use Rattle.brk_book_theorems.proofs.RunLaws.{costs_sum, lot_lives, quantities_sum}
-use Rattle.brk_book_theorems.proofs.Same.{All-map, All-mapped, filter-same, total_by-same}
-use Rattle.brk_book_theorems.proofs.SumReading.{found_each, total-map}
-use Rattle.brk_book_theorems.proofs.Tested.{not_not}
-use Rattle.brk_book_theorems.proofs.TradeReading.{trades_in_order}
+use Rattle.brk_model_explain.specs.Holdings.{LotChange, LotDetails, realised_gain_of_change, remaining_cost_of_lot, remaining_cost_of_lots}
+use Rattle.brk_model_explain.specs.Holdings.{completed_trades_in_symbol, realised_gain_in_symbol, remaining_quantity_of_lot, recorded_lot_change}
+use Rattle.brk_model_explain.specs.Holdings.{realised_gain_of_lot, lot_with_changes_by_others, lots_opened_in_symbol, total_purchase_value, negated_total_sale_value}
+use Rattle.brk_model_explain.specs.Holdings.{signed_quantity_of_trade, signed_value_of_trade}
+use Rattle.brk_model_explain.specs.Running.{running_totals}
+use Rattle.brk_model_explain.specs.Trades.{has_completed_status, trade_price_or_zero, opened_lot_row}
+use Rattle.brk_trade_books.specs.Books.{BooksInvariant}
+use Rattle.brk_trade_books.specs.Lives.{BeginsWithTradeOfLot}
+use Rattle.brk_trade_books.specs.TradeReads.{lots_of_position}
+use Rattle.brk_trade_books.proofs.Bools.{same_text}
+use Rattle.brk_trade_books.proofs.LotOrder.{both_hold, held_in_order, is_some_left, lot_upon, lots_read, of_held, of_its_account, of_its_symbol, trades_held}
+use Rattle.brk_trade_books.proofs.LotReading.{All-sort, IdsApart, all_pass, filter-both, filter-map}
+use Rattle.brk_trade_books.proofs.RunLaws.{costs_sum, lot_lives, quantities_sum}
+use Rattle.brk_trade_books.proofs.Same.{All-map, All-mapped, filter-same, total_by-same}
+use Rattle.brk_trade_books.proofs.SumReading.{found_each, total-map}
+use Rattle.brk_trade_books.proofs.Tested.{not_not}
+use Rattle.brk_trade_books.proofs.TradeReading.{trades_in_order}
 use Rattle.brk_view_theorems.specs.Balances.{last_number_or_default}
 use Rattle.brk_view_theorems.specs.Gains.{PrintedHoldingMatchesDeals}
 use Rattle.brk_view_theorems.proofs.Among.{Among, among}

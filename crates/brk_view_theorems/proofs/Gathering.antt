@@ -4,8 +4,8 @@ use Rattle.std.proofs.Common.{◌≡◌, List, [], ◌∷◌, ◌++◌, Bool, tr
 use Rattle.std.specs.Prelude.{⊤, ◌&&◌, ◌||◌, flat_map}
 use Rattle.std.specs.List.{AllByRecursion, list_any}
 use Rattle.brk_model.specs.Lists.{insert_by, sort_by}
-use Rattle.brk_book_theorems.proofs.Order.{Splits, insert_commute}
-use Rattle.brk_book_theorems.proofs.LotReading.{filter-both, filter-swap}
+use Rattle.brk_trade_books.proofs.Order.{Splits, insert_commute}
+use Rattle.brk_trade_books.proofs.LotReading.{filter-both, filter-swap}
 use Rattle.brk_view_theorems.proofs.Sorting.{AllApart, apart_filter, put_all}
 use Rattle.brk_view_theorems.proofs.Trades.{All-filter}
 

@@ -23,16 +23,16 @@ use Rattle.brk_lots.proofs.Changes.{firsts_walk}
 use Rattle.brk_lots.proofs.Counts.{OneSide}
 use Rattle.brk_lots.proofs.Deals.{all_after}
 use Rattle.brk_lots.proofs.Ends.{walk_of}
-use Rattle.brk_book_theorems.proofs.Bools.{numbers_back}
-use Rattle.brk_book_theorems.proofs.LotOrder.{Follows, InOrder, both_hold, is_some_left, lot_upon, lots_left, position_upon, trades_held}
-use Rattle.brk_book_theorems.proofs.LotReading.{IdsApart, filter-swap}
-use Rattle.brk_book_theorems.proofs.Order.{append_nil, sort_filter}
-use Rattle.brk_book_theorems.proofs.Places.{FoundAt, filter-all, filter-append, filter-one, find-at}
-use Rattle.brk_book_theorems.proofs.Positions.{position_own}
-use Rattle.brk_book_theorems.proofs.Runs.{AreRuns, lot_other, lot_own, no_lot, run_told, runs_of}
-use Rattle.brk_book_theorems.proofs.Same.{NonePass, All-map, All-of, filter-none}
-use Rattle.brk_book_theorems.proofs.Tested.{All-back}
-use Rattle.brk_book_theorems.proofs.Touching.{Without, unchanged, without_of}
+use Rattle.brk_trade_books.proofs.Bools.{numbers_back}
+use Rattle.brk_trade_books.proofs.LotOrder.{Follows, InOrder, both_hold, is_some_left, lot_upon, lots_left, position_upon, trades_held}
+use Rattle.brk_trade_books.proofs.LotReading.{IdsApart, filter-swap}
+use Rattle.brk_trade_books.proofs.Order.{append_nil, sort_filter}
+use Rattle.brk_trade_books.proofs.Places.{FoundAt, filter-all, filter-append, filter-one, find-at}
+use Rattle.brk_trade_books.proofs.Positions.{position_own}
+use Rattle.brk_trade_books.proofs.Runs.{AreRuns, lot_other, lot_own, no_lot, run_told, runs_of}
+use Rattle.brk_trade_books.proofs.Same.{NonePass, All-map, All-of, filter-none}
+use Rattle.brk_trade_books.proofs.Tested.{All-back}
+use Rattle.brk_trade_books.proofs.Touching.{Without, unchanged, without_of}
 use Rattle.brk_view_theorems.specs.Before.{trades_completed_before_stamp, shares_before_trade}
 use Rattle.brk_view_theorems.proofs.SortedRows.{Split, by_one_way, by_splits, split_sort}
 

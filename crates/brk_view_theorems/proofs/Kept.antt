@@ -22,22 +22,22 @@ use Rattle.brk_model.specs.Step.{base_after_command_unstamped}
 use Rattle.brk_model.specs.Tests.{stamp_of_next_command, refusal_of_command, checks_of_command}
 use Rattle.brk_model.specs.Updates.{updated_cash_row_name, updated_cash_type, updated_executor_name, selected_trade_ids_of_account, selected_trade_ids_of_symbol}
 use Rattle.brk_view_theorems.specs.Before.{trades_completed_before_stamp}
-use Rattle.brk_book_theorems.specs.Books.{BooksInvariant}
-use Rattle.brk_book_theorems.specs.Steps.{base_after_command}
-use Rattle.brk_book_theorems.proofs.Completions.{completed_ticks, completed_unseen, named_waits}
-use Rattle.brk_book_theorems.proofs.Keepers.{books_kept}
-use Rattle.brk_book_theorems.proofs.LotOrder.{both_hold}
-use Rattle.brk_book_theorems.proofs.LotReading.{filter-both, filter-map}
-use Rattle.brk_book_theorems.proofs.Movements.{due_days_stay}
-use Rattle.brk_book_theorems.proofs.Numbering.{status_of_marked}
-use Rattle.brk_book_theorems.proofs.Order.{append_nil}
-use Rattle.brk_book_theorems.proofs.Ordering.{ordered_done}
-use Rattle.brk_book_theorems.proofs.Places.{append_assoc, filter-append, filter-not_one}
-use Rattle.brk_book_theorems.proofs.ResultKeeping.{Found, found_at, result_named, submitted}
-use Rattle.brk_book_theorems.proofs.ResultRows.{done_now, done_then, moment_then}
-use Rattle.brk_book_theorems.proofs.RunKeeping.{books_command, run_keeps}
-use Rattle.brk_book_theorems.proofs.Same.{All-filter, All-map, All-mapped, All-of}
-use Rattle.brk_book_theorems.proofs.Tested.{passed}
+use Rattle.brk_trade_books.specs.Books.{BooksInvariant}
+use Rattle.brk_trade_books.specs.Steps.{base_after_command}
+use Rattle.brk_trade_books.proofs.Completions.{completed_ticks, completed_unseen, named_waits}
+use Rattle.brk_trade_books.proofs.Keepers.{books_kept}
+use Rattle.brk_trade_books.proofs.LotOrder.{both_hold}
+use Rattle.brk_trade_books.proofs.LotReading.{filter-both, filter-map}
+use Rattle.brk_trade_books.proofs.Movements.{due_days_stay}
+use Rattle.brk_trade_books.proofs.Numbering.{status_of_marked}
+use Rattle.brk_trade_books.proofs.Order.{append_nil}
+use Rattle.brk_trade_books.proofs.Ordering.{ordered_done}
+use Rattle.brk_trade_books.proofs.Places.{append_assoc, filter-append, filter-not_one}
+use Rattle.brk_trade_books.proofs.ResultKeeping.{Found, found_at, result_named, submitted}
+use Rattle.brk_trade_books.proofs.ResultRows.{done_now, done_then, moment_then}
+use Rattle.brk_trade_books.proofs.RunKeeping.{books_command, run_keeps}
+use Rattle.brk_trade_books.proofs.Same.{All-filter, All-map, All-mapped, All-of}
+use Rattle.brk_trade_books.proofs.Tested.{passed}
 
 -- ---- what is kept
 

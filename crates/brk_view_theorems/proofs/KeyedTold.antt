@@ -12,7 +12,7 @@ use Rattle.brk_model.specs.Rows.{row_text}
 use Rattle.brk_model.specs.Sheets.{tables_sorted_by_key}
 use Rattle.brk_model.specs.Step.{step}
 use Rattle.brk_model.specs.Tables.{tables_of_base_in_schema}
-use Rattle.brk_book_theorems.specs.Books.{BooksInvariant}
+use Rattle.brk_trade_books.specs.Books.{BooksInvariant}
 use Rattle.brk_view_theorems.specs.ReplyFigures.{PrintsReplyFigures}
 use Rattle.brk_view_theorems.proofs.Told.{replies_told}
 

@@ -15,10 +15,10 @@ use Rattle.brk_model.specs.LookupView.{cash_record, is_cash_row_of_trade, trade_
 use Rattle.brk_model.specs.Sheets.{sheets, tables_sorted_by_key}
 use Rattle.brk_model.specs.Tables.{HistoryRow, TradeRow, tables_of_base_in_schema, tables_of_base}
 use Rattle.brk_audit_theorems.specs.Sound.{AuditInvariant}
-use Rattle.brk_book_theorems.specs.Books.{BooksInvariant}
-use Rattle.brk_book_theorems.proofs.Order.{Splits}
-use Rattle.brk_book_theorems.proofs.Postings.{numbered_stay}
-use Rattle.brk_book_theorems.proofs.Same.{flat_map-same}
+use Rattle.brk_trade_books.specs.Books.{BooksInvariant}
+use Rattle.brk_trade_books.proofs.Order.{Splits}
+use Rattle.brk_trade_books.proofs.Postings.{numbered_stay}
+use Rattle.brk_trade_books.proofs.Same.{flat_map-same}
 use Rattle.brk_view_theorems.proofs.OneRow.{rows_of_key}
 use Rattle.brk_view_theorems.proofs.Sorting.{AllApart, All-sort, sort_twice}
 use Rattle.brk_view_theorems.proofs.Trades.{AllRise, All-each, All-filter, All-take, Earlier, history_by_code, same_trades, statuses_rise}

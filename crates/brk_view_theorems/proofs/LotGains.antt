@@ -15,10 +15,10 @@ use Rattle.brk_lots.specs.HistoryRows.{has_quantity_change, lot_history_rows_per
 use Rattle.brk_model.specs.Shares.{Share, Deal, realised_gain, lot_quantity, net_share_count, shares_opened_by_trade, opened_share, replay, shares_after_deal, signed_by_side}
 use Rattle.brk_lots.specs.Books.{realised_gain_sum, cost_basis_of_shares}
 use Rattle.brk_lots.proofs.Deals.{all_after}
-use Rattle.brk_book_theorems.proofs.Bools.{numbers_back}
-use Rattle.brk_book_theorems.proofs.LotReading.{IdsApart}
-use Rattle.brk_book_theorems.proofs.Same.{All-map, All-of, total_by-same}
-use Rattle.brk_book_theorems.proofs.Tested.{not_not}
+use Rattle.brk_trade_books.proofs.Bools.{numbers_back}
+use Rattle.brk_trade_books.proofs.LotReading.{IdsApart}
+use Rattle.brk_trade_books.proofs.Same.{All-map, All-of, total_by-same}
+use Rattle.brk_trade_books.proofs.Tested.{not_not}
 use Rattle.brk_view_theorems.proofs.Products.{less_times, neg_times, no_more, times_less, times_sum, total_less, total_none, total_sum, total_times}
 use Rattle.brk_view_theorems.proofs.Replays.{cost_step, fold_last, net_step, signed_price}
 

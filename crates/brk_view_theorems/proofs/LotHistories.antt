@@ -13,17 +13,17 @@ use Rattle.brk_model.specs.Shares.{Deal, Share, shares_after_deal}
 use Rattle.brk_model.specs.Sheets.{sheets}
 use Rattle.brk_model.specs.Tables.{HoldingHistoryRow, Tables}
 use Rattle.brk_lots.specs.HistoryRows.{has_quantity_change, lot_rows_with_quantity_change, lot_history_rows_per_deal}
-use Rattle.brk_explain_model.specs.Holdings.{LotChange, is_change_of_lot_by_other_trade, recorded_lot_change, changes_of_lot_by_other_trades}
-use Rattle.brk_explain_model.specs.Trades.{trade_stamp_or_zero, opened_lot_row}
-use Rattle.brk_book_theorems.specs.Books.{BooksInvariant}
-use Rattle.brk_book_theorems.specs.Lives.{BeginsWithTradeOfLot, lot_changes_by_stamp}
-use Rattle.brk_book_theorems.proofs.Histories.{filter-flat_map}
-use Rattle.brk_book_theorems.proofs.LotLives.{lots_live_on}
-use Rattle.brk_book_theorems.proofs.LotOrder.{Follows, InOrder, held_in_order, of_held, trades_held}
-use Rattle.brk_book_theorems.proofs.LotReading.{filter-both, filter-swap}
-use Rattle.brk_book_theorems.proofs.Order.{Sorted, append_nil, by_key-filter, sort_filter, sort_sorted}
-use Rattle.brk_book_theorems.proofs.Places.{filter-all}
-use Rattle.brk_book_theorems.proofs.Same.{NonePass, All-filter, All-map, filter-none, flat_map-append, flat_map-empty}
+use Rattle.brk_model_explain.specs.Holdings.{LotChange, is_change_of_lot_by_other_trade, recorded_lot_change, changes_of_lot_by_other_trades}
+use Rattle.brk_model_explain.specs.Trades.{trade_stamp_or_zero, opened_lot_row}
+use Rattle.brk_trade_books.specs.Books.{BooksInvariant}
+use Rattle.brk_trade_books.specs.Lives.{BeginsWithTradeOfLot, lot_changes_by_stamp}
+use Rattle.brk_trade_books.proofs.Histories.{filter-flat_map}
+use Rattle.brk_trade_books.proofs.LotLives.{lots_live_on}
+use Rattle.brk_trade_books.proofs.LotOrder.{Follows, InOrder, held_in_order, of_held, trades_held}
+use Rattle.brk_trade_books.proofs.LotReading.{filter-both, filter-swap}
+use Rattle.brk_trade_books.proofs.Order.{Sorted, append_nil, by_key-filter, sort_filter, sort_sorted}
+use Rattle.brk_trade_books.proofs.Places.{filter-all}
+use Rattle.brk_trade_books.proofs.Same.{NonePass, All-filter, All-map, filter-none, flat_map-append, flat_map-empty}
 use Rattle.brk_view_theorems.proofs.Among.{Among}
 use Rattle.brk_view_theorems.proofs.SortedRows.{Apart, by, by_one_way, by_splits, find_first, first, sort_again, sort_map}
 use Rattle.brk_view_theorems.proofs.TradeRows.{done_found, history_is, stamp_is}

@@ -12,13 +12,13 @@ use Rattle.brk_model.specs.Shares.{Deal, Share, lot_quantity, net_share_count, o
 use Rattle.brk_model.specs.Tables.{HoldingHistoryRow}
 use Rattle.brk_lots.specs.HistoryRows.{has_quantity_change}
 use Rattle.brk_lots.proofs.Deals.{all_after}
-use Rattle.brk_book_theorems.specs.Books.{BooksInvariant}
-use Rattle.brk_book_theorems.proofs.Completing.{is_here, of_here}
-use Rattle.brk_book_theorems.proofs.LotOrder.{held_in_order, trades_held}
-use Rattle.brk_book_theorems.proofs.LotReading.{IdsApart, filter-both}
-use Rattle.brk_book_theorems.proofs.Same.{All-map, All-mapped, All-of, total_by-same}
-use Rattle.brk_book_theorems.proofs.SumReading.{found_each, total-map}
-use Rattle.brk_book_theorems.proofs.Tested.{All-back, All-front, not_not}
+use Rattle.brk_trade_books.specs.Books.{BooksInvariant}
+use Rattle.brk_trade_books.proofs.Completing.{is_here, of_here}
+use Rattle.brk_trade_books.proofs.LotOrder.{held_in_order, trades_held}
+use Rattle.brk_trade_books.proofs.LotReading.{IdsApart, filter-both}
+use Rattle.brk_trade_books.proofs.Same.{All-map, All-mapped, All-of, total_by-same}
+use Rattle.brk_trade_books.proofs.SumReading.{found_each, total-map}
+use Rattle.brk_trade_books.proofs.Tested.{All-back, All-front, not_not}
 use Rattle.brk_view_theorems.specs.Gains.{LotChangesSumToQuantity}
 use Rattle.brk_view_theorems.proofs.GainLaws.{some_of_all}
 use Rattle.brk_view_theorems.proofs.Held.{all_replayed, left_by, order_apart, placed}

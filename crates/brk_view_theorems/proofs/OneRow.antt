@@ -4,8 +4,8 @@ use Rattle.std.specs.Prelude.{⊤, option_to_list}
 use Rattle.std.specs.List.{AllByRecursion}
 use Rattle.brk_model.specs.Keys.{KeyPart, rows_sorted_by_key, is_key_less, is_row_key_less}
 use Rattle.brk_audit_theorems.proofs.Climbs.{Climbs, not_itself}
-use Rattle.brk_book_theorems.proofs.LotReading.{all_pass}
-use Rattle.brk_book_theorems.proofs.Order.{NoneBefore, Sorted, by_key-filter, key_one_way, sort_sorted}
+use Rattle.brk_trade_books.proofs.LotReading.{all_pass}
+use Rattle.brk_trade_books.proofs.Order.{NoneBefore, Sorted, by_key-filter, key_one_way, sort_sorted}
 
 -- a key does not go before itself
 not_before_itself : (j k : List KeyPart) (b : Bool) → is_key_less j k ≡ b → j ≡ k → is_key_less j k ≡ false

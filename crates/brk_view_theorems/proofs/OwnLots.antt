@@ -14,12 +14,12 @@ use Rattle.brk_model.specs.Sheets.{sheets}
 use Rattle.brk_model.specs.Tables.{HoldingHistoryRow}
 use Rattle.brk_lots.specs.HistoryRows.{has_quantity_change}
 use Rattle.brk_lots.proofs.History.{opened_qty}
-use Rattle.brk_explain_model.specs.Trades.{opened_lot_row}
-use Rattle.brk_book_theorems.proofs.Completing.{here_itself, is_here}
-use Rattle.brk_book_theorems.proofs.Places.{filter-append}
-use Rattle.brk_book_theorems.proofs.Same.{All-map, filter-none}
-use Rattle.brk_book_theorems.proofs.Tested.{not_not}
-use Rattle.brk_book_theorems.proofs.Touching.{Without, lot_without}
+use Rattle.brk_model_explain.specs.Trades.{opened_lot_row}
+use Rattle.brk_trade_books.proofs.Completing.{here_itself, is_here}
+use Rattle.brk_trade_books.proofs.Places.{filter-append}
+use Rattle.brk_trade_books.proofs.Same.{All-map, filter-none}
+use Rattle.brk_trade_books.proofs.Tested.{not_not}
+use Rattle.brk_trade_books.proofs.Touching.{Without, lot_without}
 use Rattle.brk_view_theorems.proofs.Among.{Among, among}
 use Rattle.brk_view_theorems.proofs.Held.{left_by, none_yet}
 use Rattle.brk_view_theorems.proofs.LotGains.{zero_is}

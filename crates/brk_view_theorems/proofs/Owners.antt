@@ -8,9 +8,9 @@ use Rattle.brk_model.specs.Keys.{KeyPart, rows_sorted_by_key, customer_key, word
 use Rattle.brk_model.specs.Lists.{insert_by, sort_by}
 use Rattle.brk_model.specs.Records.{Customer}
 use Rattle.brk_audit_theorems.specs.Sound.{HasDistinctKeys, customer_tax_id_key}
-use Rattle.brk_book_theorems.proofs.Bools.{numbers_back, same_text}
-use Rattle.brk_book_theorems.proofs.Order.{All-insert}
-use Rattle.brk_book_theorems.proofs.Reading.{some-any, some-is-any}
+use Rattle.brk_trade_books.proofs.Bools.{numbers_back, same_text}
+use Rattle.brk_trade_books.proofs.Order.{All-insert}
+use Rattle.brk_trade_books.proofs.Reading.{some-any, some-is-any}
 
 -- ---- by id
 

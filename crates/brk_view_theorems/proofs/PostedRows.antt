@@ -13,15 +13,15 @@ use Rattle.brk_model.specs.Records.{Movement, Trade}
 use Rattle.brk_model.specs.Sheets.{sheets, tables_sorted_by_key}
 use Rattle.brk_model.specs.Statement.{sorted_cash_rows_of_account}
 use Rattle.brk_model.specs.Tables.{AccountRow, MoveRow, SummaryRow, numbered_move_rows, tables_of_base_in_schema}
-use Rattle.brk_explain_model.specs.AccountLines.{priced_holding, account_cash_rows_by_stamp, market_value_of_holding}
-use Rattle.brk_explain_model.specs.Running.{running_totals}
-use Rattle.brk_book_theorems.specs.Books.{BooksInvariant, TradeStampIsAtMostLastStamp, MovementStampIsAtMostLastStamp}
-use Rattle.brk_book_theorems.proofs.LotReading.{All-sort}
-use Rattle.brk_book_theorems.proofs.Places.{FoundAt, filter-all, find-at}
-use Rattle.brk_book_theorems.proofs.Postings.{numbered_stay}
-use Rattle.brk_book_theorems.proofs.Same.{All-append, All-filter, All-map, All-mapped}
-use Rattle.brk_book_theorems.proofs.SumReading.{total-map}
-use Rattle.brk_book_theorems.proofs.Worth.{reads_assets}
+use Rattle.brk_model_explain.specs.AccountLines.{priced_holding, account_cash_rows_by_stamp, market_value_of_holding}
+use Rattle.brk_model_explain.specs.Running.{running_totals}
+use Rattle.brk_trade_books.specs.Books.{BooksInvariant, TradeStampIsAtMostLastStamp, MovementStampIsAtMostLastStamp}
+use Rattle.brk_trade_books.proofs.LotReading.{All-sort}
+use Rattle.brk_trade_books.proofs.Places.{FoundAt, filter-all, find-at}
+use Rattle.brk_trade_books.proofs.Postings.{numbered_stay}
+use Rattle.brk_trade_books.proofs.Same.{All-append, All-filter, All-map, All-mapped}
+use Rattle.brk_trade_books.proofs.SumReading.{total-map}
+use Rattle.brk_trade_books.proofs.Worth.{reads_assets}
 use Rattle.brk_view_theorems.specs.Balances.{PrintedAccountMatchesBase, last_number_or_default}
 use Rattle.brk_view_theorems.proofs.BalanceSums.{last_is_balance}
 

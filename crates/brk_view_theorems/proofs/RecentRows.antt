@@ -12,8 +12,8 @@ use Rattle.brk_model.specs.PositionView.{last_ten_trade_rows, recent_trades_view
 use Rattle.brk_model.specs.Sheets.{sheets}
 use Rattle.brk_model.specs.Tables.{HistoryRow, TradeRow, tables_of_base}
 use Rattle.brk_audit_theorems.specs.Sound.{AuditInvariant}
-use Rattle.brk_book_theorems.specs.Books.{BooksInvariant}
-use Rattle.brk_book_theorems.proofs.Order.{Splits}
+use Rattle.brk_trade_books.specs.Books.{BooksInvariant}
+use Rattle.brk_trade_books.proofs.Order.{Splits}
 use Rattle.brk_view_theorems.proofs.Sorting.{AllApart, All-sort, sort_pieces}
 use Rattle.brk_view_theorems.proofs.Trades.{AllRise, All-each, All-filter, All-take, Earlier, history_by_code, same_trades, statuses_rise}
 

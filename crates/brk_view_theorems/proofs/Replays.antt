@@ -10,7 +10,7 @@ use Rattle.brk_lots.specs.Books.{deal_quantity_sum, realised_gain_sum, cost_basi
 use Rattle.brk_lots.specs.Lots.{share_of_lot, shares_of_lots, side_of_qty}
 use Rattle.brk_lots.specs.declared.lot.Lot.{Lot}
 use Rattle.brk_lots.proofs.Books.{costs_add_up, lots_net, quantities_add_up}
-use Rattle.brk_book_theorems.proofs.Worth.{total-append}
+use Rattle.brk_trade_books.proofs.Worth.{total-append}
 
 -- ---- each share as a lot
 

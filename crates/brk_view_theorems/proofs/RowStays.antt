@@ -14,14 +14,14 @@ use Rattle.brk_model.specs.Sheets.{sheets, tables_sorted_by_key}
 use Rattle.brk_model.specs.Statement.{sorted_cash_rows_of_account}
 use Rattle.brk_model.specs.Tables.{MoveRow, cash_move_row, numbered_move_rows, tables_of_base_in_schema}
 use Rattle.brk_view_theorems.specs.Before.{trades_completed_before_stamp}
-use Rattle.brk_book_theorems.proofs.LotReading.{filter-map, filter-swap}
-use Rattle.brk_book_theorems.proofs.MoveReading.{rows_posted, stamp_one_way, stamp_splits, turn_filter}
-use Rattle.brk_book_theorems.proofs.Order.{Sorted, append_nil, sort_filter, sorted_sort}
-use Rattle.brk_book_theorems.proofs.Places.{filter-all, filter-append}
-use Rattle.brk_book_theorems.proofs.Postings.{length_sort, numbered_stay, postings_one}
-use Rattle.brk_book_theorems.proofs.Reading.{find-map}
-use Rattle.brk_book_theorems.proofs.Same.{NonePass, filter-none}
-use Rattle.brk_book_theorems.proofs.SumReading.{length-map}
+use Rattle.brk_trade_books.proofs.LotReading.{filter-map, filter-swap}
+use Rattle.brk_trade_books.proofs.MoveReading.{rows_posted, stamp_one_way, stamp_splits, turn_filter}
+use Rattle.brk_trade_books.proofs.Order.{Sorted, append_nil, sort_filter, sorted_sort}
+use Rattle.brk_trade_books.proofs.Places.{filter-all, filter-append}
+use Rattle.brk_trade_books.proofs.Postings.{length_sort, numbered_stay, postings_one}
+use Rattle.brk_trade_books.proofs.Reading.{find-map}
+use Rattle.brk_trade_books.proofs.Same.{NonePass, filter-none}
+use Rattle.brk_trade_books.proofs.SumReading.{length-map}
 use Rattle.brk_view_theorems.proofs.Among.{Among}
 use Rattle.brk_view_theorems.proofs.BalanceSums.{at_its_stamp, by_its_number}
 use Rattle.brk_view_theorems.proofs.Kept.{Keeps, before_core, core, done_by, implied, moved_by}

@@ -11,15 +11,15 @@ use Rattle.brk_model.specs.Results.{trade_after_completion, base_after_result}
 use Rattle.brk_model.specs.Step.{base_after_command_unstamped}
 use Rattle.brk_model.specs.Tests.{stamp_of_next_command, refusal_of_command}
 use Rattle.brk_model.specs.Names.{TradesAreNumberedFrom}
-use Rattle.brk_book_theorems.specs.Books.{BooksInvariant}
-use Rattle.brk_book_theorems.specs.Steps.{base_after_command}
-use Rattle.brk_book_theorems.proofs.LotReading.{IdsApart, filter-both, numbered_rise, rise_apart}
-use Rattle.brk_book_theorems.proofs.Numbering.{numbered_before}
-use Rattle.brk_book_theorems.proofs.Places.{FoundAt, find-at}
-use Rattle.brk_book_theorems.proofs.Reading.{find-map}
-use Rattle.brk_book_theorems.proofs.ResultKeeping.{Found, found_at, submitted}
-use Rattle.brk_book_theorems.proofs.ResultRows.{trades_then}
-use Rattle.brk_book_theorems.proofs.Same.{NonePass, All-filter, find-none}
+use Rattle.brk_trade_books.specs.Books.{BooksInvariant}
+use Rattle.brk_trade_books.specs.Steps.{base_after_command}
+use Rattle.brk_trade_books.proofs.LotReading.{IdsApart, filter-both, numbered_rise, rise_apart}
+use Rattle.brk_trade_books.proofs.Numbering.{numbered_before}
+use Rattle.brk_trade_books.proofs.Places.{FoundAt, find-at}
+use Rattle.brk_trade_books.proofs.Reading.{find-map}
+use Rattle.brk_trade_books.proofs.ResultKeeping.{Found, found_at, submitted}
+use Rattle.brk_trade_books.proofs.ResultRows.{trades_then}
+use Rattle.brk_trade_books.proofs.Same.{NonePass, All-filter, find-none}
 use Rattle.brk_view_theorems.proofs.Among.{ids_around}
 use Rattle.brk_view_theorems.proofs.Kept.{Keeps, core, done_by}
 

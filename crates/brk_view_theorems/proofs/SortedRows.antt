@@ -4,10 +4,10 @@ use Rattle.std.specs.Prelude.{⊤, find, nat_lt}
 use Rattle.std.specs.List.{AllByRecursion}
 use Rattle.std.proofs.lemmas.Bool.Decides.{nat_tests}
 use Rattle.brk_model.specs.Lists.{insert_by, sort_by, total_by}
-use Rattle.brk_book_theorems.proofs.LotReading.{All-sort}
-use Rattle.brk_book_theorems.proofs.Order.{OneWay, Splits, insert_commute, map-insert_by, nat_one_way, nat_splits}
-use Rattle.brk_book_theorems.proofs.Same.{All-filter}
-use Rattle.brk_book_theorems.proofs.Worth.{total-insert}
+use Rattle.brk_trade_books.proofs.LotReading.{All-sort}
+use Rattle.brk_trade_books.proofs.Order.{OneWay, Splits, insert_commute, map-insert_by, nat_one_way, nat_splits}
+use Rattle.brk_trade_books.proofs.Same.{All-filter}
+use Rattle.brk_trade_books.proofs.Worth.{total-insert}
 
 -- ---- by a number
 

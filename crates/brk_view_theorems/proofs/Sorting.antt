@@ -4,7 +4,7 @@ use Rattle.std.specs.Prelude.{⊤, flat_map}
 use Rattle.std.specs.List.{AllByRecursion}
 use Rattle.brk_model.specs.Keys.{KeyPart, rows_sorted_by_key, is_row_key_less}
 use Rattle.brk_model.specs.Lists.{insert_by, sort_by}
-use Rattle.brk_book_theorems.proofs.Order.{All-insert, Splits, by_key-filter, insert_commute}
+use Rattle.brk_trade_books.proofs.Order.{All-insert, Splits, by_key-filter, insert_commute}
 
 -- some elements put in their order among others
 abbrev pub put_all : {X : Type 0} → (X → X → Bool) → List X → List X → List X

@@ -13,9 +13,9 @@ use Rattle.brk_model.specs.Rows.{nonnegative_cents_text}
 use Rattle.brk_model.specs.Sheets.{sheets, tables_sorted_by_key}
 use Rattle.brk_model.specs.StatusView.{broker_name_with_id, customer_and_broker_names, record_of_trade_status, trade_status_view}
 use Rattle.brk_model.specs.Tables.{AccountRow, BrokerRow, TradeRow, tables_of_base}
-use Rattle.brk_book_theorems.specs.Books.{BooksInvariant}
-use Rattle.brk_book_theorems.proofs.Bools.{same_text}
-use Rattle.brk_book_theorems.proofs.Reading.{find-id, find-key}
+use Rattle.brk_trade_books.specs.Books.{BooksInvariant}
+use Rattle.brk_trade_books.proofs.Bools.{same_text}
+use Rattle.brk_trade_books.proofs.Reading.{find-id, find-key}
 use Rattle.brk_view_theorems.proofs.OneRow.{rows_of_key}
 use Rattle.brk_view_theorems.proofs.Trades.{same_trades}
 

@@ -11,11 +11,11 @@ use Rattle.brk_model.specs.Shares.{signed_by_side}
 use Rattle.brk_model.specs.Tables.{Tables}
 use Rattle.brk_lots.specs.Lots.{share_of_lot, shares_of_lots, side_of_qty}
 use Rattle.brk_lots.specs.Walks.{cost_of_first_shares, touches_of_first_shares}
-use Rattle.brk_closing.specs.Values.{buy_value_by_side, sell_value_by_side}
+use Rattle.brk_lots.specs.ClosedValues.{buy_value_by_side, sell_value_by_side}
 use Rattle.brk_lots.specs.declared.lot.Lot.{Lot}
 use Rattle.brk_lots.specs.declared.lot.Touch.{Touch}
 use Rattle.brk_lots.proofs.Runs.{length_run}
-use Rattle.brk_explain_model.specs.Trades.{Closing, buy_value_of_closings, trade_price_or_zero, sell_value_of_closings, shares_of_closing, total_closed_shares}
+use Rattle.brk_model_explain.specs.Trades.{Closing, buy_value_of_closings, trade_price_or_zero, sell_value_of_closings, shares_of_closing, total_closed_shares}
 use Rattle.brk_view_theorems.specs.Closings.{HoldsForAllButLast, ClosesWholeLot}
 use Rattle.brk_view_theorems.proofs.ClosedLots.{closing_at}
 

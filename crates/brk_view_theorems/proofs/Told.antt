@@ -14,13 +14,13 @@ use Rattle.brk_model.specs.Results.{trade_after_completion, completion_of_trade,
 use Rattle.brk_model.specs.Shares.{buy_value, sell_value}
 use Rattle.brk_model.specs.Step.{base_after_accepted_command, base_after_command_unstamped, reply_to_command, step, value_unless_refused}
 use Rattle.brk_model.specs.Tests.{stamp_of_next_command, refusal_of_command}
-use Rattle.brk_book_theorems.specs.Books.{BooksInvariant}
-use Rattle.brk_book_theorems.specs.Steps.{base_after_command}
-use Rattle.brk_book_theorems.proofs.Places.{filter-all, filter-append, filter-not_one}
-use Rattle.brk_book_theorems.proofs.ResultKeeping.{Found, all_before, found_at, result_named, submitted}
-use Rattle.brk_book_theorems.proofs.ResultRows.{deal_then, done_now, done_then, moment_then, status_then}
-use Rattle.brk_book_theorems.proofs.RunKeeping.{books_command}
-use Rattle.brk_book_theorems.proofs.Same.{All-map}
+use Rattle.brk_trade_books.specs.Books.{BooksInvariant}
+use Rattle.brk_trade_books.specs.Steps.{base_after_command}
+use Rattle.brk_trade_books.proofs.Places.{filter-all, filter-append, filter-not_one}
+use Rattle.brk_trade_books.proofs.ResultKeeping.{Found, all_before, found_at, result_named, submitted}
+use Rattle.brk_trade_books.proofs.ResultRows.{deal_then, done_now, done_then, moment_then, status_then}
+use Rattle.brk_trade_books.proofs.RunKeeping.{books_command}
+use Rattle.brk_trade_books.proofs.Same.{All-map}
 use Rattle.brk_view_theorems.specs.Before.{trades_completed_before_stamp, shares_before_trade}
 use Rattle.brk_view_theorems.specs.Balances.{balance_at_stamp}
 use Rattle.brk_view_theorems.specs.Closings.{PrintedClosingsMatchDeal}

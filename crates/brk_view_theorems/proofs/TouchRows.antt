@@ -17,10 +17,10 @@ use Rattle.brk_audit_theorems.proofs.Climbs.{Climbs}
 use Rattle.brk_audit_theorems.proofs.Parts.{key_parts}
 use Rattle.brk_audit_theorems.specs.Sound.{AuditInvariant}
 use Rattle.brk_audit_theorems.proofs.FormKeys.{keys_of}
-use Rattle.brk_book_theorems.specs.Books.{BooksInvariant}
-use Rattle.brk_book_theorems.proofs.Bools.{numbers_back}
-use Rattle.brk_book_theorems.proofs.Reading.{any-sorted}
-use Rattle.brk_book_theorems.proofs.Same.{All-map}
+use Rattle.brk_trade_books.specs.Books.{BooksInvariant}
+use Rattle.brk_trade_books.proofs.Bools.{numbers_back}
+use Rattle.brk_trade_books.proofs.Reading.{any-sorted}
+use Rattle.brk_trade_books.proofs.Same.{All-map}
 use Rattle.brk_view_theorems.proofs.Gathering.{none_pass}
 use Rattle.brk_view_theorems.proofs.Sorting.{apart_filter, same_order, same_rows, sort_back}
 use Rattle.brk_view_theorems.proofs.Touches.{earlier_touch, touches_apart, touches_split}

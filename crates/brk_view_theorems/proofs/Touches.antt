@@ -20,11 +20,11 @@ use Rattle.brk_audit_theorems.proofs.Members.{All-flat_map}
 use Rattle.brk_audit_theorems.proofs.Parts.{key_parts}
 use Rattle.brk_audit_theorems.specs.Sound.{AuditInvariant}
 use Rattle.brk_audit_theorems.proofs.FormKeys.{All-history, keys_of}
-use Rattle.brk_book_theorems.specs.Books.{BooksInvariant, HasDistinctLastStatusStamps}
-use Rattle.brk_book_theorems.proofs.LotReading.{IdsApart, numbered_rise, rise_apart}
-use Rattle.brk_book_theorems.proofs.Order.{Splits}
-use Rattle.brk_book_theorems.proofs.Reading.{find-map}
-use Rattle.brk_book_theorems.proofs.Same.{NonePass, All-map, All-mapped, find-All, find-each}
+use Rattle.brk_trade_books.specs.Books.{BooksInvariant, HasDistinctLastStatusStamps}
+use Rattle.brk_trade_books.proofs.LotReading.{IdsApart, numbered_rise, rise_apart}
+use Rattle.brk_trade_books.proofs.Order.{Splits}
+use Rattle.brk_trade_books.proofs.Reading.{find-map}
+use Rattle.brk_trade_books.proofs.Same.{NonePass, All-map, All-mapped, find-All, find-each}
 use Rattle.brk_view_theorems.proofs.Sorting.{AllApart, All-sort}
 use Rattle.brk_view_theorems.proofs.Trades.{All-filter}
 

@@ -14,18 +14,18 @@ use Rattle.brk_model.specs.Sheets.{sheets, tables_sorted_by_key}
 use Rattle.brk_model.specs.Tables.{HoldingHistoryRow, tables_of_base_in_schema, holding_history_row, trade_row}
 use Rattle.brk_lots.proofs.HistoryRows.{rows_of_lots_are}
 use Rattle.brk_lots.specs.HistoryRows.{has_quantity_change, lot_rows_with_quantity_change, lot_history_rows_per_deal}
-use Rattle.brk_explain_model.specs.Trades.{trade_stamp_or_zero}
-use Rattle.brk_book_theorems.specs.Books.{BooksInvariant}
-use Rattle.brk_book_theorems.proofs.Completing.{here_deals, is_here, other_way}
-use Rattle.brk_book_theorems.proofs.Histories.{Others}
-use Rattle.brk_book_theorems.proofs.LotOrder.{Follows, InOrder, both_hold, held_in_order, of_held, of_its_account, of_its_symbol, trades_held}
-use Rattle.brk_book_theorems.proofs.LotReading.{All-sort, numbered_rise, rise_apart}
-use Rattle.brk_book_theorems.proofs.NewKeys.{and_both}
-use Rattle.brk_book_theorems.proofs.Order.{append_nil, by_key-filter}
-use Rattle.brk_book_theorems.proofs.Places.{filter-append, map-append}
-use Rattle.brk_book_theorems.proofs.Same.{All-filter, All-map, filter-none}
-use Rattle.brk_book_theorems.proofs.SumReading.{found_each}
-use Rattle.brk_book_theorems.proofs.TradeReading.{reads_trade}
+use Rattle.brk_model_explain.specs.Trades.{trade_stamp_or_zero}
+use Rattle.brk_trade_books.specs.Books.{BooksInvariant}
+use Rattle.brk_trade_books.proofs.Completing.{here_deals, is_here, other_way}
+use Rattle.brk_trade_books.proofs.Histories.{Others}
+use Rattle.brk_trade_books.proofs.LotOrder.{Follows, InOrder, both_hold, held_in_order, of_held, of_its_account, of_its_symbol, trades_held}
+use Rattle.brk_trade_books.proofs.LotReading.{All-sort, numbered_rise, rise_apart}
+use Rattle.brk_trade_books.proofs.NewKeys.{and_both}
+use Rattle.brk_trade_books.proofs.Order.{append_nil, by_key-filter}
+use Rattle.brk_trade_books.proofs.Places.{filter-append, map-append}
+use Rattle.brk_trade_books.proofs.Same.{All-filter, All-map, filter-none}
+use Rattle.brk_trade_books.proofs.SumReading.{found_each}
+use Rattle.brk_trade_books.proofs.TradeReading.{reads_trade}
 use Rattle.brk_view_theorems.proofs.Held.{Precedes, back_follows, front_precedes, left_by}
 use Rattle.brk_view_theorems.proofs.SortedRows.{by}
 

@@ -12,9 +12,9 @@ use Rattle.brk_model.specs.Tables.{HistoryRow, TradeRow, tables_of_base, trade_r
 use Rattle.brk_model.specs.Ways.{is_strictly_ascending}
 use Rattle.brk_audit_theorems.proofs.Again.{IsRead, reads}
 use Rattle.brk_audit_theorems.specs.Sound.{AuditInvariant, BaseTradeAuditInvariant}
-use Rattle.brk_book_theorems.specs.Books.{BooksInvariant}
-use Rattle.brk_book_theorems.proofs.Order.{by_key-filter}
-use Rattle.brk_book_theorems.proofs.TradeReading.{trades_in_order}
+use Rattle.brk_trade_books.specs.Books.{BooksInvariant}
+use Rattle.brk_trade_books.proofs.Order.{by_key-filter}
+use Rattle.brk_trade_books.proofs.TradeReading.{trades_in_order}
 
 pub same_trades : (base : Base) → BooksInvariant base → (sheets base).trades ≡ (tables_of_base base).trades
 unfolding tables_of_base_in_schema

@@ -17,10 +17,10 @@ use Rattle.brk_audit_theorems.proofs.Climbs.{Climbs, not_itself}
 use Rattle.brk_audit_theorems.proofs.Parts.{key_parts}
 use Rattle.brk_audit_theorems.specs.Sound.{AuditInvariant}
 use Rattle.brk_audit_theorems.proofs.FormKeys.{keys_of}
-use Rattle.brk_book_theorems.specs.Books.{BooksInvariant}
-use Rattle.brk_book_theorems.proofs.Bools.{same_text}
-use Rattle.brk_book_theorems.proofs.Order.{Splits, key_one_way, key_splits, key_total}
-use Rattle.brk_book_theorems.proofs.TradeReading.{requests_in_order}
+use Rattle.brk_trade_books.specs.Books.{BooksInvariant}
+use Rattle.brk_trade_books.proofs.Bools.{same_text}
+use Rattle.brk_trade_books.proofs.Order.{Splits, key_one_way, key_splits, key_total}
+use Rattle.brk_trade_books.proofs.TradeReading.{requests_in_order}
 use Rattle.brk_view_theorems.proofs.Gathering.{Excludes, sort_gathered_of}
 use Rattle.brk_view_theorems.proofs.Sorting.{AllApart, apart_filter, same_map, same_order, same_rows, sort_back}
 use Rattle.brk_view_theorems.proofs.StatusRows.{same_security}

@@ -16,11 +16,11 @@ use Rattle.brk_model.specs.PositionView.{market_value_of_account_row, is_before_
 use Rattle.brk_model.specs.Records.{Account, Customer}
 use Rattle.brk_model.specs.Sheets.{sheets, tables_sorted_by_key}
 use Rattle.brk_model.specs.Tables.{AccountRow, SummaryRow, Tables, account_row, last_trade_row, tables_of_base, tables_of_base_in_schema}
-use Rattle.brk_book_theorems.specs.Books.{HasDistinctAccountIds, BooksInvariant}
-use Rattle.brk_book_theorems.proofs.Order.{Splits, by_key-filter}
-use Rattle.brk_book_theorems.proofs.Reading.{any-sorted, find-map}
-use Rattle.brk_book_theorems.proofs.TermReading.{reads_last_trade}
-use Rattle.brk_book_theorems.proofs.Worth.{total-sorted}
+use Rattle.brk_trade_books.specs.Books.{HasDistinctAccountIds, BooksInvariant}
+use Rattle.brk_trade_books.proofs.Order.{Splits, by_key-filter}
+use Rattle.brk_trade_books.proofs.Reading.{any-sorted, find-map}
+use Rattle.brk_trade_books.proofs.TermReading.{reads_last_trade}
+use Rattle.brk_trade_books.proofs.Worth.{total-sorted}
 use Rattle.brk_view_theorems.proofs.Sorting.{AllApart, apart_filter, same_map, same_order, same_rows, sort_chosen}
 
 -- ---- one account

@@ -10,10 +10,10 @@ use Rattle.brk_model.specs.Run.{Call, Outcome, Run}
 use Rattle.brk_model.specs.Sheets.{sheets}
 use Rattle.brk_model.specs.Statement.{sorted_cash_rows_of_account}
 use Rattle.brk_model.specs.Tables.{AccountRow, Tables, trade_row}
-use Rattle.brk_book_theorems.specs.Steps.{base_after_command}
-use Rattle.brk_explain_model.specs.AccountLines.{priced_holdings_of_account, account_cash_rows_by_stamp, market_value_of_holdings}
-use Rattle.brk_explain_model.specs.Running.{running_totals}
-use Rattle.brk_explain_model.specs.Trades.{balance_after_trade, balance_before_trade, order_details_of_trade, result_details_of_trade}
+use Rattle.brk_trade_books.specs.Steps.{base_after_command}
+use Rattle.brk_model_explain.specs.AccountLines.{priced_holdings_of_account, account_cash_rows_by_stamp, market_value_of_holdings}
+use Rattle.brk_model_explain.specs.Running.{running_totals}
+use Rattle.brk_model_explain.specs.Trades.{balance_after_trade, balance_before_trade, order_details_of_trade, result_details_of_trade}
 
 -- The postings among `posted` whose stamp is before `stamp`, in their sequence.
 abbrev pub postings_before_stamp : ℕ → List Posting → List Posting

@@ -3,8 +3,8 @@ use Rattle.std.specs.Prelude.{◌≡◌, length, pos}
 use Rattle.brk_model.specs.Base.{Base}
 use Rattle.brk_model.specs.Sheets.{sheets}
 use Rattle.brk_model.specs.Tables.{BrokerRow}
-use Rattle.brk_explain_model.specs.BrokerLines.{completed_trades_of_broker}
-use Rattle.brk_explain_model.specs.Running.{running_totals}
+use Rattle.brk_model_explain.specs.BrokerLines.{completed_trades_of_broker}
+use Rattle.brk_model_explain.specs.Running.{running_totals}
 use Rattle.brk_view_theorems.specs.Balances.{last_number_or_default}
 
 -- The last printed running sum of the commissions of the completed trades of the broker's accounts,

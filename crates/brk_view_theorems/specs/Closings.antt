@@ -7,8 +7,8 @@ use Rattle.brk_model.specs.Derived.{deal_of_trade}
 use Rattle.brk_model.specs.Shares.{buy_value, closed_share_count_of_deal, realised_gain, sell_value, signed_by_side}
 use Rattle.brk_model.specs.Sheets.{sheets}
 use Rattle.brk_model.specs.Tables.{trade_row}
-use Rattle.brk_explain_model.specs.Trades.{Closing, ResultDetails, buy_value_of_closings, realised_gain_of_closings, opened_quantity}
-use Rattle.brk_explain_model.specs.Trades.{result_details_of_trade, sell_value_of_closings, total_closed_shares}
+use Rattle.brk_model_explain.specs.Trades.{Closing, ResultDetails, buy_value_of_closings, realised_gain_of_closings, opened_quantity}
+use Rattle.brk_model_explain.specs.Trades.{result_details_of_trade, sell_value_of_closings, total_closed_shares}
 use Rattle.brk_view_theorems.specs.Before.{shares_before_trade}
 
 -- All elements of the list but the last one satisfy `P`. Vacuous for a list of at most one element.

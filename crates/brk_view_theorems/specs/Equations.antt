@@ -7,8 +7,8 @@ use Rattle.brk_model.specs.Derived.{settlement_amount, deal_of_trade, due_day}
 use Rattle.brk_model.specs.Orders.{commission_by_band, tax_on_deal}
 use Rattle.brk_model.specs.Sheets.{sheets}
 use Rattle.brk_model.specs.Tables.{trade_row}
-use Rattle.brk_explain_model.specs.Trades.{OrderDetails, balance_change_of_trade, commission_in_current_band, days_to_settle_trade, order_details_of_trade}
-use Rattle.brk_explain_model.specs.Trades.{tax_at_current_rates, signed_trade_value, withheld_tax_of_trade}
+use Rattle.brk_model_explain.specs.Trades.{OrderDetails, balance_change_of_trade, commission_in_current_band, days_to_settle_trade, order_details_of_trade}
+use Rattle.brk_model_explain.specs.Trades.{tax_at_current_rates, signed_trade_value, withheld_tax_of_trade}
 use Rattle.brk_view_theorems.specs.Before.{shares_before_trade}
 use Rattle.brk_view_theorems.specs.Closings.{result_details_in_base}
 

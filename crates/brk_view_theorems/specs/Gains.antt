@@ -10,10 +10,10 @@ use Rattle.brk_model.specs.Shares.{signed_by_side}
 use Rattle.brk_model.specs.Sheets.{sheets}
 use Rattle.brk_model.specs.Tables.{Tables}
 use Rattle.brk_lots.specs.Books.{realised_gain_sum, cost_basis_of_lots}
-use Rattle.brk_explain_model.specs.Holdings.{remaining_cost_of_lots, completed_trades_in_symbol, realised_gain_in_symbol, remaining_quantity_of_lot}
-use Rattle.brk_explain_model.specs.Holdings.{lots_opened_in_symbol, total_purchase_value, negated_total_sale_value, signed_quantity_of_trade}
-use Rattle.brk_explain_model.specs.Running.{running_totals}
-use Rattle.brk_book_theorems.specs.TradeReads.{lots_of_position}
+use Rattle.brk_model_explain.specs.Holdings.{remaining_cost_of_lots, completed_trades_in_symbol, realised_gain_in_symbol, remaining_quantity_of_lot}
+use Rattle.brk_model_explain.specs.Holdings.{lots_opened_in_symbol, total_purchase_value, negated_total_sale_value, signed_quantity_of_trade}
+use Rattle.brk_model_explain.specs.Running.{running_totals}
+use Rattle.brk_trade_books.specs.TradeReads.{lots_of_position}
 use Rattle.brk_view_theorems.specs.Balances.{last_number_or_default}
 
 -- The sum of the quantity changes (after minus before), in shares, that the rows of HOLDING_HISTORY

@@ -5,7 +5,7 @@ use Rattle.brk_model.specs.Records.{Trade}
 use Rattle.brk_model.specs.Base.{Base, completion_price}
 use Rattle.brk_model.specs.Commands.{Completion}
 use Rattle.brk_model.specs.Sheets.{sheets}
-use Rattle.brk_explain_model.specs.Trades.{buy_value_of_closings, sell_value_of_closings}
+use Rattle.brk_model_explain.specs.Trades.{buy_value_of_closings, sell_value_of_closings}
 use Rattle.brk_view_theorems.specs.Balances.{printed_balance_after_trade}
 use Rattle.brk_view_theorems.specs.Closings.{result_details_in_base}
 use Rattle.brk_view_theorems.specs.Equations.{order_details_in_base}

@@ -4,7 +4,7 @@ use Rattle.brk_model.specs.Records.{Trade}
 use Rattle.brk_model.specs.Base.{Base}
 use Rattle.brk_model.specs.Sheets.{sheets}
 use Rattle.brk_model.specs.Tables.{trade_row}
-use Rattle.brk_explain_model.specs.Trades.{balance_change_of_trade}
+use Rattle.brk_model_explain.specs.Trades.{balance_change_of_trade}
 use Rattle.brk_view_theorems.specs.Balances.{printed_balance_after_trade, printed_balance_before_trade}
 use Rattle.brk_view_theorems.specs.Closings.{result_details_in_base}
 use Rattle.brk_view_theorems.specs.Equations.{order_details_in_base}

@@ -8,7 +8,7 @@ ghost use Rattle.brk_model.specs.Records.{Trade};
 ghost use Rattle.brk_model.specs.Sheets.{sheets};
 ghost use Rattle.brk_model.specs.Tables.{AccountRow};
 ghost use Rattle.brk_model.specs.Tests.{refusal_of_command};
-ghost use Rattle.brk_book_theorems.specs.Books.{BooksInvariant};
+ghost use Rattle.brk_trade_books.specs.Books.{BooksInvariant};
 ghost use Rattle.brk_view_theorems.specs.Balances.{PrintedAccountMatchesBase, PrintedBalancesMatchBase, RunsPreservePrintedBalanceAfterTrade};
 
 /// Proves, for a base that satisfies the books invariant: the explanation of an account lists

@@ -6,8 +6,8 @@ ghost use Rattle.brk_model.specs.Base.{Base, account_with_id, completed_trades, 
 ghost use Rattle.brk_model.specs.Derived.{holding_summary_quantity};
 ghost use Rattle.brk_model.specs.Records.{Trade};
 ghost use Rattle.brk_model.specs.Sheets.{sheets};
-ghost use Rattle.brk_explain_model.specs.Holdings.{summary_quantity_in_symbol};
-ghost use Rattle.brk_book_theorems.specs.Books.{BooksInvariant};
+ghost use Rattle.brk_model_explain.specs.Holdings.{summary_quantity_in_symbol};
+ghost use Rattle.brk_trade_books.specs.Books.{BooksInvariant};
 ghost use Rattle.brk_view_theorems.specs.Gains.{PrintedHoldingMatchesDeals, LotChangesSumToQuantity};
 
 /// Proves, for a base that satisfies the books invariant: the realised gain that the explanation of

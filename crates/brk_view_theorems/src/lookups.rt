@@ -8,7 +8,7 @@ ghost use Rattle.brk_model.specs.LookupView.{is_cash_row_of_trade, trade_touches
 ghost use Rattle.brk_model.specs.Sheets.{sheets};
 ghost use Rattle.brk_model.specs.Tables.{TradeRow, tables_of_base};
 ghost use Rattle.brk_audit_theorems.specs.Sound.{AuditInvariant};
-ghost use Rattle.brk_book_theorems.specs.Books.{BooksInvariant};
+ghost use Rattle.brk_trade_books.specs.Books.{BooksInvariant};
 
 /// Proves that the view of the 20 oldest trades that pass a test, each with its settlement, cash
 /// row and status changes, over the sorted tables of a base, equals that view over its unsorted

@@ -6,7 +6,7 @@ ghost use Rattle.brk_model.specs.Commands.{CompleteTrade, CompletedTrade, Comple
 ghost use Rattle.brk_model.specs.Keyed.{keyed_step};
 ghost use Rattle.brk_model.specs.Records.{Key, Trade};
 ghost use Rattle.brk_model.specs.Step.{step};
-ghost use Rattle.brk_book_theorems.specs.Books.{BooksInvariant};
+ghost use Rattle.brk_trade_books.specs.Books.{BooksInvariant};
 ghost use Rattle.brk_view_theorems.specs.ReplyFigures.{PrintsReplyFigures};
 
 /// Proves that after an accepted result, with or without a key, the explanation of its trade prints

@@ -3,7 +3,7 @@
 ghost use Rattle.std.specs.Prelude.{◌≡◌, Some, true};
 ghost use Rattle.brk_model.specs.Base.{Base, is_completed, trade_with_id};
 ghost use Rattle.brk_model.specs.Records.{Trade};
-ghost use Rattle.brk_book_theorems.specs.Books.{BooksInvariant};
+ghost use Rattle.brk_trade_books.specs.Books.{BooksInvariant};
 ghost use Rattle.brk_view_theorems.specs.Equations.{PrintedSettlementMatchesBase};
 
 /// Proves, for a base that satisfies the books invariant: the printed settlement of a completed

@@ -4,7 +4,7 @@ ghost use Rattle.std.specs.Prelude.{◌≡◌, ℕ, List, Some, true};
 ghost use Rattle.brk_model.specs.Base.{Base, is_completed, trade_with_id};
 ghost use Rattle.brk_model.specs.Records.{Trade};
 ghost use Rattle.brk_model.specs.Run.{Call, Outcome, Run};
-ghost use Rattle.brk_book_theorems.specs.Books.{BooksInvariant};
+ghost use Rattle.brk_trade_books.specs.Books.{BooksInvariant};
 ghost use Rattle.brk_view_theorems.specs.UnchangedFigures.{PrintsSameFigures};
 
 /// Proves that, after any run of calls from a base that satisfies the books invariant, the

@@ -8,7 +8,7 @@ ghost use Rattle.brk_model.specs.StatusView.{trade_status_view};
 ghost use Rattle.brk_model.specs.Tables.{tables_of_base};
 ghost use Rattle.brk_model.specs.Views.{view_of_tables};
 ghost use Rattle.brk_audit_theorems.specs.Sound.{AuditInvariant};
-ghost use Rattle.brk_book_theorems.specs.Books.{BooksInvariant};
+ghost use Rattle.brk_trade_books.specs.Books.{BooksInvariant};
 
 /// Proves that the view of the balances and the market values of the accounts of the customers that
 /// pass a test, over the sorted tables of a base, equals that view over its unsorted tables, if the

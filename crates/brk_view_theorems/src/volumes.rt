@@ -9,7 +9,7 @@ ghost use Rattle.brk_model.specs.Sheets.{sheets};
 ghost use Rattle.brk_model.specs.Tables.{tables_of_base};
 ghost use Rattle.brk_model.specs.VolumeView.{is_before_by_volume, sector_requests_of_broker, broker_volume_view};
 ghost use Rattle.brk_audit_theorems.specs.Sound.{AuditInvariant};
-ghost use Rattle.brk_book_theorems.specs.Books.{BooksInvariant};
+ghost use Rattle.brk_trade_books.specs.Books.{BooksInvariant};
 
 /// Proves that the view of the brokers with given names that have pending requests in a sector,
 /// each with the value of these requests, over the sorted tables of a base, equals that view over

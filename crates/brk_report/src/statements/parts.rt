@@ -7,7 +7,7 @@ ghost use Rattle.brk_report.specs.StatementParts.{WritesCashAndClosingLines, lot
 ghost use Rattle.brk_report_lines.specs.Written.{WritesLines};
 
 use crate::statements::sections::{write_lot_lines, write_opening_and_cash_lines};
-use brk_desk::{Desk, StatementHead};
+use brk_desk::{Desk, Head};
 use brk_money::{Cents, Day, Id, Wide};
 use brk_report_lines::{
     LinesFault, account_name_line, amount_line, first_and_last_day_line, row_counts_line,
@@ -24,7 +24,7 @@ use std::io::Write;
 pub(crate) fn write_header_lines<W: Write>(
     alloc: Global,
     account: Id,
-    head: &StatementHead,
+    head: &Head,
     from: Day,
     to: Day,
     writer: &mut W,

@@ -1,7 +1,7 @@
 //! Visitors that write a line for each record, count the records, and add up their amounts.
 
 ghost use Rattle.std.specs.Prelude.{◌≡◌, ◌++◌, ◌∷◌, [], IfErr, IfOk, nat_lt};
-ghost use Rattle.brk_changes.specs.Rows.{abstract_move_row};
+ghost use Rattle.brk_trade_rows.specs.Rows.{abstract_move_row};
 ghost use Rattle.brk_money.specs.Spelling.{Text};
 ghost use Rattle.brk_model.specs.Run.{IsCallFault};
 ghost use Rattle.brk_model.specs.Statement.{cash_row_line};
@@ -9,10 +9,10 @@ ghost use Rattle.brk_report.specs.CashWalk.{opening_line_unless_written};
 ghost use Rattle.brk_report_lines.specs.Written.{WritesLines, line_with_line_feed};
 
 use crate::totals::total_plus_amount;
-use brk_changes::{HoldingRow, MoveRow};
 use brk_desk::Visitor;
 use brk_money::{Fault, Stamp, Wide};
 use brk_report_lines::{LinesFault, amount_line, cash_row_line, lot_line, write_line};
+use brk_trade_rows::{HoldingRow, MoveRow};
 use std::alloc::Global;
 use std::io::Write;
 
@@ -29,7 +29,7 @@ pub trait Line {
 
 impl Line for HoldingRow {
     ghost use Rattle.brk_model.specs.Statement.{lot_line};
-    ghost use Rattle.brk_changes.specs.Rows.{abstract_holding_row};
+    ghost use Rattle.brk_trade_rows.specs.Rows.{abstract_holding_row};
 
     ghost line = { λ r. lot_line (abstract_holding_row r) };
 
@@ -41,7 +41,7 @@ impl Line for HoldingRow {
 
 impl Line for MoveRow {
     ghost use Rattle.brk_model.specs.Statement.{cash_row_line};
-    ghost use Rattle.brk_changes.specs.Rows.{abstract_move_row};
+    ghost use Rattle.brk_trade_rows.specs.Rows.{abstract_move_row};
 
     ghost line = { λ r. cash_row_line (abstract_move_row r) };
 
@@ -168,7 +168,7 @@ impl<W: Write> Visitor<MoveRow, LinesFault> for CashLineWriter<'_, W> {
     ghost use Rattle.std.specs.Prelude.{◌≡◌, nat_lt, refl};
     ghost use Rattle.std.proofs.Common.{◌∙◌};
     ghost use Rattle.std.specs.Io.KnownBytes.{Appends};
-    ghost use Rattle.brk_changes.specs.Rows.{abstract_move_row};
+    ghost use Rattle.brk_trade_rows.specs.Rows.{abstract_move_row};
     ghost use Rattle.brk_model.specs.Statement.{text_of_lines};
     ghost use Rattle.brk_report.specs.CashWalk.{lines_of_cash_row, progress_after_cash_row};
     ghost use Rattle.brk_report_lines.specs.Written.{FailsWithinFirstLines};

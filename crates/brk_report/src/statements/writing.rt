@@ -6,7 +6,7 @@ ghost use Rattle.brk_report_lines.specs.Written.{WritesLines};
 use crate::statements::parts::{
     write_header_lines, write_lot_and_total_lines, write_opening_cash_and_closing_lines,
 };
-use brk_desk::{Desk, StatementHead};
+use brk_desk::{Desk, Head};
 use brk_money::{Day, Id, Refusal};
 use brk_report_lines::{LinesFault, ReportFault};
 use sqlite::Alter;
@@ -26,7 +26,7 @@ fn write_statement_lines<W: Write, S: Alter>(
     alloc: Global,
     desk: &mut Desk<S>,
     account: Id,
-    head: &StatementHead,
+    head: &Head,
     from: Day,
     to: Day,
     writer: &mut W,

@@ -5,12 +5,12 @@ use crate::desks::{
 };
 use crate::statements::Asked;
 use crate::tables::read_all_tables;
-use brk_interfaces::batches::{BatchFault, Counts};
-use brk_interfaces::brk_desk::Desk;
-use brk_interfaces::brk_desk::brk_store::Store;
-use brk_interfaces::http::ServeFault;
+use brk_desk::Desk;
+use brk_http::ServeFault;
+use brk_import::{BatchFault, Counts};
 use brk_money::{Condition, Fault};
 use brk_report::ReportFault;
+use brk_store::Store;
 use sqlite::{Alter, Connection};
 use std::alloc::Global;
 

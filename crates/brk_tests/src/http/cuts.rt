@@ -8,8 +8,8 @@ use crate::http::streams::{
     serve_stream_on_new_desk,
 };
 use crate::tables::expect_all_tables;
-use brk_interfaces::brk_desk::Desk;
-use brk_interfaces::http::{FaultKind, ServeFault};
+use brk_desk::Desk;
+use brk_http::{FaultKind, ServeFault};
 use sqlite::{Alter, Connection};
 use std::alloc::{AllocError, Global};
 use std::io::ErrorKind;

@@ -4,8 +4,8 @@ use crate::desks::{desk_with_reference_data, expect, open_in_memory, serve_strea
 use crate::faulty::Failing;
 use crate::files::jobs::{Ended, Job, Observation, Task};
 use crate::files::machine::{Held, MachineCrash, Sent, perform_job_until_crash};
-use brk_interfaces::brk_desk::Desk;
-use brk_interfaces::http::ServeFault;
+use brk_desk::Desk;
+use brk_http::ServeFault;
 use sqlite::{Alter, Connection, Options};
 use std::alloc::{AllocError, Global};
 use std::test::Fail;

@@ -1,5 +1,5 @@
 use Rattle.std.proofs.Common.{inl, inr, refl}
-use Rattle.brk_changes.specs.Schemas.{abstract_schema}
+use Rattle.brk_trade_rows.specs.Schemas.{abstract_schema}
 use Rattle.brk_audit.proofs.Chain.{form_held, statuses_held, fails, holds}
 use Rattle.brk_audit.proofs.audit.audit_rows.Goals as goal
 

@@ -1,5 +1,5 @@
 use Rattle.std.proofs.Common.{drop, map}
-use Rattle.brk_changes.specs.Rows.{abstract_cash_row}
+use Rattle.brk_trade_rows.specs.Rows.{abstract_cash_row}
 use Rattle.brk_audit_sums.specs.AccountTerms.{account_tax_status_in_terms}
 use Rattle.brk_audit_sums.specs.Settling.{is_completed_cash_trade, cash_transaction_figures_of_trade, cash_transaction_figures_of_row}
 use Rattle.brk_audit.proofs.Beside.{Walked}

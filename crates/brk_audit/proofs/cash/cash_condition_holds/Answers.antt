@@ -4,12 +4,12 @@ use Rattle.std.specs.Prelude.{find, option_map}
 use Rattle.brk_audit_sums.specs.AccountTerms.{terms_of_account_row}
 use Rattle.std.specs.List.Sorted.{IsNonDecreasingBy}
 use Rattle.std.proofs.lemmas.List.Sorted.{IsNonDecreasingBy-from_sort_by_key}
-use Rattle.brk_changes.specs.declared.sheets.Sheets.{Sheets}
+use Rattle.brk_trade_rows.specs.declared.sheets.Sheets.{Sheets}
 use Rattle.brk_audit.specs.CashMoveFigures.{abstract_posted_figures}
 use Rattle.brk_audit.specs.declared.cash.CashMoveFigures as code
 use Rattle.brk_audit_sums.proofs.AccountTerms.{HasTerms}
 use Rattle.brk_audit.proofs.SettlingHolds.{cash_holds}
-use Rattle.brk_changes.specs.Schemas.{abstract_schema}
+use Rattle.brk_trade_rows.specs.Schemas.{abstract_schema}
 use Rattle.brk_audit.proofs.CashHolds.{moves_hold, none_left, sorted_own}
 use Rattle.brk_audit.proofs.Chain.{form_told}
 use Rattle.brk_audit.proofs.cash.cash_condition_holds.Goals as goal

@@ -1,5 +1,5 @@
 use Rattle.std.proofs.Common.{◌∙◌, ap, map}
-use Rattle.brk_changes.specs.Rows.{abstract_move_row}
+use Rattle.brk_trade_rows.specs.Rows.{abstract_move_row}
 use Rattle.brk_audit.specs.CashMoveFigures.{abstract_posted_figures}
 use Rattle.brk_audit_sums.specs.Settling.{posted_figures_of_row}
 use Rattle.brk_audit_sums.proofs.Postings.{none_more, some_more}

@@ -1,5 +1,5 @@
 use Rattle.std.proofs.Common.{◌≡◌, ◌+◌, drop, map}
-use Rattle.brk_changes.specs.Rows.{abstract_move_row}
+use Rattle.brk_trade_rows.specs.Rows.{abstract_move_row}
 use Rattle.brk_audit_sums.specs.Settling.{is_numbered_by_stamp}
 use Rattle.brk_audit.proofs.cash.move_rows_are_numbered_by_stamp.Given as goal
 

@@ -2,19 +2,19 @@ use Rattle.std.proofs.Common.{◌≡◌, map, sym, ap, ◌∙◌, subst}
 use Rattle.std.specs.Prelude.{◌↔◌, IsSome}
 use Rattle.std.specs.List.Sorted.{IsPermutation}
 use Rattle.std.proofs.lemmas.List.Sorted.{IsPermutation-map}
-use Rattle.brk_changes.specs.Rows.{abstract_lot_change_row}
-use Rattle.brk_changes.specs.Sheets.{abstract_sheets}
+use Rattle.brk_trade_rows.specs.Rows.{abstract_lot_change_row}
+use Rattle.brk_trade_rows.specs.Sheets.{abstract_sheets}
 use Rattle.brk_lots.specs.Chains.{abstract_deal_touch}
 use Rattle.brk_model.specs.Audit.{ConditionHolds, expected_tables}
 use Rattle.brk_model.specs.Keys.{holding_history_key, is_row_key_less}
 use Rattle.brk_model.specs.Tables.{Tables}
 use Rattle.brk_audit_theorems.proofs.FormBack.{All-unmapped}
-use Rattle.brk_book_theorems.proofs.Order.{Sorted}
+use Rattle.brk_trade_books.proofs.Order.{Sorted}
 use Rattle.brk_audit_sums.specs.Completed.{completed_trade_rows}
 use Rattle.brk_audit.specs.Positions.{is_before_by_position}
 use Rattle.brk_audit.proofs.LotRows.{all_moved, clash_apart, clash_moved, priced_rows, rows_moved}
 use Rattle.brk_audit.proofs.MoveRows.{moves_told}
-use Rattle.brk_book_theorems.proofs.Orders.{sorted_by, sorted_map}
+use Rattle.brk_trade_books.proofs.Orders.{sorted_by, sorted_map}
 use Rattle.brk_audit.proofs.Places.{key_order, place_order}
 use Rattle.brk_audit.proofs.Stretches.{seen}
 use Rattle.brk_audit.proofs.history.history_condition_holds.Goals as goal

@@ -2,7 +2,7 @@ use Rattle.std.proofs.Common.{◌≡◌, ℕ, true, ◌++◌, take, map}
 use Rattle.std.specs.Ordering.{nat_cmp}
 use Rattle.std.specs.BTreeSet.{contains}
 use Rattle.brk_model.specs.Lists.{all_distinct, contains_number}
-use Rattle.brk_changes.specs.Rows.{abstract_history_row, abstract_move_row}
+use Rattle.brk_trade_rows.specs.Rows.{abstract_history_row, abstract_move_row}
 use Rattle.brk_audit.specs.Statuses.{movement_stamps_of_cash_rows, completion_stamps_of_history}
 use Rattle.brk_audit.proofs.status.completion_and_movement_stamps_are_distinct.Given as goal
 

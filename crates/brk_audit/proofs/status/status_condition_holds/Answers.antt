@@ -3,8 +3,8 @@ use Rattle.std.proofs.lemmas.Bool.{and_from, and_left, and_parts}
 use Rattle.brk_model.specs.Lists.{all_distinct}
 use Rattle.brk_model.specs.Ways.{movement_stamps}
 use Rattle.brk_model.specs.Tables.{Tables}
-use Rattle.brk_changes.specs.Rows.{abstract_history_row, abstract_move_row, abstract_trade_row}
-use Rattle.brk_changes.specs.Sheets.{abstract_sheets}
+use Rattle.brk_trade_rows.specs.Rows.{abstract_history_row, abstract_move_row, abstract_trade_row}
+use Rattle.brk_trade_rows.specs.Sheets.{abstract_sheets}
 use Rattle.brk_audit.specs.Statuses.{all_histories_are_valid, movement_stamps_of_cash_rows, completion_stamps_of_history}
 use Rattle.brk_audit.proofs.StatusLaw.{status_holds}
 use Rattle.brk_audit.proofs.status.status_condition_holds.Goals as goal

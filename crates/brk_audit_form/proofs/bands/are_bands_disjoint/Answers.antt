@@ -3,7 +3,7 @@ use Rattle.std.proofs.lemmas.List.Sorted.{answers_always}
 use Rattle.brk_model.specs.Keys.{band_key}
 use Rattle.brk_model.specs.Tests.{bands_overlap}
 use Rattle.brk_ref.specs.Records.{abstract_band}
-use Rattle.brk_changes.specs.Schemas.{abstract_schema}
+use Rattle.brk_trade_rows.specs.Schemas.{abstract_schema}
 use Rattle.brk_audit_theorems.proofs.Climbs.{climbs}
 use Rattle.brk_audit_form.proofs.BandsApart.{apart_told}
 use Rattle.brk_audit_form.proofs.bands.are_bands_disjoint.Goals as goal

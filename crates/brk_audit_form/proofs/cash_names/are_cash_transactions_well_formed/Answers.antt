@@ -3,8 +3,8 @@ use Rattle.std.specs.List.{list_all}
 use Rattle.std.proofs.lemmas.List.{take_all}
 use Rattle.std.proofs.lemmas.List.Folds.{list_all-map}
 use Rattle.brk_model.specs.Form.{is_well_formed_cash_transaction_row}
-use Rattle.brk_changes.specs.Rows.{abstract_cash_row}
-use Rattle.brk_changes.specs.Sheets.{abstract_sheets}
+use Rattle.brk_trade_rows.specs.Rows.{abstract_cash_row}
+use Rattle.brk_trade_rows.specs.Sheets.{abstract_sheets}
 use Rattle.brk_audit_form.proofs.CashNames.{all_not}
 use Rattle.brk_audit_form.proofs.cash_names.are_cash_transactions_well_formed.Goals as goal
 

@@ -1,8 +1,8 @@
 use Rattle.std.proofs.Common.{◌≡◌, true, take}
 use Rattle.std.specs.List.{list_all}
 use Rattle.brk_model.specs.Form.{is_well_formed_cash_transaction_row}
-use Rattle.brk_changes.specs.Rows.{abstract_cash_row}
-use Rattle.brk_changes.specs.Sheets.{abstract_sheets}
+use Rattle.brk_trade_rows.specs.Rows.{abstract_cash_row}
+use Rattle.brk_trade_rows.specs.Sheets.{abstract_sheets}
 use Rattle.brk_audit_form.proofs.cash_names.are_cash_transactions_well_formed.Given as goal
 
 abbrev pub invariant-loop-row : goal.invariant-loop-row

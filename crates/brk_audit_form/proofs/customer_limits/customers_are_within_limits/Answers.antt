@@ -7,7 +7,7 @@ use Rattle.brk_model.specs.Adopted.{base_of_tables}
 use Rattle.brk_model.specs.Form.{is_within_customer_limits}
 use Rattle.brk_model.specs.Limits.{most_accounts_per_customer, greatest_tax_rate}
 use Rattle.brk_ref.specs.Records.{abstract_account_row, abstract_customer}
-use Rattle.brk_changes.specs.Sheets.{abstract_sheets}
+use Rattle.brk_trade_rows.specs.Sheets.{abstract_sheets}
 use Rattle.brk_audit_form.specs.Customers.{sum_at_customer_id}
 use Rattle.brk_audit_form.proofs.CustomerSums.{count-mapped}
 use Rattle.brk_audit_form.proofs.customer_limits.customers_are_within_limits.Goals as goal

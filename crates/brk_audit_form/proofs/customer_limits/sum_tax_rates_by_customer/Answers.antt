@@ -2,7 +2,7 @@ use Rattle.std.proofs.Common.{◌≡◌, ◌==◌, ◌∙◌, ap, take, filter}
 use Rattle.std.specs.Prelude.{sum_by}
 use Rattle.std.proofs.lemmas.List.{take_all}
 use Rattle.brk_ref.specs.Records.{abstract_customer_tax}
-use Rattle.brk_changes.specs.Sheets.{abstract_sheets}
+use Rattle.brk_trade_rows.specs.Sheets.{abstract_sheets}
 use Rattle.brk_audit_form.specs.Customers.{rate_of_tax_rate_or_zero}
 use Rattle.brk_audit_form.proofs.CustomerSums.{sum-mapped}
 use Rattle.brk_audit_form.proofs.customer_limits.sum_tax_rates_by_customer.Goals as goal

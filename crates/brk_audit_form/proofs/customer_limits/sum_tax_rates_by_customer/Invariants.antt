@@ -1,6 +1,6 @@
 use Rattle.std.proofs.Common.{◌≡◌, ◌==◌, ◌≤◌, ◌*◌, ℕ, take, filter}
 use Rattle.std.specs.Prelude.{sum_by}
-use Rattle.brk_changes.specs.Sheets.{abstract_sheets}
+use Rattle.brk_trade_rows.specs.Sheets.{abstract_sheets}
 use Rattle.brk_audit_form.specs.Customers.{rate_of_tax_rate_or_zero, sum_at_customer_id}
 use Rattle.brk_audit_form.proofs.customer_limits.sum_tax_rates_by_customer.Given as goal
 

@@ -5,10 +5,10 @@ use Rattle.brk_model.specs.Audit.{ConditionHolds}
 use Rattle.brk_model.specs.Form.{satisfies_form_condition, has_distinct_tax_ids, is_within_customer_limits, is_well_formed_cash_transaction_row, is_well_formed_cash_move_row, trade_ids_of_cash_rows}
 use Rattle.brk_model.specs.Lists.{all_distinct}
 use Rattle.brk_ref.specs.Records.{abstract_customer}
-use Rattle.brk_changes.specs.Rows.{abstract_cash_row, abstract_move_row}
-use Rattle.brk_changes.specs.Schemas.{abstract_schema}
-use Rattle.brk_changes.specs.Sheets.{abstract_sheets}
-use Rattle.brk_changes.specs.declared.sheets.Sheets.{Sheets}
+use Rattle.brk_trade_rows.specs.Rows.{abstract_cash_row, abstract_move_row}
+use Rattle.brk_trade_rows.specs.Schemas.{abstract_schema}
+use Rattle.brk_trade_rows.specs.Sheets.{abstract_sheets}
+use Rattle.brk_trade_rows.specs.declared.sheets.Sheets.{Sheets}
 use Rattle.brk_audit_form.proofs.WholeForm.{form_told, told, each_told}
 use Rattle.brk_audit_form.proofs.form.form_condition_holds.Goals as goal
 

@@ -3,8 +3,8 @@ use Rattle.std.specs.List.{list_all}
 use Rattle.brk_model.specs.Keys.{band_key}
 use Rattle.brk_model.specs.Form.{is_sorted_by_unique_key, is_well_formed_band_row}
 use Rattle.brk_ref.specs.Records.{abstract_band}
-use Rattle.brk_changes.specs.Schemas.{abstract_schema}
-use Rattle.brk_changes.specs.Sheets.{abstract_sheets}
+use Rattle.brk_trade_rows.specs.Schemas.{abstract_schema}
+use Rattle.brk_trade_rows.specs.Sheets.{abstract_sheets}
 use Rattle.brk_audit_form.proofs.FormGroups.{bands_rise, reference_forms_parts}
 use Rattle.brk_audit_form.proofs.form.passes_checks_without_allocation.Goals as goal
 

@@ -2,7 +2,7 @@ use Rattle.std.proofs.Common.{◌==◌, false, Err, rules, refl, sym, ◌∙◌,
 use Rattle.std.specs.Prelude.{find}
 use Rattle.std.proofs.lemmas.List.Sorted.{answers_always}
 use Rattle.brk_ref.specs.Records.{abstract_tax_rate}
-use Rattle.brk_changes.specs.Sheets.{abstract_sheets}
+use Rattle.brk_trade_rows.specs.Sheets.{abstract_sheets}
 use Rattle.brk_audit_theorems.proofs.Parts.{key_parts}
 use Rattle.brk_audit_form.proofs.Searches.{number_found}
 use Rattle.brk_audit_form.proofs.Places.{number_placed, none_found}

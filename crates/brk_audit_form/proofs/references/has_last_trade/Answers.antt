@@ -2,7 +2,7 @@ use Rattle.std.proofs.Common.{rules, nat_cmp}
 use Rattle.std.specs.Cmp.Lexicographic.{slice_cmp}
 use Rattle.std.proofs.lemmas.Fn.{always_returns_same}
 use Rattle.brk_ref.specs.Records.{abstract_last_trade_row}
-use Rattle.brk_changes.specs.Sheets.{abstract_sheets}
+use Rattle.brk_trade_rows.specs.Sheets.{abstract_sheets}
 use Rattle.brk_audit_theorems.proofs.Parts.{key_parts}
 use Rattle.brk_audit_form.proofs.Searches.{word_found}
 use Rattle.brk_audit_form.proofs.references.has_last_trade.Goals as goal

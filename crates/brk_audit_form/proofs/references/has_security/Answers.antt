@@ -3,7 +3,7 @@ use Rattle.std.specs.Prelude.{bytes_eq}
 use Rattle.std.specs.Cmp.Lexicographic.{slice_cmp}
 use Rattle.std.proofs.lemmas.Fn.{always_returns_same}
 use Rattle.brk_ref.specs.Records.{abstract_security_row}
-use Rattle.brk_changes.specs.Sheets.{abstract_sheets}
+use Rattle.brk_trade_rows.specs.Sheets.{abstract_sheets}
 use Rattle.brk_audit_theorems.proofs.Parts.{key_parts}
 use Rattle.brk_audit_form.proofs.Searches.{word_found, any_found}
 use Rattle.brk_audit_form.proofs.references.has_security.Goals as goal

@@ -1,5 +1,5 @@
 use Rattle.std.proofs.Common.{◌∙◌, ap}
-use Rattle.brk_changes.specs.Rows.{abstract_move_row}
+use Rattle.brk_trade_rows.specs.Rows.{abstract_move_row}
 use Rattle.brk_audit_sums.specs.Sums.{movement_posting_of_row}
 use Rattle.brk_audit_sums.proofs.Postings.{none_added, some_added}
 use Rattle.brk_audit_sums.proofs.balances.append_movement_postings.Goals as goal

@@ -1,6 +1,6 @@
 use Rattle.std.proofs.Common.{◌≡◌, ◌++◌, take}
 use Rattle.std.specs.List.{filter_map}
-use Rattle.brk_changes.specs.Rows.{abstract_move_row}
+use Rattle.brk_trade_rows.specs.Rows.{abstract_move_row}
 use Rattle.brk_audit_sums.specs.Sums.{movement_posting_of_row}
 use Rattle.brk_audit_sums.proofs.balances.append_movement_postings.Given as goal
 

@@ -1,4 +1,4 @@
-use Rattle.brk_view.specs.Queries.{abstract_query}
+use Rattle.brk_view_rows.specs.Queries.{abstract_query}
 use Rattle.brk_desk.proofs.Asked.{is_asked}
 use Rattle.brk_desk.proofs.asking.answer_query.Goals as goal
 

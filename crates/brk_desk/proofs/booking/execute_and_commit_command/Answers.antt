@@ -3,7 +3,7 @@ use Rattle.std.proofs.lemmas.Result.{err_from_is_err_and}
 use Rattle.std.specs.Option.{option_copied}
 use Rattle.std.specs.Prelude.{IfSome}
 use Rattle.brk_ref.specs.Records.{abstract_kept_row}
-use Rattle.brk_commands.specs.Commands.{abstract_command}
+use Rattle.brk_desk_commands.specs.Commands.{abstract_command}
 use Rattle.brk_desk.specs.Keys.{optional_model_key}
 use Rattle.brk_audit_theorems.specs.InForm.{MeetsAuditFormats, IsWellFormedKey}
 use Rattle.brk_desk.proofs.Calling.{DecidesCommandOfNewKey, books_it, books_none, fails, known, refuses, repeats_or_fails, same_fault}

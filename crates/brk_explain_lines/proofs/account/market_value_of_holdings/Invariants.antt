@@ -1,5 +1,5 @@
 use Rattle.std.proofs.Common.{◌≡◌, map, take}
-use Rattle.brk_explain_model.specs.AccountLines as lines
+use Rattle.brk_model_explain.specs.AccountLines as lines
 use Rattle.brk_explain_rows.specs.Details.{abstract_priced_holding}
 use Rattle.brk_explain_lines.proofs.account.market_value_of_holdings.Given as goal
 

@@ -1,9 +1,9 @@
-use Rattle.brk_explain_model.specs.Texts.{timestamp_text, amount_column}
+use Rattle.brk_model_explain.specs.Texts.{timestamp_text, amount_column}
 use Rattle.brk_model.specs.Statement.{left_aligned_text, right_aligned_text}
 use Rattle.brk_report_lines.specs.Written.{line_with_line_feed}
 use Rattle.brk_explain_columns.proofs.Chains.{more, first2, line_end, on_ok}
 use Rattle.std.proofs.Common.{◌≡◌, ◌∙◌, ◌++◌, ◌∷◌, codes, decimal}
-use Rattle.brk_explain_model.specs.AccountLines.{cash_posting_line, trade_id_or_hyphen}
+use Rattle.brk_model_explain.specs.AccountLines.{cash_posting_line, trade_id_or_hyphen}
 use Rattle.brk_explain_lines.proofs.account.put_cash_posting.Goals as goal
 
 pub returns-clause-ok : goal.returns-clause-ok

@@ -1,7 +1,7 @@
 use Rattle.brk_model.specs.Statement.{left_aligned_text, right_aligned_text}
 use Rattle.brk_explain_columns.proofs.Chains.{more, on_ok}
 use Rattle.std.proofs.Common.{◌≡◌, ◌++◌, ◌∷◌, [], codes}
-use Rattle.brk_explain_model.specs.AccountLines.{holding_line_start}
+use Rattle.brk_model_explain.specs.AccountLines.{holding_line_start}
 use Rattle.brk_explain_lines.proofs.account.put_holding_line_start.Goals as goal
 
 pub returns-clause-ok : goal.returns-clause-ok

@@ -1,7 +1,7 @@
 use Rattle.std.proofs.Common.{◌∙◌, ◌++◌, [], ◌∷◌, ap, map, sym, take}
 use Rattle.std.proofs.lemmas.Grind.{flat_map-append}
 use Rattle.std.proofs.lemmas.List.{map-append, take_more}
-use Rattle.brk_explain_model.specs.AccountLines.{holding_line}
+use Rattle.brk_model_explain.specs.AccountLines.{holding_line}
 use Rattle.brk_explain_rows.specs.Details.{abstract_priced_holding}
 use Rattle.brk_model.specs.Statement.{text_of_lines}
 use Rattle.brk_money.specs.Spelling.{Text}

@@ -1,5 +1,5 @@
 use Rattle.std.proofs.Common.{◌≡◌, ◌++◌, map, take}
-use Rattle.brk_explain_model.specs.AccountLines.{holding_line}
+use Rattle.brk_model_explain.specs.AccountLines.{holding_line}
 use Rattle.brk_explain_rows.specs.Details.{abstract_priced_holding}
 use Rattle.brk_model.specs.Statement.{text_of_lines}
 use Rattle.brk_explain_lines.proofs.account.put_holding_lines.Given as goal

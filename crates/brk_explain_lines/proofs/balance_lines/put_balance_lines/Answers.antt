@@ -1,7 +1,7 @@
 use Rattle.std.proofs.Common.{◌≡◌, ◌∙◌, ◌+ℤ◌, ℤ, [], ◌∷◌, ◌++◌, ap, codes}
-use Rattle.brk_explain_model.specs.Texts.{labeled_amount}
-use Rattle.brk_explain_model.specs.TradeLines.{trade_balance_lines, trade_cash_row_line}
-use Rattle.brk_explain_model.specs.Trades.{balance_after_trade, balance_before_trade}
+use Rattle.brk_model_explain.specs.Texts.{labeled_amount}
+use Rattle.brk_model_explain.specs.TradeLines.{trade_balance_lines, trade_cash_row_line}
+use Rattle.brk_model_explain.specs.Trades.{balance_after_trade, balance_before_trade}
 use Rattle.brk_explain_rows.specs.Details.{abstract_order_details, abstract_result_details}
 use Rattle.brk_model.specs.Statement.{text_of_lines}
 use Rattle.brk_report_lines.specs.Written.{line_with_line_feed}

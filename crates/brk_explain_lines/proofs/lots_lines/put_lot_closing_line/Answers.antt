@@ -1,8 +1,8 @@
-use Rattle.brk_explain_model.specs.Texts.{timestamp_text, value_column, shares_column, leading_row_columns}
+use Rattle.brk_model_explain.specs.Texts.{timestamp_text, value_column, shares_column, leading_row_columns}
 use Rattle.brk_explain_columns.proofs.Chains.{more, on_ok}
 use Rattle.std.specs.Int.{w128}
 use Rattle.std.proofs.Common.{◌≡◌, ◌∙◌, ◌++◌, ◌∷◌, [], ap, codes, pos, of_z, to_z, w64, rules}
-use Rattle.brk_explain_model.specs.TradeLines.{lot_closing_line}
+use Rattle.brk_model_explain.specs.TradeLines.{lot_closing_line}
 use Rattle.brk_explain_lines.proofs.lots_lines.put_lot_closing_line.Goals as goal
 
 pub returns-clause-ok : goal.returns-clause-ok

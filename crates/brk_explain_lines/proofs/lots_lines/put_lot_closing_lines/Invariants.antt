@@ -1,5 +1,5 @@
 use Rattle.std.proofs.Common.{◌≡◌, ◌++◌, map, take}
-use Rattle.brk_explain_model.specs.TradeLines.{lot_closing_line}
+use Rattle.brk_model_explain.specs.TradeLines.{lot_closing_line}
 use Rattle.brk_explain_rows.specs.Details.{abstract_closing}
 use Rattle.brk_model.specs.Statement.{text_of_lines}
 use Rattle.brk_explain_lines.proofs.lots_lines.put_lot_closing_lines.Given as goal

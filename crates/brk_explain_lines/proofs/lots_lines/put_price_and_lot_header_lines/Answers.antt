@@ -1,9 +1,9 @@
-use Rattle.brk_explain_model.specs.Texts.{labeled_amount}
+use Rattle.brk_model_explain.specs.Texts.{labeled_amount}
 use Rattle.brk_model.specs.Statement.{text_of_lines}
 use Rattle.brk_report_lines.specs.Written.{line_with_line_feed}
 use Rattle.brk_explain_columns.proofs.Chains.{more, last, on_ok}
 use Rattle.std.proofs.Common.{◌≡◌, ◌∙◌, ◌++◌, ◌∷◌, [], codes}
-use Rattle.brk_explain_model.specs.TradeLines.{price_and_lot_header_lines}
+use Rattle.brk_model_explain.specs.TradeLines.{price_and_lot_header_lines}
 use Rattle.brk_explain_lines.proofs.lots_lines.put_price_and_lot_header_lines.Goals as goal
 
 pub returns-clause-ok : goal.returns-clause-ok

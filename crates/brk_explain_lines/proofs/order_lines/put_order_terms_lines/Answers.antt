@@ -1,6 +1,6 @@
 use Rattle.std.proofs.Common.{◌∙◌, [], ◌∷◌, ◌++◌, codes}
-use Rattle.brk_explain_model.specs.Texts.{labeled_number, labeled_amount, labeled_text}
-use Rattle.brk_explain_model.specs.TradeLines.{order_terms_lines, trade_security_line, trade_type_line}
+use Rattle.brk_model_explain.specs.Texts.{labeled_number, labeled_amount, labeled_text}
+use Rattle.brk_model_explain.specs.TradeLines.{order_terms_lines, trade_security_line, trade_type_line}
 use Rattle.brk_explain_rows.specs.Details.{abstract_order_details}
 use Rattle.brk_model.specs.Statement.{text_of_lines}
 use Rattle.brk_report_lines.specs.Written.{line_with_line_feed}

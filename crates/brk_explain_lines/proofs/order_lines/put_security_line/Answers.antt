@@ -1,9 +1,9 @@
-use Rattle.brk_explain_model.specs.Texts.{labeled_text}
+use Rattle.brk_model_explain.specs.Texts.{labeled_text}
 use Rattle.brk_model.specs.Statement.{left_aligned_text}
 use Rattle.brk_report_lines.specs.Written.{line_with_line_feed}
 use Rattle.brk_explain_columns.proofs.Chains.{more, first2, line_end, on_ok}
 use Rattle.std.proofs.Common.{◌≡◌, ◌∙◌, ◌++◌, ◌∷◌, [], codes}
-use Rattle.brk_explain_model.specs.Texts.{labeled_text}
+use Rattle.brk_model_explain.specs.Texts.{labeled_text}
 use Rattle.brk_explain_lines.proofs.order_lines.put_security_line.Goals as goal
 
 pub returns-clause-ok : goal.returns-clause-ok

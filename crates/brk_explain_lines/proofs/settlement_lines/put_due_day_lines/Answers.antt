@@ -1,11 +1,11 @@
-use Rattle.brk_explain_model.specs.Texts.{labeled_text, labeled_number}
+use Rattle.brk_model_explain.specs.Texts.{labeled_text, labeled_number}
 use Rattle.brk_model.specs.Statement.{text_of_lines}
 use Rattle.brk_report_lines.specs.Written.{line_with_line_feed}
 use Rattle.brk_explain_columns.proofs.Chains.{more, last, on_ok}
 use Rattle.brk_money.specs.Spelling.{day_text}
 use Rattle.std.specs.Option.{option_map_or}
 use Rattle.std.proofs.Common.{◌≡◌, ◌∙◌, ◌++◌, ◌∷◌, [], ℕ, ap, codes}
-use Rattle.brk_explain_model.specs.TradeLines.{due_day_lines}
+use Rattle.brk_model_explain.specs.TradeLines.{due_day_lines}
 use Rattle.brk_model.specs.Derived.{days_to_settlement}
 use Rattle.brk_explain_lines.proofs.settlement_lines.put_due_day_lines.Goals as goal
 

@@ -1,5 +1,5 @@
 use Rattle.std.proofs.Common.{◌≡◌, map, take}
-use Rattle.brk_explain_model.specs.Trades as trades
+use Rattle.brk_model_explain.specs.Trades as trades
 use Rattle.brk_explain_rows.specs.Details.{abstract_closing}
 use Rattle.brk_explain_lines.proofs.sums.total_closed_shares.Given as goal
 

@@ -1,6 +1,6 @@
 use Rattle.brk_explain_columns.proofs.Chains.{more, first2, on_ok}
 use Rattle.std.proofs.Common.{◌≡◌, ◌∙◌, ◌++◌, codes, decimal}
-use Rattle.brk_explain_model.specs.TradeLines.{band_tier_and_exchange_text}
+use Rattle.brk_model_explain.specs.TradeLines.{band_tier_and_exchange_text}
 use Rattle.brk_explain_lines.proofs.tax_lines.put_band_tier_and_exchange.Goals as goal
 
 pub returns-clause-ok : goal.returns-clause-ok

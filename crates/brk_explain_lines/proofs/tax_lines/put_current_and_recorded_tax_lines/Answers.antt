@@ -1,11 +1,11 @@
-use Rattle.brk_explain_model.specs.Texts.{labeled_number, labeled_amount}
+use Rattle.brk_model_explain.specs.Texts.{labeled_number, labeled_amount}
 use Rattle.brk_model.specs.Statement.{text_of_lines}
 use Rattle.brk_report_lines.specs.Written.{line_with_line_feed}
 use Rattle.brk_explain_columns.proofs.Chains.{more, last, on_ok}
 use Rattle.brk_ref.specs.Records.{abstract_tax_rate}
 use Rattle.std.proofs.Common.{◌≡◌, ◌∙◌, ◌++◌, ◌∷◌, [], List, ap, codes, map}
-use Rattle.brk_explain_model.specs.TradeLines.{current_and_recorded_tax_lines}
-use Rattle.brk_explain_model.specs.Trades.{sum_of_tax_rates}
+use Rattle.brk_model_explain.specs.TradeLines.{current_and_recorded_tax_lines}
+use Rattle.brk_model_explain.specs.Trades.{sum_of_tax_rates}
 use Rattle.brk_ref.specs.declared.tax.Tax.{Tax}
 use Rattle.brk_explain_lines.proofs.tax_lines.put_current_and_recorded_tax_lines.Goals as goal
 

@@ -1,4 +1,4 @@
-use Rattle.brk_explain_model.specs.TradeLines.{current_commission_line}
+use Rattle.brk_model_explain.specs.TradeLines.{current_commission_line}
 use Rattle.brk_explain_lines.proofs.tax_lines.put_current_commission_line.Goals as goal
 
 pub returns-in-Some-clause-ok : goal.returns-in-Some-clause-ok

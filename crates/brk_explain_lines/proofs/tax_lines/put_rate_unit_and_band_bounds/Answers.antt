@@ -1,6 +1,6 @@
 use Rattle.brk_explain_columns.proofs.Chains.{more2, first2, on_ok}
 use Rattle.std.proofs.Common.{◌≡◌, ◌∙◌, ◌++◌, codes, decimal}
-use Rattle.brk_explain_model.specs.TradeLines.{band_unit_and_bounds_text}
+use Rattle.brk_model_explain.specs.TradeLines.{band_unit_and_bounds_text}
 use Rattle.brk_explain_lines.proofs.tax_lines.put_rate_unit_and_band_bounds.Goals as goal
 
 pub returns-clause-ok : goal.returns-clause-ok

@@ -2,7 +2,7 @@ use Rattle.brk_model.specs.Statement.{left_aligned_text, right_aligned_text}
 use Rattle.brk_report_lines.specs.Written.{line_with_line_feed}
 use Rattle.brk_explain_columns.proofs.Chains.{more, line_end, on_ok}
 use Rattle.std.proofs.Common.{◌≡◌, ◌∙◌, ◌++◌, ◌∷◌, codes, decimal}
-use Rattle.brk_explain_model.specs.TradeLines.{tax_rate_line}
+use Rattle.brk_model_explain.specs.TradeLines.{tax_rate_line}
 use Rattle.brk_explain_lines.proofs.tax_lines.put_tax_rate_line.Goals as goal
 
 pub returns-clause-ok : goal.returns-clause-ok

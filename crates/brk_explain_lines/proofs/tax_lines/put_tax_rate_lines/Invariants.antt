@@ -1,5 +1,5 @@
 use Rattle.std.proofs.Common.{◌≡◌, ◌++◌, map, take}
-use Rattle.brk_explain_model.specs.TradeLines.{tax_rate_line}
+use Rattle.brk_model_explain.specs.TradeLines.{tax_rate_line}
 use Rattle.brk_model.specs.Statement.{text_of_lines}
 use Rattle.brk_ref.specs.Records.{abstract_tax_rate}
 use Rattle.brk_explain_lines.proofs.tax_lines.put_tax_rate_lines.Given as goal

@@ -1,4 +1,4 @@
-use Rattle.brk_explain_model.specs.Texts.{labeled_number}
+use Rattle.brk_model_explain.specs.Texts.{labeled_number}
 use Rattle.brk_report_lines.specs.Written.{line_with_line_feed}
 use Rattle.brk_explain_columns.proofs.Chains.{line_end, on_ok}
 use Rattle.std.proofs.Common.{◌≡◌, ◌∙◌, ◌++◌, codes}

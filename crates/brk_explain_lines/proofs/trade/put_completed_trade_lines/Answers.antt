@@ -1,6 +1,6 @@
 use Rattle.std.proofs.Common.{◌++◌}
-use Rattle.brk_explain_model.specs.TradeLines as lines
-use Rattle.brk_explain_model.specs.TradeLines.{completed_trade_lines}
+use Rattle.brk_model_explain.specs.TradeLines as lines
+use Rattle.brk_model_explain.specs.TradeLines.{completed_trade_lines}
 use Rattle.brk_explain_rows.specs.Details.{abstract_order_details, abstract_result_details}
 use Rattle.brk_explain_columns.proofs.Chains.{more_lines, on_ok}
 use Rattle.brk_explain_lines.proofs.trade.put_completed_trade_lines.Goals as goal

@@ -1,9 +1,9 @@
-use Rattle.brk_explain_model.specs.Texts.{labeled_text}
+use Rattle.brk_model_explain.specs.Texts.{labeled_text}
 use Rattle.brk_model.specs.Statement.{text_of_lines}
 use Rattle.brk_report_lines.specs.Written.{line_with_line_feed}
 use Rattle.brk_explain_columns.proofs.Chains.{more, last, on_ok}
 use Rattle.std.proofs.Common.{◌≡◌, ◌∙◌, ◌++◌, ◌∷◌, [], codes, decimal}
-use Rattle.brk_explain_model.specs.BrokerLines.{broker_header_lines}
+use Rattle.brk_model_explain.specs.BrokerLines.{broker_header_lines}
 use Rattle.brk_explain_sums.proofs.broker.put_broker_header.Goals as goal
 
 pub returns-clause-ok : goal.returns-clause-ok

@@ -1,8 +1,8 @@
-use Rattle.brk_explain_model.specs.Texts.{timestamp_text, amount_column}
+use Rattle.brk_model_explain.specs.Texts.{timestamp_text, amount_column}
 use Rattle.brk_model.specs.Statement.{left_aligned_text, right_aligned_text}
 use Rattle.brk_explain_columns.proofs.Chains.{more, first2, on_ok}
 use Rattle.std.proofs.Common.{◌≡◌, ◌∙◌, ◌++◌, ◌∷◌, [], codes, decimal}
-use Rattle.brk_explain_model.specs.BrokerLines.{trade_commission_line}
+use Rattle.brk_model_explain.specs.BrokerLines.{trade_commission_line}
 use Rattle.brk_explain_sums.proofs.broker.put_trade_commission_line.Goals as goal
 
 pub returns-clause-ok : goal.returns-clause-ok

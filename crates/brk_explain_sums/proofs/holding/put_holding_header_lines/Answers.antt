@@ -1,6 +1,6 @@
 use Rattle.std.proofs.Common.{◌∙◌, [], ◌∷◌, ◌++◌, codes}
-use Rattle.brk_explain_model.specs.HoldingLines.{holding_title, holding_header_lines}
-use Rattle.brk_explain_model.specs.Texts.{labeled_text}
+use Rattle.brk_model_explain.specs.HoldingLines.{holding_title, holding_header_lines}
+use Rattle.brk_model_explain.specs.Texts.{labeled_text}
 use Rattle.brk_model.specs.Statement.{text_of_lines}
 use Rattle.brk_report_lines.specs.Written.{line_with_line_feed}
 use Rattle.brk_explain_columns.proofs.Chains.{last, more}

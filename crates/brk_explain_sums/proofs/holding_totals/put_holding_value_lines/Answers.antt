@@ -1,10 +1,10 @@
-use Rattle.brk_explain_model.specs.Texts.{labeled_value, labeled_amount}
+use Rattle.brk_model_explain.specs.Texts.{labeled_value, labeled_amount}
 use Rattle.brk_model.specs.Statement.{text_of_lines}
 use Rattle.brk_report_lines.specs.Written.{line_with_line_feed}
 use Rattle.brk_explain_columns.proofs.Chains.{more, last, on_ok}
 use Rattle.std.specs.Fmt.{signed_decimal}
 use Rattle.std.proofs.Common.{◌≡◌, ◌∙◌, ◌++◌, ◌∷◌, [], ◌*ℤ◌, ◌-ℤ◌, ℤ, ap, codes, pos, of_z, to_z, w64, rules}
-use Rattle.brk_explain_model.specs.HoldingLines.{holding_value_lines}
+use Rattle.brk_model_explain.specs.HoldingLines.{holding_value_lines}
 use Rattle.brk_explain_sums.proofs.holding_totals.put_holding_value_lines.Goals as goal
 
 pub returns-clause-ok : goal.returns-clause-ok

@@ -1,8 +1,8 @@
-use Rattle.brk_explain_model.specs.Texts.{labeled_amount}
+use Rattle.brk_model_explain.specs.Texts.{labeled_amount}
 use Rattle.brk_report_lines.specs.Written.{line_with_line_feed}
 use Rattle.brk_explain_columns.proofs.Chains.{more, last, on_ok}
 use Rattle.std.proofs.Common.{◌≡◌, ◌++◌, [], codes}
-use Rattle.brk_explain_model.specs.HoldingLines.{purchase_sale_gain_and_cost_lines}
+use Rattle.brk_model_explain.specs.HoldingLines.{purchase_sale_gain_and_cost_lines}
 use Rattle.brk_explain_sums.proofs.holding_totals.put_purchase_sale_gain_and_cost_lines.Goals as goal
 
 pub returns-clause-ok : goal.returns-clause-ok

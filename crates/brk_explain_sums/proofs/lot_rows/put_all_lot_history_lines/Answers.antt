@@ -1,7 +1,7 @@
 use Rattle.std.proofs.Common.{◌∙◌, List, [], ◌∷◌, ◌++◌, append-nil, ap, flat_map, map, sym, take}
 use Rattle.std.proofs.lemmas.Grind.{flat_map-append}
 use Rattle.brk_money.specs.Spelling.{Text}
-use Rattle.brk_explain_model.specs.HoldingLines.{lot_history_lines}
+use Rattle.brk_model_explain.specs.HoldingLines.{lot_history_lines}
 use Rattle.brk_explain_rows.specs.Details.{abstract_lot_details}
 use Rattle.brk_model.specs.Statement.{text_of_lines}
 use Rattle.brk_report_lines.specs.Written.{line_with_line_feed}

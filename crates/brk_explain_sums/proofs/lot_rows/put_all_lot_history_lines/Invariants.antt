@@ -1,5 +1,5 @@
 use Rattle.std.proofs.Common.{◌≡◌, ◌++◌, flat_map, map, take}
-use Rattle.brk_explain_model.specs.HoldingLines.{lot_history_lines}
+use Rattle.brk_model_explain.specs.HoldingLines.{lot_history_lines}
 use Rattle.brk_explain_rows.specs.Details.{abstract_lot_details}
 use Rattle.brk_model.specs.Statement.{text_of_lines}
 use Rattle.brk_explain_sums.proofs.lot_rows.put_all_lot_history_lines.Given as goal

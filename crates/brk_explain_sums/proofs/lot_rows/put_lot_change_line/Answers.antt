@@ -1,8 +1,8 @@
-use Rattle.brk_explain_model.specs.Texts.{timestamp_text, value_column, shares_column, leading_row_columns}
+use Rattle.brk_model_explain.specs.Texts.{timestamp_text, value_column, shares_column, leading_row_columns}
 use Rattle.brk_explain_columns.proofs.Chains.{more, on_ok}
 use Rattle.std.specs.Int.{w128}
 use Rattle.std.proofs.Common.{◌≡◌, ◌∙◌, ◌++◌, ◌∷◌, [], codes, of_z, to_z, w64, rules}
-use Rattle.brk_explain_model.specs.HoldingLines.{lot_change_line}
+use Rattle.brk_model_explain.specs.HoldingLines.{lot_change_line}
 use Rattle.brk_explain_sums.proofs.lot_rows.put_lot_change_line.Goals as goal
 
 pub returns-clause-ok : goal.returns-clause-ok

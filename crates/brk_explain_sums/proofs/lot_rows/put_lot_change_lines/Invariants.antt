@@ -1,5 +1,5 @@
 use Rattle.std.proofs.Common.{◌≡◌, ◌++◌, map, take}
-use Rattle.brk_explain_model.specs.HoldingLines.{lot_change_lines}
+use Rattle.brk_model_explain.specs.HoldingLines.{lot_change_lines}
 use Rattle.brk_explain_rows.specs.Details.{abstract_priced_lot_change}
 use Rattle.brk_model.specs.Statement.{text_of_lines}
 use Rattle.brk_explain_sums.proofs.lot_rows.put_lot_change_lines.Given as goal

@@ -1,9 +1,9 @@
-use Rattle.brk_explain_model.specs.Texts.{timestamp_text, value_column, shares_column, leading_row_columns}
+use Rattle.brk_model_explain.specs.Texts.{timestamp_text, value_column, shares_column, leading_row_columns}
 use Rattle.brk_report_lines.specs.Written.{line_with_line_feed}
 use Rattle.brk_explain_columns.proofs.Chains.{more, line_end, on_ok}
 use Rattle.std.specs.Int.{w128}
 use Rattle.std.proofs.Common.{◌≡◌, ◌∙◌, ◌++◌, ◌∷◌, codes, of_z, to_z, w64, rules}
-use Rattle.brk_explain_model.specs.HoldingLines.{holding_trade_line}
+use Rattle.brk_model_explain.specs.HoldingLines.{holding_trade_line}
 use Rattle.brk_explain_sums.proofs.trade_rows.put_holding_trade_line.Goals as goal
 
 pub returns-clause-ok : goal.returns-clause-ok

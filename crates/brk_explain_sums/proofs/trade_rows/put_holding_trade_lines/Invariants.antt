@@ -1,7 +1,7 @@
 use Rattle.std.proofs.Common.{◌≡◌, ◌++◌, map, pos, take}
-use Rattle.brk_changes.specs.Rows.{abstract_trade_row}
-use Rattle.brk_explain_model.specs.HoldingLines.{holding_trade_lines}
-use Rattle.brk_explain_model.specs.Holdings.{signed_quantity_of_trade}
+use Rattle.brk_trade_rows.specs.Rows.{abstract_trade_row}
+use Rattle.brk_model_explain.specs.HoldingLines.{holding_trade_lines}
+use Rattle.brk_model_explain.specs.Holdings.{signed_quantity_of_trade}
 use Rattle.brk_model.specs.Statement.{text_of_lines}
 use Rattle.brk_explain_columns.proofs.RunningRows.{total_after}
 use Rattle.brk_explain_sums.proofs.trade_rows.put_holding_trade_lines.Given as goal

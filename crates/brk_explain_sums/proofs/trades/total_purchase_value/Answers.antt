@@ -1,7 +1,7 @@
 use Rattle.std.proofs.Common.{◌≡◌, ◌∙◌, ◌+ℤ◌, ℤ, ap, cond, int_lt, map, pos, sym, take}
-use Rattle.brk_changes.specs.Rows.{abstract_trade_row}
-use Rattle.brk_explain_model.specs.Holdings as holdings
-use Rattle.brk_explain_model.specs.Holdings.{signed_value_of_trade}
+use Rattle.brk_trade_rows.specs.Rows.{abstract_trade_row}
+use Rattle.brk_model_explain.specs.Holdings as holdings
+use Rattle.brk_model_explain.specs.Holdings.{signed_value_of_trade}
 use Rattle.brk_model.specs.Tables.{TradeRow}
 use Rattle.brk_explain_columns.proofs.Items.{map_one_more}
 use Rattle.brk_explain_columns.proofs.Totals.{picked_more, total_by-none}

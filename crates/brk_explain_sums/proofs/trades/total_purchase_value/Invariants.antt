@@ -1,6 +1,6 @@
 use Rattle.std.proofs.Common.{◌≡◌, map, take}
-use Rattle.brk_changes.specs.Rows.{abstract_trade_row}
-use Rattle.brk_explain_model.specs.Holdings as holdings
+use Rattle.brk_trade_rows.specs.Rows.{abstract_trade_row}
+use Rattle.brk_model_explain.specs.Holdings as holdings
 use Rattle.brk_explain_sums.proofs.trades.total_purchase_value.Given as goal
 
 abbrev pub invariant-loop-row : goal.invariant-loop-row

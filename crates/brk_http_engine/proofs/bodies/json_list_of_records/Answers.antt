@@ -1,6 +1,6 @@
 use Rattle.std.proofs.Common.{◌∙◌, ap, map, string_bytes}
 use Rattle.serde_json.specs.View.{view}
-use Rattle.brk_http_model.specs.Bodies.{json_array_of_texts}
+use Rattle.brk_model_http.specs.Bodies.{json_array_of_texts}
 use Rattle.brk_http_engine.specs.Codes.{bytes_of_texts}
 use Rattle.brk_http_engine.proofs.OneMore.{one_more_mapped_twice}
 use Rattle.brk_http_engine.proofs.bodies.json_list_of_records.Goals as goal

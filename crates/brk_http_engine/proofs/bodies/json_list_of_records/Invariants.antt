@@ -1,6 +1,6 @@
 use Rattle.std.proofs.Common.{◌≡◌, map, take}
 use Rattle.serde_json.specs.View.{view}
-use Rattle.brk_http_model.specs.Bodies.{json_array_of_texts}
+use Rattle.brk_model_http.specs.Bodies.{json_array_of_texts}
 use Rattle.brk_http_engine.specs.Codes.{bytes_of_texts}
 use Rattle.brk_http_engine.proofs.bodies.json_list_of_records.Given as goal
 

@@ -3,7 +3,7 @@ use Rattle.std.proofs.lemmas.Result.{IfOk-weaker}
 use Rattle.serde_json.specs.Data.{object, member, no_members}
 use Rattle.serde_json.specs.View.{view}
 use Rattle.serde_json.specs.Written.{has_float, compact_text}
-use Rattle.brk_http_model.specs.Bodies.{json_array_of_texts, json_texts_object}
+use Rattle.brk_model_http.specs.Bodies.{json_array_of_texts, json_texts_object}
 use Rattle.brk_http_engine.specs.Words.{member_name_text}
 use Rattle.brk_http_engine.proofs.BodyLemmas.{list_plain}
 use Rattle.brk_http_engine.proofs.bodies.json_object_with_texts.Goals as goal

@@ -3,7 +3,7 @@ use Rattle.std.proofs.lemmas.Result.{IfOk-weaker}
 use Rattle.serde_json.specs.Data.{object, member, no_members, string}
 use Rattle.serde_json.specs.View.{view}
 use Rattle.serde_json.specs.Written.{has_float, compact_text}
-use Rattle.brk_http_model.specs.Bodies.{json_error_object}
+use Rattle.brk_model_http.specs.Bodies.{json_error_object}
 use Rattle.brk_http_engine.proofs.bodies.json_text_of_error.Goals as goal
 
 pub returns : goal.returns

@@ -3,7 +3,7 @@ use Rattle.std.proofs.lemmas.Result.{IfOk-weaker}
 use Rattle.serde_json.specs.Data.{array, object, member, no_members}
 use Rattle.serde_json.specs.View.{view, items_of}
 use Rattle.serde_json.specs.Written.{has_float, compact_text}
-use Rattle.brk_http_model.specs.Bodies.{json_array_of_texts, json_records_object}
+use Rattle.brk_model_http.specs.Bodies.{json_array_of_texts, json_records_object}
 use Rattle.brk_http_engine.specs.Codes.{bytes_of_texts}
 use Rattle.brk_http_engine.proofs.BodyLemmas.{records_plain}
 use Rattle.brk_http_engine.proofs.bodies.json_text_of_view.Goals as goal

@@ -1,6 +1,6 @@
 use Rattle.std.proofs.lemmas.Iterator.Consumers.{map_from_collect}
 use Rattle.std.proofs.lemmas.Iterator.Splits.{YieldsList-from_str_split}
-use Rattle.brk_http_model.specs.Routes.{split_at_byte}
+use Rattle.brk_model_http.specs.Routes.{split_at_byte}
 use Rattle.brk_http_engine.proofs.pieces.split_at_byte.Goals as goal
 
 pub returns : goal.returns

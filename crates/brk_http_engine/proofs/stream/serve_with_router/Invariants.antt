@@ -1,5 +1,5 @@
 use Rattle.std.proofs.Common.{◌<◌, ◌-◌}
-use Rattle.brk_http_model.specs.Stream.{most_requests_per_stream}
+use Rattle.brk_model_http.specs.Stream.{most_requests_per_stream}
 use Rattle.brk_http_engine.proofs.StreamLemmas.{HasFirstRepliesIfKnown}
 use Rattle.brk_http_engine.specs.Promises.{CallWithClock, ChangesOnlyByCalls}
 use Rattle.brk_http_engine.proofs.stream.serve_with_router.Given as goal

@@ -1,5 +1,5 @@
 use Rattle.std.proofs.Common.{refl}
-use Rattle.brk_http_model.specs.Replies.{reply_text}
+use Rattle.brk_model_http.specs.Replies.{reply_text}
 use Rattle.brk_http_engine.specs.Codes.{response_in_model}
 use Rattle.brk_http_engine.specs.Promises.{CallWithClock}
 use Rattle.brk_http_engine.proofs.Called.{not_called, responds_called}

@@ -1,6 +1,6 @@
 use Rattle.std.proofs.Common.{◌≡◌, ◌≤◌, map, take, IfOk}
 use Rattle.httparse.specs.Spans.{header_bytes}
-use Rattle.brk_http_model.specs.Fields.{most_body_bytes}
+use Rattle.brk_model_http.specs.Fields.{most_body_bytes}
 use Rattle.brk_http_reader.specs.FieldFactUpdates.{facts_of_fields}
 use Rattle.brk_http_reader.proofs.fields.facts_from_fields.Given as goal
 

@@ -1,7 +1,7 @@
 use Rattle.std.proofs.Common.{◌≤◌, length, take, drop, ap, sym, ◌∙◌, arith}
 use Rattle.std.proofs.lemmas.List.{length-map, length-take}
 use Rattle.httparse.specs.Spans.{header_bytes, name_and_value}
-use Rattle.brk_http_model.specs.Fields.{body_length_of_fields}
+use Rattle.brk_model_http.specs.Fields.{body_length_of_fields}
 use Rattle.brk_http_reader.proofs.head.parse_head.Goals as goal
 
 pub returns-in-Ok-Complete-clause-head : goal.returns-in-Ok-Complete-clause-head

@@ -1,6 +1,6 @@
 use Rattle.std.proofs.Common.{◌≡◌, ◌+◌, [], arith, get_or, drop, sym, ◌∙◌, ap}
 use Rattle.std.proofs.lemmas.List.{drop_more, drop_all, take_rest}
-use Rattle.brk_http_model.specs.Heads.{line_end_length_after_line_feed}
+use Rattle.brk_model_http.specs.Heads.{line_end_length_after_line_feed}
 use Rattle.brk_http_reader.proofs.FrontLemmas.{found_here, passed_here, head_len-nil}
 use Rattle.brk_http_reader.proofs.input.head_length_in_bytes.Goals as goal
 

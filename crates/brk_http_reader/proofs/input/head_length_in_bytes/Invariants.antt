@@ -1,5 +1,5 @@
 use Rattle.std.proofs.Common.{◌≡◌, drop}
-use Rattle.brk_http_model.specs.Heads.{head_length}
+use Rattle.brk_model_http.specs.Heads.{head_length}
 use Rattle.brk_http_reader.proofs.FrontLemmas.{option_plus}
 use Rattle.brk_http_reader.proofs.input.head_length_in_bytes.Given as goal
 

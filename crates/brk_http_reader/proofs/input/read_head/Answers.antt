@@ -1,5 +1,5 @@
 use Rattle.std.proofs.Common.{◌≡◌, arith, take, length, min, sym, ◌∙◌, Some, None, ap, vec_len, Ok}
-use Rattle.brk_http_model.specs.Heads.{head_length, most_head_bytes, head_end}
+use Rattle.brk_model_http.specs.Heads.{head_length, most_head_bytes, head_end}
 use Rattle.brk_http_reader.proofs.FrontLemmas.{head_at, head_long, head_cut, head_nothing, Moves_trans}
 use Rattle.brk_http_reader.proofs.input.read_head.Goals as goal
 

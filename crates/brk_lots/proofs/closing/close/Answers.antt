@@ -1,5 +1,5 @@
 use Rattle.std.proofs.Common.{ap, pos, ◌∙◌}
-use Rattle.brk_closing.specs.declared.values.Values.{Values}
+use Rattle.brk_lots.specs.declared.closed_values.Values.{Values}
 use Rattle.brk_lots.proofs.closing.close.Goals as goal
 
 pub returns-clause-closing : goal.returns-clause-closing

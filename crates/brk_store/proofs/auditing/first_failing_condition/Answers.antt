@@ -1,8 +1,8 @@
 use Rattle.std.proofs.Common.{Bool, true, Ok, subst}
 use Rattle.sqlite.specs.Held.{state}
 use Rattle.brk_money.specs.declared.fault.Fault.{Fault}
-use Rattle.brk_changes.specs.declared.schema.Schema.TheVariants.{Third}
-use Rattle.brk_sql.specs.Model.{IsTransactionStep}
+use Rattle.brk_trade_rows.specs.declared.schema.Schema.TheVariants.{Third}
+use Rattle.brk_tables_sql.specs.Model.{IsTransactionStep}
 use Rattle.brk_store.proofs.Answering.{ShowsIfHasDesk, desk_told}
 use Rattle.brk_store.proofs.auditing.first_failing_condition.Goals as goal
 

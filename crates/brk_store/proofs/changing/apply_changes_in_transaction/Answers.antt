@@ -2,9 +2,9 @@ use Rattle.std.proofs.Common.{◌≡◌, ◌∙◌, IsTrue, Result, Ok, Err, ap,
 use Rattle.std.proofs.lemmas.Result.{err_from_is_err_and}
 use Rattle.brk_money.specs.declared.fault.Fault.{Fault}
 use Rattle.brk_money.specs.declared.fault.Fault.TheVariants.{Store}
-use Rattle.brk_sql.specs.Desk.{ChangesTablesBy, IsCompilationOutcome}
+use Rattle.brk_tables_sql.specs.Desk.{ChangesTablesBy, IsCompilationOutcome}
 use Rattle.brk_tables_schema.specs.Desk.{desk_tables}
-use Rattle.brk_changes.specs.Changes.{tables_after_changes}
+use Rattle.brk_trade_rows.specs.Changes.{tables_after_changes}
 use Rattle.brk_store.specs.Holds.{ApplyPost}
 use Rattle.brk_store.proofs.Ending.{after_look, applies, applies_none, applies_nothing, open_at_look}
 use Rattle.brk_store.proofs.changing.apply_changes_in_transaction.Goals as goal

@@ -5,13 +5,13 @@ use Rattle.std.proofs.lemmas.List.Sums.{fold_more}
 use Rattle.sqlite.specs.Held.{state}
 use Rattle.brk_money.specs.declared.fault.Fault.{Fault}
 use Rattle.brk_model.specs.Tables.{Tables}
-use Rattle.brk_sql.proofs.Inside.{step_then}
-use Rattle.brk_sql.proofs.Strangers.{spares_then}
-use Rattle.brk_sql.specs.Desk.{HasTables, ChangesTablesBy}
-use Rattle.brk_sql.specs.Model.{IsTransactionStep}
+use Rattle.brk_tables_sql.proofs.Inside.{step_then}
+use Rattle.brk_tables_sql.proofs.Strangers.{spares_then}
+use Rattle.brk_tables_sql.specs.Desk.{HasTables, ChangesTablesBy}
+use Rattle.brk_tables_sql.specs.Model.{IsTransactionStep}
 use Rattle.brk_tables_schema.specs.Desk.{desk_tables}
-use Rattle.brk_changes.specs.Changes.{tables_after_change, tables_after_changes}
-use Rattle.brk_changes.specs.declared.change.Change.{Change}
+use Rattle.brk_trade_rows.specs.Changes.{tables_after_change, tables_after_changes}
+use Rattle.brk_trade_rows.specs.declared.change.Change.{Change}
 use Rattle.brk_store.proofs.Ending.{failed_then}
 use Rattle.brk_store.proofs.Making.{none_made}
 use Rattle.brk_store.proofs.changing.apply_each_change.Goals as goal

@@ -1,10 +1,10 @@
 use Rattle.std.proofs.Common.{◌≡◌, Ok, take}
 use Rattle.sqlite.specs.Held.{state}
 use Rattle.brk_money.specs.declared.fault.Fault.{Fault}
-use Rattle.brk_sql.specs.Model.{IsTransactionStep}
-use Rattle.brk_sql.specs.Desk.{ChangesTablesBy}
+use Rattle.brk_tables_sql.specs.Model.{IsTransactionStep}
+use Rattle.brk_tables_sql.specs.Desk.{ChangesTablesBy}
 use Rattle.brk_tables_schema.specs.Desk.{desk_tables}
-use Rattle.brk_changes.specs.Changes.{tables_after_changes}
+use Rattle.brk_trade_rows.specs.Changes.{tables_after_changes}
 use Rattle.brk_store.proofs.changing.apply_each_change.Given as goal
 
 abbrev pub invariant-loop-change : goal.invariant-loop-change

@@ -5,7 +5,7 @@ use Rattle.sqlite.specs.Held.{state}
 use Rattle.brk_money.specs.declared.fault.Condition.TheVariants.{NotEmpty}
 use Rattle.brk_money.specs.declared.fault.Fault.{Fault}
 use Rattle.brk_money.specs.declared.fault.Fault.TheVariants.{Damaged, Store}
-use Rattle.brk_sql.proofs.Inside.{clean_before, step_then}
+use Rattle.brk_tables_sql.proofs.Inside.{clean_before, step_then}
 use Rattle.brk_tables.specs.Made.{CreatesDeskTables}
 use Rattle.brk_tables_scan.specs.Present.{has_table_of_desk}
 use Rattle.brk_store.specs.Holds.{CreatePost}

@@ -1,8 +1,8 @@
 use Rattle.std.proofs.Common.{◌∙◌, Err, Ok, ap, true}
 use Rattle.std.proofs.lemmas.Result.{err_from_is_err_and}
 use Rattle.sqlite.specs.Held.{state}
-use Rattle.brk_changes.specs.declared.schema.Schema.TheVariants.{First, Second, Third}
-use Rattle.brk_sql.proofs.Inside.{step_then}
+use Rattle.brk_trade_rows.specs.declared.schema.Schema.TheVariants.{First, Second, Third}
+use Rattle.brk_tables_sql.proofs.Inside.{step_then}
 use Rattle.brk_store.proofs.Answering.{ShowsIfHasDesk}
 use Rattle.brk_store.proofs.Ending.{failed, failed_then}
 use Rattle.brk_store.proofs.Telling.{FindsSchemaOfDatabase, found_first, found_none, found_second, found_third}

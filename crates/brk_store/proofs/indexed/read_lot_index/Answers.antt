@@ -1,10 +1,10 @@
 use Rattle.std.proofs.Common.{◌≡◌, ◌∙◌, Ok, Err, ap, map, subst}
 use Rattle.std.specs.Global.{Vec}
 use Rattle.brk_money.specs.declared.fault.Fault.TheVariants.{Memory}
-use Rattle.brk_changes.specs.Rows.{abstract_holding_row}
-use Rattle.brk_changes.specs.declared.holding_row.HoldingRow as row
-use Rattle.brk_lot_index.specs.Ages.{IsIndexOf}
-use Rattle.brk_lot_index.specs.declared.index.LotIndex.{LotIndex}
+use Rattle.brk_trade_rows.specs.Rows.{abstract_holding_row}
+use Rattle.brk_trade_rows.specs.declared.holding_row.HoldingRow as row
+use Rattle.brk_store_lots.specs.Ages.{IsIndexOf}
+use Rattle.brk_store_lots.specs.declared.index.LotIndex.{LotIndex}
 use Rattle.brk_model.specs.Tables.{Tables}
 use Rattle.brk_store.proofs.ReadResults.{decided}
 use Rattle.brk_store.proofs.indexed.read_lot_index.Goals as goal

@@ -1,7 +1,7 @@
 use Rattle.std.proofs.Common.{◌≡◌, ◌∙◌, Ok, Err, ap, false, rules, subst, sym, true}
 use Rattle.std.proofs.lemmas.Result.{err_from_is_err_and}
 use Rattle.brk_money.specs.declared.fault.Fault.TheVariants.{Damaged, Store}
-use Rattle.brk_changes.specs.Schemas.{abstract_schema}
+use Rattle.brk_trade_rows.specs.Schemas.{abstract_schema}
 use Rattle.brk_store.specs.Audited.{AdoptPost}
 use Rattle.brk_store.proofs.Adoption.{commits, commits_none, fails, move_gives_up, passes}
 use Rattle.brk_store.proofs.upgrading.audit_and_upgrade_database.Goals as goal

@@ -4,8 +4,8 @@ use Rattle.brk_money.specs.declared.fault.Fault.{Fault}
 use Rattle.brk_model.specs.Lists.{total_by}
 use Rattle.brk_model.specs.Tables as tables
 use Rattle.brk_model.specs.Tables.{Tables}
-use Rattle.brk_changes.specs.Rows.{abstract_summary_row}
-use Rattle.brk_changes.specs.declared.summary_row.SummaryRow.{SummaryRow}
+use Rattle.brk_trade_rows.specs.Rows.{abstract_summary_row}
+use Rattle.brk_trade_rows.specs.declared.summary_row.SummaryRow.{SummaryRow}
 use Rattle.brk_store.specs.Valuation.{AreValuedSummariesOfAccount, market_value_of_summary}
 use Rattle.brk_store.specs.declared.valuation.ValuedSummaries.{ValuedSummaries}
 use Rattle.brk_store.proofs.Retelling.{retold}
@@ -23,7 +23,7 @@ FirstWorth account rows total i t =
 
 pub loop-row-init : goal.loop-row-init
 loop-row-init g c =
-    retold g.S.Store c.args.store.now c.holding_summaries_of_account.new.self c.in_ok-rows.rows tt
+    retold g.S.Store c.args.store.now c.summaries_of.new.self c.in_ok-rows.rows tt
     (λ all (t : Tables). map abstract_summary_row all.items ≡ filter (λ (r : tables.SummaryRow). r.account == c.args.account) t.summaries)
     (λ _. FirstWorth c.args.account c.deref-row-items.result.now c.new-total.result 0)
     (λ t e. (ap (map abstract_summary_row) c.deref-row-items.ensures.value ∙ e, c.new-total.ensures ∙ sym (total_by-none (market_value_of_summary t))))

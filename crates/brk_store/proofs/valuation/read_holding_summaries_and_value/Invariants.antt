@@ -1,7 +1,7 @@
 use Rattle.std.proofs.Common.{◌≡◌, ◌==◌, Ok, filter, map, take}
 use Rattle.brk_money.specs.declared.fault.Fault.{Fault}
 use Rattle.brk_model.specs.Lists.{total_by}
-use Rattle.brk_changes.specs.Rows.{abstract_summary_row}
+use Rattle.brk_trade_rows.specs.Rows.{abstract_summary_row}
 use Rattle.brk_store.specs.Holds.{ReadPost}
 use Rattle.brk_store.specs.Valuation.{market_value_of_summary}
 use Rattle.brk_store.proofs.valuation.read_holding_summaries_and_value.Given as goal

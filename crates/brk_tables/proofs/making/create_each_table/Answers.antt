@@ -2,9 +2,9 @@ use Rattle.std.proofs.Common.{◌≡◌, ◌∙◌, List, Ok, refl, subst, get_o
 use Rattle.std.proofs.lemmas.List.{take_all}
 use Rattle.sqlite.specs.Held.{state}
 use Rattle.brk_money.specs.declared.fault.Fault.{Fault}
-use Rattle.brk_sql.specs.Desk.{CreatesTableOfShape}
-use Rattle.brk_sql.specs.Model.{IsTransactionStep}
-use Rattle.brk_sql.proofs.Inside.{step_then}
+use Rattle.brk_tables_sql.specs.Desk.{CreatesTableOfShape}
+use Rattle.brk_tables_sql.specs.Model.{IsTransactionStep}
+use Rattle.brk_tables_sql.proofs.Inside.{step_then}
 use Rattle.brk_tables_schema.specs.Desk.{table_definition_at_tree}
 use Rattle.brk_tables_schema.specs.Texts.{abstract_table}
 use Rattle.brk_tables_schema.specs.declared.table.Table.{Table}

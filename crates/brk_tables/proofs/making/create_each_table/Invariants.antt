@@ -1,7 +1,7 @@
 use Rattle.std.proofs.Common.{◌≡◌, take, Ok}
 use Rattle.sqlite.specs.Held.{state}
 use Rattle.brk_money.specs.declared.fault.Fault.{Fault}
-use Rattle.brk_sql.specs.Model.{IsTransactionStep}
+use Rattle.brk_tables_sql.specs.Model.{IsTransactionStep}
 use Rattle.brk_tables.proofs.Running.{each}
 use Rattle.brk_tables.proofs.making.create_each_table.Given as goal
 

@@ -1,7 +1,7 @@
 use Rattle.std.proofs.Common.{[], subst}
 use Rattle.sqlite.specs.Held.{state}
-use Rattle.brk_sql.specs.Model.{ExecutesStatement}
-use Rattle.brk_sql.proofs.Inside.{step_weaker}
+use Rattle.brk_tables_sql.specs.Model.{ExecutesStatement}
+use Rattle.brk_tables_sql.proofs.Inside.{step_weaker}
 use Rattle.brk_tables_schema.specs.Texts.{abstract_table}
 use Rattle.brk_tables.proofs.Makes.{makes_of}
 use Rattle.brk_tables.proofs.making.create_empty_table.Goals as goal

@@ -1,8 +1,8 @@
 use Rattle.std.proofs.Common.{[], map}
 use Rattle.sqlite.specs.Held.{state}
-use Rattle.brk_sql.specs.Desk.{CreatesEachTable}
-use Rattle.brk_sql.specs.Model.{ExecutesStatement}
-use Rattle.brk_sql.proofs.Inside.{step_then}
+use Rattle.brk_tables_sql.specs.Desk.{CreatesEachTable}
+use Rattle.brk_tables_sql.specs.Model.{ExecutesStatement}
+use Rattle.brk_tables_sql.proofs.Inside.{step_then}
 use Rattle.brk_tables_schema.specs.Desk.{all_tables, table_definition_at_tree}
 use Rattle.brk_tables.specs.Made.{CreatesDeskTables, insert_desk_row_text}
 use Rattle.brk_tables.proofs.Founding.{founds_bare, founds_desk}

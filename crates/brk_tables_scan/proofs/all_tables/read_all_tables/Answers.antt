@@ -1,5 +1,5 @@
 use Rattle.sqlite.specs.Held.{state}
-use Rattle.brk_changes.specs.Schemas.{abstract_schema}
+use Rattle.brk_trade_rows.specs.Schemas.{abstract_schema}
 use Rattle.brk_tables_scan.proofs.AllShown.{reads_desk}
 use Rattle.brk_tables_scan.proofs.Failing.{both, fails}
 use Rattle.brk_tables_scan.proofs.all_tables.read_all_tables.Goals as goal

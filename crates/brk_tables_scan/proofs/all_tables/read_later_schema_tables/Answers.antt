@@ -1,5 +1,5 @@
 use Rattle.sqlite.specs.Held.{state}
-use Rattle.brk_changes.specs.Schemas.{abstract_schema}
+use Rattle.brk_trade_rows.specs.Schemas.{abstract_schema}
 use Rattle.brk_tables_scan.specs.Raw.{LaterSchemaRows}
 use Rattle.brk_tables_scan.proofs.Continued.{continues_then}
 use Rattle.brk_tables_scan.proofs.Failing.{both, fails, fault_handed_on, fault_of_read, of_read}

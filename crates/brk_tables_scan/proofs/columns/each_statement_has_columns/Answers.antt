@@ -2,8 +2,8 @@ use Rattle.std.proofs.Common.{◌≡◌, ◌∙◌, [], Bool, true, false, Ok, g
 use Rattle.std.specs.Prelude.{IsTrue}
 use Rattle.sqlite.specs.Held.{state}
 use Rattle.sqlite.specs.State.{State}
-use Rattle.brk_sql.specs.Desk.{IsResultColumnCheckOutcome}
-use Rattle.brk_sql.proofs.Inside.{step_then, step_read}
+use Rattle.brk_tables_sql.specs.Desk.{IsResultColumnCheckOutcome}
+use Rattle.brk_tables_sql.proofs.Inside.{step_then, step_read}
 use Rattle.brk_tables_scan.specs.Headings.{IsHeadingCheckOutcome, heading_of_borrowed_texts}
 use Rattle.brk_tables_scan.proofs.Headed.{Told, wrong_at, right_at}
 use Rattle.brk_tables_scan.proofs.columns.each_statement_has_columns.Goals as goal

@@ -1,7 +1,7 @@
 use Rattle.std.proofs.Common.{◌≡◌, true, map, take, Ok}
 use Rattle.sqlite.specs.Held.{state}
 use Rattle.brk_money.specs.declared.fault.Fault.{Fault}
-use Rattle.brk_sql.specs.Model.{IsTransactionStep}
+use Rattle.brk_tables_sql.specs.Model.{IsTransactionStep}
 use Rattle.brk_tables_scan.specs.Headings.{IsHeadingCheckOutcome, heading_of_borrowed_texts}
 use Rattle.brk_tables_scan.proofs.columns.each_statement_has_columns.Given as goal
 

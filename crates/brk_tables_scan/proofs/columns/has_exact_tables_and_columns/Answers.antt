@@ -2,8 +2,8 @@ use Rattle.std.proofs.Common.{◌≡◌, ◌∙◌, ◌↔◌, false, Bool, Ok, 
 use Rattle.std.specs.Prelude.{IsTrue}
 use Rattle.sqlite.specs.Held.{state}
 use Rattle.sqlite.specs.State.{State}
-use Rattle.brk_changes.specs.Schemas.{abstract_schema}
-use Rattle.brk_sql.proofs.Inside.{step_then, step_read}
+use Rattle.brk_trade_rows.specs.Schemas.{abstract_schema}
+use Rattle.brk_tables_sql.proofs.Inside.{step_then, step_read}
 use Rattle.brk_tables_schema.specs.Desk.{tables_in_schema}
 use Rattle.brk_tables_scan.specs.Present.{has_exact_table_names}
 use Rattle.brk_tables_scan.specs.Headings.{IsHeadingCheckOutcome, heading_of_table}

@@ -2,7 +2,7 @@ use Rattle.std.proofs.Common.{◌≡◌, true, take, Ok}
 use Rattle.std.specs.List.{list_all}
 use Rattle.sqlite.specs.Held.{state}
 use Rattle.brk_money.specs.declared.fault.Fault.{Fault}
-use Rattle.brk_sql.specs.Model.{IsTransactionStep}
+use Rattle.brk_tables_sql.specs.Model.{IsTransactionStep}
 use Rattle.brk_tables_scan.specs.Present.{has_table_named}
 use Rattle.brk_tables_schema.specs.Texts.{abstract_table}
 use Rattle.brk_tables_scan.proofs.presence.has_each_of_tables.Given as goal

@@ -2,8 +2,8 @@ use Rattle.std.proofs.Common.{◌≡◌, ◌∙◌, Bool, ap}
 use Rattle.std.specs.Prelude.{IsTrue}
 use Rattle.sqlite.specs.Held.{state}
 use Rattle.sqlite.specs.State.{State}
-use Rattle.brk_changes.specs.Schemas.{abstract_schema}
-use Rattle.brk_sql.proofs.Inside.{step_then}
+use Rattle.brk_trade_rows.specs.Schemas.{abstract_schema}
+use Rattle.brk_tables_sql.proofs.Inside.{step_then}
 use Rattle.brk_tables_schema.specs.Desk.{TheDesk}
 use Rattle.brk_tables_scan.specs.Present.{has_exact_table_names, has_table_named}
 use Rattle.brk_tables_scan.proofs.presence.has_exact_tables_by_name.Goals as goal

@@ -1,7 +1,7 @@
 use Rattle.std.proofs.Common.{subst}
 use Rattle.sqlite.specs.Held.{state}
-use Rattle.brk_sql.specs.Desk.{IsCompilationOutcome}
-use Rattle.brk_sql.proofs.Inside.{step_weaker}
+use Rattle.brk_tables_sql.specs.Desk.{IsCompilationOutcome}
+use Rattle.brk_tables_sql.proofs.Inside.{step_weaker}
 use Rattle.brk_tables_schema.specs.Texts.{abstract_table}
 use Rattle.brk_tables_scan.proofs.Probing.{probed_of}
 use Rattle.brk_tables_scan.proofs.presence.table_exists.Goals as goal

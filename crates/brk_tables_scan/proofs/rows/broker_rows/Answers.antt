@@ -1,5 +1,5 @@
 use Rattle.sqlite.specs.Held.{state}
-use Rattle.brk_sql.proofs.Inside.{step_weaker}
+use Rattle.brk_tables_sql.proofs.Inside.{step_weaker}
 use Rattle.brk_tables_scan.proofs.AllBrokers.{plain}
 use Rattle.brk_tables_scan.proofs.Shown.{broker_shown}
 use Rattle.brk_tables_scan.proofs.rows.broker_rows.Goals as goal

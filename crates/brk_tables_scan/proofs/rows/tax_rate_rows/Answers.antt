@@ -1,5 +1,5 @@
 use Rattle.sqlite.specs.Held.{state}
-use Rattle.brk_sql.proofs.Inside.{step_weaker}
+use Rattle.brk_tables_sql.proofs.Inside.{step_weaker}
 use Rattle.brk_tables_scan.proofs.AllTaxRates.{plain}
 use Rattle.brk_tables_scan.proofs.Shown.{tax_rate_shown}
 use Rattle.brk_tables_scan.proofs.rows.tax_rate_rows.Goals as goal

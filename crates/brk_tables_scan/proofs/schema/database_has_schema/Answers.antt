@@ -3,8 +3,8 @@ use Rattle.std.specs.Prelude.{IsTrue}
 use Rattle.sqlite_value.specs.Order.{Row}
 use Rattle.sqlite.specs.Held.{state}
 use Rattle.sqlite.specs.State.{State}
-use Rattle.brk_changes.specs.Schemas.{abstract_schema}
-use Rattle.brk_sql.proofs.Inside.{step_then, step_read}
+use Rattle.brk_trade_rows.specs.Schemas.{abstract_schema}
+use Rattle.brk_tables_sql.proofs.Inside.{step_then, step_read}
 use Rattle.brk_tables_schema.specs.Desk.{TheDesk}
 use Rattle.brk_tables_scan.specs.Schemas.{DatabaseHasSchema, HasTablesOfSchema, LacksTablesOfLaterSchemas, IsOneDeskRowOfSchema}
 use Rattle.brk_tables_scan.specs.Whole.{ShowsAllRows}

@@ -1,7 +1,7 @@
 use Rattle.std.proofs.Common.{◌≡◌, Some, None, Ok, inl, inr, subst}
 use Rattle.sqlite.specs.Held.{state}
-use Rattle.brk_changes.specs.Schemas.{abstract_schema}
-use Rattle.brk_sql.proofs.Inside.{step_read}
+use Rattle.brk_trade_rows.specs.Schemas.{abstract_schema}
+use Rattle.brk_tables_sql.proofs.Inside.{step_read}
 use Rattle.brk_tables_scan.specs.Decoded.{ReadsAndDecodesDeskTables}
 use Rattle.brk_tables_scan.specs.KeptKeys.{tables_with_whole_kept_rows}
 use Rattle.brk_tables_scan.specs.Whole.{AreSheetsOfDatabase}

@@ -3,7 +3,7 @@ use Rattle.std.proofs.Common.{Err}
 use Rattle.brk_money.specs.declared.fault.Fault.{Fault}
 use Rattle.brk_money.specs.declared.fault.Fault.TheVariants.{Store}
 use Rattle.sqlite.specs.Values.{bound}
-use Rattle.brk_sql.proofs.Inside.{step_ok, step_err}
+use Rattle.brk_tables_sql.proofs.Inside.{step_ok, step_err}
 use Rattle.brk_tables_schema.proofs.calls.execute_statement.Goals as goal
 
 pub returns-in-Ok-clause-step : goal.returns-in-Ok-clause-step

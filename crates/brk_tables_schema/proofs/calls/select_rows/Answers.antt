@@ -1,7 +1,7 @@
 use Rattle.std.proofs.Common.{refl}
 use Rattle.sqlite.specs.Held.{state}
 use Rattle.sqlite.specs.Values.{bound}
-use Rattle.brk_sql.proofs.Inside.{look_ok, look_err}
+use Rattle.brk_tables_sql.proofs.Inside.{look_ok, look_err}
 use Rattle.brk_tables_schema.proofs.calls.select_rows.Goals as goal
 
 pub returns-in-Ok-clause-step : goal.returns-in-Ok-clause-step

@@ -2,8 +2,8 @@ use Rattle.std.proofs.Common.{ℕ, List, [], ◌∷◌, Option, None, ap}
 use Rattle.sqlite.specs.Held.{state}
 use Rattle.brk_model.specs.Schemas.{third_schema}
 use Rattle.brk_model.specs.Tables.{Tables}
-use Rattle.brk_sql.proofs.Answer.{look_all}
-use Rattle.brk_sql.proofs.Inside.{step_weaker}
+use Rattle.brk_tables_sql.proofs.Answer.{look_all}
+use Rattle.brk_tables_sql.proofs.Inside.{step_weaker}
 use Rattle.brk_tables_schema.specs.Cells.{DeskRow, desk_row_cells}
 use Rattle.brk_tables_schema.specs.Desk.{desk_tables, desk_rows}
 use Rattle.brk_tables_schema.proofs.Back.{desk_back, desk_is_back}

@@ -1,5 +1,5 @@
 use Rattle.sqlite.specs.Held.{state}
-use Rattle.brk_sql.proofs.Inside.{step_weaker}
+use Rattle.brk_tables_sql.proofs.Inside.{step_weaker}
 use Rattle.brk_tables_schema.proofs.Steps.{sets_last}
 use Rattle.brk_tables_schema.proofs.desk_row.set_last_stamp.Goals as goal
 

@@ -1,6 +1,6 @@
 use Rattle.sqlite.specs.Held.{state}
 use Rattle.brk_ref.specs.Records.{abstract_kept_row}
-use Rattle.brk_sql.proofs.Inside.{step_weaker}
+use Rattle.brk_tables_sql.proofs.Inside.{step_weaker}
 use Rattle.brk_tables_schema.proofs.Keeping.{adds_kept}
 use Rattle.brk_tables_schema.proofs.kept.add_kept_row.Goals as goal
 

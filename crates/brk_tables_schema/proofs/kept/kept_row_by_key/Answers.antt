@@ -5,7 +5,7 @@ use Rattle.sqlite_keyed.proofs.ListLemmas.{slice_get-filter}
 use Rattle.sqlite.specs.Held.{state}
 use Rattle.brk_ref.specs.Records.{abstract_kept_row}
 use Rattle.brk_model.specs.Records.{Kept}
-use Rattle.brk_sql.proofs.Answer.{look_first}
+use Rattle.brk_tables_sql.proofs.Answer.{look_first}
 use Rattle.brk_tables_schema.specs.Cells.{kept_cells}
 use Rattle.brk_tables_schema.specs.Desk.{desk_tables}
 use Rattle.brk_tables_schema.proofs.Back.{kept_back, kept_is_back}
@@ -22,10 +22,10 @@ returns-clause-step g c =
     let old = state g.S.Store c.args.tx.now.conn.now in
     let new = state g.S.Store c.select_rows.new.tx.conn.now in
     look_first desk_tables kept_cells kept_back kept_is_back abstract_kept_row KeptByKey.statement
-    (Text c.args.key.now.batch ∷ Int (pos c.args.key.now.row) ∷ []) old new c.in_ok-rows.rows (λ rows. rows.items) _ c.deref.ensures.value
+    (Text c.args.key.now.batch ∷ Int (pos c.args.key.now.n) ∷ []) old new c.in_ok-rows.rows (λ rows. rows.items) _ c.deref.ensures.value
     (rw (c.text_as_parameter.ensures, c.as_str.ensures, c.row_number_as_parameter.ensures) at c.in_ok-rows.ensures.step)
     c.decode_first_row.result c.decode_first_row.ensures.value
-    (λ t. filter (λ (k : Kept). bytes_eq k.key.batch c.args.key.now.batch && (k.key.row == c.args.key.now.row)) t.kept)
-    (λ t. find (λ (k : Kept). bytes_eq k.key.batch c.args.key.now.batch && (k.key.row == c.args.key.now.row)) t.kept)
-    (λ t. slice_get-filter (λ (k : Kept). bytes_eq k.key.batch c.args.key.now.batch && (k.key.row == c.args.key.now.row)) t.kept)
-    (tells_kept old new c.args.key.now.batch c.args.key.now.row _)
+    (λ t. filter (λ (k : Kept). bytes_eq k.key.batch c.args.key.now.batch && (k.key.n == c.args.key.now.n)) t.kept)
+    (λ t. find (λ (k : Kept). bytes_eq k.key.batch c.args.key.now.batch && (k.key.n == c.args.key.now.n)) t.kept)
+    (λ t. slice_get-filter (λ (k : Kept). bytes_eq k.key.batch c.args.key.now.batch && (k.key.n == c.args.key.now.n)) t.kept)
+    (tells_kept old new c.args.key.now.batch c.args.key.now.n _)

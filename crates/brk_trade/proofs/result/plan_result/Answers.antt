@@ -9,8 +9,8 @@ use Rattle.brk_money.specs.Moments.{stamp_after}
 use Rattle.brk_trade.specs.Outcomes.{deal_of_trade_row, checks_before_reading_lots, checks_after_reading_lots, result_checks}
 use Rattle.brk_trade.specs.Results.{AreResultChanges, AreLotsBeforeTrade, IsResultPlan, stamp_or_clock_reading}
 use Rattle.brk_trade.specs.declared.outcome.ResultFigures.{ResultFigures}
-use Rattle.brk_plans.specs.declared.plan.Plan.{Plan}
-use Rattle.brk_plans.specs.declared.reply.Reply.TheVariants.{Completed}
+use Rattle.brk_trade_plans.specs.declared.plan.Plan.{Plan}
+use Rattle.brk_trade_plans.specs.declared.reply.Reply.TheVariants.{Completed}
 use Rattle.brk_trade.proofs.Results.{first_after, first_refuses, refused_by_values}
 use Rattle.brk_trade.proofs.result.plan_result.Goals as goal
 use Rattle.brk_trade.proofs.result.plan_result.Goals.{in-Some-moved, in-None}

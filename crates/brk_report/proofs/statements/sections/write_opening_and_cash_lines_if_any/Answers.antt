@@ -1,7 +1,7 @@
 use Rattle.std.proofs.Common.{◌∙◌, ℕ, ℤ, Err, Ok, arith, rules, sym, subst}
 use Rattle.sqlite.specs.Held.{state}
 use Rattle.sqlite.specs.State.{HasCleanDisk}
-use Rattle.brk_changes.specs.Rows.{abstract_move_row}
+use Rattle.brk_trade_rows.specs.Rows.{abstract_move_row}
 use Rattle.brk_model.specs.Tables.{Tables}
 use Rattle.brk_io.specs.declared.report_fault.LinesFault.{LinesFault}
 use Rattle.brk_store.specs.Holds.{HoldsRows}

@@ -1,5 +1,5 @@
 use Rattle.std.proofs.Common.{[], ◌∷◌}
-use Rattle.brk_changes.specs.Rows.{abstract_move_row}
+use Rattle.brk_trade_rows.specs.Rows.{abstract_move_row}
 use Rattle.brk_model.specs.Statement.{cash_row_line}
 use Rattle.brk_report.specs.CashWalk.{opening_line_unless_written}
 use Rattle.brk_report_lines.proofs.Composed.{breaks_before}

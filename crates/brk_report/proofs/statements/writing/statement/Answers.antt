@@ -3,7 +3,7 @@ use Rattle.std.specs.Prelude.{nat_lt}
 use Rattle.std.proofs.lemmas.Bool.{lt-ltb}
 use Rattle.std.proofs.lemmas.Bool.Decides.{nat_tests}
 use Rattle.std.proofs.lemmas.Int.{ints}
-use Rattle.brk_queries.specs.Heads.{IsStatementHeadOfAccount}
+use Rattle.brk_desk_queries.specs.Heads.{IsStatementHeadOfAccount}
 use Rattle.brk_report.proofs.Keeping.{clean_then, keeps_read, keeps_still, keeps_then}
 use Rattle.brk_report.specs.StatementOutput.{WritesStatement}
 use Rattle.brk_report.proofs.Reported.{FailsAsLines, no_refusal, reported, reported_fault}

@@ -1,8 +1,8 @@
 use Rattle.std.proofs.Common.{◌≡◌, ◌+◌, ◌∙◌, [], drop, length, nat_lt, map, slice_get, rules, ap}
 use Rattle.std.specs.Prelude.{option_map}
 use Rattle.std.proofs.lemmas.List.{drop_all}
-use Rattle.brk_book_theorems.specs.OrderReads.{lot_of_typed_row}
-use Rattle.brk_book_theorems.specs.TradeReads.{lot_of_row}
+use Rattle.brk_trade_books.specs.OrderReads.{lot_of_typed_row}
+use Rattle.brk_trade_books.specs.TradeReads.{lot_of_row}
 use Rattle.brk_store.specs.Pages.{remaining_lots, lot_rows_in_closing_order}
 use Rattle.brk_store.proofs.Turning.{turned}
 use Rattle.brk_store.proofs.pages.Pages+S+Page.read_first_lot_of_next_page.Goals as goal

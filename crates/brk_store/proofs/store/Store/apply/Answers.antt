@@ -1,4 +1,4 @@
-use Rattle.brk_changes.specs.Changes.{tables_after_changes}
+use Rattle.brk_trade_rows.specs.Changes.{tables_after_changes}
 use Rattle.brk_store.proofs.KeptIndex.{index_after_changes}
 use Rattle.brk_store.proofs.store.Store.apply.Goals as goal
 

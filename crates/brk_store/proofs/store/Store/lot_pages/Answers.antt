@@ -1,6 +1,6 @@
 use Rattle.std.proofs.Common.{◌≡◌, ◌∙◌, [], ap, false, rules, sym}
-use Rattle.brk_tables.specs.Pages.{position_lots_by_age}
-use Rattle.brk_book_theorems.specs.TradeReads.{lot_of_row}
+use Rattle.brk_tables_trading.specs.Pages.{position_lots_by_age}
+use Rattle.brk_trade_books.specs.TradeReads.{lot_of_row}
 use Rattle.brk_store.specs.Pages.{remaining_lots, lot_rows_in_closing_order}
 use Rattle.brk_store.proofs.Turning.{map_end}
 use Rattle.brk_store.proofs.store.Store.lot_pages.Goals as goal

@@ -1,7 +1,7 @@
 use Rattle.std.proofs.Common.{◌≡◌, ◌∙◌, ◌+◌, ℕ, Option, ap, option_map, refl, reverse, rules, slice_get, unwrap_or}
 use Rattle.brk_model.specs.Tables.{MoveRow, Tables}
-use Rattle.brk_book_theorems.specs.TradeReads.{last_cash_row_number_or_zero}
-use Rattle.brk_changes.specs.Rows.{abstract_move_row}
+use Rattle.brk_trade_books.specs.TradeReads.{last_cash_row_number_or_zero}
+use Rattle.brk_trade_rows.specs.Rows.{abstract_move_row}
 use Rattle.brk_store.proofs.Retelling.{retold}
 use Rattle.brk_store.proofs.store.Store.next_cash_row_number.Goals as goal
 use Rattle.brk_store.proofs.store.Store.next_cash_row_number.Goals.{in-Some, in-None}

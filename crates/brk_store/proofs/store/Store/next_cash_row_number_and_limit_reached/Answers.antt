@@ -2,7 +2,7 @@ use Rattle.std.proofs.Common.{◌≡◌, ◌+◌, ◌<◌, ℕ, Bool, false, fil
 use Rattle.sqlite.specs.Held.{state}
 use Rattle.brk_model.specs.Limits.{greatest_id}
 use Rattle.brk_model.specs.Tables.{MoveRow, Tables}
-use Rattle.brk_book_theorems.specs.TradeReads.{last_cash_row_number_or_zero}
+use Rattle.brk_trade_books.specs.TradeReads.{last_cash_row_number_or_zero}
 use Rattle.brk_store.proofs.Counting.{too_few}
 use Rattle.brk_store.proofs.Retelling.{retold_of}
 use Rattle.brk_store.proofs.Sequences.{read_with}

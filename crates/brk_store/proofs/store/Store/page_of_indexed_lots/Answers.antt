@@ -1,11 +1,11 @@
 use Rattle.std.proofs.Common.{◌≡◌, map, subst}
 use Rattle.std.specs.Option.{option_copied}
 use Rattle.std.specs.Global.{Vec}
-use Rattle.brk_changes.specs.Rows.{abstract_holding_row}
-use Rattle.brk_changes.specs.declared.holding_row.HoldingRow as row
-use Rattle.brk_lot_index.specs.Ages.{ages_in}
+use Rattle.brk_trade_rows.specs.Rows.{abstract_holding_row}
+use Rattle.brk_trade_rows.specs.declared.holding_row.HoldingRow as row
+use Rattle.brk_store_lots.specs.Ages.{ages_in}
 use Rattle.brk_model.specs.Tables.{Tables}
-use Rattle.brk_tables.specs.Pages.{page_after_skipped}
+use Rattle.brk_tables_trading.specs.Pages.{page_after_skipped}
 use Rattle.brk_store.specs.Holds.{ReadPost}
 use Rattle.brk_store.specs.Indexed.{HasRowOfEachAge}
 use Rattle.brk_store.specs.Pages.{lot_rows_in_closing_order}

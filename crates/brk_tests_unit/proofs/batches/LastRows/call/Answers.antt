@@ -1,7 +1,7 @@
 use Rattle.std.proofs.Common.{◌≡◌, ℕ, Bool, true, false, rules, refl, ap, of_z, to_z, w64}
 use Rattle.std.specs.Prelude.{nat_abs}
 use Rattle.brk_model.specs.Commands.{Answer, Booked, Done}
-use Rattle.brk_batch_engine.specs.Answers.{RepresentsDurably}
+use Rattle.brk_import_engine.specs.Answers.{RepresentsDurably}
 use Rattle.brk_tests_unit.specs.declared.batches.Last.{Last}
 use Rattle.brk_tests_unit.proofs.batches.LastRows.call.Goals as goal
 

@@ -1,0 +1,59 @@
+ghost use Rattle.std.specs.Prelude.{◌≡◌, IfOk};
+ghost use Rattle.brk_ask.specs.Printed.{field_names_of_view, field_name_records};
+ghost use Rattle.brk_ref.specs.Fields.{texts_of_fields};
+ghost use Rattle.brk_view_rows.specs.Queries.{abstract_query};
+ghost use Rattle.brk_view_rows.specs.Views.{texts_of_record, texts_of_records};
+
+use brk_desk::Query;
+use std::alloc::{AllocError, Global};
+
+// Returns the names of the fields of a query's view, in order, if the view is `customer`, `taxid`,
+// `submitted`, `estimate` or `volume`, and otherwise an empty list: the records of the other views
+// have different fields.
+fn view_field_names(query: &Query) -> &'static [&'static str]
+    ensures { texts_of_fields result.now ≡ field_names_of_view (abstract_query query.now) }
+{
+    match query {
+        Query::Position(_) | Query::PositionOfTaxId(_) => &["account", "balance", "holdings"],
+        Query::Submitted => &["trade", "type", "symbol", "quantity", "price"],
+        Query::Estimate(_) => &[
+            "price",
+            "bought",
+            "sold",
+            "tax",
+            "commission",
+            "charge",
+            "assets",
+        ],
+        Query::Volume {
+            sector: _,
+            names: _,
+        } => &["broker", "id", "volume"],
+        _ => &[],
+    }
+}
+
+// Returns owned copies of the names, in order. Fails only if memory runs out.
+fn copy_names(alloc: Global, names: &[&str]) -> Result<Vec<String>, AllocError>
+    ensures { IfOk result (λ owned. texts_of_record owned ≡ texts_of_fields names.now) }
+{
+    let mut owned = Vec::new(alloc);
+    for name in names {
+        owned.push(String::from_str(alloc, name)?)?;
+    }
+    Ok(owned)
+}
+
+/// Returns a list with one record, whose fields are the names of the fields of a query's view, if
+/// the view is `customer`, `taxid`, `submitted`, `estimate` or `volume`; otherwise, as the records
+/// of the other views have different fields, an empty list. Fails only if memory runs out.
+pub fn header_records(alloc: Global, query: &Query) -> Result<Vec<Vec<String>>, AllocError>
+    ensures { IfOk result (λ heads. texts_of_records heads ≡ field_name_records (abstract_query query.now)) }
+{
+    let mut heads = Vec::new(alloc);
+    let names = view_field_names(query);
+    if !names.is_empty() {
+        heads.push(copy_names(alloc, names)?)?;
+    }
+    Ok(heads)
+}

@@ -1,5 +1,0 @@
-use Rattle.brk_book_theorems.proofs.Steps.{empty_books}
-use Rattle.brk_book_theorems.proofs.books.empty_base_satisfies_books_invariant.Goals as goal
-
-pub returns : goal.returns
-returns c = empty_books

@@ -1,5 +1,0 @@
-use Rattle.brk_book_theorems.proofs.TradeKeepers.{books_feed}
-use Rattle.brk_book_theorems.proofs.books.feeds_preserve_books_invariant.Goals as goal
-
-pub returns : goal.returns
-returns c = books_feed

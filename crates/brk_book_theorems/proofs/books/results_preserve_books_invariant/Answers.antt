@@ -1,5 +1,0 @@
-use Rattle.brk_book_theorems.proofs.ResultKeeping.{books_result}
-use Rattle.brk_book_theorems.proofs.books.results_preserve_books_invariant.Goals as goal
-
-pub returns : goal.returns
-returns c = books_result

@@ -1,5 +1,0 @@
-use Rattle.brk_book_theorems.proofs.Keepers.{books_kept}
-use Rattle.brk_book_theorems.proofs.books.stored_replies_preserve_books_invariant.Goals as goal
-
-pub returns : goal.returns
-returns c = books_kept

@@ -1,5 +1,0 @@
-use Rattle.brk_book_theorems.proofs.Steps.{empty_rows}
-use Rattle.brk_book_theorems.proofs.changes.empty_base_has_no_rows.Goals as goal
-
-pub returns : goal.returns
-returns c = empty_rows

@@ -1,5 +1,0 @@
-use Rattle.brk_book_theorems.proofs.Movements.{step_deposit, step_withdrawal}
-use Rattle.brk_book_theorems.proofs.changes.movements_change_only_their_rows.Goals as goal
-
-pub returns : goal.returns
-returns c = record { deposit = step_deposit; withdrawal = step_withdrawal }

@@ -1,5 +1,0 @@
-use Rattle.brk_book_theorems.proofs.Keeping.{kept_rows}
-use Rattle.brk_book_theorems.proofs.changes.stored_replies_add_only_one_row.Goals as goal
-
-pub returns : goal.returns
-returns c = kept_rows

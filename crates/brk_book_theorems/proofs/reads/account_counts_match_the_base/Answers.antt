@@ -1,5 +1,0 @@
-use Rattle.brk_book_theorems.proofs.Reading.{reads_count}
-use Rattle.brk_book_theorems.proofs.reads.account_counts_match_the_base.Goals as goal
-
-pub returns : goal.returns
-returns c = reads_count

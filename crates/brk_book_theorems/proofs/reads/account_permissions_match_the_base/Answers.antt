@@ -1,5 +1,0 @@
-use Rattle.brk_book_theorems.proofs.TradeReading.{reads_permitted}
-use Rattle.brk_book_theorems.proofs.reads.account_permissions_match_the_base.Goals as goal
-
-pub returns : goal.returns
-returns c = reads_permitted

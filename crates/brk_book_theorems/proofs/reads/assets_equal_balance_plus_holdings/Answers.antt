@@ -1,5 +1,0 @@
-use Rattle.brk_book_theorems.proofs.Worth.{reads_assets}
-use Rattle.brk_book_theorems.proofs.reads.assets_equal_balance_plus_holdings.Goals as goal
-
-pub returns : goal.returns
-returns c = reads_assets

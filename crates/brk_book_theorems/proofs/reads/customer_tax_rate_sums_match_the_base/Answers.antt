@@ -1,5 +1,0 @@
-use Rattle.brk_book_theorems.proofs.TermReading.{reads_rates}
-use Rattle.brk_book_theorems.proofs.reads.customer_tax_rate_sums_match_the_base.Goals as goal
-
-pub returns : goal.returns
-returns c = reads_rates

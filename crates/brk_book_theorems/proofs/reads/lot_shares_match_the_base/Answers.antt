@@ -1,5 +1,0 @@
-use Rattle.brk_book_theorems.proofs.LotReading.{reads_lots}
-use Rattle.brk_book_theorems.proofs.reads.lot_shares_match_the_base.Goals as goal
-
-pub returns : goal.returns
-returns c = reads_lots

@@ -1,5 +1,0 @@
-use Rattle.brk_book_theorems.proofs.Permitting.{reads_named}
-use Rattle.brk_book_theorems.proofs.reads.permission_by_tax_id_matches_the_base.Goals as goal
-
-pub returns : goal.returns
-returns c = reads_named

@@ -1,5 +1,0 @@
-use Rattle.brk_book_theorems.proofs.TradeReading.{reads_number}
-use Rattle.brk_book_theorems.proofs.reads.trade_id_in_last_row_is_trade_count.Goals as goal
-
-pub returns : goal.returns
-returns c = reads_number

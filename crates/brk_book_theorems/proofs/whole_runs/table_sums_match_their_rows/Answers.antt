@@ -1,9 +1,0 @@
-use Rattle.brk_book_theorems.proofs.AddingUp.{sums_add_up}
-use Rattle.brk_book_theorems.proofs.RunKeeping.{run_books}
-use Rattle.brk_book_theorems.proofs.whole_runs.table_sums_match_their_rows.Goals as goal
-
-pub returns : goal.returns
-returns c = record {
-  base = sums_add_up;
-  run = λ base after calls outcomes books r. sums_add_up after (run_books base calls outcomes after books r);
-}

@@ -1,4 +1,0 @@
-use Rattle.brk_changes.proofs.trade_count.TradeCount.get.Goals as goal
-
-pub returns-clause-value : goal.returns-clause-value
-returns-clause-value c = c.self.view_is

@@ -1,0 +1,35 @@
+ghost use Rattle.std.specs.Prelude.{◌≡◌, OnErr, OnOk};
+ghost use Rattle.std.specs.Io.KnownBytes.{Appends};
+ghost use Rattle.brk_cli_exit.specs.Lines as spec;
+ghost use Rattle.brk_cli_exit.specs.Sinks.{SinkFailsWithinText};
+
+use crate::sink::Sink;
+use brk_io::NotWritten;
+use brk_money::Fault;
+
+/// An error line in two parts, without its line feed: the program's name with the subject, and the
+/// cause.
+pub type ErrorLineParts<'a> = (&'a str, &'a str);
+
+/// Returns the error line of a fault of a desk, in two parts: `brk: fault: ` and `memory` or
+/// `store`, or `brk: damaged: ` and the word for the condition that fails.
+pub fn fault_error_line(fault: Fault) -> ErrorLineParts<'static>
+    ensures { spec.bytes_of_error_line result ≡ spec.error_line_of_fault fault }
+{
+    match fault {
+        Fault::Memory => ("brk: fault: ", "memory"),
+        Fault::Store => ("brk: fault: ", "store"),
+        Fault::Damaged(condition) => ("brk: damaged: ", condition.output_word()),
+    }
+}
+
+/// Sends an error line to a sink: its two parts and a line feed. Fails only if the sink fails,
+/// which has then received a prefix of these bytes, perhaps all of them.
+pub fn send_line<S: Sink>(sink: &mut S, line: ErrorLineParts<'_>) -> Result<(), NotWritten>
+    ensures ok { OnOk result (Appends (S.contents sink.old) (S.contents sink.new) (spec.bytes_of_error_line line.entry)) }
+    ensures err { OnErr result (SinkFailsWithinText S.contents S.fails sink.old sink.new (spec.bytes_of_error_line line.entry)) }
+{
+    sink.send(line.0.as_bytes())?;
+    sink.send(line.1.as_bytes())?;
+    sink.send(b"\n")
+}

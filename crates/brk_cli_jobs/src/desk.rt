@@ -1,0 +1,135 @@
+//! Jobs on a desk that is in memory, or in a file that is closed at the end.
+
+ghost use Rattle.brk_cli_jobs.specs.Jobs.{ExecutesJob};
+ghost use Rattle.brk_cli_jobs.specs.Places.{ExecutesJobInMemory, ExecutesJobOnOpened};
+
+use crate::pipe::PipeWriter;
+use crate::places::DeskFiles;
+use crate::{ask, batch, explain, serve, statement};
+use brk_ask::Form;
+use brk_cli_args::Job;
+use brk_cli_exit::{Ending, ending_after_close};
+use brk_desk::Desk;
+use brk_money::Fault;
+use brk_store::Store;
+use sqlite::{Alter, Connection};
+use std::io::{Read, Write};
+
+// Executes a job on an open desk, and returns its outcome: `Done`, or, by the kind of the job,
+// `Batch`, `Statement`, `ClosedPipe`, `Serve`, `Net` or `Open(Memory)` if the job is refused or ends
+// early. For an audit the function does nothing and returns `Done`: the audit passed when the desk
+// was opened.
+fn execute_job_at_desk<R: Read + Drop, W: Write, S: Alter>(
+    rt: &HostRuntime,
+    desk: &mut Desk<S>,
+    job: &Job,
+    input: R,
+    output: &mut PipeWriter<W>,
+) -> Ending
+    ensures { ExecutesJob S.Store rt.entry job.now desk.old desk.new
+        (record { input = R.remaining input; before = W.contents output.old.output; after = W.contents output.new.output }) result }
+{
+    match job {
+        Job::Batch { db: _, at } => batch::execute_batch_job(rt, *at, input, output, desk),
+        Job::Statement {
+            db: _,
+            account,
+            from,
+            to,
+        } => statement::execute_statement_job(rt.alloc(), desk, *account, *from, *to, output),
+        Job::Ask {
+            db: _,
+            json,
+            heads,
+            view,
+            arguments,
+        } => {
+            let form = Form {
+                json: *json,
+                heads: *heads,
+            };
+            ask::execute_ask_job(rt.alloc(), desk, view.as_str(), arguments, form, output)
+        }
+        Job::Explain { db: _, words } => explain::execute_explain_job(
+            rt.alloc(),
+            desk,
+            words,
+            output,
+        ),
+        Job::Audit { db: _ } => Ending::Done,
+        Job::Serve {
+            port,
+            db: _,
+            at,
+            streams,
+        } => serve::execute_serve_job(rt, *port, *at, *streams, desk),
+    }
+}
+
+// Executes a job on the desk of a store, and returns the outcome of the job
+// (`execute_job_at_desk`) and the store.
+fn execute_job_at_store<R: Read + Drop, W: Write, S: Alter>(
+    rt: &HostRuntime,
+    store: Store<S>,
+    job: &Job,
+    input: R,
+    output: &mut PipeWriter<W>,
+) -> (Ending, Store<S>)
+    ensures { ExecutesJob S.Store rt.entry job.now store result.1
+        (record { input = R.remaining input; before = W.contents output.old.output; after = W.contents output.new.output }) result.0 }
+{
+    let mut desk = Desk::new(store);
+    let ending = execute_job_at_desk(rt, &mut desk, job, input, output);
+    (ending, desk.into_store())
+}
+
+/// Executes a job on the desk in a file that was opened, closes the file and returns the outcome of
+/// the job; if it is `Done` and the file cannot be closed, `Open` with the fault of the close. If
+/// the file could not be opened, executes nothing and returns `Open` with the fault.
+pub(crate) fn execute_job_and_close_desk_file<
+    S: Alter,
+    F: DeskFiles<Desk = Store<S>>,
+    R: Read + Drop,
+    W: Write,
+>(
+    rt: &HostRuntime,
+    files: &F,
+    opened: Result<Store<S>, Fault>,
+    job: &Job,
+    input: R,
+    output: &mut PipeWriter<W>,
+) -> Ending
+    ensures { ExecutesJobOnOpened S.Store F.closes rt.entry job.now opened
+        (record { input = R.remaining input; before = W.contents output.old.output; after = W.contents output.new.output }) result }
+{
+    match opened {
+        Ok(store) => {
+            let (ending, store) = execute_job_at_store(rt, store, job, input, output);
+            ending_after_close(ending, files.close(store))
+        }
+        Err(fault) => Ending::Open(fault),
+    }
+}
+
+/// Executes a job on a new desk in memory, and returns the outcome of the job, or `Open` with the
+/// fault if the desk cannot be created.
+pub(crate) fn execute_job_on_new_desk_in_memory<R: Read + Drop, W: Write>(
+    rt: &HostRuntime,
+    job: &Job,
+    input: R,
+    output: &mut PipeWriter<W>,
+) -> Ending
+    ensures { ExecutesJobInMemory rt.entry job.now
+        (record { input = R.remaining input; before = W.contents output.old.output; after = W.contents output.new.output }) result }
+{
+    let Ok(conn) = Connection::open_in_memory(rt.alloc()) else {
+        return Ending::Open(Fault::Store);
+    };
+    match Store::create(conn) {
+        Ok(store) => {
+            let (ending, _store) = execute_job_at_store(rt, store, job, input, output);
+            ending
+        }
+        Err((_, fault)) => Ending::Open(fault),
+    }
+}

@@ -1,0 +1,151 @@
+//! A desk's database in a file.
+
+ghost use Rattle.std.specs.Prelude.{◌≡◌, Err, IfOk, MatchResult, Ok, OnErr, OnOk};
+ghost use Rattle.brk_money.specs.declared.fault.Fault.TheVariants as fault;
+ghost use Rattle.sqlite.specs.Files.{over_files};
+ghost use Rattle.brk_store.specs.Audited.{AdoptPost};
+ghost use Rattle.brk_cli_jobs.specs.Files.{HasLastCommitInFile, IsNewConnectionToFile};
+ghost use Rattle.brk_cli_jobs.specs.Opened.{RepresentsRowsOfFile};
+ghost use Rattle.brk_cli_jobs.specs.Opening.{IsAdoptionResult, OpenOrCreatePost, OpenPost};
+
+use brk_money::{Condition, Fault};
+use brk_store::Store;
+use sqlite::{Alter, Connection, File, FileStore};
+use std::alloc::Global;
+use std::fs;
+use std::io::ErrorKind;
+
+/// A desk's store in a file, which its connection locks for this program only.
+pub type FileDesk = Store<FileStore<File>>;
+
+// Closes the files of a connection. At `Ok`, under the disk assumption, the database file contains
+// the last commit even without its log, and a crash exposes only this commit. Fails with `Store`
+// only; the file handles are then dropped, and a part of the committed data may be only in the log.
+fn close_connection(conn: Connection<FileStore<File>>) -> Result<(), Fault>
+    ensures closed { OnOk result (HasLastCommitInFile conn) }
+    ensures fault { OnErr result (result ≡ Err fault.Store) }
+{
+    match conn.close_files() {
+        Ok(_) => Ok(()),
+        Err((_, store)) => {
+            drop(store.close());
+            Err(Fault::Store)
+        }
+    }
+}
+
+/// Closes the file of a desk. At `Ok`, under the disk assumption, the database file contains the
+/// last commit even without its log, and a crash exposes only this commit; before that, a part of
+/// the committed data may be only in the log beside it. Fails with `Store` only; the file handle is
+/// then dropped, and a part of the committed data may still be only in the log.
+pub fn close_desk_file(store: FileDesk) -> Result<(), Fault>
+    ensures closed { OnOk result (HasLastCommitInFile store) }
+    ensures fault { OnErr result (result ≡ Err fault.Store) }
+{
+    close_connection(store.into_conn())
+}
+
+// Opens a connection to the database file at `path`, also to a missing file, which becomes a new
+// database. Fails with `Store` only, for any error of the open.
+fn open_connection(rt: &HostRuntime, path: &str) -> Result<Connection<FileStore<File>>, Fault>
+    ensures opened { IfOk result IsNewConnectionToFile }
+    ensures fault { OnErr result (result ≡ Err fault.Store) }
+{
+    match Connection::open(rt, path) {
+        Ok(conn) => Ok(conn),
+        Err(_) => Err(Fault::Store),
+    }
+}
+
+// Audits the database of a connection by the conditions of its own schema and, if it passes,
+// returns it as a store, upgraded to schema 3. Fails with the connection and the fault: `Damaged`
+// with the first condition that fails, `Memory` or `Store`; a database that is still open is then
+// unchanged. At `Ok`, under the disk assumption and the premise of `Store::adopt`, the store, while
+// it is open, represents the base that the audited rows determine, and a crash exposes only the
+// tables of this base.
+fn adopt_connection<S: Alter>(
+    alloc: Global,
+    conn: Connection<S>,
+) -> Result<Store<S>, (Connection<S>, Fault)>
+    ensures adopted { MatchResult result (λ store. AdoptPost S.Store conn store (Ok tt)) (λ e. AdoptPost S.Store conn e.0 (Err e.1)) }
+    ensures represented { IfOk result (λ store. RepresentsRowsOfFile S.Store store) }
+{
+    Store::adopt(alloc, conn)
+}
+
+// Adopts the database of a connection as a store, upgraded to schema 3. If the adoption fails,
+// closes the file, ignores an error of the close, and fails with the fault of the adoption:
+// `Damaged` with the first condition that fails, `Memory` or `Store`. A database that was still
+// open after the adoption failed is unchanged. Under the premise of `Store::adopt`, a crash between
+// this failure and the close exposes a prior crash state or, if the rows of an older schema pass
+// their audit, the tables after the upgrade.
+fn adopt_or_close_connection(
+    rt: &HostRuntime,
+    conn: Connection<FileStore<File>>,
+) -> Result<FileDesk, Fault>
+    ensures adopted { IsAdoptionResult conn result }
+    ensures represented { IfOk result (λ store. RepresentsRowsOfFile over_files store) }
+{
+    match adopt_connection(rt.alloc(), conn) {
+        Ok(store) => Ok(store),
+        Err((conn, fault)) => {
+            let _ = close_connection(conn);
+            Err(fault)
+        }
+    }
+}
+
+/// Opens the desk in the file at `path`, and upgrades a file of an older schema. Creates a desk if
+/// the file is missing or empty or has no table of a desk. Fails with `Damaged` and the first
+/// condition that fails if the file has a table of a desk and does not pass the audit, or with
+/// `Memory` or `Store`; a new desk may then have been created.
+///
+/// A new desk is closed and opened again, so that its tables are in the file itself, and a file
+/// that then loses its log is never treated as a new one.
+///
+/// At `Ok`, under the disk assumption and the premise of `Store::adopt`, a crash exposes only the
+/// tables of the returned store while the store is open.
+pub fn open_or_create_desk_file(rt: &HostRuntime, path: &str) -> Result<FileDesk, Fault>
+    ensures opened { OpenOrCreatePost result }
+    ensures represented { IfOk result (λ store. RepresentsRowsOfFile over_files store) }
+{
+    let first = open_connection(rt, path)?;
+    match Store::create(first) {
+        Ok(store) => {
+            close_desk_file(store)?;
+            let conn = open_connection(rt, path)?;
+            adopt_or_close_connection(rt, conn)
+        }
+        Err((conn, Fault::Damaged(_))) => adopt_or_close_connection(rt, conn),
+        Err((conn, _)) => {
+            let _ = close_connection(conn);
+            Err(Fault::Store)
+        }
+    }
+}
+
+// Returns true if no file is found at the path, or if a regular file of 0 bytes is. Returns false
+// otherwise, also if the file cannot be examined for another reason than that it is not found.
+fn is_missing_or_empty(rt: &HostRuntime, path: &str) -> bool {
+    match fs::metadata(rt, path) {
+        Ok(found) => found.is_file() && found.len() == 0,
+        Err(error) => error.kind() == ErrorKind::NotFound,
+    }
+}
+
+/// Opens the desk in the file at `path`, and upgrades a file of an older schema. Creates no desk.
+/// Fails with `Damaged(Schema)` if the file is missing or empty, with `Damaged` and the first
+/// condition that fails if it does not pass the audit, or with `Memory` or `Store`.
+///
+/// At `Ok`, under the disk assumption and the premise of `Store::adopt`, a crash exposes only the
+/// tables of the returned store while the store is open.
+pub fn open_desk_file(rt: &HostRuntime, path: &str) -> Result<FileDesk, Fault>
+    ensures opened { OpenPost result }
+    ensures represented { IfOk result (λ store. RepresentsRowsOfFile over_files store) }
+{
+    if is_missing_or_empty(rt, path) {
+        return Err(Fault::Damaged(Condition::Schema));
+    }
+    let conn = open_connection(rt, path)?;
+    adopt_or_close_connection(rt, conn)
+}

@@ -1,0 +1,153 @@
+ghost use Rattle.std.specs.Prelude.{◌≡◌};
+ghost use Rattle.brk_cli_jobs.specs.BatchText.{CompletesBatchOfJob, PrintsBatchOfJob};
+ghost use Rattle.brk_cli_jobs.specs.Places.{ExecutesJobAt, PrintsOkAfterAudit, RunsJob, place_of_job, place_of_optional_path};
+ghost use Rattle.brk_cli_jobs.specs.Requested.{AnswersRequest, WritesHelpText, abstract_place};
+
+use crate::audit::write_audit_ok;
+use crate::desk::{execute_job_and_close_desk_file, execute_job_on_new_desk_in_memory};
+use crate::pipe::PipeWriter;
+use crate::places::DeskFiles;
+use brk_cli_args::{Job, UsageFault};
+use brk_cli_exit::Ending;
+use brk_io::write_all_bytes;
+use brk_store::Store;
+use sqlite::Alter;
+use std::io::{Read, Write};
+
+// Writes a help text or the version text to `output`. Returns `Usage` with the text, or, after a
+// prefix of the text, perhaps all of it, `Output` if the writer fails.
+fn write_help_or_version_text<W: Write>(text: String, output: &mut W) -> Ending
+    ensures { WritesHelpText text (W.contents output.old) (W.contents output.new) result }
+{
+    match write_all_bytes(output, text.as_bytes()) {
+        Ok(()) => Ending::Usage(UsageFault::Help(text)),
+        Err(_) => Ending::Output,
+    }
+}
+
+// The place of the database of a job's desk.
+#[derive(Clone, Copy)]
+enum Place<'a> {
+    /// In memory.
+    Memory,
+    /// In the file at a path; a desk is created if the file is missing or empty or has no table of
+    /// a desk.
+    FileOrNewFile(&'a str),
+    /// In the file at a path, which must exist.
+    ExistingFile(&'a str),
+}
+
+// Returns the place of a desk for an optional path: the file at the path (`FileOrNewFile`), or
+// memory if there is no path.
+fn desk_place_of_optional_path(db: &Option<String>) -> Place<'_>
+    ensures { abstract_place result ≡ place_of_optional_path db.now }
+{
+    match db {
+        Some(path) => Place::FileOrNewFile(path.as_str()),
+        None => Place::Memory,
+    }
+}
+
+// Returns the place of the desk of a job: for a batch and for serving, the file of the job
+// (`FileOrNewFile`), or memory without a file; for any other job, its file (`ExistingFile`).
+fn desk_place_of_job(job: &Job) -> Place<'_>
+    ensures { abstract_place result ≡ place_of_job job.now }
+{
+    match job {
+        Job::Batch { db, .. } => desk_place_of_optional_path(db),
+        Job::Serve { db, .. } => desk_place_of_optional_path(db),
+        Job::Statement { db, .. } => Place::ExistingFile(db.as_str()),
+        Job::Ask { db, .. } => Place::ExistingFile(db.as_str()),
+        Job::Explain { db, .. } => Place::ExistingFile(db.as_str()),
+        Job::Audit { db } => Place::ExistingFile(db.as_str()),
+    }
+}
+
+// Executes a job on the desk at its place: opens or creates the desk, executes the job, closes the
+// file of the desk, if it has one, and returns the outcome of the job. Returns `Open` with the
+// fault if the desk cannot be opened or created, or if the outcome is `Done` and the file cannot be
+// closed.
+fn execute_job_at_place<S: Alter, F: DeskFiles<Desk = Store<S>>, R: Read + Drop, W: Write>(
+    rt: &HostRuntime,
+    files: &F,
+    job: &Job,
+    input: R,
+    output: &mut PipeWriter<W>,
+) -> Ending
+    ensures { ExecutesJobAt S.Store F.opens_or_creates F.opens F.closes rt.entry job.now (place_of_job job.now)
+        (record { input = R.remaining input; before = W.contents output.old.output; after = W.contents output.new.output }) result }
+{
+    match desk_place_of_job(job) {
+        Place::Memory => execute_job_on_new_desk_in_memory(rt, job, input, output),
+        Place::FileOrNewFile(path) => {
+            let opened = files.open_or_create(path);
+            execute_job_and_close_desk_file(rt, files, opened, job, input, output)
+        }
+        Place::ExistingFile(path) => {
+            let opened = files.open(path);
+            execute_job_and_close_desk_file(rt, files, opened, job, input, output)
+        }
+    }
+}
+
+// Writes `ok` and a line feed after an audit that passed, and returns its outcome. After any other
+// job or outcome it writes nothing and returns `ending`.
+fn print_ok_after_audit<W: Write>(job: &Job, ending: Ending, output: &mut W) -> Ending
+    ensures { PrintsOkAfterAudit job.now ending (W.contents output.old) (W.contents output.new) result }
+{
+    match (job, ending) {
+        (Job::Audit { .. }, Ending::Done) => write_audit_ok(output),
+        (_, ending) => ending,
+    }
+}
+
+/// Opens or creates the desk of a job, executes the job, closes the file of the desk, if it has one,
+/// and returns the outcome of the job. Returns `Open` with the fault if the desk cannot be opened or
+/// created, or if the outcome is `Done` and the file cannot be closed. After an audit that passed
+/// and this close, writes `ok` and a line feed to `output`, and returns `Output` if that fails.
+pub fn execute_job<S: Alter, F: DeskFiles<Desk = Store<S>>, R: Read + Drop, W: Write>(
+    rt: &HostRuntime,
+    files: &F,
+    job: &Job,
+    input: R,
+    output: &mut PipeWriter<W>,
+) -> Ending
+    // The job was executed once, on the desk at its place.
+    ensures ran { RunsJob S.Store F.opens_or_creates F.opens F.closes rt.entry job.now
+        (record { input = R.remaining input; before = W.contents output.old.output; after = W.contents output.new.output }) result }
+    // `Done` after a batch without a file, at a fixed time, means that exactly the text of the batch
+    // on an empty brokerage was written.
+    ensures printed { PrintsBatchOfJob rt.entry job.now (R.remaining input)
+        (record { input = R.remaining input; before = W.contents output.old.output; after = W.contents output.new.output }) result }
+    // `Done` after a batch with a file, at a fixed time, means that exactly the text of the batch
+    // from any base that the file represented was written.
+    ensures completed { CompletesBatchOfJob S.Store F.opens_or_creates F.closes job.now (R.remaining input)
+        (record { input = R.remaining input; before = W.contents output.old.output; after = W.contents output.new.output }) result }
+{
+    let ending = execute_job_at_place(rt, files, job, input, output);
+    print_ok_after_audit(job, ending, output)
+}
+
+/// Executes the job `requested`, which is the result of parsing the command-line arguments
+/// (`read_words`), and returns the outcome of the job (`execute_job`). A batch is read from
+/// `input`, and the output of the job is written to `output`.
+///
+/// If the arguments request help or the version, writes its text to `output` and returns `Usage`
+/// with the text, or `Output` if the writer fails. Otherwise returns `Usage` with the fault if they
+/// are wrong, if a day is malformed, or if memory runs out before they are parsed.
+pub fn execute_requested_job<S: Alter, F: DeskFiles<Desk = Store<S>>, R: Read + Drop, W: Write>(
+    rt: &HostRuntime,
+    files: &F,
+    requested: Result<Job, UsageFault>,
+    input: R,
+    output: &mut PipeWriter<W>,
+) -> Ending
+    ensures { AnswersRequest S.Store F.opens_or_creates F.opens F.closes rt.entry requested
+        (record { input = R.remaining input; before = W.contents output.old.output; after = W.contents output.new.output }) result }
+{
+    match requested {
+        Ok(job) => execute_job(rt, files, &job, input, output),
+        Err(UsageFault::Help(text)) => write_help_or_version_text(text, output),
+        Err(fault) => Ending::Usage(fault),
+    }
+}

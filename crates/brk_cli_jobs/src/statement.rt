@@ -1,0 +1,31 @@
+ghost use Rattle.std.specs.Prelude.{None};
+ghost use Rattle.brk_cli_jobs.specs.Jobs.{WritesStatementOfAccount};
+
+use brk_cli_exit::Ending;
+use brk_desk::Desk;
+use brk_money::{Day, Id};
+use brk_report::statement;
+use sqlite::Alter;
+use std::alloc::Global;
+use std::io::Write;
+
+/// Writes the statement of an account of a desk, from the day `from` to the day `to`, both
+/// included, to `output`. Returns `Done`, or `Statement` with the refusal or the fault. After any
+/// other outcome than `Done` a prefix of the output is written, perhaps empty or all of it. If the
+/// database is still open, it is unchanged.
+pub(crate) fn execute_statement_job<S: Alter, W: Write>(
+    alloc: Global,
+    desk: &mut Desk<S>,
+    account: Id,
+    from: Day,
+    to: Day,
+    output: &mut W,
+) -> Ending
+    ensures { WritesStatementOfAccount S.Store account from to desk.old desk.new
+        (record { input = None; before = W.contents output.old; after = W.contents output.new }) result }
+{
+    match statement(alloc, desk, account, from, to, output) {
+        Ok(()) => Ending::Done,
+        Err(fault) => Ending::Statement(fault),
+    }
+}

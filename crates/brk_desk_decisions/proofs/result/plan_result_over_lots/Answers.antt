@@ -1,0 +1,11 @@
+use Rattle.std.proofs.Common.{arith}
+use Rattle.brk_desk_decisions.proofs.result.plan_result_over_lots.Goals as goal
+
+pub returns-clause-same_reference : goal.returns-clause-same_reference
+returns-clause-same_reference g c = c.plan_result.ensures.leads.0
+
+pub returns-clause-store_unchanged : goal.returns-clause-store_unchanged
+returns-clause-store_unchanged g c = c.plan_result.ensures.leads.1
+
+pub returns-clause-few_rows_read : goal.returns-clause-few_rows_read
+returns-clause-few_rows_read g c ls met = omega (arith, c.plan_result.ensures.asked ls met, c.plan_result.new.source.page.few)

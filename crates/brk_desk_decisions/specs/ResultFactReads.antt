@@ -1,0 +1,82 @@
+-- The facts in the tables that decide on a result.
+use Rattle.std.specs.Prelude.{◌≡◌, ℕ, ◌+◌, ◌==◌, List, [], find, IfSome, Option, Some, None, option_map, pos}
+use Rattle.brk_lots.specs.Lots.{list_reversed_if_lifo}
+use Rattle.brk_lots.specs.Sources.{EqualsLots}
+use Rattle.brk_lots.specs.declared.lot.Lot.{Lot}
+use Rattle.brk_model.specs.Joins.{account_row_with_id, security_row_with_symbol, trade_row_with_id}
+use Rattle.brk_model.specs.Tables.{AccountRow, SecurityRow, Tables}
+use Rattle.brk_money.specs.Spelling.{Text}
+use Rattle.brk_ref.specs.Records.{abstract_account_row, abstract_security_row}
+use Rattle.brk_ref.specs.declared.account.AccountRow as ref
+use Rattle.brk_ref.specs.declared.security.Security.{Security}
+use Rattle.brk_trade_rows.specs.Rows.{abstract_trade_row}
+use Rattle.brk_trade_rows.specs.declared.broker_totals.BrokerTotals.{BrokerTotals}
+use Rattle.brk_trade.specs.declared.result_found.ResultPlanFacts.{ResultPlanFacts}
+use Rattle.brk_trade_rows.specs.declared.trade_row.TradeRow.{TradeRow}
+use Rattle.brk_trade_books.specs.Reads.{customer_tax_rate_sum}
+use Rattle.brk_trade_theorems.specs.ResultPlans.{ResultFactsMatchTables, result_account_of_row}
+use Rattle.brk_trade_books.specs.TradeReads.{commission_band_of_quantity, last_cash_row_number_or_zero, lots_of_position}
+use Rattle.brk_desk_decisions.specs.declared.parties.PartyFacts.{PartyFacts}
+use Rattle.brk_desk_decisions.specs.declared.result_finding.SecurityFacts.{SecurityFacts}
+use Rattle.brk_desk_decisions.specs.declared.result_finding.Posting.{Posting}
+
+-- The account with the id `id` exists in the tables `t`, and its first row, in the order of the
+-- table, equals `account`.
+abbrev pub IsAccountWithId : Tables → ℕ → ref.AccountRow → Type 0
+IsAccountWithId t id account = account_row_with_id t id ≡ Some (abstract_account_row account)
+
+-- The security with the symbol `symbol` exists in the tables `t`, and its first row, in the order
+-- of the table, equals `security`.
+abbrev pub IsSecurityWithSymbol : Tables → Text → Security → Type 0
+IsSecurityWithSymbol t symbol security = security_row_with_symbol t symbol ≡ Some (abstract_security_row security)
+
+-- The totals `numbers`, a number of completed trades and a sum of commissions in cents, equal the
+-- totals in the first row, in the order of the table, of the broker with the id `id` in the tables
+-- `t`. Vacuous if this broker does not exist.
+abbrev pub AreTotalsOfBroker : Tables → ℕ → BrokerTotals → Type 0
+AreTotalsOfBroker t id numbers = IfSome (find (λ r. r.id == id) t.brokers) (λ b. (pos numbers.trades ≡ b.trades) × (numbers.commissions ≡ b.commissions))
+
+-- The facts `parties` of the account in the row `row` agree with the tables `t`: the broker, the
+-- tax status and the balance in the row, the tier of the account's customer and the sum of this
+-- customer's tax rates in hundred-thousandths, and the totals of the account's broker. The tier is
+-- specified only if the customer exists, and the totals only if the broker exists.
+pub record PartyFactsMatchTables (t : Tables) (row : AccountRow) (parties : PartyFacts) : Type 0 where
+  pub account : parties.account ≡ result_account_of_row row
+  pub tier : IfSome (find (λ r. r.id == row.customer) t.customers) (λ c. parties.tier ≡ c.tier)
+  pub rates : parties.rates ≡ customer_tax_rate_sum t row.customer
+  pub broker : AreTotalsOfBroker t row.broker parties.broker
+
+-- The facts `listed` of the trade's security, whose row is `row`, agree with the tables `t`: the
+-- name in the row, and the commission rate, in hundredths of a percent, of the first band, in the
+-- order of the table, for the trade's quantity and type, the security's exchange and the customer
+-- tier `tier`, or `None` if there is no such band.
+pub record SecurityFactsMatchTables (t : Tables) (trade : TradeRow) (tier : ℕ) (row : SecurityRow) (listed : SecurityFacts) : Type 0 where
+  pub name : listed.name ≡ row.name
+  pub rate : listed.rate ≡ option_map (λ b. b.rate) (commission_band_of_quantity t tier trade.kind row.exchange trade.qty)
+
+-- The facts `posting` for the cash row of a result agree with the tables `t`: the first day of
+-- one-day settlement, or `None` if none is set, and the number of the next cash row: one more than
+-- that of the last row of CASH_MOVE, in the order of the table, or 1 if there is no cash row.
+pub record PostingFactsMatchTables (t : Tables) (posting : Posting) : Type 0 where
+  pub rule : posting.rule ≡ t.rule
+  pub next : posting.next ≡ last_cash_row_number_or_zero t + 1
+
+-- The facts `found` for the decision on a result are for the trade `trade`, and agree with the
+-- tables `t` (`ResultFactsMatchTables`).
+pub record AreResultFactsOfTrade (t : Tables) (trade : TradeRow) (found : ResultPlanFacts) : Type 0 where
+  pub own : found.trade ≡ trade
+  pub read : ResultFactsMatchTables t found
+
+-- The facts `found` for the decision on a result are for the trade with the id `id`, and agree with
+-- the tables `t` (`ResultFactsMatchTables`). They are `None` if and only if this trade does not
+-- exist.
+pub record AreResultFactsOfTradeWithId (t : Tables) (id : ℕ) (found : Option ResultPlanFacts) : Type 0 where
+  pub trade : trade_row_with_id t id ≡ option_map (λ f. abstract_trade_row f.trade) found
+  pub read : IfSome found (λ f. AreResultFactsOfTrade t f.trade f)
+
+-- The list of lots equals the lots of the position of the trade in the facts: the oldest first, or
+-- the newest first if the trade closes the newest lots first (`is_lifo`). Without facts, because
+-- the trade does not exist, the list is empty.
+abbrev pub AreLotsOfTradedPosition : Tables → Option ResultPlanFacts → List Lot → Type 0
+AreLotsOfTradedPosition t None = EqualsLots []
+AreLotsOfTradedPosition t (Some f) = EqualsLots (list_reversed_if_lifo f.trade.is_lifo (lots_of_position t f.trade.account f.trade.symbol))

@@ -1,0 +1,98 @@
+//! Decisions on market feeds.
+
+ghost use Rattle.std.specs.Prelude.{◌≡◌, IfErr, IfSome, option_map};
+ghost use Rattle.brk_trade_theorems.specs.TradePlans.{AreQuotesOfTicks, IsQuoteOfTick};
+ghost use Rattle.brk_trade_books.specs.TradeReads.{last_trade_row_of_symbol};
+ghost use Rattle.brk_trade_theorems.specs.Decisions.{DecidesCommand};
+ghost use Rattle.brk_model.specs.Commands.{FeedTicks};
+ghost use Rattle.brk_model.specs.Run.{IsCallFault};
+ghost use Rattle.brk_ref_orders.specs.Records.{abstract_ticks};
+ghost use Rattle.brk_ref.specs.Records.{abstract_last_trade_row};
+ghost use Rattle.brk_store.specs.Holds.{ReadPost};
+ghost use Rattle.brk_trade_plans.specs.Feed.{states_of_quotes, state_of_quote};
+
+use brk_money::{Fault, Planned, Stamp, TradeType};
+use brk_ref_orders::{Feed, Tick};
+use brk_store::Store;
+use brk_trade::{
+    Plan, Quote, create_quote, first_symbol_price_span, has_no_quote_of_symbol, plan_feed,
+};
+use sqlite::Alter;
+use std::alloc::Global;
+
+// Returns the quote of a tick's symbol: its last trade, and its pending requests that a price from
+// the lowest to the highest price of `tick` and of its symbol's ticks in `ticks` can trigger,
+// sorted by trade, ascending. Returns `None` if the symbol has no last trade. If the database is
+// still open, it is unchanged. Fails with `Memory` or `Store` only.
+fn read_last_trade_and_requests_of_tick<S: Alter>(
+    alloc: Global,
+    store: &mut Store<S>,
+    tick: &Tick,
+    ticks: &[Tick],
+) -> Result<Option<Quote>, Fault>
+    ensures read { ReadPost S.Store store.old store.new result (λ quote t.
+        (option_map (λ q. abstract_last_trade_row q.last) quote ≡ last_trade_row_of_symbol t tick.now.symbol)
+        × IfSome quote (λ q. IsQuoteOfTick t tick.now ticks.now (state_of_quote q))) }
+    ensures fault { IfErr result IsCallFault }
+{
+    let Some(last) = store.last_trade(&tick.symbol)? else {
+        return Ok(None);
+    };
+    let span = first_symbol_price_span(tick, ticks);
+    let losses = store.requests_at_or_above(alloc, &tick.symbol, TradeType::StopLoss, span.lowest)?;
+    let sells = store.requests_at_or_below(
+        alloc,
+        &tick.symbol,
+        TradeType::LimitSell,
+        span.highest,
+    )?;
+    let buys = store.requests_at_or_above(alloc, &tick.symbol, TradeType::LimitBuy, span.lowest)?;
+    let quote = create_quote(last, losses, sells, buys)?;
+    Ok(Some(quote))
+}
+
+// Returns the stamp of the last accepted command, or `None` if there is none, and one quote for
+// each symbol of `ticks` that has a last trade: this trade, and the pending requests that the ticks
+// of the symbol can trigger. If the database is still open, it is unchanged. Fails with `Memory` or
+// `Store` only.
+fn read_feed_facts<S: Alter>(
+    alloc: Global,
+    store: &mut Store<S>,
+    ticks: &[Tick],
+) -> Result<(Option<Stamp>, Vec<Quote>), Fault>
+    ensures read { ReadPost S.Store store.old store.new result (λ market t. (market.0 ≡ t.last)
+        × AreQuotesOfTicks t ticks.now ticks.now (states_of_quotes market.1.items)) }
+    ensures fault { IfErr result IsCallFault }
+{
+    let last = store.last_stamp()?;
+    let mut quotes = Vec::new(alloc);
+    for tick in ticks {
+        if has_no_quote_of_symbol(&quotes, tick) {
+            if let Some(quote) = read_last_trade_and_requests_of_tick(alloc, store, tick, ticks)? {
+                quotes.push(quote)?;
+            }
+        }
+    }
+    Ok((last, quotes))
+}
+
+/// Decides on a feed of ticks at the clock reading `now`: returns its plan, or the refusal. It is
+/// the decision of the model if the tables equal those of a base that satisfies the books
+/// invariant. If the database is still open, it is unchanged. A crash after the call exposes only
+/// states that a crash before the call could expose.
+///
+/// Fails with `Memory` or `Store` only.
+pub fn decide_feed<S: Alter>(
+    alloc: Global,
+    store: &mut Store<S>,
+    now: Stamp,
+    feed: &Feed,
+) -> Planned<Plan>
+    ensures read { ReadPost S.Store store.old store.new result (DecidesCommand now (FeedTicks (abstract_ticks feed.now))) }
+    ensures fault { IfErr result IsCallFault }
+{
+    // The value is not needed: the call shows that the stamp is at most the greatest stamp.
+    let _moment = now.get();
+    let (last, quotes) = read_feed_facts(alloc, store, feed.ticks())?;
+    plan_feed(alloc, feed, quotes, last, now)
+}

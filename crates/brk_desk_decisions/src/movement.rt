@@ -1,0 +1,37 @@
+//! Decisions on deposits and withdrawals.
+
+ghost use Rattle.std.specs.Prelude.{IfErr};
+ghost use Rattle.brk_trade_theorems.specs.Decisions.{DecidesCommand};
+ghost use Rattle.brk_model.specs.Run.{IsCallFault};
+ghost use Rattle.brk_ref_orders.specs.Records.{movement_command};
+ghost use Rattle.brk_store.specs.Holds.{ReadPost};
+
+use crate::movement_finding::read_movement_facts;
+use brk_money::{Planned, Stamp};
+use brk_ref_orders::Movement;
+use brk_store::Store;
+use brk_trade::{Plan, plan_move};
+use sqlite::Alter;
+use std::alloc::Global;
+
+/// Decides on a deposit or a withdrawal at the clock reading `now`: returns its plan, or the
+/// refusal. It is the decision of the model if the tables equal those of a base that satisfies the
+/// books invariant. If the database is still open, it is unchanged. A crash after the call exposes
+/// only states that a crash before the call could expose.
+///
+/// Fails with `Memory` or `Store` only; with `Store` also if no number is left for a cash row.
+pub fn decide_movement<S: Alter>(
+    alloc: Global,
+    store: &mut Store<S>,
+    now: Stamp,
+    movement: &Movement,
+) -> Planned<Plan>
+    ensures read { ReadPost S.Store store.old store.new result (DecidesCommand now (movement_command movement.now)) }
+    ensures fault { IfErr result IsCallFault }
+{
+    // The value is not needed: the call shows that the stamp is at most the greatest stamp.
+    let _moment = now.get();
+    let last = store.last_stamp()?;
+    let found = read_movement_facts(store, movement)?;
+    plan_move(alloc, movement, &found, last, now)
+}

@@ -1,0 +1,37 @@
+//! Decisions on commands that add a reference record.
+
+ghost use Rattle.std.specs.Prelude.{IfErr};
+ghost use Rattle.brk_trade_plans.specs.Commands.{command_adding_record};
+ghost use Rattle.brk_trade_theorems.specs.Decisions.{DecidesCommand};
+ghost use Rattle.brk_model.specs.Run.{IsCallFault};
+ghost use Rattle.brk_store.specs.Holds.{ReadPost};
+
+use crate::finding::read_new_reference_facts;
+use brk_money::{Planned, Stamp};
+use brk_store::Store;
+use brk_trade::{Plan, Reference, plan_reference};
+use sqlite::Alter;
+use std::alloc::Global;
+
+/// Decides on a command that adds a reference record, such as a broker or a charge, at the clock
+/// reading `now`: returns its plan, or the refusal. It is the decision of the model if the tables
+/// equal those of a base that satisfies the books invariant. If the database is still open, it is
+/// unchanged. A crash after the call exposes only states that a crash before the call could expose.
+///
+/// Fails with `Memory` or `Store` only; with `Store` also if the record is a tax of a customer who
+/// already pays a tax that does not exist.
+pub fn decide_reference_record<S: Alter>(
+    alloc: Global,
+    store: &mut Store<S>,
+    now: Stamp,
+    reference: &Reference,
+) -> Planned<Plan>
+    ensures read { ReadPost S.Store store.old store.new result (DecidesCommand now (command_adding_record reference.now)) }
+    ensures fault { IfErr result IsCallFault }
+{
+    // The value is not needed: the call shows that the stamp is at most the greatest stamp.
+    let _moment = now.get();
+    let last = store.last_stamp()?;
+    let found = read_new_reference_facts(alloc, store, reference)?;
+    plan_reference(alloc, reference, found, last, now)
+}

@@ -1,0 +1,66 @@
+//! Decisions on text updates.
+
+ghost use Rattle.std.specs.Prelude.{IfErr};
+ghost use Rattle.brk_trade_theorems.specs.Decisions.{DecidesCommand};
+ghost use Rattle.brk_model.specs.Run.{IsCallFault};
+ghost use Rattle.brk_ref_orders.specs.Records.{text_update_command};
+ghost use Rattle.brk_store.specs.Holds.{ReadPost};
+ghost use Rattle.brk_store.specs.ReadSequences.{ReadSequencePost};
+ghost use Rattle.brk_trade_theorems.specs.Corrections.{UpdateFactsMatchTables};
+
+use crate::update_finding::{
+    read_facts_of_cash_name_update, read_facts_of_cash_type_update, read_facts_of_executor_update,
+};
+use brk_money::{Fault, Planned, Stamp};
+use brk_ref_orders::Update;
+use brk_store::Store;
+use brk_trade::{Plan, TextUpdate, plan_update};
+use sqlite::Alter;
+use std::alloc::Global;
+
+// Returns the trades that the update selects, with their texts, and, in an update of cash names,
+// the name of the security; or `None` if a trade, account or security that the update names does
+// not exist. If the database is still open, it is unchanged. Fails with `Memory` or `Store` only;
+// with `Store` also if a selected trade has no settlement, in an update of cash types, or no cash
+// row, in an update of cash names.
+fn read_facts_of_update<S: Alter>(
+    alloc: Global,
+    store: &mut Store<S>,
+    update: &Update,
+) -> Result<Option<TextUpdate>, Fault>
+    ensures read { ReadSequencePost S.Store store.old store.new result (λ found t. UpdateFactsMatchTables t update.now found) }
+    ensures fault { IfErr result IsCallFault }
+{
+    match update {
+        Update::Executors(trades) => read_facts_of_executor_update(alloc, store, trades),
+        Update::CashTypes { account, span } => read_facts_of_cash_type_update(
+            alloc, store, *account, *span,
+        ),
+        Update::CashNames { symbol, span } => read_facts_of_cash_name_update(
+            alloc, store, symbol, *span,
+        ),
+    }
+}
+
+/// Decides on a text update at the clock reading `now` (Trade-Update): returns its plan, or the
+/// refusal. It is the decision of the model if the tables equal those of a base that satisfies the
+/// books invariant. If the database is still open, it is unchanged. A crash after the call exposes
+/// only states that a crash before the call could expose.
+///
+/// Fails with `Memory` or `Store` only; with `Store` also if a selected trade has no settlement, in
+/// an update of cash types, or no cash row, in an update of cash names.
+pub fn decide_update<S: Alter>(
+    alloc: Global,
+    store: &mut Store<S>,
+    now: Stamp,
+    update: &Update,
+) -> Planned<Plan>
+    ensures read { ReadPost S.Store store.old store.new result (DecidesCommand now (text_update_command update.now)) }
+    ensures fault { IfErr result IsCallFault }
+{
+    // The value is not needed: the call shows that the stamp is at most the greatest stamp.
+    let _moment = now.get();
+    let last = store.last_stamp()?;
+    let found = read_facts_of_update(alloc, store, update)?;
+    plan_update(alloc, update, found, last, now)
+}

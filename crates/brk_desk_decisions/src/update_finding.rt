@@ -1,0 +1,158 @@
+//! Reads of the facts that decide on a text update.
+
+ghost use Rattle.std.specs.Prelude.{◌≡◌, IfErr, MatchOption, is_none, is_some, true};
+ghost use Rattle.brk_trade_rows.specs.Chosen as chosen;
+ghost use Rattle.brk_model.specs.Joins.{account_row_with_id, security_row_with_symbol};
+ghost use Rattle.brk_model.specs.Run.{IsCallFault};
+ghost use Rattle.brk_store.specs.Holds.{ReadPost};
+ghost use Rattle.brk_store.specs.ReadSequences.{ReadSequencePost};
+ghost use Rattle.brk_trade_theorems.specs.Corrections.{CashTextsMatchTables, SettlementTextsMatchTables, UpdateFactsMatchTables, SecurityHasName};
+ghost use Rattle.brk_ref_orders.specs.declared.update.Update.TheVariants as update;
+
+use crate::update_texts::{require_cash_name, require_cash_type};
+use brk_money::{Fault, Id};
+use brk_ref::{Name, Symbol};
+use brk_ref_orders::{Span, TradeIds};
+use brk_store::{Store, read_trades_by_ids};
+use brk_trade::{CashText, SettlementText, TextUpdate};
+use sqlite::Alter;
+use std::alloc::Global;
+
+// Returns the trades of an account that an update of cash types selects, each with the cash type of
+// its settlement: the first twenty, or all if there are fewer, by stamp of completion, then by id,
+// ascending, of those that were completed in the span, both ends included. If the database is still
+// open, it is unchanged. Fails with `Memory` or `Store` only; with `Store` also if one of them has
+// no settlement.
+fn read_trades_with_cash_types<S: Alter>(
+    alloc: Global,
+    store: &mut Store<S>,
+    account: Id,
+    span: Span,
+) -> Result<Vec<SettlementText>, Fault>
+    ensures read { ReadPost S.Store store.old store.new result
+        (λ settled t. SettlementTextsMatchTables t (chosen.first_twenty_completed_trade_rows_of_account account span.first span.last t) settled.items) }
+    ensures fault { IfErr result IsCallFault }
+{
+    let trades = store.first_twenty_completed_trades_of_account(alloc, account, span)?;
+    let mut settled = Vec::new(alloc);
+    for trade in &trades {
+        let cash_type = require_cash_type(store, trade.id)?;
+        settled.push(SettlementText {
+            trade: trade.id,
+            is_cash: trade.is_cash,
+            cash_type,
+        })?;
+    }
+    Ok(settled)
+}
+
+// Returns the cash trades of a symbol that an update of cash names selects, each with the name of
+// its cash row: the first twenty, or all if there are fewer, by stamp of completion, then by id,
+// ascending, of those that were completed in the span, both ends included. If the database is still
+// open, it is unchanged. Fails with `Memory` or `Store` only; with `Store` also if one of them has
+// no cash row.
+fn read_trades_with_cash_names<S: Alter>(
+    alloc: Global,
+    store: &mut Store<S>,
+    symbol: &Symbol,
+    span: Span,
+) -> Result<Vec<CashText>, Fault>
+    ensures read { ReadPost S.Store store.old store.new result
+        (λ paid t. CashTextsMatchTables t (chosen.first_twenty_completed_cash_trade_rows_of_symbol symbol.now span.first span.last t) paid.items) }
+    ensures fault { IfErr result IsCallFault }
+{
+    let trades = store.first_twenty_completed_cash_trades_of_symbol(alloc, symbol, span)?;
+    let mut paid = Vec::new(alloc);
+    for trade in &trades {
+        let name = require_cash_name(store, trade.id)?;
+        paid.push(CashText {
+            trade: trade.id,
+            kind: trade.kind,
+            qty: trade.qty,
+            name,
+        })?;
+    }
+    Ok(paid)
+}
+
+// Returns the trades with the ids `trades`, in the order of `trades`, for an update of the names of
+// their executors, or `None` if one of them does not exist. If the database is still open, it is
+// unchanged. Fails with `Memory` or `Store` only.
+pub(crate) fn read_facts_of_executor_update<S: Alter>(
+    alloc: Global,
+    store: &mut Store<S>,
+    trades: &TradeIds,
+) -> Result<Option<TextUpdate>, Fault>
+    ensures read { ReadSequencePost S.Store store.old store.new result (λ found t. UpdateFactsMatchTables t (update.Executors trades.now) found) }
+    ensures fault { IfErr result IsCallFault }
+{
+    match read_trades_by_ids(alloc, store, trades.ids())? {
+        Some(trades) => Ok(Some(TextUpdate::Executors(trades))),
+        None => Ok(None),
+    }
+}
+
+// Returns true if the account with the id `account` exists. If the database is still open, it is
+// unchanged. Fails with `Memory` or `Store` only.
+fn account_row_exists<S: Alter>(store: &mut Store<S>, account: Id) -> Result<bool, Fault>
+    ensures read { ReadPost S.Store store.old store.new result (λ there t. there ≡ is_some (account_row_with_id t account)) }
+    ensures fault { IfErr result IsCallFault }
+{
+    Ok(store.account(account)?.is_some())
+}
+
+// Returns the trades of an account that an update of cash types selects, each with the cash type of
+// its settlement (`read_trades_with_cash_types`), or `None` if the account does not exist. If the
+// database is still open, it is unchanged. Fails with `Memory` or `Store` only; with `Store` also
+// if one of the trades has no settlement.
+pub(crate) fn read_facts_of_cash_type_update<S: Alter>(
+    alloc: Global,
+    store: &mut Store<S>,
+    account: Id,
+    span: Span,
+) -> Result<Option<TextUpdate>, Fault>
+    ensures read { ReadPost S.Store store.old store.new result (λ found t. UpdateFactsMatchTables t (update.CashTypes account span) found) }
+    ensures fault { IfErr result IsCallFault }
+{
+    if !account_row_exists(store, account)? {
+        return Ok(None);
+    }
+    let settled = read_trades_with_cash_types(alloc, store, account, span)?;
+    Ok(Some(TextUpdate::CashTypes(settled)))
+}
+
+// Returns the name of the security with the symbol `symbol`, or `None` if the security does not
+// exist. If the database is still open, it is unchanged. Fails with `Memory` or `Store` only.
+fn read_security_name<S: Alter>(
+    store: &mut Store<S>,
+    symbol: &Symbol,
+) -> Result<Option<Name>, Fault>
+    ensures read { ReadPost S.Store store.old store.new result (λ name t. MatchOption name (is_none (security_row_with_symbol t symbol.now)
+        ≡ true) (SecurityHasName t symbol.now)) }
+    ensures fault { IfErr result IsCallFault }
+{
+    match store.security(symbol)? {
+        Some(security) => Ok(Some(security.name)),
+        None => Ok(None),
+    }
+}
+
+// Returns the name of the security with the symbol `symbol`, and its cash trades that an update of
+// cash names selects, each with the name of its cash row (`read_trades_with_cash_names`); or `None`
+// if the security does not exist. If the database is still open, it is unchanged. Fails with
+// `Memory` or `Store` only; with `Store` also if one of the trades has no cash row.
+pub(crate) fn read_facts_of_cash_name_update<S: Alter>(
+    alloc: Global,
+    store: &mut Store<S>,
+    symbol: &Symbol,
+    span: Span,
+) -> Result<Option<TextUpdate>, Fault>
+    ensures read { ReadPost S.Store store.old store.new result (λ found t. UpdateFactsMatchTables t (update.CashNames symbol.now span) found) }
+    ensures fault { IfErr result IsCallFault }
+{
+    let Some(name) = read_security_name(store, symbol)? else {
+        return Ok(None);
+    };
+    let paid = read_trades_with_cash_names(alloc, store, symbol, span)?;
+    Ok(Some(TextUpdate::CashNames(name, paid)))
+}

@@ -1,0 +1,42 @@
+//! Reads of the texts of a completed trade, in rows that must exist. Each fails with `Store` if its
+//! row does not exist.
+
+ghost use Rattle.std.specs.Prelude.{◌≡◌, IfErr, Some, option_map, string_bytes};
+ghost use Rattle.brk_trade_rows.specs.Rows.{cash_type_text};
+ghost use Rattle.brk_model.specs.Run.{IsCallFault};
+ghost use Rattle.brk_store.specs.Holds.{ReadPost};
+ghost use Rattle.brk_trade_theorems.specs.Corrections.{cash_row_of_trade, settlement_row_of_trade};
+
+use brk_money::{Fault, Id};
+use brk_store::Store;
+use brk_trade::CashType;
+use sqlite::Alter;
+
+// Returns the cash type of a trade's settlement (SE_CASH_TYPE). If the database is still open, it
+// is unchanged. Fails with `Memory` or `Store` only; with `Store` also if the trade has no
+// settlement.
+pub(crate) fn require_cash_type<S: Alter>(
+    store: &mut Store<S>,
+    trade: Id,
+) -> Result<CashType, Fault>
+    ensures read { ReadPost S.Store store.old store.new result (λ cash_type t. Some (cash_type_text cash_type)
+        ≡ option_map (λ s. s.cash_type) (settlement_row_of_trade t trade)) }
+    ensures fault { IfErr result IsCallFault }
+{
+    match store.settlement(trade)? {
+        Some(settlement) => Ok(settlement.cash_type),
+        None => Err(Fault::Store),
+    }
+}
+
+// Returns the name of a trade's cash row (CM_NAME). If the database is still open, it is unchanged.
+// Fails with `Memory` or `Store` only; with `Store` also if the trade has no cash row.
+pub(crate) fn require_cash_name<S: Alter>(store: &mut Store<S>, trade: Id) -> Result<String, Fault>
+    ensures read { ReadPost S.Store store.old store.new result (λ name t. Some (string_bytes name) ≡ option_map (λ c. c.name) (cash_row_of_trade t trade)) }
+    ensures fault { IfErr result IsCallFault }
+{
+    match store.cash_row(trade)? {
+        Some(cash) => Ok(cash.name),
+        None => Err(Fault::Store),
+    }
+}

@@ -1,0 +1,13 @@
+use Rattle.std.proofs.Common.{◌≡◌, ◌==◌, Some, find, option_map}
+use Rattle.brk_model.specs.Tables.{Tables}
+use Rattle.brk_ref.specs.Records.{abstract_customer}
+use Rattle.brk_store.proofs.Retelling.{retold}
+use Rattle.brk_desk_queries.proofs.parties.require_customer_with_id.Goals as goal
+
+pub returns-in-Some-clause-read : goal.returns-in-Some-clause-read
+returns-in-Some-clause-read g c =
+    retold g.S.Store c.args.store.now c.customer.new.self (Some c.in-Some.customer) c.in-Some.customer
+    (λ o (t : Tables). option_map abstract_customer o ≡ find (λ r. r.id == c.args.id) t.customers)
+    (λ customer (t : Tables). Some (abstract_customer customer) ≡ find (λ r. r.id == c.args.id) t.customers)
+    (λ t e. e)
+    (rw c.in-Some.is at c.in_ok-customer.ensures.read)

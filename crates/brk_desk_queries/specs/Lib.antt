@@ -1,0 +1,6 @@
+pub mod QueryResults
+pub mod Heads
+pub mod Parties
+pub mod LookedUp
+pub mod Touched
+pub mod Volumes

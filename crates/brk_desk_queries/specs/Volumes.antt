@@ -1,0 +1,41 @@
+-- The volumes of brokers in a sector, as they were read.
+use Rattle.std.specs.Prelude.{ℕ, ◌==◌, ◌&&◌, Bool, false, if◌then◌else◌, List, [], ◌∷◌, ◌++◌, bytes_eq, filter, length, map, nat_lt}
+use Rattle.std.specs.Option.{option_map_or}
+use Rattle.brk_trade_rows.specs.Rows.{abstract_request_row}
+use Rattle.brk_trade_rows.specs.declared.request_row.RequestRow as read
+use Rattle.brk_model.specs.Joins.{security_row_with_symbol}
+use Rattle.brk_model.specs.Tables.{BrokerRow, RequestRow, Tables}
+use Rattle.brk_model.specs.VolumeView.{sector_requests_of_broker}
+use Rattle.brk_money.specs.Spelling.{Text}
+use Rattle.brk_view_rows.specs.Volume as volume
+use Rattle.brk_view_rows.specs.declared.volumes.BrokerVolume.{BrokerVolume}
+
+-- True if the security with the symbol `symbol` exists and is in the sector `sector`.
+abbrev pub is_symbol_in_sector : Tables → Text → Text → Bool
+is_symbol_in_sector t sector symbol = option_map_or (λ s. bytes_eq s.sector sector) (security_row_with_symbol t symbol) false
+
+-- True if the request `r` is one of the broker `broker`, and its security exists and is in the
+-- sector `sector`.
+abbrev pub is_sector_request_of_broker : Tables → Text → ℕ → RequestRow → Bool
+is_sector_request_of_broker t sector broker r = (r.broker == broker) && is_symbol_in_sector t sector r.symbol
+
+-- If the request `row` is one of the broker `broker` and its security is in the sector `sector`:
+-- the list `found` with `row` added at its end. Otherwise: the list `found`.
+abbrev pub requests_with_row_if_of_broker_in_sector : Tables → Text → ℕ → read.RequestRow → List read.RequestRow → List read.RequestRow
+requests_with_row_if_of_broker_in_sector t sector broker row found =
+    if is_sector_request_of_broker t sector broker (abstract_request_row row) then found ++ row ∷ [] else found
+
+-- True if the broker `b` has at least one pending request for a security in the sector.
+abbrev pub has_requests_in_sector : Tables → Text → BrokerRow → Bool
+has_requests_in_sector t sector b = nat_lt 0 (length (sector_requests_of_broker t sector b.id))
+
+-- The brokers with the name `name` that have at least one pending request for a security in the
+-- sector, in the order of the table of brokers.
+abbrev pub brokers_of_name_in_sector : Tables → Text → Text → List BrokerRow
+brokers_of_name_in_sector t sector name = filter (has_requests_in_sector t sector) (filter (λ b. bytes_eq b.name name) t.brokers)
+
+-- The ids, the names and the volumes in the sector, in cents, of those brokers in `brokers` that
+-- have at least one pending request for a security in the sector, in the order of `brokers`. The
+-- volume of a broker is the sum of quantity times bid price over these requests.
+abbrev pub volumes_of_brokers_in_sector : Tables → Text → List BrokerRow → List BrokerVolume
+volumes_of_brokers_in_sector t sector brokers = map (volume.volume_of_broker_in_sector t sector) (filter (has_requests_in_sector t sector) brokers)

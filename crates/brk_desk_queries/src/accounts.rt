@@ -1,0 +1,102 @@
+//! The views of the balances and market values of a customer's accounts.
+
+ghost use Rattle.std.specs.Prelude.{◌≡◌, ◌==◌, IfErr, filter, map};
+ghost use Rattle.brk_desk_queries.specs.QueryResults.{AnswersQueryAsModel};
+ghost use Rattle.brk_model.specs.Queries.{PositionOf, PositionOfTaxId};
+ghost use Rattle.brk_model.specs.Run.{IsCallFault};
+ghost use Rattle.brk_ref.specs.Records.{abstract_account_row};
+ghost use Rattle.brk_store.specs.Holds.{ReadPost};
+ghost use Rattle.brk_view_rows.specs.Worths.{worth_of_account};
+
+use brk_money::{Fault, Id, Planned, Refusal};
+use brk_ref::{AccountRow, TaxId};
+use brk_store::{Store, read_holdings_value};
+use brk_view_rows::{AccountWorth, View, position};
+use sqlite::Alter;
+use std::alloc::Global;
+
+// Returns the id and the balance of the account in the row `row`, and the market value of its
+// holdings at last prices, both amounts in cents. If the database is still open, it is unchanged.
+// Fails with `Memory` or `Store` only; with `Store` also if a held symbol has no last price or the
+// sum overflows.
+fn read_balance_and_market_value<S: Alter>(
+    alloc: Global,
+    store: &mut Store<S>,
+    row: &AccountRow,
+) -> Result<AccountWorth, Fault>
+    ensures read { ReadPost S.Store store.old store.new result (λ worth t. worth ≡ worth_of_account t (abstract_account_row row.now)) }
+    ensures fault { IfErr result IsCallFault }
+{
+    let assets = read_holdings_value(alloc, store, row.account.id)?;
+    Ok(AccountWorth {
+        account: row.account.id,
+        balance: row.balance,
+        assets,
+    })
+}
+
+// Returns the ids, the balances and the market values of all accounts of the customer with the id
+// `customer`, both amounts in cents, in the order of the table of accounts. If the database is
+// still open, it is unchanged. Fails with `Memory` or `Store` only; with `Store` also if a held
+// symbol has no last price or a sum overflows.
+fn read_balances_and_market_values<S: Alter>(
+    alloc: Global,
+    store: &mut Store<S>,
+    customer: Id,
+) -> Result<Vec<AccountWorth>, Fault>
+    ensures read { ReadPost S.Store store.old store.new result (λ worths t. worths.items
+        ≡ map (worth_of_account t) (filter (λ a. a.customer == customer) t.accounts)) }
+    ensures fault { IfErr result IsCallFault }
+{
+    let mut worths = Vec::new(alloc);
+    let rows = store.accounts_of_customer(alloc, customer)?;
+    for row in &rows {
+        let worth = read_balance_and_market_value(alloc, store, row)?;
+        worths.push(worth)?;
+    }
+    Ok(worths)
+}
+
+/// Returns the view of the balances and the market values of the accounts of the customer with the
+/// id `customer`, sorted by market value, then by id, ascending. Refuses with `NoCustomer` if there
+/// is no such customer. The result equals that of the model if the tables equal those of a base
+/// that satisfies the books invariant and the audit invariant. If the database is still open, it is
+/// unchanged. Fails with `Memory` or `Store` only; with `Store` also if a held symbol has no last
+/// price or a sum overflows.
+pub fn view_of_account_values<S: Alter>(
+    alloc: Global,
+    store: &mut Store<S>,
+    customer: Id,
+) -> Planned<View>
+    ensures read { ReadPost S.Store store.old store.new result (AnswersQueryAsModel (PositionOf customer)) }
+    ensures fault { IfErr result IsCallFault }
+{
+    let Some(found) = store.customer(customer)? else {
+        return Ok(Err(Refusal::NoCustomer));
+    };
+    let worths = read_balances_and_market_values(alloc, store, found.id)?;
+    let view = position(alloc, worths)?;
+    Ok(Ok(view))
+}
+
+/// Returns the view of the balances and the market values of the accounts of the customer with the
+/// tax id `tax_id`, sorted by market value, then by id, ascending. Refuses with `NoCustomer` if
+/// there is no such customer. The result equals that of the model if the tables equal those of a
+/// base that satisfies the books invariant and the audit invariant. If the database is still open,
+/// it is unchanged. Fails with `Memory` or `Store` only; with `Store` also if a held symbol has no
+/// last price or a sum overflows.
+pub fn view_of_account_values_by_tax_id<S: Alter>(
+    alloc: Global,
+    store: &mut Store<S>,
+    tax_id: &TaxId,
+) -> Planned<View>
+    ensures read { ReadPost S.Store store.old store.new result (AnswersQueryAsModel (PositionOfTaxId tax_id.now)) }
+    ensures fault { IfErr result IsCallFault }
+{
+    let Some(found) = store.customer_by_tax_id(tax_id)? else {
+        return Ok(Err(Refusal::NoCustomer));
+    };
+    let worths = read_balances_and_market_values(alloc, store, found.id)?;
+    let view = position(alloc, worths)?;
+    Ok(Ok(view))
+}

@@ -1,0 +1,131 @@
+//! Views of selected trades with their settlements, cash rows and histories.
+
+ghost use Rattle.std.specs.Prelude.{IfErr, map};
+ghost use Rattle.brk_trade_rows.specs.Rows.{abstract_trade_row};
+ghost use Rattle.brk_desk_queries.specs.LookedUp.{HaveAllRowsOfTrades, HasAllRowsOfTrade};
+ghost use Rattle.brk_desk_queries.specs.QueryResults.{AnswersQueryAsModel};
+ghost use Rattle.brk_model.specs.Queries.{TradesOfAccount, TradesOfSymbol, TradesWith};
+ghost use Rattle.brk_model.specs.Run.{IsCallFault};
+ghost use Rattle.brk_store.specs.Holds.{ReadPost};
+ghost use Rattle.brk_store.specs.ReadSequences.{ReadSequencePost};
+
+use brk_money::{Fault, Id, Planned, Refusal};
+use brk_ref::Symbol;
+use brk_ref_orders::Span;
+use brk_store::{Store, read_trades_by_ids};
+use brk_trade_rows::TradeRow;
+use brk_view_rows::{
+    LookedUp, NamedTrades, View, create_looked_up_trade, lookup_account, lookup_ids, lookup_symbol,
+    sort_trades_oldest_first,
+};
+use sqlite::Alter;
+use std::alloc::Global;
+
+// Returns a trade with its settlement and its cash row,
+// each if it exists, and its history. The result is specified only if the tables equal those of a
+// base that satisfies the books invariant and the audit invariant. If the database is still open,
+// it is unchanged. Fails with `Memory` or `Store` only.
+fn read_settlement_cash_and_history_of_trade<S: Alter>(
+    alloc: Global,
+    store: &mut Store<S>,
+    trade: TradeRow,
+) -> Result<LookedUp, Fault>
+    ensures read { ReadPost S.Store store.old store.new result (HasAllRowsOfTrade (abstract_trade_row trade)) }
+    ensures fault { IfErr result IsCallFault }
+{
+    let settlement = store.settlement(trade.id)?;
+    let cash = store.cash_row(trade.id)?;
+    let history = store.history_of_trade(alloc, trade.id)?;
+    create_looked_up_trade(alloc, trade, settlement, cash, &history)
+}
+
+// Returns the trades `trades`, in the order of this list, each with its settlement and its cash
+// row, if they exist, and its history. The result is specified only if the tables equal those of a
+// base that satisfies the books invariant and the audit invariant. If the database is still open,
+// it is unchanged. Fails with `Memory` or `Store` only.
+fn read_settlement_cash_and_history_of_trades<S: Alter>(
+    alloc: Global,
+    store: &mut Store<S>,
+    trades: Vec<TradeRow>,
+) -> Result<Vec<LookedUp>, Fault>
+    ensures read { ReadSequencePost S.Store store.old store.new result (λ found. HaveAllRowsOfTrades (map abstract_trade_row trades.items) found.items) }
+    ensures fault { IfErr result IsCallFault }
+{
+    let mut rest = trades;
+    let mut found = Vec::new(alloc);
+    while let Some(trade) = rest.pop() {
+        let one = read_settlement_cash_and_history_of_trade(alloc, store, trade)?;
+        found.push(one)?;
+    }
+    found.reverse();
+    Ok(found)
+}
+
+/// Returns the view of the trades with the ids in `trades`, sorted by the stamp of the last status,
+/// then by id, ascending, each with its settlement and its cash row, if they exist, and its
+/// history. Refuses with `NoTrade` if one of the trades does not exist. The result equals that of
+/// the model if the tables equal those of a base that satisfies the books invariant and the audit
+/// invariant. If the database is still open, it is unchanged. Fails with `Memory` or `Store` only.
+pub fn view_of_trades_by_ids<S: Alter>(
+    alloc: Global,
+    store: &mut Store<S>,
+    trades: &NamedTrades,
+) -> Planned<View>
+    ensures read { ReadPost S.Store store.old store.new result (AnswersQueryAsModel (TradesWith trades.now.trades)) }
+    ensures fault { IfErr result IsCallFault }
+{
+    // The value is not needed: the read succeeds only if the store is open.
+    let _last = store.last_stamp()?;
+    let Some(named) = read_trades_by_ids(alloc, store, trades.trades.ids())? else {
+        return Ok(Err(Refusal::NoTrade));
+    };
+    let ordered = sort_trades_oldest_first(alloc, named)?;
+    let found = read_settlement_cash_and_history_of_trades(alloc, store, ordered)?;
+    Ok(Ok(lookup_ids(found)))
+}
+
+/// Returns the view of the first 20 trades of an account, or of all if there are fewer, whose last
+/// statuses have stamps in `span`, both ends included, sorted by this stamp, then by id, ascending,
+/// each with its settlement and its cash row, if they exist, and its history. Refuses with
+/// `NoAccount` if the account does not exist. The result equals that of the model if the tables
+/// equal those of a base that satisfies the books invariant and the audit invariant. If the
+/// database is still open, it is unchanged. Fails with `Memory` or `Store` only.
+pub fn view_of_account_trades<S: Alter>(
+    alloc: Global,
+    store: &mut Store<S>,
+    account: Id,
+    span: Span,
+) -> Planned<View>
+    ensures read { ReadPost S.Store store.old store.new result (AnswersQueryAsModel (TradesOfAccount account span.first span.last)) }
+    ensures fault { IfErr result IsCallFault }
+{
+    let Some(_row) = store.account(account)? else {
+        return Ok(Err(Refusal::NoAccount));
+    };
+    let trades = store.first_twenty_trades_of_account(alloc, account, span)?;
+    let found = read_settlement_cash_and_history_of_trades(alloc, store, trades)?;
+    Ok(Ok(lookup_account(found)))
+}
+
+/// Returns the view of the first 20 trades of a symbol, or of all if there are fewer, whose last
+/// statuses have stamps in `span`, both ends included, sorted by this stamp, then by id, ascending,
+/// each with its settlement and its cash row, if they exist, and its history. Refuses with
+/// `NoSecurity` if the security does not exist. The result equals that of the model if the tables
+/// equal those of a base that satisfies the books invariant and the audit invariant. If the
+/// database is still open, it is unchanged. Fails with `Memory` or `Store` only.
+pub fn view_of_symbol_trades<S: Alter>(
+    alloc: Global,
+    store: &mut Store<S>,
+    symbol: &Symbol,
+    span: Span,
+) -> Planned<View>
+    ensures read { ReadPost S.Store store.old store.new result (AnswersQueryAsModel (TradesOfSymbol symbol.now span.first span.last)) }
+    ensures fault { IfErr result IsCallFault }
+{
+    let Some(_row) = store.security(symbol)? else {
+        return Ok(Err(Refusal::NoSecurity));
+    };
+    let trades = store.first_twenty_trades_of_symbol(alloc, symbol, span)?;
+    let found = read_settlement_cash_and_history_of_trades(alloc, store, trades)?;
+    Ok(Ok(lookup_symbol(found)))
+}

@@ -1,0 +1,26 @@
+//! The view of submitted trades.
+
+ghost use Rattle.std.specs.Prelude.{IfErr};
+ghost use Rattle.brk_desk_queries.specs.QueryResults.{AnswersQueryAsModel};
+ghost use Rattle.brk_model.specs.Queries.{SubmittedTrades};
+ghost use Rattle.brk_model.specs.Run.{IsCallFault};
+ghost use Rattle.brk_store.specs.Holds.{ReadPost};
+
+use brk_money::Planned;
+use brk_store::Store;
+use brk_view_rows::{View, submitted};
+use sqlite::Alter;
+use std::alloc::Global;
+
+/// Returns the view of all submitted trades, sorted by id, ascending. Never refuses. The view
+/// equals that of the model if the tables equal those of a base that satisfies the books invariant
+/// and the audit invariant. If the database is still open, it is unchanged. Fails with `Memory` or
+/// `Store` only.
+pub fn view_of_submitted_trades<S: Alter>(alloc: Global, store: &mut Store<S>) -> Planned<View>
+    ensures read { ReadPost S.Store store.old store.new result (AnswersQueryAsModel SubmittedTrades) }
+    ensures fault { IfErr result IsCallFault }
+{
+    let rows = store.submitted_trades(alloc)?;
+    let view = submitted(alloc, &rows)?;
+    Ok(Ok(view))
+}

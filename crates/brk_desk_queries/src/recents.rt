@@ -1,0 +1,74 @@
+//! The view of an account's last trades and their statuses.
+
+ghost use Rattle.std.specs.Prelude.{◌≡◌, ◌++◌, IfErr, OnOk, flat_map, map};
+ghost use Rattle.brk_trade_rows.specs.Rows.{abstract_history_row, abstract_trade_row};
+ghost use Rattle.brk_desk_queries.specs.QueryResults.{AnswersQueryAsModel};
+ghost use Rattle.brk_model.specs.Joins.{history_rows_with_trade_id};
+ghost use Rattle.brk_model.specs.PositionView.{last_ten_trade_rows};
+ghost use Rattle.brk_model.specs.Queries.{RecentOf};
+ghost use Rattle.brk_model.specs.Run.{IsCallFault};
+ghost use Rattle.brk_store.specs.Holds.{ReadPost};
+
+use brk_money::{Fault, Id, Planned, Refusal};
+use brk_store::Store;
+use brk_trade_rows::{HistoryRow, TradeRow};
+use brk_view_rows::{View, recent};
+use sqlite::Alter;
+use std::alloc::Global;
+
+// Appends the status changes `rows` (of TRADE_HISTORY) to `history`, in their order. Fails with
+// `Memory` only (the clause also allows `Store`); a prefix of `rows` may then be appended.
+fn append_history_rows(history: &mut Vec<HistoryRow>, rows: &[HistoryRow]) -> Result<(), Fault>
+    ensures added { OnOk result (history.new.items ≡ history.old.items ++ rows.now) }
+    ensures fault { IfErr result IsCallFault }
+{
+    for row in rows {
+        history.push(*row)?;
+    }
+    Ok(())
+}
+
+// Returns the last ten trades of an account, or all if it has fewer, sorted by the stamp of the
+// last status, then by id, descending, and their status changes (of TRADE_HISTORY), trade by trade
+// in this order, those of one trade in the order of the table. If the database is still open, it is
+// unchanged. Fails with `Memory` or `Store` only.
+fn read_recent_trades_with_history<S: Alter>(
+    alloc: Global,
+    store: &mut Store<S>,
+    account: Id,
+) -> Result<(Vec<TradeRow>, Vec<HistoryRow>), Fault>
+    ensures read { ReadPost S.Store store.old store.new result (λ found t.
+        (map abstract_trade_row found.0.items ≡ last_ten_trade_rows t account)
+        × (map abstract_history_row found.1.items ≡ flat_map (λ row. history_rows_with_trade_id t row.id) (last_ten_trade_rows t account))) }
+    ensures fault { IfErr result IsCallFault }
+{
+    let trades = store.last_ten_trades_of_account(alloc, account)?;
+    let mut history = Vec::new(alloc);
+    for trade in &trades {
+        let rows = store.history_of_trade(alloc, trade.id)?;
+        append_history_rows(&mut history, &rows)?;
+    }
+    Ok((trades, history))
+}
+
+/// Returns the view of the last ten trades of an account, or of all if it has fewer, sorted by the
+/// stamp of the last status, then by id, descending, and of their status changes, sorted by stamp,
+/// then by trade id, descending. Refuses with `NoAccount` if the account does not exist. The result
+/// equals that of the model if the tables equal those of a base that satisfies the books invariant
+/// and the audit invariant. If the database is still open, it is unchanged. Fails with `Memory` or
+/// `Store` only.
+pub fn view_of_recent_trades<S: Alter>(
+    alloc: Global,
+    store: &mut Store<S>,
+    account: Id,
+) -> Planned<View>
+    ensures read { ReadPost S.Store store.old store.new result (AnswersQueryAsModel (RecentOf account)) }
+    ensures fault { IfErr result IsCallFault }
+{
+    let Some(found) = store.account(account)? else {
+        return Ok(Err(Refusal::NoAccount));
+    };
+    let (trades, history) = read_recent_trades_with_history(alloc, store, account)?;
+    let view = recent(alloc, trades, history)?;
+    Ok(Ok(view))
+}

@@ -1,0 +1,45 @@
+ghost use Rattle.std.specs.Prelude.{IfErr};
+ghost use Rattle.brk_desk_queries.specs.Heads.{IsStatementHeadOfAccount};
+ghost use Rattle.brk_model.specs.Run.{IsCallFault};
+ghost use Rattle.brk_store.specs.Holds.{ReadPost};
+
+use brk_money::{Cents, Fault, Id, Wide};
+use brk_ref::Name;
+use brk_store::{Store, read_holdings_value};
+use sqlite::Alter;
+use std::alloc::Global;
+
+/// The figures of an account's statement that are not rows.
+#[derive(Drop)]
+pub struct Head {
+    /// The name of the account.
+    pub name: Name,
+    /// The opening balance of the account, in cents.
+    pub opening: Cents,
+    /// The market value of the holdings of the account at last prices, in cents; shares sold short
+    /// count below 0.
+    pub holdings: Wide,
+}
+
+/// Returns the name and the opening balance of an account, and the market value of its holdings at
+/// last prices, both amounts in cents, or `None` if the account does not exist. If the database is
+/// still open, it is unchanged. Fails with `Memory` or `Store` only; with `Store` also if a held
+/// symbol has no last price or the sum overflows.
+pub fn read_statement_head<S: Alter>(
+    alloc: Global,
+    store: &mut Store<S>,
+    account: Id,
+) -> Result<Option<Head>, Fault>
+    ensures read { ReadPost S.Store store.old store.new result (IsStatementHeadOfAccount account) }
+    ensures fault { IfErr result IsCallFault }
+{
+    let Some(row) = store.account(account)? else {
+        return Ok(None);
+    };
+    let holdings = read_holdings_value(alloc, store, account)?;
+    Ok(Some(Head {
+        name: row.account.name,
+        opening: row.account.opening,
+        holdings,
+    }))
+}

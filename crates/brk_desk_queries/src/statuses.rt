@@ -1,0 +1,109 @@
+//! The view of an account's parties and its last trades.
+
+ghost use Rattle.std.specs.Prelude.{◌≡◌, Err, IfErr, IfOk, OnErr, bytes_eq, find, map, option_map, take};
+ghost use Rattle.brk_trade_rows.specs.Rows.{abstract_trade_row};
+ghost use Rattle.brk_desk_queries.specs.QueryResults.{AnswersQueryAsModel};
+ghost use Rattle.brk_model.specs.Joins.{trade_rows_recent_first, trade_rows_of_account};
+ghost use Rattle.brk_model.specs.Queries.{StatusOf};
+ghost use Rattle.brk_model.specs.Run.{IsCallFault};
+ghost use Rattle.brk_money.specs.declared.fault.Fault.TheVariants.{Memory};
+ghost use Rattle.brk_store.specs.Holds.{ReadPost};
+ghost use Rattle.brk_view_rows.specs.Status.{rows_of_trade_status, trade_row_with_security};
+
+use crate::parties::read_account_status;
+use brk_money::{Fault, Id, Planned, Refusal};
+use brk_ref::{Security, Symbol};
+use brk_store::Store;
+use brk_trade_rows::TradeRow;
+use brk_view_rows::{TradeStatus, View, status};
+use sqlite::Alter;
+use std::alloc::Global;
+
+// Returns the trade `trade` with its security. If the database is still open, it is unchanged.
+// Fails with `Memory` or `Store` only; with `Store` also if the security does not exist.
+fn read_trade_with_security<S: Alter>(
+    store: &mut Store<S>,
+    trade: TradeRow,
+) -> Result<TradeStatus, Fault>
+    ensures read { ReadPost S.Store store.old store.new result (λ status t. rows_of_trade_status status
+        ≡ trade_row_with_security t (abstract_trade_row trade)) }
+    ensures fault { IfErr result IsCallFault }
+{
+    match store.security(&trade.symbol)? {
+        Some(security) => Ok(TradeStatus { trade, security }),
+        None => Err(Fault::Store),
+    }
+}
+
+// Returns true if the trade in `status`, a trade with its security, has the symbol `symbol`.
+fn is_trade_of_symbol(status: &TradeStatus, symbol: &Symbol) -> bool
+    ensures { result ≡ bytes_eq status.now.trade.symbol symbol.now }
+{
+    status.trade.symbol.as_str() == symbol.as_str()
+}
+
+// Returns the security of the first trade in `statuses` that has the symbol `symbol`, or `None` if
+// there is no such trade. Fails with `Memory` only.
+fn security_of_symbol(statuses: &[TradeStatus], symbol: &Symbol) -> Result<Option<Security>, Fault>
+    ensures security { IfOk result (λ security. security
+        ≡ option_map (λ s. s.security) (find (λ s. bytes_eq s.trade.symbol symbol.now) statuses.now)) }
+    ensures fault { OnErr result (result ≡ Err Memory) }
+{
+    let Some(status) = statuses
+        .iter()
+        .find(|status| is_trade_of_symbol(status, symbol))
+    else {
+        return Ok(None);
+    };
+    let security = status.security.clone()?;
+    Ok(Some(security))
+}
+
+// Returns the last fifty trades of an account, or all if it has fewer, sorted by the stamp of the
+// last status, then by id, descending, each with its security. Reads the security of each symbol
+// once. If the database is still open, it is unchanged. Fails with `Memory` or `Store` only; with
+// `Store` also if one of the securities does not exist.
+fn read_recent_trades_with_securities<S: Alter>(
+    alloc: Global,
+    store: &mut Store<S>,
+    account: Id,
+) -> Result<Vec<TradeStatus>, Fault>
+    ensures read { ReadPost S.Store store.old store.new result (λ statuses t. map rows_of_trade_status statuses.items
+        ≡ map (trade_row_with_security t) (take 50 (trade_rows_recent_first (trade_rows_of_account t account)))) }
+    ensures fault { IfErr result IsCallFault }
+{
+    let mut rest = store.last_fifty_trades_of_account(alloc, account)?;
+    let mut statuses = Vec::new(alloc);
+    while let Some(trade) = rest.pop() {
+        if let Some(security) = security_of_symbol(&statuses, &trade.symbol)? {
+            statuses.push(TradeStatus { trade, security })?;
+        } else {
+            let status = read_trade_with_security(store, trade)?;
+            statuses.push(status)?;
+        }
+    }
+    statuses.reverse();
+    Ok(statuses)
+}
+
+/// Returns the view of the names of an account's customer and broker, and of its last fifty trades,
+/// or of all if it has fewer, sorted by the stamp of the last status, then by id, descending, with
+/// their securities. Refuses with `NoAccount` if the account does not exist. The result equals that
+/// of the model if the tables equal those of a base that satisfies the books invariant and the
+/// audit invariant. If the database is still open, it is unchanged. Fails with `Memory` or `Store`
+/// only; with `Store` also if the customer, the broker or one of the securities does not exist.
+pub fn view_of_account_trade_statuses<S: Alter>(
+    alloc: Global,
+    store: &mut Store<S>,
+    account: Id,
+) -> Planned<View>
+    ensures read { ReadPost S.Store store.old store.new result (AnswersQueryAsModel (StatusOf account)) }
+    ensures fault { IfErr result IsCallFault }
+{
+    let Some(row) = store.account(account)? else {
+        return Ok(Err(Refusal::NoAccount));
+    };
+    let trades = read_recent_trades_with_securities(alloc, store, account)?;
+    let found = read_account_status(store, &row, trades)?;
+    Ok(Ok(status(found)))
+}

@@ -1,0 +1,188 @@
+//! The view of the brokers' volumes in a sector.
+
+ghost use Rattle.std.specs.Prelude.{◌≡◌, ◌++◌, ◌∷◌, [], IfErr, bytes_eq, filter, flat_map, map};
+ghost use Rattle.brk_trade_rows.specs.Rows.{abstract_request_row};
+ghost use Rattle.brk_desk_queries.specs.QueryResults.{AnswersQueryAsModel};
+ghost use Rattle.brk_desk_queries.specs.Volumes.{is_sector_request_of_broker, is_symbol_in_sector, brokers_of_name_in_sector};
+ghost use Rattle.brk_desk_queries.specs.Volumes.{requests_with_row_if_of_broker_in_sector, volumes_of_brokers_in_sector};
+ghost use Rattle.brk_model.specs.Queries.{VolumeOf};
+ghost use Rattle.brk_model.specs.Run.{IsCallFault};
+ghost use Rattle.brk_ref.specs.Records.{abstract_broker_row};
+ghost use Rattle.brk_store.specs.Holds.{ReadPost};
+ghost use Rattle.brk_store.specs.ReadSequences.{ReadSequencePost};
+ghost use Rattle.brk_view_rows.specs.Volume as volume;
+
+use brk_money::{Fault, Id, Planned};
+use brk_ref::{BrokerRow, Name, Symbol};
+use brk_store::Store;
+use brk_trade_rows::RequestRow;
+use brk_view_rows::{BrokerNames, BrokerVolume, View, broker_volume, total_bid_value_of_requests};
+use sqlite::Alter;
+use std::alloc::Global;
+
+// Returns true if the security with the symbol `symbol` exists and is in the sector `sector`. If
+// the database is still open, it is unchanged. Fails with `Memory` or `Store` only.
+fn is_security_in_sector<S: Alter>(
+    store: &mut Store<S>,
+    symbol: &Symbol,
+    sector: &Name,
+) -> Result<bool, Fault>
+    ensures read { ReadPost S.Store store.old store.new result (λ is t. is ≡ is_symbol_in_sector t sector.now symbol.now) }
+    ensures fault { IfErr result IsCallFault }
+{
+    match store.security(symbol)? {
+        Some(security) => Ok(security.sector.as_str() == sector.as_str()),
+        None => Ok(false),
+    }
+}
+
+// Appends the pending request `row` to `found` if `row` is one of the broker `broker` and its
+// security exists and is in the sector. If the database is still open, it is unchanged. Fails with
+// `Memory` or `Store` only; `found` is then unchanged (no clause states this).
+fn append_request_if_of_broker_in_sector<S: Alter>(
+    store: &mut Store<S>,
+    sector: &Name,
+    broker: Id,
+    row: &RequestRow,
+    found: &mut Vec<RequestRow>,
+) -> Result<(), Fault>
+    ensures read { ReadSequencePost S.Store store.old store.new result (λ _ t. found.new.items
+        ≡ requests_with_row_if_of_broker_in_sector t sector.now broker row.now found.old.items) }
+    ensures fault { IfErr result IsCallFault }
+{
+    if row.broker != broker {
+        return Ok(());
+    }
+    if !is_security_in_sector(store, &row.symbol, sector)? {
+        return Ok(());
+    }
+    let symbol = row.symbol.clone()?;
+    found.push(RequestRow {
+        trade: row.trade,
+        kind: row.kind,
+        symbol,
+        qty: row.qty,
+        bid: row.bid,
+        broker: row.broker,
+    })?;
+    Ok(())
+}
+
+// Returns the requests in `requests` that are of the broker and for a security in the sector, in
+// the order of `requests`. If the database is still open, it is unchanged. Fails with `Memory` or
+// `Store` only.
+fn read_sector_requests_of_broker<S: Alter>(
+    alloc: Global,
+    store: &mut Store<S>,
+    sector: &Name,
+    requests: &[RequestRow],
+    broker: Id,
+) -> Result<Vec<RequestRow>, Fault>
+    ensures read { ReadSequencePost S.Store store.old store.new result (λ found t. map abstract_request_row found.items
+        ≡ filter (is_sector_request_of_broker t sector.now broker) (map abstract_request_row requests.now)) }
+    ensures fault { IfErr result IsCallFault }
+{
+    let mut found = Vec::new(alloc);
+    for row in requests {
+        append_request_if_of_broker_in_sector(store, sector, broker, row, &mut found)?;
+    }
+    Ok(found)
+}
+
+// Appends to `found` the id and the name of the broker in the row `row` and its volume in the
+// sector: the sum, in cents, of quantity times bid price over its pending requests for securities
+// in the sector. Appends nothing if the broker has no such request. What is appended is specified
+// only if `requests` are all pending requests, in the order of their table. If the database is
+// still open, it is unchanged. Fails with `Memory` or `Store` only; `found` is then unchanged (no
+// clause states this).
+fn append_broker_volume<S: Alter>(
+    alloc: Global,
+    store: &mut Store<S>,
+    sector: &Name,
+    requests: &[RequestRow],
+    row: &BrokerRow,
+    found: &mut Vec<BrokerVolume>,
+) -> Result<(), Fault>
+    ensures read { ReadSequencePost S.Store store.old store.new result (λ _ t. map abstract_request_row requests.now ≡ t.requests → found.new.items
+        ≡ found.old.items ++ volumes_of_brokers_in_sector t sector.now (abstract_broker_row row.now ∷ [])) }
+    ensures fault { IfErr result IsCallFault }
+{
+    let mine = read_sector_requests_of_broker(alloc, store, sector, requests, row.broker.id)?;
+    if mine.is_empty() {
+        return Ok(());
+    }
+    let name = row.broker.name.clone()?;
+    let volume = total_bid_value_of_requests(&mine);
+    found.push(BrokerVolume {
+        broker: row.broker.id,
+        name,
+        volume,
+    })?;
+    Ok(())
+}
+
+// Appends to `found` the volumes in the sector, in cents, of the brokers with the name `name` that
+// have a pending request for a security in it, in the order of the table of brokers. What it
+// appends is specified only if `requests` are all pending requests, in the order of their table. If
+// the database is still open, it is unchanged. Fails with `Memory` or `Store` only; the volumes of
+// some of the brokers may then be appended.
+fn append_volumes_of_brokers_named<S: Alter>(
+    alloc: Global,
+    store: &mut Store<S>,
+    sector: &Name,
+    requests: &[RequestRow],
+    name: &Name,
+    found: &mut Vec<BrokerVolume>,
+) -> Result<(), Fault>
+    ensures read { ReadPost S.Store store.old store.new result (λ _ t. map abstract_request_row requests.now ≡ t.requests → found.new.items
+        ≡ found.old.items ++ volumes_of_brokers_in_sector t sector.now (filter (λ b. bytes_eq b.name name.now) t.brokers)) }
+    ensures fault { IfErr result IsCallFault }
+{
+    let rows = store.brokers_named(alloc, name)?;
+    for row in &rows {
+        append_broker_volume(alloc, store, sector, requests, row, found)?;
+    }
+    Ok(())
+}
+
+// Returns the volumes in the sector, in cents, of the brokers with the names `names` that have a
+// pending request for a security in it, in the order of `names` and, for one name, in the order of
+// the table of brokers. Reads all requests once. If the database is still open, it is unchanged.
+// Fails with `Memory` or `Store` only.
+fn read_volumes_of_brokers_named<S: Alter>(
+    alloc: Global,
+    store: &mut Store<S>,
+    sector: &Name,
+    names: &[Name],
+) -> Result<Vec<BrokerVolume>, Fault>
+    ensures read { ReadPost S.Store store.old store.new result (λ found t. found.items
+        ≡ map (volume.volume_of_broker_in_sector t sector.now) (flat_map (brokers_of_name_in_sector t sector.now) names.now)) }
+    ensures fault { IfErr result IsCallFault }
+{
+    let requests = store.all_trade_requests(alloc)?;
+    let mut found = Vec::new(alloc);
+    for name in names {
+        append_volumes_of_brokers_named(alloc, store, sector, &requests, name, &mut found)?;
+    }
+    Ok(found)
+}
+
+/// Returns the view of the volumes in the sector, in cents, of the brokers with the names `names`
+/// that have a pending request for a security in it, sorted by volume, descending, then by name and
+/// id, ascending. Never refuses. The view equals that of the model if the tables equal those of a
+/// base that satisfies the books invariant and the audit invariant. If the database is still open,
+/// it is unchanged. Fails with `Memory` or `Store` only.
+pub fn view_of_broker_volumes<S: Alter>(
+    alloc: Global,
+    store: &mut Store<S>,
+    sector: &Name,
+    names: &BrokerNames,
+) -> Planned<View>
+    ensures read { ReadPost S.Store store.old store.new result (AnswersQueryAsModel (VolumeOf sector.now names.now)) }
+    ensures fault { IfErr result IsCallFault }
+{
+    let names = names.names();
+    let found = read_volumes_of_brokers_named(alloc, store, sector, names)?;
+    let view = broker_volume(alloc, found)?;
+    Ok(Ok(view))
+}

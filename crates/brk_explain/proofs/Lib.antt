@@ -1,0 +1,4 @@
+pub mod Explained
+pub mod FirstLines
+pub mod RunningWalked
+pub mod Words

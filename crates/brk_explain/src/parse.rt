@@ -1,0 +1,129 @@
+ghost use Rattle.std.specs.Prelude.{◌≡◌, ◌∷◌, Err, IfOk, OnErr};
+ghost use Rattle.brk_explain.specs.Requests.{abstract_explain_request};
+ghost use Rattle.brk_model_explain.specs.Explain as model;
+ghost use Rattle.brk_model.specs.Parse.{read_and_wrap};
+ghost use Rattle.brk_money.specs.declared.fault.Fault.TheVariants.{Memory};
+ghost use Rattle.brk_ref.specs.Fields.{ParsesAs, texts_of_fields};
+
+use brk_money::{Id, Planned, Refusal};
+use brk_ref::{Symbol, parse_id};
+use std::alloc::Global;
+
+/// A request for an explanation: of a trade, an account, a holding or a broker.
+#[derive(Drop)]
+pub enum ExplainRequest {
+    /// The trade with this id.
+    Trade(Id),
+    /// The account with this id.
+    Account(Id),
+    /// The holding of an account in the security with a symbol.
+    Holding { account: Id, symbol: Symbol },
+    /// The broker with this id.
+    Broker(Id),
+}
+
+// Parses `words` as exactly one id and returns the id. Refuses another number of words or a
+// malformed id with `BadText`.
+fn parse_single_id(words: &[&[u8]]) -> Result<Id, Refusal>
+    ensures { ParsesAs (λ id. id) result (model.read_single_id (texts_of_fields words.now)) }
+{
+    let [id] = words else {
+        return Err(Refusal::BadText);
+    };
+    match parse_id(id) {
+        Some(id) => Ok(id),
+        None => Err(Refusal::BadText),
+    }
+}
+
+// Returns the request to explain a trade from the words after `trade`: the id of the trade. Refuses
+// any other words with `BadText`.
+fn parse_trade_explain_request(words: &[&[u8]]) -> Result<ExplainRequest, Refusal>
+    ensures { ParsesAs abstract_explain_request result (read_and_wrap model.TradeOf model.read_single_id (texts_of_fields words.now)) }
+{
+    match parse_single_id(words) {
+        Ok(id) => Ok(ExplainRequest::Trade(id)),
+        Err(refusal) => Err(refusal),
+    }
+}
+
+// Returns the request to explain an account from the words after `account`: the id of the account.
+// Refuses any other words with `BadText`.
+fn parse_account_explain_request(words: &[&[u8]]) -> Result<ExplainRequest, Refusal>
+    ensures { ParsesAs abstract_explain_request result (read_and_wrap model.AccountOf model.read_single_id (texts_of_fields words.now)) }
+{
+    match parse_single_id(words) {
+        Ok(id) => Ok(ExplainRequest::Account(id)),
+        Err(refusal) => Err(refusal),
+    }
+}
+
+// Returns the request to explain a broker from the words after `broker`: the id of the broker.
+// Refuses any other words with `BadText`.
+fn parse_broker_explain_request(words: &[&[u8]]) -> Result<ExplainRequest, Refusal>
+    ensures { ParsesAs abstract_explain_request result (read_and_wrap model.BrokerOf model.read_single_id (texts_of_fields words.now)) }
+{
+    match parse_single_id(words) {
+        Ok(id) => Ok(ExplainRequest::Broker(id)),
+        Err(refusal) => Err(refusal),
+    }
+}
+
+// Returns the request to explain a holding from the words after `holding`: the id of the account
+// and the symbol. Refuses any other words with `BadText`. Fails with `Memory` only.
+fn parse_holding_explain_request(alloc: Global, words: &[&[u8]]) -> Planned<ExplainRequest>
+    ensures read { IfOk result (λ read. ParsesAs abstract_explain_request read (model.read_holding_request (texts_of_fields words.now))) }
+    ensures fault { OnErr result (result ≡ Err Memory) }
+{
+    let [account, symbol] = words else {
+        return Ok(Err(Refusal::BadText));
+    };
+    let Some(account) = parse_id(account) else {
+        return Ok(Err(Refusal::BadText));
+    };
+    let Some(symbol) = Symbol::parse(alloc, symbol)? else {
+        return Ok(Err(Refusal::BadText));
+    };
+    Ok(Ok(ExplainRequest::Holding { account, symbol }))
+}
+
+// Returns the explain request of the kind `form`, the first word (`trade`, `account`, `holding` or
+// `broker`), with the ids and the symbol in the other words, `words`. Refuses another first word,
+// and malformed, missing or surplus words, with `BadText`. Fails with `Memory` only.
+#[tactic(auto, unfolding(brk_model_explain::specs::Explain::read_explain_request))]
+fn parse_explain_request_of_kind(
+    alloc: Global,
+    form: &[u8],
+    words: &[&[u8]],
+) -> Planned<ExplainRequest>
+    ensures read { IfOk result (λ read. ParsesAs abstract_explain_request read (model.read_explain_request (form.now ∷ texts_of_fields words.now))) }
+    ensures fault { OnErr result (result ≡ Err Memory) }
+{
+    if form == b"trade".as_slice() {
+        return Ok(parse_trade_explain_request(words));
+    }
+    if form == b"account".as_slice() {
+        return Ok(parse_account_explain_request(words));
+    }
+    if form == b"holding".as_slice() {
+        return parse_holding_explain_request(alloc, words);
+    }
+    if form == b"broker".as_slice() {
+        return Ok(parse_broker_explain_request(words));
+    }
+    Ok(Err(Refusal::BadText))
+}
+
+/// Returns the request for an explanation from the words of a command line: `trade ID`,
+/// `account ID`, `holding ACCOUNT SYMBOL` or `broker ID`. Refuses another or no first word, a wrong
+/// number of words, a malformed id or a malformed symbol with `BadText`. Fails with `Memory` only.
+#[tactic(auto, unfolding(brk_model_explain::specs::Explain::read_explain_request))]
+pub fn parse_explain_request(alloc: Global, words: &[&[u8]]) -> Planned<ExplainRequest>
+    ensures read { IfOk result (λ read. ParsesAs abstract_explain_request read (model.read_explain_request (texts_of_fields words.now))) }
+    ensures fault { OnErr result (result ≡ Err Memory) }
+{
+    let [form, rest @ ..] = words else {
+        return Ok(Err(Refusal::BadText));
+    };
+    parse_explain_request_of_kind(alloc, form, rest)
+}

@@ -1,0 +1,16 @@
+use Rattle.std.proofs.Common.{◌∙◌, ◌==◌, ap, map, not, sym}
+use Rattle.brk_trade_rows.specs.Rows.{abstract_lot_change_row}
+use Rattle.brk_model.specs.Tables.{HoldingHistoryRow}
+use Rattle.brk_explain_reads.proofs.Each.{added_none, added_one}
+use Rattle.brk_explain_reads.proofs.lot_changes.push_unless_by_opening_trade.Goals as goal
+
+pub returns-then-is_change_by_opening_trade-clause-added : goal.returns-then-is_change_by_opening_trade-clause-added
+returns-then-is_change_by_opening_trade-clause-added c =
+    added_none abstract_lot_change_row (λ (h : HoldingHistoryRow). not (h.trade == c.args.lot)) c.args.change.now c.args.later.now.items
+    (ap not (sym c.is_change_by_opening_trade.ensures ∙ c.if-is_change_by_opening_trade.true))
+
+pub returns-clause-added : goal.returns-clause-added
+returns-clause-added c =
+    ap (map abstract_lot_change_row) c.in_ok-push.ensures.items
+    ∙ added_one abstract_lot_change_row (λ (h : HoldingHistoryRow). not (h.trade == c.args.lot)) c.args.change.now c.args.later.now.items
+    (ap not (sym c.is_change_by_opening_trade.ensures ∙ c.if-is_change_by_opening_trade.false))

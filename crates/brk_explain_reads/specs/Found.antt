@@ -1,0 +1,83 @@
+-- The parts of the facts that the explanation of a trade reads.
+use Rattle.std.specs.Prelude.{◌≡◌, ℕ, ◌==◌, List, filter, find, length, map, nat_lt, Some, option_map}
+use Rattle.brk_trade_rows.specs.Rows.{abstract_history_row, abstract_lot_change_row, abstract_move_row, abstract_settlement_row, abstract_trade_row}
+use Rattle.brk_trade_rows.specs.declared.trade_row.TradeRow as trade
+use Rattle.brk_model_explain.specs.Trades.{band_for_customer_and_security, recorded_closing, closings_of_trade, is_closing_by_trade, opened_lot_row}
+use Rattle.brk_model_explain.specs.Trades.{tax_rates_of_customer, result_details_of_trade, settlement_of_trade_or_zeros, sorted_statuses_of_trade}
+use Rattle.brk_explain_rows.specs.Details.{abstract_closing, abstract_result_details}
+use Rattle.brk_explain_rows.specs.declared.details.OrderDetails.{OrderDetails}
+use Rattle.brk_explain_rows.specs.declared.details.ResultDetails.{ResultDetails}
+use Rattle.brk_model.specs.Joins.{account_row_with_id, security_row_with_symbol}
+use Rattle.brk_model.specs.LookupView.{is_cash_row_of_trade}
+use Rattle.brk_model.specs.Statement.{sorted_cash_rows_of_account, cash_row_total}
+use Rattle.brk_model.specs.Tables.{MoveRow, Tables, TradeRow}
+use Rattle.brk_ref.specs.Records.{abstract_account_row, abstract_band, abstract_security_row, abstract_tax_rate}
+use Rattle.brk_explain_reads.specs.declared.cash.CashSum.{CashSum}
+use Rattle.brk_explain_reads.specs.declared.trade_lots.TradeLots.{TradeLots}
+use Rattle.brk_explain_reads.specs.declared.settled.SettlementAndCash.{SettlementAndCash}
+use Rattle.brk_explain_reads.specs.declared.terms.TaxRatesAndBand.{TaxRatesAndBand}
+
+-- The cash rows of `account` in the tables `t` with stamps before `until`, sorted by stamp,
+-- ascending. Rows with equal stamps are in the order of the table CASH_MOVE.
+abbrev pub cash_rows_before_stamp : Tables → ℕ → ℕ → List MoveRow
+cash_rows_before_stamp t account until = filter (λ r. nat_lt r.stamp until) (sorted_cash_rows_of_account t account)
+
+-- `sum` has the number of the cash rows of `account` in the tables `t` with stamps before `until`,
+-- and the sum of their amounts, in cents.
+abbrev pub IsCashSumBeforeStamp : Tables → ℕ → ℕ → CashSum → Type 0
+IsCashSumBeforeStamp t account until sum =
+    (sum.rows ≡ length (cash_rows_before_stamp t account until)) × (sum.total ≡ cash_row_total (cash_rows_before_stamp t account until))
+
+-- `lots` has exactly the closings by the trade with the id `trade`, in the order of the table
+-- HOLDING_HISTORY, and the change with which this trade opened a lot, or `None` if it opened none,
+-- as the tables `t` record them.
+abbrev pub AreTradeLotsByLotId : Tables → ℕ → TradeLots → Type 0
+AreTradeLotsByLotId t trade lots =
+    (map abstract_closing lots.closings.items ≡ map (recorded_closing t) (filter (is_closing_by_trade trade) t.holding_history))
+    × (option_map abstract_lot_change_row lots.own_lot ≡ opened_lot_row t trade)
+
+-- `lots` has exactly the closings by the trade `u`, sorted by the stamps of the trades that opened
+-- the lots (descending if `u` closes the newest lots first, otherwise ascending), and the change
+-- with which `u` opened a lot, or `None` if it opened none, as the tables `t` record them.
+abbrev pub AreTradeLotsInClosingOrder : Tables → TradeRow → TradeLots → Type 0
+AreTradeLotsInClosingOrder t u lots =
+    (map abstract_closing lots.closings.items ≡ closings_of_trade t u) × (option_map abstract_lot_change_row lots.own_lot ≡ opened_lot_row t u.id)
+
+-- `order` has the trade `row`, the rows of the trade's account and security in the tables `t`, both
+-- of which exist, and exactly the trade's status changes in these tables, sorted by stamp,
+-- ascending.
+pub record IsOrderOfTrade (row : trade.TradeRow) (order : OrderDetails) (t : Tables) : Type 0 where
+  pub trade : order.trade ≡ row
+  pub account : account_row_with_id t row.account ≡ Some (abstract_account_row order.account)
+  pub security : security_row_with_symbol t row.symbol ≡ Some (abstract_security_row order.security)
+  pub statuses : map abstract_history_row order.statuses.items ≡ sorted_statuses_of_trade t row.id
+
+-- `terms` has, as the tables `t` record them, the tax rates of the customer of the account of
+-- `order`, in the order of CUSTOMER_TAXRATE and without a tax that has no TAXRATE row, and the
+-- commission band of the trade of `order` for this customer and for the security of `order`, or
+-- `None` if this customer or the band does not exist.
+abbrev pub AreTaxRatesAndBand : Tables → OrderDetails → TaxRatesAndBand → Type 0
+AreTaxRatesAndBand t order terms =
+    (map abstract_tax_rate terms.rates.items ≡ tax_rates_of_customer t order.account.account.customer)
+    × (option_map abstract_band terms.band
+    ≡ band_for_customer_and_security t (abstract_trade_row order.trade)
+    (find (λ c. c.id == order.account.account.customer) t.customers) (Some (abstract_security_row order.security)))
+
+-- `settled` has the first row of SETTLEMENT, in the order of the table, of the trade with the id
+-- `trade` in the tables `t` (`zero_settlement_row` if there is none), the first cash row of this
+-- trade, or `None` if there is none, and the first day of one-day settlement, or `None` if none is
+-- set.
+abbrev pub IsSettlementAndCashOfTrade : Tables → ℕ → SettlementAndCash → Type 0
+IsSettlementAndCashOfTrade t trade settled =
+    (abstract_settlement_row settled.settlement ≡ settlement_of_trade_or_zeros t trade)
+    × (option_map abstract_move_row settled.cash ≡ find (is_cash_row_of_trade trade) t.moves) × (settled.rule ≡ t.rule)
+
+-- `details` has the results of the trade of `order` in the tables `t` (`result_details_of_trade`):
+-- the trade's completion price in cents (0 if it has none), closings, opened lot, settlement
+-- (`zero_settlement_row` if it has none) and cash row, the number of the account's cash rows with
+-- stamps before the trade's and the sum of their amounts in cents, the tax rates and the commission
+-- band in these tables, and the first day of one-day settlement. Vacuous if `order` does not have
+-- the rows and status changes of its trade in these tables (`IsOrderOfTrade`).
+abbrev pub IsResultOfOrder : OrderDetails → ResultDetails → Tables → Type 0
+IsResultOfOrder order details t =
+    IsOrderOfTrade order.trade order t → abstract_result_details details ≡ result_details_of_trade t (abstract_trade_row order.trade)

@@ -1,0 +1,4 @@
+pub mod Earlier
+pub mod Found
+pub mod HoldingParts
+pub mod Skipping

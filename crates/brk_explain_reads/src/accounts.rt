@@ -1,0 +1,71 @@
+//! The facts that the explanation of an account reads, except for the rows that it walks.
+
+ghost use Rattle.std.specs.Prelude.{◌≡◌, IfErr, map};
+ghost use Rattle.brk_trade_rows.specs.Rows.{abstract_summary_row};
+ghost use Rattle.brk_model_explain.specs.AccountLines.{priced_holding, priced_holdings_of_account};
+ghost use Rattle.brk_explain_rows.specs.Details.{AreDetailsOfAccount, abstract_priced_holding};
+ghost use Rattle.brk_model.specs.Run.{IsCallFault};
+ghost use Rattle.brk_store.specs.Holds.{ReadPost};
+
+use brk_explain_rows::{AccountDetails, PricedHolding};
+use brk_money::{Fault, Id};
+use brk_store::{Store, require_last_price};
+use brk_trade_rows::SummaryRow;
+use sqlite::Alter;
+use std::alloc::Global;
+
+// Returns a holding summary with the last price of its symbol, in cents. If the database is still
+// open, it is unchanged. Fails with `Memory` or `Store`; with `Store` also if the symbol has no
+// last price.
+fn read_priced_holding<S: Alter>(
+    store: &mut Store<S>,
+    summary: SummaryRow,
+) -> Result<PricedHolding, Fault>
+    ensures read { ReadPost S.Store store.old store.new result (λ held t. abstract_priced_holding held ≡ priced_holding t (abstract_summary_row summary)) }
+    ensures fault { IfErr result IsCallFault }
+{
+    let price = require_last_price(store, &summary.symbol)?;
+    Ok(PricedHolding { summary, price })
+}
+
+// Returns the holding summaries of an account with the last prices of their symbols, sorted by
+// symbol, ascending. If the database is still open, it is unchanged. Fails with `Memory` or
+// `Store`; with `Store` also if a symbol has no last price.
+fn read_priced_holdings<S: Alter>(
+    alloc: Global,
+    store: &mut Store<S>,
+    account: Id,
+) -> Result<Vec<PricedHolding>, Fault>
+    ensures read { ReadPost S.Store store.old store.new result (λ held t. map abstract_priced_holding held.items ≡ priced_holdings_of_account t account) }
+    ensures fault { IfErr result IsCallFault }
+{
+    let mut rest = store.summaries_of(alloc, account)?;
+    let mut held = Vec::new(alloc);
+    while let Some(summary) = rest.pop() {
+        let one = read_priced_holding(store, summary)?;
+        held.push(one)?;
+    }
+    held.reverse();
+    Ok(held)
+}
+
+/// Returns the row of an account and its holding summaries with last prices, sorted by symbol,
+/// ascending, or `None` if the account does not exist.
+///
+/// Fails with `Memory` or `Store` only; with `Store` also if a symbol has no last price. If the
+/// database is still open, it is unchanged, whatever the result. A crash after the call exposes
+/// only states that a crash before the call could expose.
+pub fn read_account_details<S: Alter>(
+    alloc: Global,
+    store: &mut Store<S>,
+    account: Id,
+) -> Result<Option<AccountDetails>, Fault>
+    ensures read { ReadPost S.Store store.old store.new result (AreDetailsOfAccount account) }
+    ensures fault { IfErr result IsCallFault }
+{
+    let Some(row) = store.account(account)? else {
+        return Ok(None);
+    };
+    let held = read_priced_holdings(alloc, store, account)?;
+    Ok(Some(AccountDetails { account: row, held }))
+}

@@ -1,0 +1,109 @@
+//! The facts that the explanation of a holding reads.
+
+ghost use Rattle.std.specs.Prelude.{◌≡◌, IfErr, option_map, pos};
+ghost use Rattle.std.specs.Option.{option_map_or};
+ghost use Rattle.brk_trade_rows.specs.Rows.{abstract_summary_row};
+ghost use Rattle.brk_explain_reads.specs.HoldingParts.{AreQuantityAndPrice};
+ghost use Rattle.brk_explain_rows.specs.Details.{AreDetailsOfHolding};
+ghost use Rattle.brk_model.specs.Run.{IsCallFault};
+ghost use Rattle.brk_store.specs.Holds.{ReadPost};
+
+use crate::holding_trades::{TradesAndLots, read_trades_and_lots_of_holding};
+use brk_explain_rows::HoldingDetails;
+use brk_money::{Fault, Id, Planned, Price, Refusal};
+use brk_ref::{AccountRow, Security, Symbol};
+use brk_store::{Store, require_last_price};
+use brk_trade_rows::SummaryRow;
+use sqlite::Alter;
+use std::alloc::Global;
+
+/// The number of shares that an account holds, below 0 if they were sold short, and the last price
+/// of their security, in cents.
+#[derive(Clone, Copy)]
+pub struct QuantityAndPrice {
+    pub shares: i64,
+    pub price: Price,
+}
+
+// Returns the quantity of a holding summary, in shares, or 0 if it is `None`.
+fn quantity_of_summary_or_zero(summary: Option<SummaryRow>) -> i64
+    ensures { result ≡ option_map_or (λ r. r.qty) (option_map abstract_summary_row summary) (pos 0) }
+{
+    match summary {
+        Some(row) => row.qty,
+        None => 0,
+    }
+}
+
+// Returns the pair of a number of shares and the last price of their security, in cents.
+fn quantity_and_price(shares: i64, price: Price) -> QuantityAndPrice
+    ensures { result ≡ record { shares = shares; price = price } }
+{
+    QuantityAndPrice { shares, price }
+}
+
+// Returns the quantity that an account holds of a security, 0 if it has no holding summary, and the
+// last price of the security, in cents. If the database is still open, it is unchanged. Fails with
+// `Memory` or `Store`; with `Store` also if the security has no last price.
+fn read_quantity_and_price<S: Alter>(
+    store: &mut Store<S>,
+    account: Id,
+    symbol: &Symbol,
+) -> Result<QuantityAndPrice, Fault>
+    ensures read { ReadPost S.Store store.old store.new result (λ held t. AreQuantityAndPrice t account symbol.now held) }
+    ensures fault { IfErr result IsCallFault }
+{
+    let summary = store.summary_of(account, symbol)?;
+    let price = require_last_price(store, symbol)?;
+    Ok(quantity_and_price(quantity_of_summary_or_zero(summary), price))
+}
+
+// Returns the facts of a holding, put together from its account, its security, its trades and lots
+// (`held`), and its quantity and last price (`now`).
+fn holding_details_of_parts(
+    account: AccountRow,
+    security: Security,
+    held: TradesAndLots,
+    now: QuantityAndPrice,
+) -> HoldingDetails
+    ensures { result ≡ record { account = account; security = security; done = held.done; lots = held.lots; shares = now.shares; price = now.price } }
+{
+    HoldingDetails {
+        account,
+        security,
+        done: held.done,
+        lots: held.lots,
+        shares: now.shares,
+        price: now.price,
+    }
+}
+
+/// Returns the facts that the explanation of the holding of an account in a security reads: the
+/// rows of the account and of the security, the completed trades of the account in the security,
+/// the lots that they opened, the quantity and the last price, in cents. Refuses with `NoAccount`
+/// (1) if the account does not exist, and with `NoSecurity` (4) if only the security does not
+/// exist.
+///
+/// Fails with `Memory` or `Store` only; with `Store` also if the security has no last price, or if
+/// another trade that changed one of these lots does not exist or has no price. If the database is
+/// still open, it is unchanged, whatever the result. A crash after the call exposes only states
+/// that a crash before the call could expose.
+pub fn read_holding_details<S: Alter>(
+    alloc: Global,
+    store: &mut Store<S>,
+    account: Id,
+    symbol: &Symbol,
+) -> Planned<HoldingDetails>
+    ensures read { ReadPost S.Store store.old store.new result (AreDetailsOfHolding account symbol.now) }
+    ensures fault { IfErr result IsCallFault }
+{
+    let Some(row) = store.account(account)? else {
+        return Ok(Err(Refusal::NoAccount));
+    };
+    let Some(security) = store.security(symbol)? else {
+        return Ok(Err(Refusal::NoSecurity));
+    };
+    let held = read_trades_and_lots_of_holding(alloc, store, account, symbol)?;
+    let now = read_quantity_and_price(store, account, symbol)?;
+    Ok(Ok(holding_details_of_parts(row, security, held, now)))
+}

@@ -1,0 +1,177 @@
+//! The change with which a lot was opened, and the changes of the lot by trades other than the one
+//! that opened it.
+
+ghost use Rattle.std.specs.Prelude.{◌≡◌, ◌==◌, ◌++◌, ◌∷◌, [], Err, IfErr, IfOk, OnErr, OnOk, filter, find, map, not, option_map};
+ghost use Rattle.brk_trade_rows.specs.Rows.{abstract_lot_change_row};
+ghost use Rattle.brk_model_explain.specs.Holdings as model;
+ghost use Rattle.brk_explain_reads.specs.HoldingParts.{AreLotChangesByCompletion, AreLotChangesByTradeId};
+ghost use Rattle.brk_explain_rows.specs.Details.{abstract_priced_lot_change};
+ghost use Rattle.brk_model.specs.Lists.{sort_by_key};
+ghost use Rattle.brk_model.specs.Run.{IsCallFault};
+ghost use Rattle.brk_money.specs.declared.fault.Fault.TheVariants.{Memory};
+ghost use Rattle.brk_store.specs.Holds.{ReadPost};
+
+use crate::known::read_existing_trade;
+use crate::ordering::sort_by_age;
+use brk_explain_rows::PricedLotChange;
+use brk_money::{Fault, Id, Price, Stamp};
+use brk_store::Store;
+use brk_trade_rows::LotChange;
+use sqlite::Alter;
+use std::alloc::Global;
+
+/// The changes of a lot: its opening, and the changes by trades other than the one that opened it.
+#[derive(Drop)]
+pub struct OpeningAndLaterChanges {
+    /// The change with which the lot was opened, or `None` if there is none.
+    pub opening: Option<LotChange>,
+    /// The changes by other trades.
+    pub changes_by_others: Vec<PricedLotChange>,
+}
+
+// Returns true if `change` is by the trade that opened `lot`. The lot has the id of this trade.
+fn is_change_by_opening_trade(change: &LotChange, lot: Id) -> bool
+    ensures { result ≡ (change.now.trade == lot) }
+{
+    change.trade == lot
+}
+
+// Returns the first of `changes` that is by the trade that opened `lot`, or `None` if there is
+// none.
+fn opening_change_of_lot(changes: &[LotChange], lot: Id) -> Option<LotChange>
+    ensures { option_map abstract_lot_change_row result ≡ find (λ h. h.trade == lot) (map abstract_lot_change_row changes.now) }
+{
+    for change in changes {
+        if is_change_by_opening_trade(change, lot) {
+            return Some(*change);
+        }
+    }
+    None
+}
+
+// Appends `change` to `later` unless it is by the trade that opened `lot`. Fails with `Memory`
+// only.
+fn push_unless_by_opening_trade(
+    later: &mut Vec<LotChange>,
+    change: &LotChange,
+    lot: Id,
+) -> Result<(), Fault>
+    ensures added { OnOk result (map abstract_lot_change_row later.new.items
+        ≡ map abstract_lot_change_row later.old.items ++ filter (λ h. not (h.trade == lot)) (abstract_lot_change_row change.now ∷ [])) }
+    ensures fault { OnErr result (result ≡ Err Memory) }
+{
+    if is_change_by_opening_trade(change, lot) {
+        return Ok(());
+    }
+    later.push(*change)?;
+    Ok(())
+}
+
+// Returns those of `changes` that are not by the trade that opened `lot`, in the order of
+// `changes`. Fails with `Memory` only.
+fn changes_by_other_trades(
+    alloc: Global,
+    changes: &[LotChange],
+    lot: Id,
+) -> Result<Vec<LotChange>, Fault>
+    ensures later { IfOk result (λ later. map abstract_lot_change_row later.items
+        ≡ filter (λ h. not (h.trade == lot)) (map abstract_lot_change_row changes.now)) }
+    ensures fault { OnErr result (result ≡ Err Memory) }
+{
+    let mut later = Vec::new(alloc);
+    for change in changes {
+        push_unless_by_opening_trade(&mut later, change, lot)?;
+    }
+    Ok(later)
+}
+
+// Returns the change of a lot, with the stamp and the price at which the trade that made it was
+// completed.
+fn priced_lot_change(change: &LotChange, stamp: Stamp, price: Price) -> PricedLotChange
+    ensures { result ≡ record { trade = change.now.trade; stamp = stamp; price = price; before = change.now.before; after = change.now.after } }
+{
+    PricedLotChange {
+        trade: change.trade,
+        stamp,
+        price,
+        before: change.before,
+        after: change.after,
+    }
+}
+
+// Returns a change of a lot, with the stamp and the price of the trade that made it. If the
+// database is still open, it is unchanged. Fails with `Memory` or `Store`; with `Store` also if
+// that trade does not exist or has no price.
+fn read_priced_lot_change<S: Alter>(
+    store: &mut Store<S>,
+    change: &LotChange,
+) -> Result<PricedLotChange, Fault>
+    ensures read { ReadPost S.Store store.old store.new result (λ priced_change t. abstract_priced_lot_change priced_change
+        ≡ model.recorded_lot_change t (abstract_lot_change_row change.now)) }
+    ensures fault { IfErr result IsCallFault }
+{
+    let trade = read_existing_trade(store, change.trade)?;
+    let Some(price) = trade.price else {
+        return Err(Fault::Store);
+    };
+    Ok(priced_lot_change(change, trade.stamp, price))
+}
+
+// Returns the change with which a lot was opened, if any, and the lot's changes by other trades,
+// sorted by trade id, ascending. If the database is still open, it is unchanged. Fails with
+// `Memory` or `Store`; with `Store` also if one of the other trades does not exist or has no price.
+fn read_changes_sorted_by_trade<S: Alter>(
+    alloc: Global,
+    store: &mut Store<S>,
+    lot: Id,
+) -> Result<OpeningAndLaterChanges, Fault>
+    ensures read { ReadPost S.Store store.old store.new result (λ all t. AreLotChangesByTradeId t lot all) }
+    ensures fault { IfErr result IsCallFault }
+{
+    let changes = store.lot_changes_of_lot(alloc, lot)?;
+    let opening = opening_change_of_lot(&changes, lot);
+    let later = changes_by_other_trades(alloc, &changes, lot)?;
+    let mut changes_by_others = Vec::new(alloc);
+    for change in &later {
+        let priced_change = read_priced_lot_change(store, change)?;
+        changes_by_others.push(priced_change)?;
+    }
+    Ok(OpeningAndLaterChanges {
+        opening,
+        changes_by_others,
+    })
+}
+
+// Returns `changes_by_others`, sorted by the stamps of the trades that made them, ascending; the
+// sort is stable. Fails with `Memory` only.
+fn sort_changes_by_stamp(
+    alloc: Global,
+    changes_by_others: Vec<PricedLotChange>,
+) -> Result<Vec<PricedLotChange>, Fault>
+    ensures order { IfOk result (λ all. map abstract_priced_lot_change all.items
+        ≡ sort_by_key (λ c. c.stamp) (map abstract_priced_lot_change changes_by_others.items)) }
+    ensures fault { OnErr result (result ≡ Err Memory) }
+{
+    let sorted = sort_by_age(alloc, changes_by_others)?;
+    Ok(sorted)
+}
+
+/// Returns the change with which a lot was opened, if any, and the lot's changes by other trades,
+/// sorted by the stamps of these trades, ascending. If the database is still open, it is unchanged.
+/// Fails with `Memory` or `Store`; with `Store` also if one of the other trades does not exist or
+/// has no price.
+pub(crate) fn read_lot_changes_sorted_by_completion<S: Alter>(
+    alloc: Global,
+    store: &mut Store<S>,
+    lot: Id,
+) -> Result<OpeningAndLaterChanges, Fault>
+    ensures read { ReadPost S.Store store.old store.new result (λ all t. AreLotChangesByCompletion t lot all) }
+    ensures fault { IfErr result IsCallFault }
+{
+    let all = read_changes_sorted_by_trade(alloc, store, lot)?;
+    let changes_by_others = sort_changes_by_stamp(alloc, all.changes_by_others)?;
+    Ok(OpeningAndLaterChanges {
+        opening: all.opening,
+        changes_by_others,
+    })
+}

@@ -1,0 +1,54 @@
+//! A trade as ordered, with the rows that it names.
+
+ghost use Rattle.std.specs.Prelude.{◌≡◌, IfErr, map};
+ghost use Rattle.brk_trade_rows.specs.Rows.{abstract_history_row};
+ghost use Rattle.brk_model_explain.specs.Trades.{sorted_statuses_of_trade};
+ghost use Rattle.brk_explain_reads.specs.Found.{IsOrderOfTrade};
+ghost use Rattle.brk_model.specs.Run.{IsCallFault};
+ghost use Rattle.brk_store.specs.Holds.{ReadPost};
+
+use crate::known::{read_existing_account, read_existing_security};
+use crate::ordering::sort_by_age;
+use brk_explain_rows::OrderDetails;
+use brk_money::{Fault, Id};
+use brk_store::Store;
+use brk_trade_rows::{HistoryRow, TradeRow};
+use sqlite::Alter;
+use std::alloc::Global;
+
+// Returns the status changes of the trade with the id `trade`, the oldest first. If the database is
+// still open, it is unchanged. Fails with `Memory` or `Store`.
+fn read_sorted_statuses<S: Alter>(
+    alloc: Global,
+    store: &mut Store<S>,
+    trade: Id,
+) -> Result<Vec<HistoryRow>, Fault>
+    ensures read { ReadPost S.Store store.old store.new result (λ statuses t. map abstract_history_row statuses.items ≡ sorted_statuses_of_trade t trade) }
+    ensures fault { IfErr result IsCallFault }
+{
+    let history = store.history_of_trade(alloc, trade)?;
+    let statuses = sort_by_age(alloc, history)?;
+    Ok(statuses)
+}
+
+// Returns the trade with the rows of its account and its security and with its status changes, the
+// oldest first. If the database is still open, it is unchanged. Fails with `Memory` or `Store`;
+// with `Store` also if the trade's account or security does not exist.
+pub(crate) fn read_order_of_trade<S: Alter>(
+    alloc: Global,
+    store: &mut Store<S>,
+    trade: TradeRow,
+) -> Result<OrderDetails, Fault>
+    ensures read { ReadPost S.Store store.old store.new result (λ order t. IsOrderOfTrade trade order t) }
+    ensures fault { IfErr result IsCallFault }
+{
+    let account = read_existing_account(store, trade.account)?;
+    let security = read_existing_security(store, &trade.symbol)?;
+    let statuses = read_sorted_statuses(alloc, store, trade.id)?;
+    Ok(OrderDetails {
+        trade,
+        account,
+        security,
+        statuses,
+    })
+}

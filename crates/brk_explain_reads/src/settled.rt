@@ -1,0 +1,43 @@
+//! The settlement of a trade.
+
+ghost use Rattle.std.specs.Prelude.{IfErr};
+ghost use Rattle.brk_explain_reads.specs.Found.{IsSettlementAndCashOfTrade};
+ghost use Rattle.brk_model.specs.Run.{IsCallFault};
+ghost use Rattle.brk_store.specs.Holds.{ReadPost};
+
+use crate::known::read_existing_settlement;
+use brk_money::{Day, Fault, Id};
+use brk_store::Store;
+use brk_trade_rows::{MoveRow, SettlementRow};
+use sqlite::Alter;
+
+/// The settlement and the cash row of a trade, and the first day of one-day settlement.
+#[derive(Drop)]
+pub struct SettlementAndCash {
+    pub settlement: SettlementRow,
+    /// The cash row of the trade, or `None` if it has none.
+    pub cash: Option<MoveRow>,
+    /// The first day whose completions settle after one day, if it is set (SR_DAY).
+    pub rule: Option<Day>,
+}
+
+// Returns the settlement and the cash row of the trade with the id `trade`, and the first day of
+// one-day settlement; the cash row is `None` if the trade has none, and the day is `None` if none
+// is set. If the database is still open, it is unchanged. Fails with `Memory` or `Store`; with
+// `Store` also if the trade has no settlement.
+pub(crate) fn read_settlement_cash_and_one_day_start<S: Alter>(
+    store: &mut Store<S>,
+    trade: Id,
+) -> Result<SettlementAndCash, Fault>
+    ensures read { ReadPost S.Store store.old store.new result (λ settled t. IsSettlementAndCashOfTrade t trade settled) }
+    ensures fault { IfErr result IsCallFault }
+{
+    let settlement = read_existing_settlement(store, trade)?;
+    let cash = store.cash_row(trade)?;
+    let rule = store.one_day_settlement_start()?;
+    Ok(SettlementAndCash {
+        settlement,
+        cash,
+        rule,
+    })
+}

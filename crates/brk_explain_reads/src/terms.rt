@@ -1,0 +1,114 @@
+//! The tax rates and the commission band of a trade, as the tables have them now.
+
+ghost use Rattle.std.specs.Prelude.{◌≡◌, ◌&&◌, IfErr, Some, find, if◌then◌else◌, map, nat_le, option_map};
+ghost use Rattle.brk_trade_rows.specs.Rows.{abstract_trade_row};
+ghost use Rattle.brk_model_explain.specs.Trades.{band_for_tier_and_exchange, tax_rates_of_customer};
+ghost use Rattle.brk_explain_reads.specs.Found.{AreTaxRatesAndBand};
+ghost use Rattle.brk_model.specs.Run.{IsCallFault};
+ghost use Rattle.brk_ref.specs.Records.{abstract_band, abstract_tax_rate};
+ghost use Rattle.brk_store.specs.Holds.{ReadPost};
+
+use crate::known::{read_existing_customer, read_existing_tax};
+use brk_explain_rows::OrderDetails;
+use brk_money::{Fault, Id, Qty};
+use brk_ref::{Band, Tax, Tier};
+use brk_store::Store;
+use sqlite::Alter;
+use std::alloc::Global;
+
+/// The tax rates of the customer of a trade, and the commission band of the trade, if there is one.
+#[derive(Drop)]
+pub struct TaxRatesAndBand {
+    pub rates: Vec<Tax>,
+    pub band: Option<Band>,
+}
+
+// Returns the tax rates that a customer pays, sorted by id, ascending. If the database is still
+// open, it is unchanged. Fails with `Memory` or `Store`; with `Store` also if one of them does not
+// exist.
+fn read_tax_rates_of_customer<S: Alter>(
+    alloc: Global,
+    store: &mut Store<S>,
+    customer: Id,
+) -> Result<Vec<Tax>, Fault>
+    ensures read { ReadPost S.Store store.old store.new result (λ rates t. map abstract_tax_rate rates.items ≡ tax_rates_of_customer t customer) }
+    ensures fault { IfErr result IsCallFault }
+{
+    let rows = store.taxes_of_customer(alloc, customer)?;
+    let mut rates = Vec::new(alloc);
+    for row in &rows {
+        let rate = read_existing_tax(store, row.tax)?;
+        rates.push(rate)?;
+    }
+    Ok(rates)
+}
+
+// Returns true if the quantity is from the lower to the upper bound of the band, both included.
+fn band_contains_quantity(band: &Band, qty: Qty) -> bool
+    ensures { result ≡ nat_le band.now.from_qty qty && nat_le qty band.now.to_qty }
+{
+    band.from_qty.get() <= qty.get() && qty.get() <= band.to_qty.get()
+}
+
+// Returns `band` if its bounds, both included, contain the quantity, otherwise `other`, which may
+// be `None`.
+fn band_for_quantity_or_other(band: Band, qty: Qty, other: Option<Band>) -> Option<Band>
+    ensures { option_map abstract_band result
+        ≡ (if nat_le band.from_qty qty && nat_le qty band.to_qty then Some (abstract_band band) else option_map abstract_band other) }
+{
+    if band_contains_quantity(&band, qty) {
+        Some(band)
+    } else {
+        other
+    }
+}
+
+// Returns the first of `bands` whose bounds, both included, contain the quantity, or `None` if
+// there is none.
+fn first_band_with_quantity(bands: Vec<Band>, qty: Qty) -> Option<Band>
+    ensures { option_map abstract_band result ≡ find (λ b. nat_le b.from_qty qty && nat_le qty b.to_qty) (map abstract_band bands.items) }
+{
+    let mut rest = bands;
+    let mut found = None;
+    while let Some(band) = rest.pop() {
+        found = band_for_quantity_or_other(band, qty, found);
+    }
+    found
+}
+
+// Returns the first commission band, in the order of the table, of the customer tier `tier`, of the
+// type of the order's trade and of the exchange of the order's security, whose bounds, both
+// included, contain the quantity of the trade, or `None` if there is none. If the database is still
+// open, it is unchanged. Fails with `Memory` or `Store`.
+fn read_band_for_tier<S: Alter>(
+    alloc: Global,
+    store: &mut Store<S>,
+    order: &OrderDetails,
+    tier: Tier,
+) -> Result<Option<Band>, Fault>
+    ensures read { ReadPost S.Store store.old store.new result (λ band t. option_map abstract_band band
+        ≡ band_for_tier_and_exchange t (abstract_trade_row order.now.trade) tier order.now.security.exchange) }
+    ensures fault { IfErr result IsCallFault }
+{
+    let bands = store.commission_bands(alloc, tier, order.trade.kind, &order.security.exchange)?;
+    Ok(first_band_with_quantity(bands, order.trade.qty))
+}
+
+// Returns the tax rates of the customer of the order's account, sorted by id, ascending, and the
+// commission band of the order's trade, if any, as the tables have them now. If the database is
+// still open, it is unchanged. Fails with `Memory` or `Store`; with `Store` also if the customer or
+// one of the rates does not exist.
+pub(crate) fn read_tax_rates_and_band<S: Alter>(
+    alloc: Global,
+    store: &mut Store<S>,
+    order: &OrderDetails,
+) -> Result<TaxRatesAndBand, Fault>
+    ensures read { ReadPost S.Store store.old store.new result (λ terms t. AreTaxRatesAndBand t order.now terms) }
+    ensures fault { IfErr result IsCallFault }
+{
+    let id = order.account.account.customer;
+    let customer = read_existing_customer(store, id)?;
+    let rates = read_tax_rates_of_customer(alloc, store, id)?;
+    let band = read_band_for_tier(alloc, store, order, customer.tier)?;
+    Ok(TaxRatesAndBand { rates, band })
+}

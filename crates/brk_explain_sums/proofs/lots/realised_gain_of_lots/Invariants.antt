@@ -1,7 +1,0 @@
-use Rattle.std.proofs.Common.{◌≡◌, map, take}
-use Rattle.brk_explain_model.specs.Holdings as holdings
-use Rattle.brk_explain_rows.specs.Details.{abstract_lot_details}
-use Rattle.brk_explain_sums.proofs.lots.realised_gain_of_lots.Given as goal
-
-abbrev pub invariant-loop-lot : goal.invariant-loop-lot
-invariant-loop-lot l = l.total ≡ holdings.realised_gain_of_lots (map abstract_lot_details (take l.lot-index l.lots))

@@ -1,0 +1,4 @@
+pub mod Commas
+pub mod Acted
+pub mod Named
+pub mod Serving

@@ -1,0 +1,2 @@
+pub mod CallOutcomes
+pub mod Served

@@ -1,0 +1,104 @@
+ghost use Rattle.brk_desk_commands.specs.Commands.{abstract_command};
+ghost use Rattle.brk_http.specs.CallOutcomes.{DeskCallHasOutcome};
+ghost use Rattle.brk_model_http.specs.Asked.{model_parsers};
+ghost use Rattle.brk_trade_plans.specs.Replies.{abstract_reply};
+ghost use Rattle.brk_view_rows.specs.Queries.{abstract_query};
+ghost use Rattle.brk_view_rows.specs.ViewNames.{text_of_view_name};
+ghost use Rattle.brk_view_rows.specs.Views.{records_of_view};
+
+use brk_desk::{Command, CommandAnswer, Desk, Query, View, line_text, parse_row, view_fields};
+use brk_http_engine::{Service, fields_between_commas};
+use brk_money::{Fault, Planned, Stamp};
+use brk_ref::Key;
+use brk_trade::Reply;
+use brk_view_rows::{ViewName, parse_query_of_view};
+use sqlite::Alter;
+use std::alloc::{AllocError, Global};
+use std::marker::PhantomData;
+
+/// The operations of a desk over a store that the HTTP engine uses.
+pub struct DeskService<S> {
+    _store: PhantomData<S>,
+}
+
+impl<S: Alter> Service for DeskService<S> {
+    type Desk = Desk<S>;
+
+    type Command = Command;
+
+    type Reply = Reply;
+
+    type Query = Query;
+
+    type ViewName = ViewName;
+
+    type View = View;
+
+    ghost forms = { model_parsers };
+
+    ghost view_text = { text_of_view_name };
+
+    ghost acts = { λ old now call outcome new. DeskCallHasOutcome S.Store old now call outcome new };
+
+    ghost command_of = { abstract_command };
+
+    ghost query_of = { abstract_query };
+
+    ghost told = { abstract_reply };
+
+    ghost shown = { records_of_view };
+
+    /// Parses the fields of a row: returns a command, or the refusal of a malformed row. Fails with
+    /// `Memory` only.
+    fn parse_row(alloc: Global, row: &[&[u8]]) -> Planned<Command> {
+        parse_row(alloc, row)
+    }
+
+    /// Returns the name of a view that has the text `name`, or `None` if no view has this name.
+    fn view_name_from_text(name: &str) -> Option<ViewName> {
+        ViewName::from_text(name)
+    }
+
+    /// Parses the arguments of a view: returns a query, or the refusal of a malformed query. Fails
+    /// with `Memory` only.
+    fn parse_query(alloc: Global, view: ViewName, arguments: &[&[u8]]) -> Planned<Query> {
+        parse_query_of_view(alloc, view, arguments)
+    }
+
+    /// Executes a command at the clock reading `now` by `Desk::call`, under its key or without one,
+    /// and returns its answer. Fails with `Memory` or `Store` only. A fault changes nothing in a
+    /// store that is still open; after a fault that closed the store, a crash may expose the
+    /// command as committed.
+    fn call(
+        desk: &mut Desk<S>,
+        alloc: Global,
+        now: Stamp,
+        command: &Command,
+        key: Option<&Key>,
+    ) -> Result<CommandAnswer, Fault> {
+        desk.call(alloc, now, command, key)
+    }
+
+    /// Executes a query by `Desk::ask`, and returns its view or its refusal. Fails with `Memory` or
+    /// `Store` only. If the database is still open, it is unchanged, whatever the result.
+    fn ask(desk: &mut Desk<S>, alloc: Global, query: &Query) -> Planned<View> {
+        desk.ask(alloc, query)
+    }
+
+    /// Returns the fields of a reply, in order. Fails only if memory runs out.
+    fn reply_fields(alloc: Global, reply: &Reply) -> Result<Vec<String>, AllocError> {
+        match line_text(alloc, reply) {
+            Ok(line) => fields_between_commas(alloc, line.as_str()),
+            Err(_) => Err(AllocError),
+        }
+    }
+
+    /// Returns the records of a view, in order, each a list of texts. Fails only if memory runs
+    /// out.
+    fn view_records(alloc: Global, view: &View) -> Result<Vec<Vec<String>>, AllocError> {
+        match view_fields(alloc, view) {
+            Ok(records) => Ok(records),
+            Err(_) => Err(AllocError),
+        }
+    }
+}

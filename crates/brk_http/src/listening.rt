@@ -1,0 +1,41 @@
+ghost use Rattle.brk_desk.specs.Runs.{IsSomeDeskRun};
+ghost use Rattle.brk_http.specs.Served.{DeskServesStream};
+ghost use Rattle.brk_http_engine.specs.Listening.{ServeEachStreamPost};
+
+use crate::at_socket::SocketServer;
+use brk_desk::Desk;
+use brk_http_engine::{ListenFault, Listener, serve_each_stream};
+use brk_import::Clock;
+use sqlite::Alter;
+use std::alloc::Global;
+use std::net::TcpStream;
+
+/// Accepts and serves `streams` streams of a listener, in sequence: each is served to its end
+/// before the next one is accepted. A stream that its peer broke off, or that ended with `Read` or
+/// `Write`, counts as one, and the next one is served. (An idle stream ends with `Read` or `Write`
+/// after `STREAM_TIMEOUT_SECONDS`; this is only tested.)
+///
+/// Fails with `Stream` at the first stream that ended because memory ran out, and with `Net` at the
+/// first accept that failed for another reason than that the peer broke off. No stream is accepted
+/// after a fault.
+///
+/// Whatever the result, the desk changes only by a sequence of its calls, for which the promises of
+/// `Desk::run` hold, also for a crash.
+pub fn serve_on<L: Listener<Stream = TcpStream>, C: Clock, S: Alter>(
+    alloc: Global,
+    listener: &mut L,
+    streams: u32,
+    clock: &mut C,
+    desk: &mut Desk<S>,
+) -> Result<(), ListenFault>
+    // For any result and any bytes that the peers send, the desk changed only by a sequence of its
+    // calls.
+    ensures served { IsSomeDeskRun S.Store desk.old desk.new }
+    // At `Ok` exactly `streams` streams were handled, and none of them ended because memory ran
+    // out. `Stream` has the fault of the last stream, whose kind is `Memory`. `Net` is returned
+    // only after a failed accept.
+    ensures taken { ServeEachStreamPost L.accepts (DeskServesStream S.Store C.gives) streams (record { listener = listener.old; clock = clock.old; desk = desk.old })
+        result (record { listener = listener.new; clock = clock.new; desk = desk.new }) }
+{
+    serve_each_stream::<L, SocketServer<C, S>>(alloc, listener, streams, clock, desk)
+}

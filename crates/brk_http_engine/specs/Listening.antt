@@ -1,0 +1,77 @@
+-- The streams of a listener, accepted and served in sequence, for any listener and any server of
+-- streams.
+use Rattle.std.specs.Prelude.{◌≡◌, ◌≢◌, ◌<◌, ℕ, List, [], ◌∷◌, Option, None, Some, Result, Ok, Err, length}
+use Rattle.brk_io.specs.declared.stream_fault.ServeFault.{ServeFault}
+use Rattle.brk_io.specs.declared.stream_fault.FaultKind.TheVariants.{Memory}
+use Rattle.brk_http_engine.specs.declared.listen_faults.AcceptFault.{AcceptFault}
+use Rattle.brk_http_engine.specs.declared.listen_faults.AcceptFault.TheVariants.{Aborted, Failed}
+use Rattle.brk_http_engine.specs.declared.listen_faults.ListenFault.{ListenFault}
+use Rattle.brk_http_engine.specs.declared.listen_faults.ListenFault.TheVariants.{Stream, Net}
+
+-- The states of a listener, of a clock and of a desk at one time.
+pub record ListenerClockAndDesk (L C D : Type 0) : Type 0 where
+  pub listener : L
+  pub clock : C
+  pub desk : D
+
+-- The type of the relation of one accept: the accept may turn the first listener into the second,
+-- with this result, a stream of type `X` or a fault.
+abbrev pub AcceptRelation : Type 0 → Type 0 → Type 1
+AcceptRelation L X = L → Result X AcceptFault → L → Type 0
+
+-- The type of the relation of serving one stream of type `X`: it may turn the first clock and desk
+-- into the second, with this result, the number of replies or a fault.
+abbrev pub ServeRelation : Type 0 → Type 0 → Type 0 → Type 1
+ServeRelation C D X = C → D → X → Result ℕ ServeFault → C → D → Type 0
+
+-- The type of the end of a stream: the result of serving it, or `None` if its peer broke it off
+-- before it was accepted.
+abbrev pub StreamEnd : Type 0
+StreamEnd = Option (Result ℕ ServeFault)
+
+-- The accept had the result `result`, and changed neither the clock nor the desk.
+pub record AcceptHasResult {L C D X : Type 0} (accepts : AcceptRelation L X) (old : ListenerClockAndDesk L C D) (result : Result X AcceptFault)
+    (new : ListenerClockAndDesk L C D) : Type 0 where
+  pub accepted : accepts old.listener result new.listener
+  pub clock : new.clock ≡ old.clock
+  pub desk : new.desk ≡ old.desk
+
+-- The next stream of the listener has this end. `None`: the accept failed because the peer broke
+-- the stream off (`Aborted`), and clock and desk are unchanged. Otherwise the stream was accepted
+-- and served with this result.
+abbrev pub HandlesStream : {L C D X : Type 0} → AcceptRelation L X → ServeRelation C D X → ListenerClockAndDesk L C D → StreamEnd → ListenerClockAndDesk L C D
+    → Type 0
+HandlesStream accepts serves old None new = AcceptHasResult accepts old (Err Aborted) new
+HandlesStream {X = X} accepts serves old (Some ended) new =
+    (stream : X) × accepts old.listener (Ok stream) new.listener × serves old.clock old.desk stream ended new.clock new.desk
+
+-- The listener may accept the next stream after one with this end: that stream did not end because
+-- memory ran out. True of a stream that its peer broke off.
+abbrev pub MayAcceptNextStream : StreamEnd → Type 0
+MayAcceptNextStream None = Unit {0}
+MayAcceptNextStream (Some (Ok count)) = Unit {0}
+MayAcceptNextStream (Some (Err fault)) = fault.kind ≢ Memory
+
+-- From the state `old` to the state `new` exactly the next streams of the listener were handled,
+-- one for each of these ends, in order, and none of them ended because memory ran out. Without ends
+-- `new` equals `old`.
+abbrev pub HandlesStreamsInOrder : {L C D X : Type 0} → AcceptRelation L X → ServeRelation C D X → ListenerClockAndDesk L C D → List StreamEnd
+    → ListenerClockAndDesk L C D → Type 0
+HandlesStreamsInOrder accepts serves old [] new = new ≡ old
+HandlesStreamsInOrder {L} {C} {D} accepts serves old (end ∷ ends) new =
+    (mid : ListenerClockAndDesk L C D) × HandlesStream accepts serves old end mid × MayAcceptNextStream end × HandlesStreamsInOrder accepts serves mid ends new
+
+-- The postcondition of accepting and serving `streams` streams in sequence. `Ok`: exactly `streams`
+-- streams were handled. `Stream`: fewer than `streams` were handled, and then one more was accepted
+-- and served, and ended with this fault, because memory ran out. `Net`: fewer than `streams` were
+-- handled, the next accept failed with `Failed`, and it changed neither the clock nor the desk.
+abbrev pub ServeEachStreamPost : {L C D X : Type 0} → AcceptRelation L X → ServeRelation C D X → ℕ → ListenerClockAndDesk L C D → Result (Unit {0}) ListenFault
+    → ListenerClockAndDesk L C D → Type 0
+ServeEachStreamPost accepts serves streams old (Ok done) new =
+    (ends : List StreamEnd) × HandlesStreamsInOrder accepts serves old ends new × (length ends ≡ streams)
+ServeEachStreamPost {L} {C} {D} accepts serves streams old (Err (Stream fault)) new =
+    (ends : List StreamEnd) × (mid : ListenerClockAndDesk L C D) × HandlesStreamsInOrder accepts serves old ends mid × (length ends < streams)
+    × HandlesStream accepts serves mid (Some (Err fault)) new × (fault.kind ≡ Memory)
+ServeEachStreamPost {L} {C} {D} accepts serves streams old (Err Net) new =
+    (ends : List StreamEnd) × (mid : ListenerClockAndDesk L C D) × HandlesStreamsInOrder accepts serves old ends mid × (length ends < streams)
+    × AcceptHasResult accepts mid (Err Failed) new

@@ -1,0 +1,3 @@
+pub mod CrashTables
+pub mod Rows
+pub mod Retries

@@ -1,0 +1,80 @@
+ghost use Rattle.brk_model.specs.Base.{Base};
+ghost use Rattle.brk_model.specs.Batch.{step_of_row};
+ghost use Rattle.brk_model.specs.Commands as model;
+ghost use Rattle.brk_model.specs.Parse.{parse_by_first_field, row_parsers};
+ghost use Rattle.brk_desk_commands.specs.Commands.{abstract_command};
+ghost use Rattle.brk_trade_plans.specs.Replies.{abstract_reply};
+ghost use Rattle.brk_store.specs.Audited.{Represents};
+ghost use Rattle.brk_import.specs.CrashTables.{CrashExposesOnlyOneOf};
+ghost use Rattle.brk_import.specs.Rows.{RowCallHasOutcome};
+ghost use Rattle.sqlite.specs.Held.{state};
+ghost use Rattle.sqlite.specs.State.{HasCleanDisk};
+
+use brk_desk::{Command, CommandAnswer, Desk, line_text, parse_row};
+use brk_import_engine::Rows;
+use brk_money::{Fault, Planned, Stamp};
+use brk_ref::Key;
+use brk_trade::Reply;
+use sqlite::Alter;
+use std::alloc::{AllocError, Global};
+use std::marker::PhantomData;
+
+/// The operations of a desk over a store that the batch engine uses.
+pub struct DeskRows<S> {
+    _store: PhantomData<S>,
+}
+
+impl<S: Alter> Rows for DeskRows<S> {
+    type Desk = Desk<S>;
+
+    type Command = Command;
+
+    type Reply = Reply;
+
+    ghost Base = { Base };
+
+    ghost Asked = { model.Command };
+
+    ghost meets_disk_assumption = { λ desk. HasCleanDisk (state S.Store desk) };
+
+    ghost represents = { λ desk. Represents S.Store desk };
+
+    ghost crash_exposes_only = { CrashExposesOnlyOneOf S.Store };
+
+    ghost acts = { λ old now row outcome new. RowCallHasOutcome S.Store old now row outcome new };
+
+    ghost asked = { abstract_command };
+
+    ghost told = { abstract_reply };
+
+    ghost form = { parse_by_first_field row_parsers };
+
+    ghost step = { step_of_row };
+
+    /// Parses the fields of a row: returns a command, or the refusal of a malformed row. Fails with
+    /// `Memory` only.
+    fn parse(alloc: Global, row: &[&[u8]]) -> Planned<Command> {
+        parse_row(alloc, row)
+    }
+
+    /// Executes a command under its key at the clock reading `now`, by `Desk::call`, and returns
+    /// its answer. Fails with `Memory` or `Store`. A fault changes nothing in a store that is still
+    /// open; after a fault that closed the store, a crash may expose the command as committed.
+    fn call(
+        desk: &mut Desk<S>,
+        alloc: Global,
+        now: Stamp,
+        command: &Command,
+        key: &Key,
+    ) -> Result<CommandAnswer, Fault> {
+        desk.call(alloc, now, command, Some(key))
+    }
+
+    /// Returns the fields of a reply, joined by commas. Fails only if memory runs out.
+    fn reply_line(alloc: Global, reply: &Reply) -> Result<String, AllocError> {
+        match line_text(alloc, reply) {
+            Ok(line) => Ok(line),
+            Err(_) => Err(AllocError),
+        }
+    }
+}

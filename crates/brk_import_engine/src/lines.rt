@@ -1,0 +1,60 @@
+ghost use Rattle.std.specs.Prelude.{◌≡◌, IfOk, string_bytes};
+ghost use Rattle.brk_model.specs.Commands.{Reply};
+ghost use Rattle.brk_model.specs.Lines.{answer_line, answer_text};
+ghost use Rattle.brk_ref.specs.Answers.{abstract_answer};
+ghost use Rattle.brk_import_engine.specs.Counts.{end_line_with_counts};
+
+use crate::counts::Counts;
+use crate::rows::Rows;
+use brk_ref::Answer;
+use itoa::Buffer;
+use std::alloc::{AllocError, Global};
+
+// Returns the text of an answer: `ok`, `again` or `no`, a comma, and the fields of the reply, of
+// the stored reply or of the refusal, separated by commas. Fails only if memory runs out.
+fn answer_text<D: Rows>(alloc: Global, answer: &Answer<D::Reply>) -> Result<String, AllocError>
+    ensures { IfOk result (λ text. string_bytes text ≡ answer_text (abstract_answer D.told answer.now)) }
+{
+    match answer {
+        Answer::Done(reply) => {
+            let fields = D::reply_line(alloc, reply)?;
+            format!(in alloc; "ok,{fields}")
+        }
+        Answer::Again(line) => format!(in alloc; "again,{line}"),
+        Answer::Refused(refusal) => format!(in alloc; "no,{refusal}"),
+    }
+}
+
+/// Returns the line of row `n` with the answer `answer`, `n,ok,FIELDS`, `n,again,FIELDS` or
+/// `n,no,FIELDS`, with its line feed. Fails only if memory runs out.
+pub fn row_answer_line<D: Rows>(
+    alloc: Global,
+    n: u64,
+    answer: &Answer<D::Reply>,
+) -> Result<Vec<u8>, AllocError>
+    ensures { IfOk result (λ line. line.items ≡ answer_line n (abstract_answer D.told answer.now)) }
+{
+    let text = answer_text::<D>(alloc, answer)?;
+    let mut buffer = Buffer::new();
+    let mut line = Vec::from_slice(alloc, buffer.format(n).as_bytes())?;
+    line.push(b',')?;
+    line.extend_from_slice(text.as_bytes())?;
+    line.push(b'\n')?;
+    Ok(line)
+}
+
+/// Returns the end line of a batch with these counts, `end,OK,AGAIN,NO`, with its line feed. Fails
+/// only if memory runs out.
+pub fn end_line_of_counts(alloc: Global, counts: Counts) -> Result<Vec<u8>, AllocError>
+    ensures { IfOk result (λ line. line.items ≡ end_line_with_counts counts) }
+{
+    let mut line = Vec::from_slice(alloc, b"end,")?;
+    let mut buffer = Buffer::new();
+    line.extend_from_slice(buffer.format(counts.ok).as_bytes())?;
+    line.push(b',')?;
+    line.extend_from_slice(buffer.format(counts.again).as_bytes())?;
+    line.push(b',')?;
+    line.extend_from_slice(buffer.format(counts.no).as_bytes())?;
+    line.push(b'\n')?;
+    Ok(line)
+}

@@ -1,3 +1,0 @@
-pub mod Acted
-pub mod Named
-pub mod Serving

@@ -1,5 +1,0 @@
-use Rattle.brk_interfaces.proofs.http.Acted.{asked}
-use Rattle.brk_interfaces.proofs.http.at_desk.DeskServiceService.ask.Goals as goal
-
-pub returns : goal.returns
-returns g c = asked g.S.Store _ _ 0 _ _ c.ask.ensures.asked

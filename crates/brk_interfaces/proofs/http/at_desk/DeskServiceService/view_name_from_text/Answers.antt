@@ -1,5 +1,0 @@
-use Rattle.brk_interfaces.proofs.http.Named.{named}
-use Rattle.brk_interfaces.proofs.http.at_desk.DeskServiceService.view_name_from_text.Goals as goal
-
-pub returns : goal.returns
-returns g c = named c.args.name.now c.from_text.result c.from_text.ensures

@@ -1,5 +1,0 @@
-pub mod CrashTables
-pub mod Rows
-pub mod Retries
-pub mod CallOutcomes
-pub mod Served

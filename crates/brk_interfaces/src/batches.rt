@@ -1,9 +1,0 @@
-//! Executes batches of CSV rows on a desk, and writes a line with the answer to each row.
-
-mod at_desk;
-mod batch;
-pub mod retries;
-
-pub use at_desk::DeskRows;
-pub use batch::run_batch;
-pub use brk_batch_engine::{BatchFault, Clock, Counts, FaultKind, MAXIMUM_INPUT_BYTES};

@@ -1,0 +1,34 @@
+ghost use Rattle.brk_model.specs.Parse.{read_complete_trade_command};
+ghost use Rattle.brk_ref_orders.specs.Records.{completion_command};
+ghost use Rattle.brk_ref.specs.Fields.{ParsesAs, texts_of_fields};
+
+use brk_money::{Id, Price, Refusal};
+use brk_ref::{parse_id, parse_price};
+
+/// The requested completion of a submitted trade (Trade-Result).
+#[derive(Clone, Copy)]
+pub struct Completion {
+    /// The trade that is completed.
+    pub trade: Id,
+    /// The price of a share at which it was executed, in cents.
+    pub price: Price,
+}
+
+/// Parses a completion from the fields TRADE and PRICE.
+///
+/// Refuses with `BadText` (18) if there are not exactly two fields or TRADE is not an id, otherwise
+/// with `BadPrice` (9) if PRICE is not a price. Never allocates.
+pub fn parse_completion(fields: &[&[u8]]) -> Result<Completion, Refusal>
+    ensures { ParsesAs completion_command result (read_complete_trade_command (texts_of_fields fields.now)) }
+{
+    let [trade, price] = fields else {
+        return Err(Refusal::BadText);
+    };
+    let Some(trade) = parse_id(trade) else {
+        return Err(Refusal::BadText);
+    };
+    let Some(price) = parse_price(price) else {
+        return Err(Refusal::BadPrice);
+    };
+    Ok(Completion { trade, price })
+}

@@ -1,0 +1,43 @@
+ghost use Rattle.std.specs.Prelude.{◌≡◌, ◌∷◌, [], IfOk, OnErr, Err};
+ghost use Rattle.brk_model.specs.Parse.{read_ticks};
+ghost use Rattle.brk_money.specs.declared.fault.Fault.TheVariants.{Memory};
+ghost use Rattle.brk_ref_orders.specs.Records.{abstract_tick_as_list};
+ghost use Rattle.brk_ref.specs.Fields.{ParsesAs};
+
+use brk_money::{Planned, Price, Qty, Refusal};
+use brk_ref::{Symbol, parse_price, parse_qty};
+use std::alloc::Global;
+
+/// A trade on the market, as a feed reports it (Market-Feed).
+#[derive(Drop)]
+pub struct Tick {
+    pub symbol: Symbol,
+    /// The price of a share, in cents.
+    pub price: Price,
+    /// The number of shares that were traded.
+    pub qty: Qty,
+}
+
+// Parses a tick from its three fields. Refuses with `BadText` if the symbol is malformed; otherwise
+// with `BadQty` if the quantity is malformed or out of range; otherwise with `BadPrice` if the
+// price is malformed or out of range. Fails with `Memory` only.
+pub(crate) fn parse_tick_fields(
+    alloc: Global,
+    symbol: &[u8],
+    price: &[u8],
+    qty: &[u8],
+) -> Planned<Tick>
+    ensures read { IfOk result (λ read. ParsesAs abstract_tick_as_list read (read_ticks (symbol.now ∷ price.now ∷ qty.now ∷ []))) }
+    ensures fault { OnErr result (result ≡ Err Memory) }
+{
+    let Some(symbol) = Symbol::parse(alloc, symbol)? else {
+        return Ok(Err(Refusal::BadText));
+    };
+    let Some(qty) = parse_qty(qty) else {
+        return Ok(Err(Refusal::BadQty));
+    };
+    let Some(price) = parse_price(price) else {
+        return Ok(Err(Refusal::BadPrice));
+    };
+    Ok(Ok(Tick { symbol, price, qty }))
+}

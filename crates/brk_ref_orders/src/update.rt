@@ -1,0 +1,93 @@
+ghost use Rattle.std.specs.Prelude.{◌≡◌, IfOk, OnErr, Err};
+ghost use Rattle.brk_model.specs.Commands.{ChangeExecutors};
+ghost use Rattle.brk_model.specs.Forms.{read_distinct_ids};
+ghost use Rattle.brk_model.specs.Parse.{read_and_wrap, read_cash_type_update, read_cash_name_update};
+ghost use Rattle.brk_money.specs.declared.fault.Fault.TheVariants.{Memory};
+ghost use Rattle.brk_ref_orders.specs.Records.{text_update_command};
+ghost use Rattle.brk_ref.specs.Fields.{ParsesAs, texts_of_fields};
+
+use crate::span::{Span, parse_stamp};
+use crate::trade_ids::{TradeIds, parse_trade_ids};
+use brk_money::{Id, Planned, Refusal};
+use brk_ref::{Symbol, parse_id};
+use std::alloc::Global;
+
+/// A requested text update (Trade-Update): the text that it replaces, and the trades that it
+/// selects.
+#[derive(Drop)]
+pub enum Update {
+    /// Updates the executors' names of the trades with these ids.
+    Executors(TradeIds),
+    /// Updates the cash types (SE_CASH_TYPE) of at most 20 trades, the oldest first, of an account
+    /// that were completed between two stamps, both included.
+    CashTypes { account: Id, span: Span },
+    /// Updates the cash names, the texts of the cash rows, of at most 20 cash trades, the oldest
+    /// first, of a security that were completed between two stamps, both included.
+    CashNames { symbol: Symbol, span: Span },
+}
+
+/// Parses an update of executors' names from the ids of its trades: 1 to 20 different ids, one in
+/// each field. Fails with `Memory` only.
+///
+/// Refuses with `BadText` (18) if there is no field, if a field is not an id, or if an id occurs
+/// twice. Otherwise refuses with `TooMany` (20) if there are more than 20 fields.
+pub fn parse_update_of_executor_names(alloc: Global, fields: &[&[u8]]) -> Planned<Update>
+    ensures read { IfOk result (λ read. ParsesAs text_update_command read (read_and_wrap ChangeExecutors read_distinct_ids (texts_of_fields fields.now))) }
+    ensures fault { OnErr result (result ≡ Err Memory) }
+{
+    match parse_trade_ids(alloc, fields)? {
+        Ok(trades) => Ok(Ok(Update::Executors(trades))),
+        Err(refusal) => Ok(Err(refusal)),
+    }
+}
+
+/// Parses an update of cash types (SE_CASH_TYPE) from the fields ACCOUNT, FROM and TO, the last two
+/// of them stamps in milliseconds since 1970-01-01 UTC. FROM may be later than TO; the span is then
+/// empty.
+///
+/// Refuses with `BadText` (18) if there are not exactly three fields, or if one is malformed or out
+/// of range. Never allocates.
+pub fn parse_update_of_cash_types(fields: &[&[u8]]) -> Result<Update, Refusal>
+    ensures { ParsesAs text_update_command result (read_cash_type_update (texts_of_fields fields.now)) }
+{
+    let [account, first, last] = fields else {
+        return Err(Refusal::BadText);
+    };
+    let Some(account) = parse_id(account) else {
+        return Err(Refusal::BadText);
+    };
+    let Some(first) = parse_stamp(first) else {
+        return Err(Refusal::BadText);
+    };
+    let Some(last) = parse_stamp(last) else {
+        return Err(Refusal::BadText);
+    };
+    let span = Span { first, last };
+    Ok(Update::CashTypes { account, span })
+}
+
+/// Parses an update of cash names, the texts of cash rows, from the fields SYMBOL, FROM and TO, the
+/// last two of them stamps in milliseconds since 1970-01-01 UTC. FROM may be later than TO; the
+/// span is then empty.
+///
+/// Refuses with `BadText` (18) if there are not exactly three fields, or if one is malformed or out
+/// of range. Fails with `Memory` only.
+pub fn parse_update_of_cash_names(alloc: Global, fields: &[&[u8]]) -> Planned<Update>
+    ensures read { IfOk result (λ read. ParsesAs text_update_command read (read_cash_name_update (texts_of_fields fields.now))) }
+    ensures fault { OnErr result (result ≡ Err Memory) }
+{
+    let [symbol, first, last] = fields else {
+        return Ok(Err(Refusal::BadText));
+    };
+    let Some(symbol) = Symbol::parse(alloc, symbol)? else {
+        return Ok(Err(Refusal::BadText));
+    };
+    let Some(first) = parse_stamp(first) else {
+        return Ok(Err(Refusal::BadText));
+    };
+    let Some(last) = parse_stamp(last) else {
+        return Ok(Err(Refusal::BadText));
+    };
+    let span = Span { first, last };
+    Ok(Ok(Update::CashNames { symbol, span }))
+}

@@ -1,0 +1,30 @@
+-- Written by tools/generate/tables.py: what a SELECT means.
+use Rattle.std.proofs.Common.{ℕ, pos, List, [], ◌∷◌, codes, false, Some, refl}
+use Rattle.sqlite.specs.declared.types.Value.TheVariants.{Int}
+use Rattle.sqlite.specs.Term.{Term, lit, col}
+use Rattle.sqlite_ast.specs.declared.Expr.TheVariants as e
+use Rattle.sqlite_tied.specs.Compute.{everything}
+use Rattle.brk_tables_sql.proofs.Asked.{Ask, lacks, single, IsAsked, IsPlain, asks_plainly}
+use Rattle.brk_tables_schema.specs.Shapes.{cash_move_table}
+
+abbrev pub statement : List ℕ
+statement = codes "SELECT CM_ID, CM_CA_ID, CM_T_ID, CM_DTS, CM_AMT, CM_NAME FROM CASH_MOVE WHERE CM_T_ID IS NULL ORDER BY CM_ID LIMIT 1 OFFSET ?1"
+
+abbrev pub ask : Ask
+ask = record {
+  shown = 0 ∷ 1 ∷ 2 ∷ 3 ∷ 4 ∷ 5 ∷ [];
+  tests = Some (single (lacks 2));
+  by = (0, false) ∷ [];
+  limit = Some (e.Integer (codes "1"));
+  offset = Some (e.Parameter 1);
+}
+
+abbrev pub paging : Term × Term
+paging = (lit (Int (pos 1)), col 0 0)
+
+pub is_asked : IsAsked cash_move_table statement ask paging
+unfolding everything
+is_asked = record { reads = λ tree. (refl, refl, refl); sound = λ tree. refl; paged = λ schema tree. refl }
+
+pub plain : IsPlain statement
+plain = asks_plainly cash_move_table statement ask paging is_asked

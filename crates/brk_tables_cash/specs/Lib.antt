@@ -1,0 +1,2 @@
+pub mod Upgrade
+pub mod UpgradeStatements

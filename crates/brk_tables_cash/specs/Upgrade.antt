@@ -1,0 +1,80 @@
+-- The effect of the upgrade to schema 3 on the rows and on the database.
+use Rattle.std.specs.Prelude.{◌≡◌, ◌≢◌, ◌+◌, ℕ, List, [], ◌∷◌, ◌++◌}
+use Rattle.std.specs.List.{AllByRecursion}
+use Rattle.sqlite_schema.specs.declared.schema.Table.{Table}
+use Rattle.sqlite.specs.Effect.{Database}
+use Rattle.brk_model.specs.Lists.{sort_by_key}
+use Rattle.brk_model.specs.Adopted.{posting_of_cash_transaction_row}
+use Rattle.brk_model.specs.Upgraded.{tables_upgraded_from_schema}
+use Rattle.brk_model.specs.Schemas.{Schema}
+use Rattle.brk_model.specs.Tables.{Tables, CashRow, cash_move_row}
+use Rattle.brk_trade_rows.specs.Changes.{tables_with_cash_row}
+use Rattle.brk_tables_sql.specs.Desk.{HasTables, HasSelectedTables, HasNoWritingForeignKeysAt}
+use Rattle.brk_tables_schema.specs.Desk.{DeskTable, desk_tables, desk_tables_of_schema}
+use Rattle.brk_tables_schema.specs.Made.{IsTableOfSchema, LacksOtherDeskTables}
+use Rattle.brk_tables_cash.specs.UpgradeStatements.{tables_without_cash_transactions}
+
+-- The rows of CASH_TRANSACTION, sorted by stamp, ascending. Rows with equal stamps are in the order
+-- of the table.
+abbrev pub cash_transactions_by_stamp : Tables → List CashRow
+cash_transactions_by_stamp t = sort_by_key (λ r. r.stamp) t.cash
+
+-- The tables `t` with the row `c` of CASH_TRANSACTION inserted into CASH_MOVE under the number
+-- `id`, with the account of its trade (0 if the trade does not exist).
+abbrev pub tables_with_numbered_cash_row : ℕ → CashRow → Tables → Tables
+tables_with_numbered_cash_row id c t = tables_with_cash_row (cash_move_row id (posting_of_cash_transaction_row t c)) t
+
+-- The tables `t` with the given rows of CASH_TRANSACTION inserted into CASH_MOVE, in order, under
+-- the numbers `n`, `n + 1` and so on, each with the account of its trade
+-- (`tables_with_numbered_cash_row`).
+abbrev pub tables_with_cash_rows_numbered_from : ℕ → List CashRow → Tables → Tables
+tables_with_cash_rows_numbered_from n [] t = t
+tables_with_cash_rows_numbered_from n (c ∷ cs) t = tables_with_cash_rows_numbered_from (n + 1) cs (tables_with_numbered_cash_row n c t)
+
+-- The tables `t` with all rows of CASH_TRANSACTION inserted into CASH_MOVE, numbered from 1 by
+-- ascending stamp, those with equal stamps in the order of the table, and with no rows in
+-- CASH_TRANSACTION.
+abbrev pub tables_with_cash_transactions_moved : Tables → Tables
+tables_with_cash_transactions_moved t = tables_without_cash_transactions (tables_with_cash_rows_numbered_from 1 (cash_transactions_by_stamp t) t)
+
+-- Each table of `old` is in `new`, at the same index; `new` may have more tables. The rows of a
+-- table of `old` are unchanged if it is at none of the trees `tree w` of the tables `w` for which
+-- `In w` holds, and no foreign key of it, or of another table at its tree, changes or deletes rows.
+pub record PreservesTablesOutside (In : DeskTable → Type 0) (tree : DeskTable → ℕ) (old new : Database) : Type 0 where
+  pub more : List Table
+  pub tables : new.schema.tables ≡ old.schema.tables ++ more
+  pub rows : AllByRecursion (λ k. ((w : DeskTable) → In w → k.tree ≢ tree w) → HasNoWritingForeignKeysAt old.schema k.tree
+      → new.trees k.tree ≡ old.trees k.tree) old.schema.tables
+
+-- The database `new` contains the tables of schema 3 with the rows `t`. Each table of `old` that is
+-- at no tree `before w` of a table `w` of the schema `desk_before` is unchanged, unless a foreign
+-- key of this table changes or deletes its rows (`PreservesTablesOutside`); it is at no tree of a
+-- table of schema 3 in `new`. A tree at which no foreign key changes or deletes rows in `old` has
+-- no such foreign key in `new`.
+pub record HasUpgradedTables (desk_before : Schema) (before : DeskTable → ℕ) (t : Tables) (old new : Database) : Type 0 where
+  pub tree : DeskTable → ℕ
+  pub rows : HasTables desk_tables t tree new
+  pub others : PreservesTablesOutside (IsTableOfSchema desk_before) before old new
+  -- A table of `old` that is not one of the desk's is at none of the trees of schema 3's tables.
+  pub apart : AllByRecursion (λ k. ((w : DeskTable) → IsTableOfSchema desk_before w → k.tree ≢ before w) → (w : DeskTable) → k.tree ≢ tree w) old.schema.tables
+  -- If no foreign key of a table at a tree changes or deletes rows in `old`, none does in `new`.
+  pub keys_write_nothing : (tree : ℕ) → HasNoWritingForeignKeysAt old.schema tree → HasNoWritingForeignKeysAt new.schema tree
+
+-- If the database `old` contains the tables of `schema` with the rows `t`, and both `old` and `t`
+-- lack the tables that a later schema adds (`LacksOtherDeskTables`), `new` contains the tables of
+-- schema 3 with the rows `t`. Other tables are unchanged, unless a foreign key of their own changes
+-- or deletes their rows (`HasUpgradedTables`). Vacuous otherwise.
+abbrev pub AddsTablesOfLaterSchemas : Schema → Database → Database → Type 0
+AddsTablesOfLaterSchemas schema old new =
+    (t : Tables) (tree : DeskTable → ℕ) → HasSelectedTables (desk_tables_of_schema schema) (IsTableOfSchema schema) t tree old
+    → LacksOtherDeskTables schema t old → HasUpgradedTables schema tree t old new
+
+-- If the database `old` contains the tables of `schema` with the rows `t`, and both `old` and `t`
+-- lack the tables that a later schema adds (`LacksOtherDeskTables`), `new` contains the tables of
+-- schema 3 with the upgraded rows (`tables_upgraded_from_schema`). Other tables are unchanged,
+-- unless a foreign key of their own changes or deletes their rows (`HasUpgradedTables`). Vacuous
+-- otherwise.
+abbrev pub UpgradesTables : Schema → Database → Database → Type 0
+UpgradesTables schema old new =
+    (t : Tables) (tree : DeskTable → ℕ) → HasSelectedTables (desk_tables_of_schema schema) (IsTableOfSchema schema) t tree old
+    → LacksOtherDeskTables schema t old → HasUpgradedTables schema tree (tables_upgraded_from_schema schema t) old new

@@ -1,0 +1,64 @@
+//! The insertion of the cash rows of schema 1 into CASH_MOVE, under numbers.
+
+ghost use Rattle.std.specs.Prelude.{◌≡◌, IfErr, map};
+ghost use Rattle.brk_model.specs.Run.{IsCallFault};
+ghost use Rattle.brk_trade_rows.specs.Rows.{abstract_cash_row};
+ghost use Rattle.brk_tables_schema.specs.Statements.{WritesDeskTables};
+ghost use Rattle.brk_tables_cash.specs.Upgrade.{tables_with_cash_rows_numbered_from, tables_with_numbered_cash_row};
+
+use crate::moves::add_cash_row;
+use crate::reading::account_id_of_trade;
+use brk_money::{Fault, MoveId};
+use brk_trade_rows::{CashRow, MoveRow};
+use sqlite::{Alter, Transaction};
+
+// Inserts the cash row of a trade (a row of CASH_TRANSACTION) into CASH_MOVE under the number `id`,
+// with the account of the trade. Fails with `Memory` or `Store` only; with `Store` also if the
+// number or a cash row of the trade exists, if the trade does not exist, or if the id of its
+// account is malformed. Inserts no row if it fails.
+fn add_numbered_cash_row<S: Alter>(
+    tx: &mut Transaction<'_, S>,
+    id: MoveId,
+    row: &CashRow,
+) -> Result<(), Fault>
+    ensures same_reference { tx.new.conn.ghost_name ≡ tx.old.conn.ghost_name }
+    ensures step { WritesDeskTables S.Store tx.old tx.new result (tables_with_numbered_cash_row id (abstract_cash_row row.now)) }
+    ensures fault { IfErr result IsCallFault }
+{
+    let Some(account) = account_id_of_trade(tx, row.trade)? else {
+        return Err(Fault::Store);
+    };
+    let numbered = MoveRow {
+        id,
+        account,
+        trade: Some(row.trade),
+        stamp: row.stamp,
+        amount: row.amount,
+        name: row.name.clone()?,
+    };
+    add_cash_row(tx, &numbered)
+}
+
+/// Inserts rows of CASH_TRANSACTION into CASH_MOVE, in order, numbered from 1, with the accounts of
+/// their trades. Fails with `Memory` or `Store` only; with `Store` also if one of the numbers
+/// exists or exceeds the greatest `MoveId`, or if one of the trades does not exist, has a cash row
+/// or has a malformed account id. After an error, the rows before the one that failed may be
+/// inserted in the transaction.
+pub fn add_numbered_cash_rows<S: Alter>(
+    tx: &mut Transaction<'_, S>,
+    rows: &[CashRow],
+) -> Result<(), Fault>
+    ensures same_reference { tx.new.conn.ghost_name ≡ tx.old.conn.ghost_name }
+    ensures step { WritesDeskTables S.Store tx.old tx.new result (tables_with_cash_rows_numbered_from 1 (map abstract_cash_row rows.now)) }
+    ensures fault { IfErr result IsCallFault }
+{
+    let mut number: u64 = 1;
+    for row in rows {
+        let Some(id) = MoveId::new(number) else {
+            return Err(Fault::Store);
+        };
+        add_numbered_cash_row(tx, id, row)?;
+        number = id.get() + 1;
+    }
+    Ok(())
+}

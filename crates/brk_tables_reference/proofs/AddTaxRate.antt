@@ -1,0 +1,23 @@
+-- Written by tools/generate/tables.py: what an INSERT means.
+use Rattle.std.proofs.Common.{◌≡◌, ℕ, List, [], ◌∷◌, codes, Ok, refl}
+use Rattle.sqlite.specs.declared.types.Value.TheVariants.{Null}
+use Rattle.sqlite.specs.Term.{Term, lit, col}
+use Rattle.sqlite.specs.Schema.{Schema}
+use Rattle.sqlite.specs.Source.TheVariants.{Values}
+use Rattle.sqlite.specs.Command.TheVariants.{Insert}
+use Rattle.sqlite_resolve.specs.Compile.{compiled}
+use Rattle.sqlite_tied.specs.Compute.{everything}
+use Rattle.brk_tables_sql.specs.Desk.{IsTableAt}
+use Rattle.brk_tables_sql.proofs.Meant.{meant, inserts}
+use Rattle.brk_tables_sql.proofs.Texts.{read}
+use Rattle.brk_tables_schema.specs.Shapes.{tax_rate_table}
+
+abbrev pub statement : List ℕ
+statement = codes "INSERT INTO TAXRATE (TX_ID, TX_NAME, TX_RATE) VALUES (?1, ?2, ?3)"
+
+abbrev pub terms : List Term
+terms = col 0 0 ∷ lit Null ∷ col 0 1 ∷ col 0 2 ∷ []
+
+pub understood_as : (schema : Schema) (at tree : ℕ) → IsTableAt schema (tax_rate_table tree) at → compiled schema statement ≡ Ok (meant (read statement) [] (Insert at (Values terms 4)))
+unfolding everything
+understood_as schema at tree h = inserts schema statement (read statement) refl refl (codes "TAXRATE") at (tax_rate_table tree) h.named h.found _ _ _ refl refl

@@ -1,0 +1,31 @@
+-- Written by tools/generate/tables.py: what a SELECT means.
+use Rattle.std.proofs.Common.{ℕ, pos, negsuc, List, [], ◌∷◌, ◌++◌, codes, false, None, Some, refl}
+use Rattle.sqlite.specs.declared.types.Value.TheVariants.{Int}
+use Rattle.sqlite_sql.specs.declared.ops.CompareOp.TheVariants.{Eq}
+use Rattle.sqlite.specs.Term.{Term, lit}
+use Rattle.sqlite_tied.specs.Compute.{everything}
+use Rattle.brk_tables_sql.proofs.Asked.{Ask, compares, single, also, IsAsked, IsPlain, asks_plainly}
+use Rattle.brk_tables_schema.specs.Shapes.{band_table}
+
+abbrev pub statement : List ℕ
+statement = codes "SELECT CR_C_TIER, CR_TT_ID, CR_EX_ID, CR_FROM_QTY, CR_TO_QTY, CR_RATE FROM COMMISSION_RATE WHERE CR_C_TIER = ?1 AND CR_TT_ID = ?2 AND CR_EX_ID = ?3 ORDER BY CR_C_TIER, "
+    ++ codes "CR_TT_ID, CR_EX_ID, CR_FROM_QTY"
+
+abbrev pub ask : Ask
+ask = record {
+  shown = 0 ∷ 1 ∷ 2 ∷ 3 ∷ 4 ∷ 5 ∷ [];
+  tests = Some (also (also (single (compares Eq 0 1)) (compares Eq 1 2)) (compares Eq 2 3));
+  by = (0, false) ∷ (1, false) ∷ (2, false) ∷ (3, false) ∷ [];
+  limit = None;
+  offset = None;
+}
+
+abbrev pub paging : Term × Term
+paging = (lit (Int (negsuc 0)), lit (Int (pos 0)))
+
+pub is_asked : IsAsked band_table statement ask paging
+unfolding everything
+is_asked = record { reads = λ tree. (refl, refl, refl); sound = λ tree. refl; paged = λ schema tree. refl }
+
+pub plain : IsPlain statement
+plain = asks_plainly band_table statement ask paging is_asked

@@ -1,0 +1,30 @@
+-- Written by tools/generate/tables.py: what a SELECT means.
+use Rattle.std.proofs.Common.{ℕ, pos, negsuc, List, [], ◌∷◌, codes, false, None, Some, refl}
+use Rattle.sqlite.specs.declared.types.Value.TheVariants.{Int}
+use Rattle.sqlite_sql.specs.declared.ops.CompareOp.TheVariants.{Eq}
+use Rattle.sqlite.specs.Term.{Term, lit}
+use Rattle.sqlite_tied.specs.Compute.{everything}
+use Rattle.brk_tables_sql.proofs.Asked.{Ask, compares, single, also, IsAsked, IsPlain, asks_plainly}
+use Rattle.brk_tables_schema.specs.Shapes.{permission_table}
+
+abbrev pub statement : List ℕ
+statement = codes "SELECT AP_CA_ID, AP_TAX_ID, AP_ACL, AP_L_NAME, AP_F_NAME FROM ACCOUNT_PERMISSION WHERE AP_CA_ID = ?1 AND AP_TAX_ID = ?2 ORDER BY AP_CA_ID, AP_TAX_ID"
+
+abbrev pub ask : Ask
+ask = record {
+  shown = 0 ∷ 1 ∷ 2 ∷ 3 ∷ 4 ∷ [];
+  tests = Some (also (single (compares Eq 0 1)) (compares Eq 1 2));
+  by = (0, false) ∷ (1, false) ∷ [];
+  limit = None;
+  offset = None;
+}
+
+abbrev pub paging : Term × Term
+paging = (lit (Int (negsuc 0)), lit (Int (pos 0)))
+
+pub is_asked : IsAsked permission_table statement ask paging
+unfolding everything
+is_asked = record { reads = λ tree. (refl, refl, refl); sound = λ tree. refl; paged = λ schema tree. refl }
+
+pub plain : IsPlain statement
+plain = asks_plainly permission_table statement ask paging is_asked

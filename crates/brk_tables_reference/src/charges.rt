@@ -1,0 +1,54 @@
+ghost use Rattle.std.specs.Prelude.{◌≡◌, ◌==◌, ◌&&◌, Err, OnErr};
+ghost use Rattle.brk_money.specs.Kinds.{is_same_trade_type};
+ghost use Rattle.brk_money.specs.declared.fault.Fault.TheVariants.{Store};
+ghost use Rattle.brk_ref.specs.Records.{abstract_charge};
+ghost use Rattle.brk_trade_rows.specs.Changes.{tables_with_charge};
+ghost use Rattle.brk_tables_schema.specs.Desk.{Charges};
+ghost use Rattle.brk_tables_schema.specs.Statements.{ReadsFirstMatch, WritesDeskTables};
+
+use brk_money::{Fault, TradeType};
+use brk_ref::{Charge, Tier};
+use brk_tables_schema::calls::{execute_statement, select_rows};
+use brk_tables_schema::record::decode_first_row;
+use brk_tables_schema::values::{
+    charge_amount_as_parameter, tier_as_parameter, trade_type_as_parameter,
+};
+use sqlite::{Alter, Transaction};
+
+/// Inserts the charge of a trade type and a customer tier (CHARGE), in cents. Fails with `Store`
+/// only, also if a charge of this type and tier exists.
+pub fn add_charge<S: Alter>(tx: &mut Transaction<'_, S>, charge: &Charge) -> Result<(), Fault>
+    ensures same_reference { tx.new.conn.ghost_name ≡ tx.old.conn.ghost_name }
+    ensures step { WritesDeskTables S.Store tx.old tx.new result (tables_with_charge (abstract_charge charge.now)) }
+    ensures fault { OnErr result (result ≡ Err Store) }
+{
+    execute_statement(
+        tx,
+        "INSERT INTO CHARGE (CH_TT_ID, CH_C_TIER, CH_CHRG) VALUES (?1, ?2, ?3)",
+        &[
+            trade_type_as_parameter(charge.kind),
+            tier_as_parameter(charge.tier),
+            charge_amount_as_parameter(charge.amount),
+        ],
+    )
+}
+
+/// Returns the charge of a trade type and a customer tier, or `None` if there is none. Changes
+/// nothing if it succeeds. Fails with `Store` only, also if the row is malformed or memory runs
+/// out.
+pub fn charge_by_type_and_tier<S: Alter>(
+    tx: &mut Transaction<'_, S>,
+    kind: TradeType,
+    tier: Tier,
+) -> Result<Option<Charge>, Fault>
+    ensures same_reference { tx.new.conn.ghost_name ≡ tx.old.conn.ghost_name }
+    ensures step { ReadsFirstMatch S.Store tx.old tx.new result Charges abstract_charge (λ r. is_same_trade_type r.kind kind && (r.tier == tier)) }
+    ensures fault { OnErr result (result ≡ Err Store) }
+{
+    let rows = select_rows(
+        tx,
+        "SELECT CH_TT_ID, CH_C_TIER, CH_CHRG FROM CHARGE WHERE CH_TT_ID = ?1 AND CH_C_TIER = ?2 ORDER BY CH_TT_ID, CH_C_TIER",
+        &[trade_type_as_parameter(kind), tier_as_parameter(tier)],
+    )?;
+    decode_first_row(&rows)
+}

@@ -1,0 +1,56 @@
+ghost use Rattle.std.specs.Prelude.{◌≡◌, ◌==◌, ◌&&◌, Err, OnErr, bytes_eq};
+ghost use Rattle.brk_money.specs.declared.fault.Fault.TheVariants.{Store};
+ghost use Rattle.brk_ref.specs.Records.{abstract_permission};
+ghost use Rattle.brk_trade_rows.specs.Changes.{tables_with_permission};
+ghost use Rattle.brk_tables_schema.specs.Desk.{Permissions};
+ghost use Rattle.brk_tables_schema.specs.Statements.{ReadsFirstMatch, WritesDeskTables};
+
+use brk_money::{Fault, Id};
+use brk_ref::{Permission, TaxId};
+use brk_tables_schema::calls::{execute_statement, select_rows};
+use brk_tables_schema::record::decode_first_row;
+use brk_tables_schema::values::{id_as_parameter, text_as_parameter};
+use sqlite::{Alter, Transaction};
+
+/// Inserts a row of ACCOUNT_PERMISSION: the permission of a person, identified by tax id, to order
+/// for an account. Fails with `Store` only, also if the account has a permission for this tax id,
+/// or does not exist.
+pub fn add_permission<S: Alter>(
+    tx: &mut Transaction<'_, S>,
+    permission: &Permission,
+) -> Result<(), Fault>
+    ensures same_reference { tx.new.conn.ghost_name ≡ tx.old.conn.ghost_name }
+    ensures step { WritesDeskTables S.Store tx.old tx.new result (tables_with_permission (abstract_permission permission.now)) }
+    ensures fault { OnErr result (result ≡ Err Store) }
+{
+    execute_statement(
+        tx,
+        "INSERT INTO ACCOUNT_PERMISSION (AP_CA_ID, AP_TAX_ID, AP_ACL, AP_L_NAME, AP_F_NAME) VALUES (?1, ?2, ?3, ?4, ?5)",
+        &[
+            id_as_parameter(permission.account),
+            text_as_parameter(permission.tax_id.as_str()),
+            text_as_parameter(permission.acl.as_str()),
+            text_as_parameter(permission.last_name.as_str()),
+            text_as_parameter(permission.first_name.as_str()),
+        ],
+    )
+}
+
+/// Returns the permission of an account for a tax id, or `None` if there is none. Changes nothing
+/// if it succeeds. Fails with `Store` only, also if the row is malformed or memory runs out.
+pub fn permission_by_account_and_tax_id<S: Alter>(
+    tx: &mut Transaction<'_, S>,
+    account: Id,
+    tax_id: &TaxId,
+) -> Result<Option<Permission>, Fault>
+    ensures same_reference { tx.new.conn.ghost_name ≡ tx.old.conn.ghost_name }
+    ensures step { ReadsFirstMatch S.Store tx.old tx.new result Permissions abstract_permission (λ r. (r.account == account) && bytes_eq r.tax_id tax_id.now) }
+    ensures fault { OnErr result (result ≡ Err Store) }
+{
+    let rows = select_rows(
+        tx,
+        "SELECT AP_CA_ID, AP_TAX_ID, AP_ACL, AP_L_NAME, AP_F_NAME FROM ACCOUNT_PERMISSION WHERE AP_CA_ID = ?1 AND AP_TAX_ID = ?2 ORDER BY AP_CA_ID, AP_TAX_ID",
+        &[id_as_parameter(account), text_as_parameter(tax_id.as_str())],
+    )?;
+    decode_first_row(&rows)
+}

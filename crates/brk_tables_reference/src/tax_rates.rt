@@ -1,0 +1,106 @@
+ghost use Rattle.std.specs.Prelude.{◌≡◌, ◌==◌, ◌&&◌, Err, IfErr, OnErr};
+ghost use Rattle.brk_money.specs.declared.fault.Fault.TheVariants.{Store};
+ghost use Rattle.brk_model.specs.Run.{IsCallFault};
+ghost use Rattle.brk_ref.specs.Records.{abstract_tax_rate, abstract_customer_tax};
+ghost use Rattle.brk_trade_rows.specs.Changes.{tables_with_tax_rate, tables_with_customer_tax};
+ghost use Rattle.brk_tables_schema.specs.Desk.{CustomerTaxes, TaxRates};
+ghost use Rattle.brk_tables_schema.specs.Statements.{ReadsFirstMatch, ReadsMatchingRows, WritesDeskTables};
+
+use brk_money::{Fault, Id};
+use brk_ref::{CustomerTax, Tax};
+use brk_tables_schema::calls::{execute_statement, select_rows};
+use brk_tables_schema::record::{decode_first_row, decode_rows};
+use brk_tables_schema::values::{id_as_parameter, tax_rate_as_parameter, text_as_parameter};
+use sqlite::{Alter, Transaction};
+use std::alloc::Global;
+
+/// Inserts the row of a tax rate (TAXRATE): its id, its name, and the rate in hundred-thousandths.
+/// Fails with `Store` only, also if the id exists.
+pub fn add_tax_rate<S: Alter>(tx: &mut Transaction<'_, S>, tax: &Tax) -> Result<(), Fault>
+    ensures same_reference { tx.new.conn.ghost_name ≡ tx.old.conn.ghost_name }
+    ensures step { WritesDeskTables S.Store tx.old tx.new result (tables_with_tax_rate (abstract_tax_rate tax.now)) }
+    ensures fault { OnErr result (result ≡ Err Store) }
+{
+    execute_statement(
+        tx,
+        "INSERT INTO TAXRATE (TX_ID, TX_NAME, TX_RATE) VALUES (?1, ?2, ?3)",
+        &[
+            id_as_parameter(tax.id),
+            text_as_parameter(tax.name.as_str()),
+            tax_rate_as_parameter(tax.rate),
+        ],
+    )
+}
+
+/// Inserts the row of CUSTOMER_TAXRATE for a tax that a customer pays: the ids of the customer and
+/// of the tax rate. Fails with `Store` only, also if the row exists, or if the customer or the tax
+/// rate does not exist.
+pub fn add_customer_tax<S: Alter>(
+    tx: &mut Transaction<'_, S>,
+    pays: &CustomerTax,
+) -> Result<(), Fault>
+    ensures same_reference { tx.new.conn.ghost_name ≡ tx.old.conn.ghost_name }
+    ensures step { WritesDeskTables S.Store tx.old tx.new result (tables_with_customer_tax (abstract_customer_tax pays.now)) }
+    ensures fault { OnErr result (result ≡ Err Store) }
+{
+    execute_statement(
+        tx,
+        "INSERT INTO CUSTOMER_TAXRATE (CX_C_ID, CX_TX_ID) VALUES (?1, ?2)",
+        &[id_as_parameter(pays.customer), id_as_parameter(pays.tax)],
+    )
+}
+
+/// Returns the tax rate with the id `id`, or `None` if there is none. Changes nothing if it
+/// succeeds. Fails with `Store` only, also if the row is malformed or memory runs out.
+pub fn tax_rate_by_id<S: Alter>(tx: &mut Transaction<'_, S>, id: Id) -> Result<Option<Tax>, Fault>
+    ensures same_reference { tx.new.conn.ghost_name ≡ tx.old.conn.ghost_name }
+    ensures step { ReadsFirstMatch S.Store tx.old tx.new result TaxRates abstract_tax_rate (λ r. r.id == id) }
+    ensures fault { OnErr result (result ≡ Err Store) }
+{
+    let rows = select_rows(
+        tx,
+        "SELECT TX_ID, TX_NAME, TX_RATE FROM TAXRATE WHERE TX_ID = ?1 ORDER BY TX_ID",
+        &[id_as_parameter(id)],
+    )?;
+    decode_first_row(&rows)
+}
+
+/// Returns the row of CUSTOMER_TAXRATE with the customer `customer` and the tax rate `tax`, or
+/// `None` if the customer does not pay this tax. Changes nothing if it succeeds. Fails with `Store`
+/// only, also if the row is malformed or memory runs out.
+pub fn customer_tax_by_customer_and_tax<S: Alter>(
+    tx: &mut Transaction<'_, S>,
+    customer: Id,
+    tax: Id,
+) -> Result<Option<CustomerTax>, Fault>
+    ensures same_reference { tx.new.conn.ghost_name ≡ tx.old.conn.ghost_name }
+    ensures step { ReadsFirstMatch S.Store tx.old tx.new result CustomerTaxes abstract_customer_tax (λ r. (r.customer == customer) && (r.tax == tax)) }
+    ensures fault { OnErr result (result ≡ Err Store) }
+{
+    let rows = select_rows(
+        tx,
+        "SELECT CX_C_ID, CX_TX_ID FROM CUSTOMER_TAXRATE WHERE CX_C_ID = ?1 AND CX_TX_ID = ?2 ORDER BY CX_C_ID, CX_TX_ID",
+        &[id_as_parameter(customer), id_as_parameter(tax)],
+    )?;
+    decode_first_row(&rows)
+}
+
+/// Returns the rows of CUSTOMER_TAXRATE with the customer `customer`, sorted by the id of the tax
+/// rate, ascending. Changes nothing if it succeeds. Fails with `Memory` or `Store` only; with
+/// `Store` also if a row is malformed.
+pub fn taxes_of_customer<S: Alter>(
+    tx: &mut Transaction<'_, S>,
+    alloc: Global,
+    customer: Id,
+) -> Result<Vec<CustomerTax>, Fault>
+    ensures same_reference { tx.new.conn.ghost_name ≡ tx.old.conn.ghost_name }
+    ensures step { ReadsMatchingRows S.Store tx.old tx.new result CustomerTaxes abstract_customer_tax (λ r. r.customer == customer) }
+    ensures fault { IfErr result IsCallFault }
+{
+    let rows = select_rows(
+        tx,
+        "SELECT CX_C_ID, CX_TX_ID FROM CUSTOMER_TAXRATE WHERE CX_C_ID = ?1 ORDER BY CX_C_ID, CX_TX_ID",
+        &[id_as_parameter(customer)],
+    )?;
+    decode_rows(alloc, &rows)
+}

@@ -1,0 +1,32 @@
+-- Written by tools/generate/tables.py: what a SELECT means.
+use Rattle.std.proofs.Common.{ℕ, pos, List, [], ◌∷◌, ◌++◌, codes, false, None, Some, refl}
+use Rattle.sqlite.specs.declared.types.Value.TheVariants.{Int}
+use Rattle.sqlite_sql.specs.declared.ops.CompareOp.TheVariants.{Eq, Le, Ge}
+use Rattle.sqlite.specs.Term.{Term, lit}
+use Rattle.sqlite_ast.specs.declared.Expr.TheVariants as e
+use Rattle.sqlite_tied.specs.Compute.{everything}
+use Rattle.brk_tables_sql.proofs.Asked.{Ask, compares, single, also, IsAsked, IsPlain, asks_plainly}
+use Rattle.brk_tables_schema.specs.Shapes.{trade_table}
+
+abbrev pub statement : List ℕ
+statement = codes "SELECT T_ID, T_DTS, T_ST_ID, T_TT_ID, T_IS_CASH, T_S_SYMB, T_QTY, T_BID_PRICE, T_CA_ID, T_EXEC_NAME, T_TRADE_PRICE, T_CHRG, T_COMM, T_TAX, T_LIFO FROM TRADE WHERE T_ST_ID = "
+    ++ codes "?1 AND T_IS_CASH = ?2 AND T_S_SYMB = ?3 AND T_DTS >= ?4 AND T_DTS <= ?5 ORDER BY T_DTS, T_ID LIMIT 20"
+
+abbrev pub ask : Ask
+ask = record {
+  shown = 0 ∷ 1 ∷ 2 ∷ 3 ∷ 4 ∷ 5 ∷ 6 ∷ 7 ∷ 8 ∷ 9 ∷ 10 ∷ 11 ∷ 12 ∷ 13 ∷ 14 ∷ [];
+  tests = Some (also (also (also (also (single (compares Eq 2 1)) (compares Eq 4 2)) (compares Eq 5 3)) (compares Ge 1 4)) (compares Le 1 5));
+  by = (1, false) ∷ (0, false) ∷ [];
+  limit = Some (e.Integer (codes "20"));
+  offset = None;
+}
+
+abbrev pub paging : Term × Term
+paging = (lit (Int (pos 20)), lit (Int (pos 0)))
+
+pub is_asked : IsAsked trade_table statement ask paging
+unfolding everything
+is_asked = record { reads = λ tree. (refl, refl, refl); sound = λ tree. refl; paged = λ schema tree. refl }
+
+pub plain : IsPlain statement
+plain = asks_plainly trade_table statement ask paging is_asked

@@ -1,0 +1,30 @@
+-- Written by tools/generate/tables.py: what a SELECT means.
+use Rattle.std.proofs.Common.{ℕ, pos, negsuc, List, [], ◌∷◌, codes, false, None, Some, refl}
+use Rattle.sqlite.specs.declared.types.Value.TheVariants.{Int}
+use Rattle.sqlite_sql.specs.declared.ops.CompareOp.TheVariants.{Eq}
+use Rattle.sqlite.specs.Term.{Term, lit}
+use Rattle.sqlite_tied.specs.Compute.{everything}
+use Rattle.brk_tables_sql.proofs.Asked.{Ask, compares, single, IsAsked, IsPlain, asks_plainly}
+use Rattle.brk_tables_schema.specs.Shapes.{trade_history_table}
+
+abbrev pub statement : List ℕ
+statement = codes "SELECT TH_T_ID, TH_ST_ID, TH_DTS FROM TRADE_HISTORY WHERE TH_T_ID = ?1 ORDER BY TH_T_ID, TH_ST_ID"
+
+abbrev pub ask : Ask
+ask = record {
+  shown = 0 ∷ 1 ∷ 2 ∷ [];
+  tests = Some (single (compares Eq 0 1));
+  by = (0, false) ∷ (1, false) ∷ [];
+  limit = None;
+  offset = None;
+}
+
+abbrev pub paging : Term × Term
+paging = (lit (Int (negsuc 0)), lit (Int (pos 0)))
+
+pub is_asked : IsAsked trade_history_table statement ask paging
+unfolding everything
+is_asked = record { reads = λ tree. (refl, refl, refl); sound = λ tree. refl; paged = λ schema tree. refl }
+
+pub plain : IsPlain statement
+plain = asks_plainly trade_history_table statement ask paging is_asked

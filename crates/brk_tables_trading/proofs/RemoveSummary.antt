@@ -1,0 +1,59 @@
+-- Written by tools/generate/tables.py: what a DELETE means.
+use Rattle.std.proofs.Common.{◌≡◌, ◌⊎◌, ℕ, List, [], ◌∷◌, codes, true, false, Option, None, Some, Ok, Err, refl, slice_get}
+use Rattle.sqlite_value.specs.declared.keys.Collation.TheVariants.{Binary}
+use Rattle.sqlite_sql.specs.declared.ops.BinaryOp.TheVariants.{Compare}
+use Rattle.sqlite_sql.specs.declared.ops.CompareOp.TheVariants.{Eq}
+use Rattle.sqlite.specs.Term.{Term, col, op2}
+use Rattle.sqlite.specs.Schema.{Schema}
+use Rattle.sqlite.specs.Command.TheVariants.{Delete}
+use Rattle.sqlite_ast.specs.declared.Expr.{Expr}
+use Rattle.sqlite_ast.specs.declared.Expr.TheVariants as e
+use Rattle.sqlite_ast.specs.declared.Binary.TheVariants as operator
+use Rattle.sqlite_resolve.specs.Write.{deleted, simple}
+use Rattle.sqlite_resolve.specs.Compile.{compiled}
+use Rattle.sqlite_resolve.specs.declared.error.CompileError.TheVariants.{Mismatch}
+use Rattle.sqlite_draft.specs.declared.join.Step.TheVariants.{Inner}
+use Rattle.sqlite_draft.specs.declared.query.Draft.{Draft}
+use Rattle.sqlite_tied.specs.Compute.{everything}
+use Rattle.brk_tables_sql.specs.Partly.{sql_lowering_definitions}
+use Rattle.brk_tables_sql.specs.Desk.{integer_column, text_column, IsTableAt}
+use Rattle.brk_tables_sql.proofs.Meant.{meant, deletes_or}
+use Rattle.brk_tables_sql.proofs.Pick.{selection, whole_page}
+use Rattle.brk_tables_sql.proofs.Scoped.{column_is}
+use Rattle.brk_tables_sql.proofs.Texts.{read}
+use Rattle.brk_tables_schema.specs.Shapes.{summary_table}
+
+abbrev pub statement : List ℕ
+statement = codes "DELETE FROM HOLDING_SUMMARY WHERE HS_CA_ID = ?1 AND HS_S_SYMB = ?2"
+
+abbrev pub test : Option Expr
+test = Some (e.Binary operator.And (e.Binary operator.Eq (e.Column None (codes "HS_CA_ID")) (e.Parameter 1)) (e.Binary operator.Eq (e.Column None (codes "HS_S_SYMB")) (e.Parameter 2)))
+
+abbrev pub terms : List Term
+terms = op2 (Compare Eq Binary) (col 1 1) (col 0 0) ∷ op2 (Compare Eq Binary) (col 1 2) (col 0 1) ∷ []
+
+abbrev pub project : List Term
+project = col 1 0 ∷ []
+
+abbrev pub draft : ℕ → Draft
+draft tree = simple (Inner tree ∷ []) terms project
+
+draft_is : (schema : Schema) (at tree : ℕ) → slice_get schema.tables at ≡ Some (summary_table tree) → deleted schema at (summary_table tree) test ≡ Ok (draft tree)
+unfolding sql_lowering_definitions
+draft_is schema at tree found =
+    rw (
+      column_is schema at (summary_table tree) found (codes "HOLDING_SUMMARY") [] [] false true (codes "HS_CA_ID") 0 (integer_column (codes "HS_CA_ID")) refl
+          refl,
+      found,
+      column_is schema at (summary_table tree) found (codes "HOLDING_SUMMARY") [] [] false true (codes "HS_S_SYMB") 1
+          (text_column (codes "HS_S_SYMB")) refl refl,
+      found,
+    )
+
+pub understood_as : (schema : Schema) (at tree : ℕ) → IsTableAt schema (summary_table tree) at
+    → (compiled schema statement ≡ Ok (meant (read statement) [] (Delete at (record { lets = []; body = selection tree terms project [] whole_page }))))
+    ⊎ (compiled schema statement ≡ Err Mismatch)
+unfolding everything
+understood_as schema at tree h =
+    deletes_or schema statement (read statement) refl refl (codes "HOLDING_SUMMARY") at (summary_table tree) h.named h.found test (draft tree) refl
+    (draft_is schema at tree h.found)

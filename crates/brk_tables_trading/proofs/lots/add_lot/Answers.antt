@@ -1,0 +1,24 @@
+use Rattle.std.proofs.Common.{rules, w64}
+use Rattle.std.proofs.lemmas.Int.{to_z-of_z}
+use Rattle.sqlite.specs.Held.{state}
+use Rattle.brk_tables_sql.proofs.Inside.{step_weaker}
+use Rattle.brk_trade_rows.specs.Rows.{abstract_holding_row}
+use Rattle.brk_tables_trading.proofs.HoldingWrites.{adds_lot}
+use Rattle.brk_tables_trading.proofs.lots.add_lot.Goals as goal
+
+pub returns-clause-step : goal.returns-clause-step
+returns-clause-step g c =
+    let old = state g.S.Store c.args.tx.now.conn.now in
+    let new = state g.S.Store c.execute_statement.new.tx.conn.now in
+    step_weaker old new c.execute_statement.result _ _
+    (λ _ ran. adds_lot old new (abstract_holding_row c.args.lot.now)
+    (rw (
+      c.id_as_parameter.ensures,
+      c.id_as_parameter-2.ensures,
+      c.text_as_parameter.ensures,
+      c.as_str.ensures,
+      c.stamp_as_parameter.ensures,
+      c.price_as_parameter.ensures,
+      c.integer_as_parameter.ensures,
+      to_z-of_z w64 c.args.lot.now.qty (search rules),
+    ) at ran)) c.execute_statement.ensures.step

@@ -1,0 +1,14 @@
+use Rattle.std.proofs.Common.{rules, w64}
+use Rattle.std.proofs.lemmas.Int.{to_z-of_z}
+use Rattle.sqlite.specs.Held.{state}
+use Rattle.brk_tables_sql.proofs.Inside.{step_weaker}
+use Rattle.brk_tables_trading.proofs.HoldingWrites.{sets_lot}
+use Rattle.brk_tables_trading.proofs.lots.set_lot_quantity.Goals as goal
+
+pub returns-clause-step : goal.returns-clause-step
+returns-clause-step g c =
+    let old = state g.S.Store c.args.tx.now.conn.now in
+    let new = state g.S.Store c.execute_statement.new.tx.conn.now in
+    step_weaker old new c.execute_statement.result _ _
+    (λ _ ran. sets_lot old new c.args.trade c.args.qty
+    (rw (c.integer_as_parameter.ensures, to_z-of_z w64 c.args.qty (search rules), c.id_as_parameter.ensures) at ran)) c.execute_statement.ensures.step

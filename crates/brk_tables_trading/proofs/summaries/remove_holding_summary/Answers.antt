@@ -1,0 +1,12 @@
+use Rattle.sqlite.specs.Held.{state}
+use Rattle.brk_tables_sql.proofs.Inside.{step_weaker}
+use Rattle.brk_tables_trading.proofs.HoldingWrites.{removes_summary}
+use Rattle.brk_tables_trading.proofs.summaries.remove_holding_summary.Goals as goal
+
+pub returns-clause-step : goal.returns-clause-step
+returns-clause-step g c =
+    let old = state g.S.Store c.args.tx.now.conn.now in
+    let new = state g.S.Store c.execute_statement.new.tx.conn.now in
+    step_weaker old new c.execute_statement.result _ _
+    (λ _ ran. removes_summary old new c.args.account c.args.symbol.now
+    (rw (c.id_as_parameter.ensures, c.text_as_parameter.ensures, c.as_str.ensures) at ran)) c.execute_statement.ensures.step

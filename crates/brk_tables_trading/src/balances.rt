@@ -1,0 +1,27 @@
+ghost use Rattle.std.specs.Prelude.{◌≡◌, Err, OnErr};
+ghost use Rattle.brk_money.specs.declared.fault.Fault.TheVariants.{Store};
+ghost use Rattle.brk_trade_rows.specs.Changes.{tables_with_balance};
+ghost use Rattle.brk_tables_schema.specs.Statements.{WritesDeskTables};
+
+use brk_money::{Cents, Fault, Id};
+use brk_tables_schema::calls::execute_statement;
+use brk_tables_schema::values::{cents_as_parameter, id_as_parameter};
+use sqlite::{Alter, Transaction};
+
+/// Sets the balance of an account (CA_BAL), in cents. Changes nothing if the account does not
+/// exist. Fails with `Store` only.
+pub fn set_account_balance<S: Alter>(
+    tx: &mut Transaction<'_, S>,
+    account: Id,
+    balance: Cents,
+) -> Result<(), Fault>
+    ensures same_reference { tx.new.conn.ghost_name ≡ tx.old.conn.ghost_name }
+    ensures step { WritesDeskTables S.Store tx.old tx.new result (tables_with_balance account balance) }
+    ensures fault { OnErr result (result ≡ Err Store) }
+{
+    execute_statement(
+        tx,
+        "UPDATE CUSTOMER_ACCOUNT SET CA_BAL = ?1 WHERE CA_ID = ?2",
+        &[cents_as_parameter(balance), id_as_parameter(account)],
+    )
+}

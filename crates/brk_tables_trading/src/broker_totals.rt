@@ -1,0 +1,34 @@
+ghost use Rattle.std.specs.Prelude.{◌≡◌, Err, OnErr};
+ghost use Rattle.brk_money.specs.declared.fault.Fault.TheVariants.{Store};
+ghost use Rattle.brk_trade_rows.specs.Changes.{tables_with_broker_totals};
+ghost use Rattle.brk_tables_schema.specs.Statements.{WritesDeskTables};
+
+use brk_money::{Fault, Id};
+use brk_tables_schema::calls::execute_statement;
+use brk_tables_schema::values::{amount_as_parameter, id_as_parameter, integer_as_parameter};
+use brk_trade_rows::Amount;
+use sqlite::{Alter, Transaction};
+
+/// Sets the totals of a broker: the number of its completed trades (B_NUM_TRADES) and the sum of
+/// their commissions in cents (B_COMM_TOTAL). Changes nothing if the broker does not exist. Fails
+/// with `Store` only.
+pub fn set_broker_totals<S: Alter>(
+    tx: &mut Transaction<'_, S>,
+    broker: Id,
+    trades: i64,
+    commissions: Amount,
+) -> Result<(), Fault>
+    ensures same_reference { tx.new.conn.ghost_name ≡ tx.old.conn.ghost_name }
+    ensures step { WritesDeskTables S.Store tx.old tx.new result (tables_with_broker_totals broker trades commissions) }
+    ensures fault { OnErr result (result ≡ Err Store) }
+{
+    execute_statement(
+        tx,
+        "UPDATE BROKER SET B_NUM_TRADES = ?1, B_COMM_TOTAL = ?2 WHERE B_ID = ?3",
+        &[
+            integer_as_parameter(trades),
+            amount_as_parameter(commissions),
+            id_as_parameter(broker),
+        ],
+    )
+}

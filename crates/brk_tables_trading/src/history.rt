@@ -1,0 +1,32 @@
+ghost use Rattle.std.specs.Prelude.{◌≡◌, Err, OnErr};
+ghost use Rattle.brk_money.specs.declared.fault.Fault.TheVariants.{Store};
+ghost use Rattle.brk_trade_rows.specs.Changes.{tables_with_history_row};
+ghost use Rattle.brk_trade_rows.specs.Rows.{abstract_history_row};
+ghost use Rattle.brk_tables_schema.specs.Statements.{WritesDeskTables};
+
+use brk_money::Fault;
+use brk_tables_schema::calls::execute_statement;
+use brk_tables_schema::values::{id_as_parameter, stamp_as_parameter, status_as_parameter};
+use brk_trade_rows::HistoryRow;
+use sqlite::{Alter, Transaction};
+
+/// Inserts a row of TRADE_HISTORY: a status that a trade reached, and the stamp of this change.
+/// Fails with `Store` only, also if the trade has a row with this status, or does not exist.
+pub fn add_trade_history_row<S: Alter>(
+    tx: &mut Transaction<'_, S>,
+    mark: &HistoryRow,
+) -> Result<(), Fault>
+    ensures same_reference { tx.new.conn.ghost_name ≡ tx.old.conn.ghost_name }
+    ensures step { WritesDeskTables S.Store tx.old tx.new result (tables_with_history_row (abstract_history_row mark.now)) }
+    ensures fault { OnErr result (result ≡ Err Store) }
+{
+    execute_statement(
+        tx,
+        "INSERT INTO TRADE_HISTORY (TH_T_ID, TH_ST_ID, TH_DTS) VALUES (?1, ?2, ?3)",
+        &[
+            id_as_parameter(mark.trade),
+            status_as_parameter(mark.status),
+            stamp_as_parameter(mark.stamp),
+        ],
+    )
+}

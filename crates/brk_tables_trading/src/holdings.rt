@@ -1,0 +1,164 @@
+//! Reads of the holdings of accounts: of their lots (HOLDING), and of the number of shares of each
+//! security in total (HOLDING_SUMMARY).
+
+ghost use Rattle.std.specs.Prelude.{◌≡◌, ◌==◌, ◌&&◌, Err, IfErr, OnErr, bytes_eq, map, pos, reverse};
+ghost use Rattle.sqlite_value.specs.Value.{owned};
+ghost use Rattle.sqlite_value.specs.declared.value.Value.TheVariants.{Int};
+ghost use Rattle.brk_money.specs.declared.fault.Fault.TheVariants.{Store};
+ghost use Rattle.brk_model.specs.Run.{IsCallFault};
+ghost use Rattle.brk_trade_rows.specs.Rows.{abstract_holding_row, abstract_summary_row};
+ghost use Rattle.brk_tables_schema.specs.Desk.{Holdings, Summaries};
+ghost use Rattle.brk_tables_schema.specs.Statements.{ReadsFirstMatch, ReadsMatchingRows, ReadsDeskTables};
+ghost use Rattle.brk_tables_trading.specs.Pages.{position_lots_by_age, page_after_skipped};
+
+use brk_money::{Fault, Id};
+use brk_ref::Symbol;
+use brk_tables_schema::calls::select_rows;
+use brk_tables_schema::record::{decode_first_row, decode_rows};
+use brk_tables_schema::values::{id_as_parameter, text_as_parameter};
+use brk_trade_rows::{HoldingRow, SummaryRow};
+use sqlite::{Alter, Transaction};
+use sqlite_value::value::ValueRef;
+use std::alloc::Global;
+
+// Converts the number of rows to skip to an INTEGER, as the parameter of a statement.
+fn skip_count_as_parameter<'a>(skipped: u32) -> ValueRef<'a>
+    ensures { owned result ≡ Int (pos skipped) }
+{
+    ValueRef::Int(skipped as i64)
+}
+
+/// Returns a page of the lots of an account in a security, sorted by the stamp of their opening and
+/// then by the id of the trade that opened them, both ascending: after the first `skipped` lots the
+/// next 16, or all that remain if there are fewer, possibly none. Changes nothing if it succeeds.
+/// Fails with `Memory` or `Store` only; with `Store` also if a row is malformed.
+pub fn page_of_lots_oldest_first<S: Alter>(
+    tx: &mut Transaction<'_, S>,
+    alloc: Global,
+    account: Id,
+    symbol: &Symbol,
+    skipped: u32,
+) -> Result<Vec<HoldingRow>, Fault>
+    ensures same_reference { tx.new.conn.ghost_name ≡ tx.old.conn.ghost_name }
+    ensures step { ReadsDeskTables S.Store tx.old tx.new result (λ all t. map abstract_holding_row all.items
+        ≡ page_after_skipped skipped (position_lots_by_age account symbol.now t)) }
+    ensures fault { IfErr result IsCallFault }
+{
+    let rows = select_rows(
+        tx,
+        "SELECT H_T_ID, H_CA_ID, H_S_SYMB, H_DTS, H_PRICE, H_QTY FROM HOLDING WHERE H_CA_ID = ?1 AND H_S_SYMB = ?2 ORDER BY H_DTS, H_T_ID LIMIT 16 OFFSET ?3",
+        &[
+            id_as_parameter(account),
+            text_as_parameter(symbol.as_str()),
+            skip_count_as_parameter(skipped),
+        ],
+    )?;
+    decode_rows(alloc, &rows)
+}
+
+/// Returns a page of the lots of an account in a security, sorted by the stamp of their opening and
+/// then by the id of the trade that opened them, both descending: after the first `skipped` lots
+/// the next 16, or all that remain if there are fewer, possibly none. Changes nothing if it
+/// succeeds. Fails with `Memory` or `Store` only; with `Store` also if a row is malformed.
+pub fn page_of_lots_newest_first<S: Alter>(
+    tx: &mut Transaction<'_, S>,
+    alloc: Global,
+    account: Id,
+    symbol: &Symbol,
+    skipped: u32,
+) -> Result<Vec<HoldingRow>, Fault>
+    ensures same_reference { tx.new.conn.ghost_name ≡ tx.old.conn.ghost_name }
+    ensures step { ReadsDeskTables S.Store tx.old tx.new result (λ all t. map abstract_holding_row all.items
+        ≡ page_after_skipped skipped (reverse (position_lots_by_age account symbol.now t))) }
+    ensures fault { IfErr result IsCallFault }
+{
+    let rows = select_rows(
+        tx,
+        "SELECT H_T_ID, H_CA_ID, H_S_SYMB, H_DTS, H_PRICE, H_QTY \
+         FROM HOLDING \
+         WHERE H_CA_ID = ?1 AND H_S_SYMB = ?2 ORDER BY H_DTS DESC, H_T_ID DESC LIMIT 16 OFFSET ?3",
+        &[
+            id_as_parameter(account),
+            text_as_parameter(symbol.as_str()),
+            skip_count_as_parameter(skipped),
+        ],
+    )?;
+    decode_rows(alloc, &rows)
+}
+
+/// Returns the lot that the trade `trade` opened (HOLDING), or `None` if there is none. Changes
+/// nothing if it succeeds. Fails with `Store` only, also if the row is malformed or memory runs out.
+pub fn lot_by_trade<S: Alter>(
+    tx: &mut Transaction<'_, S>,
+    trade: Id,
+) -> Result<Option<HoldingRow>, Fault>
+    ensures same_reference { tx.new.conn.ghost_name ≡ tx.old.conn.ghost_name }
+    ensures step { ReadsFirstMatch S.Store tx.old tx.new result Holdings abstract_holding_row (λ r. r.trade == trade) }
+    ensures fault { OnErr result (result ≡ Err Store) }
+{
+    let rows = select_rows(
+        tx,
+        "SELECT H_T_ID, H_CA_ID, H_S_SYMB, H_DTS, H_PRICE, H_QTY FROM HOLDING WHERE H_T_ID = ?1 ORDER BY H_T_ID",
+        &[id_as_parameter(trade)],
+    )?;
+    decode_first_row(&rows)
+}
+
+/// Returns all lots (HOLDING), sorted by the id of the trade that opened them, ascending. Changes
+/// nothing if it succeeds. Fails with `Memory` or `Store` only; with `Store` also if a row is
+/// malformed.
+pub fn all_lots<S: Alter>(
+    tx: &mut Transaction<'_, S>,
+    alloc: Global,
+) -> Result<Vec<HoldingRow>, Fault>
+    ensures same_reference { tx.new.conn.ghost_name ≡ tx.old.conn.ghost_name }
+    ensures step { ReadsDeskTables S.Store tx.old tx.new result (λ all t. map abstract_holding_row all.items ≡ t.holdings) }
+    ensures fault { IfErr result IsCallFault }
+{
+    let rows = select_rows(
+        tx,
+        "SELECT H_T_ID, H_CA_ID, H_S_SYMB, H_DTS, H_PRICE, H_QTY FROM HOLDING ORDER BY H_T_ID",
+        &[],
+    )?;
+    decode_rows(alloc, &rows)
+}
+
+/// Returns the rows of HOLDING_SUMMARY of an account (its number of shares in each security),
+/// sorted by symbol, ascending. Changes nothing if it succeeds. Fails with `Memory` or `Store`
+/// only; with `Store` also if a row is malformed.
+pub fn holding_summaries_of_account<S: Alter>(
+    tx: &mut Transaction<'_, S>,
+    alloc: Global,
+    account: Id,
+) -> Result<Vec<SummaryRow>, Fault>
+    ensures same_reference { tx.new.conn.ghost_name ≡ tx.old.conn.ghost_name }
+    ensures step { ReadsMatchingRows S.Store tx.old tx.new result Summaries abstract_summary_row (λ r. r.account == account) }
+    ensures fault { IfErr result IsCallFault }
+{
+    let rows = select_rows(
+        tx,
+        "SELECT HS_CA_ID, HS_S_SYMB, HS_QTY FROM HOLDING_SUMMARY WHERE HS_CA_ID = ?1 ORDER BY HS_CA_ID, HS_S_SYMB",
+        &[id_as_parameter(account)],
+    )?;
+    decode_rows(alloc, &rows)
+}
+
+/// Returns the row of HOLDING_SUMMARY of an account and a security (its number of shares in total),
+/// or `None` if there is none. Changes nothing if it succeeds. Fails with `Store` only, also if the
+/// row is malformed or memory runs out.
+pub fn holding_summary_by_account_and_symbol<S: Alter>(
+    tx: &mut Transaction<'_, S>,
+    account: Id,
+    symbol: &Symbol,
+) -> Result<Option<SummaryRow>, Fault>
+    ensures same_reference { tx.new.conn.ghost_name ≡ tx.old.conn.ghost_name }
+    ensures step { ReadsFirstMatch S.Store tx.old tx.new result Summaries abstract_summary_row (λ r. (r.account == account) && bytes_eq r.symbol symbol.now) }
+    ensures fault { OnErr result (result ≡ Err Store) }
+{
+    let rows = select_rows(
+        tx,
+        "SELECT HS_CA_ID, HS_S_SYMB, HS_QTY FROM HOLDING_SUMMARY WHERE HS_CA_ID = ?1 AND HS_S_SYMB = ?2 ORDER BY HS_CA_ID, HS_S_SYMB",
+        &[id_as_parameter(account), text_as_parameter(symbol.as_str())],
+    )?;
+    decode_first_row(&rows)
+}

@@ -1,0 +1,56 @@
+ghost use Rattle.std.specs.Prelude.{◌≡◌, Err, OnErr, bytes_eq};
+ghost use Rattle.brk_money.specs.declared.fault.Fault.TheVariants.{Store};
+ghost use Rattle.brk_ref.specs.Records.{abstract_last_trade_row};
+ghost use Rattle.brk_trade_rows.specs.Changes.{tables_with_last_trade_replaced};
+ghost use Rattle.brk_tables_schema.specs.Desk.{LastTrades};
+ghost use Rattle.brk_tables_schema.specs.Statements.{ReadsFirstMatch, WritesDeskTables};
+
+use brk_money::Fault;
+use brk_ref::{LastTrade, Symbol};
+use brk_tables_schema::calls::{execute_statement, select_rows};
+use brk_tables_schema::record::decode_first_row;
+use brk_tables_schema::values::{
+    price_as_parameter, stamp_as_parameter, text_as_parameter, volume_as_parameter,
+};
+use sqlite::{Alter, Transaction};
+
+/// Sets the stamp, the price and the volume of the last trade of a security on the market
+/// (LAST_TRADE). Changes nothing if the security has no last trade. Fails with `Store` only.
+pub fn set_last_trade<S: Alter>(
+    tx: &mut Transaction<'_, S>,
+    last_trade: &LastTrade,
+) -> Result<(), Fault>
+    ensures same_reference { tx.new.conn.ghost_name ≡ tx.old.conn.ghost_name }
+    ensures step { WritesDeskTables S.Store tx.old tx.new result (tables_with_last_trade_replaced (abstract_last_trade_row last_trade.now)) }
+    ensures fault { OnErr result (result ≡ Err Store) }
+{
+    execute_statement(
+        tx,
+        "UPDATE LAST_TRADE SET LT_DTS = ?1, LT_PRICE = ?2, LT_VOL = ?3 WHERE LT_S_SYMB = ?4",
+        &[
+            stamp_as_parameter(last_trade.stamp),
+            price_as_parameter(last_trade.price),
+            volume_as_parameter(last_trade.volume),
+            text_as_parameter(last_trade.symbol.as_str()),
+        ],
+    )
+}
+
+/// Returns the last trade on the market of the security with the symbol `symbol`, or `None` if
+/// there is none. Changes nothing if it succeeds. Fails with `Store` only, also if the row is
+/// malformed or memory runs out.
+pub fn last_trade_by_symbol<S: Alter>(
+    tx: &mut Transaction<'_, S>,
+    symbol: &Symbol,
+) -> Result<Option<LastTrade>, Fault>
+    ensures same_reference { tx.new.conn.ghost_name ≡ tx.old.conn.ghost_name }
+    ensures step { ReadsFirstMatch S.Store tx.old tx.new result LastTrades abstract_last_trade_row (λ r. bytes_eq r.symbol symbol.now) }
+    ensures fault { OnErr result (result ≡ Err Store) }
+{
+    let rows = select_rows(
+        tx,
+        "SELECT LT_S_SYMB, LT_DTS, LT_PRICE, LT_VOL FROM LAST_TRADE WHERE LT_S_SYMB = ?1 ORDER BY LT_S_SYMB",
+        &[text_as_parameter(symbol.as_str())],
+    )?;
+    decode_first_row(&rows)
+}

@@ -1,0 +1,37 @@
+//! The settlements of completed trades.
+
+ghost use Rattle.std.specs.Prelude.{◌≡◌, Err, OnErr};
+ghost use Rattle.brk_money.specs.declared.fault.Fault.TheVariants.{Store};
+ghost use Rattle.brk_trade_rows.specs.Changes.{tables_with_settlement};
+ghost use Rattle.brk_trade_rows.specs.Rows.{abstract_settlement_row};
+ghost use Rattle.brk_tables_schema.specs.Statements.{WritesDeskTables};
+
+use brk_money::Fault;
+use brk_tables_schema::calls::execute_statement;
+use brk_tables_schema::values::{
+    cash_type_as_parameter, cents_as_parameter, day_as_parameter, id_as_parameter,
+};
+use brk_trade_rows::SettlementRow;
+use sqlite::{Alter, Transaction};
+
+/// Inserts the settlement of a completed trade (SETTLEMENT): its cash type, due day and amount in
+/// cents. Fails with `Store` only, also if the trade has a settlement, or does not exist.
+pub fn add_settlement<S: Alter>(
+    tx: &mut Transaction<'_, S>,
+    settlement: &SettlementRow,
+) -> Result<(), Fault>
+    ensures same_reference { tx.new.conn.ghost_name ≡ tx.old.conn.ghost_name }
+    ensures step { WritesDeskTables S.Store tx.old tx.new result (tables_with_settlement (abstract_settlement_row settlement.now)) }
+    ensures fault { OnErr result (result ≡ Err Store) }
+{
+    execute_statement(
+        tx,
+        "INSERT INTO SETTLEMENT (SE_T_ID, SE_CASH_TYPE, SE_CASH_DUE_DATE, SE_AMT) VALUES (?1, ?2, ?3, ?4)",
+        &[
+            id_as_parameter(settlement.trade),
+            cash_type_as_parameter(settlement.cash_type),
+            day_as_parameter(settlement.due_day),
+            cents_as_parameter(settlement.amount),
+        ],
+    )
+}

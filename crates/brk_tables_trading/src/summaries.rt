@@ -1,0 +1,75 @@
+//! Writes of holding summaries (HOLDING_SUMMARY): the number of shares of each security that an
+//! account holds in total.
+
+ghost use Rattle.std.specs.Prelude.{◌≡◌, Err, OnErr};
+ghost use Rattle.brk_money.specs.declared.fault.Fault.TheVariants.{Store};
+ghost use Rattle.brk_trade_rows.specs.Changes.{tables_with_summary, tables_with_summary_quantity, tables_without_summary};
+ghost use Rattle.brk_trade_rows.specs.Rows.{abstract_summary_row};
+ghost use Rattle.brk_tables_schema.specs.Statements.{WritesDeskTables};
+
+use brk_money::{Fault, Id};
+use brk_ref::Symbol;
+use brk_tables_schema::calls::execute_statement;
+use brk_tables_schema::values::{id_as_parameter, integer_as_parameter, text_as_parameter};
+use brk_trade_rows::SummaryRow;
+use sqlite::{Alter, Transaction};
+
+/// Inserts the holding summary of an account in a security. Fails with `Store` only, also if one
+/// exists, or if the account or the security does not exist.
+pub fn add_holding_summary<S: Alter>(
+    tx: &mut Transaction<'_, S>,
+    summary: &SummaryRow,
+) -> Result<(), Fault>
+    ensures same_reference { tx.new.conn.ghost_name ≡ tx.old.conn.ghost_name }
+    ensures step { WritesDeskTables S.Store tx.old tx.new result (tables_with_summary (abstract_summary_row summary.now)) }
+    ensures fault { OnErr result (result ≡ Err Store) }
+{
+    execute_statement(
+        tx,
+        "INSERT INTO HOLDING_SUMMARY (HS_CA_ID, HS_S_SYMB, HS_QTY) VALUES (?1, ?2, ?3)",
+        &[
+            id_as_parameter(summary.account),
+            text_as_parameter(summary.symbol.as_str()),
+            integer_as_parameter(summary.qty),
+        ],
+    )
+}
+
+/// Sets the number of shares in the holding summary of an account in a security (HS_QTY), below 0
+/// if they were sold short. Changes nothing if the summary does not exist. Fails with `Store` only.
+pub fn set_holding_summary_quantity<S: Alter>(
+    tx: &mut Transaction<'_, S>,
+    summary: &SummaryRow,
+) -> Result<(), Fault>
+    ensures same_reference { tx.new.conn.ghost_name ≡ tx.old.conn.ghost_name }
+    ensures step { WritesDeskTables S.Store tx.old tx.new result (tables_with_summary_quantity (abstract_summary_row summary.now)) }
+    ensures fault { OnErr result (result ≡ Err Store) }
+{
+    execute_statement(
+        tx,
+        "UPDATE HOLDING_SUMMARY SET HS_QTY = ?1 WHERE HS_CA_ID = ?2 AND HS_S_SYMB = ?3",
+        &[
+            integer_as_parameter(summary.qty),
+            id_as_parameter(summary.account),
+            text_as_parameter(summary.symbol.as_str()),
+        ],
+    )
+}
+
+/// Deletes the holding summary of an account in a security. Changes nothing if there is none. Fails
+/// with `Store` only.
+pub fn remove_holding_summary<S: Alter>(
+    tx: &mut Transaction<'_, S>,
+    account: Id,
+    symbol: &Symbol,
+) -> Result<(), Fault>
+    ensures same_reference { tx.new.conn.ghost_name ≡ tx.old.conn.ghost_name }
+    ensures step { WritesDeskTables S.Store tx.old tx.new result (tables_without_summary account symbol.now) }
+    ensures fault { OnErr result (result ≡ Err Store) }
+{
+    execute_statement(
+        tx,
+        "DELETE FROM HOLDING_SUMMARY WHERE HS_CA_ID = ?1 AND HS_S_SYMB = ?2",
+        &[id_as_parameter(account), text_as_parameter(symbol.as_str())],
+    )
+}

@@ -1,0 +1,83 @@
+//! Reads for the views of an account: the most recent trades of the account, and the statuses that
+//! a trade reached.
+
+ghost use Rattle.std.specs.Prelude.{◌≡◌, ◌==◌, IfErr, map, take};
+ghost use Rattle.brk_model.specs.Joins.{trade_rows_recent_first, trade_rows_of_account};
+ghost use Rattle.brk_model.specs.Run.{IsCallFault};
+ghost use Rattle.brk_trade_rows.specs.Rows.{abstract_history_row, abstract_trade_row};
+ghost use Rattle.brk_tables_schema.specs.Desk.{TradeHistory};
+ghost use Rattle.brk_tables_schema.specs.Statements.{ReadsMatchingRows, ReadsDeskTables};
+
+use brk_money::{Fault, Id};
+use brk_tables_schema::calls::select_rows;
+use brk_tables_schema::record::decode_rows;
+use brk_tables_schema::values::id_as_parameter;
+use brk_trade_rows::{HistoryRow, TradeRow};
+use sqlite::{Alter, Transaction};
+use std::alloc::Global;
+
+/// Returns the ten most recent trades of an account, or all if it has fewer: the first, sorted by
+/// the stamp of their last status change and then by id, both descending. Changes nothing if it
+/// succeeds. Fails with `Memory` or `Store` only; with `Store` also if a row is malformed.
+pub fn last_ten_trades_of_account<S: Alter>(
+    tx: &mut Transaction<'_, S>,
+    alloc: Global,
+    account: Id,
+) -> Result<Vec<TradeRow>, Fault>
+    ensures same_reference { tx.new.conn.ghost_name ≡ tx.old.conn.ghost_name }
+    ensures step { ReadsDeskTables S.Store tx.old tx.new result (λ all t. map abstract_trade_row all.items
+        ≡ take 10 (trade_rows_recent_first (trade_rows_of_account t account))) }
+    ensures fault { IfErr result IsCallFault }
+{
+    let rows = select_rows(
+        tx,
+        "SELECT T_ID, T_DTS, T_ST_ID, T_TT_ID, T_IS_CASH, T_S_SYMB, T_QTY, T_BID_PRICE, T_CA_ID, \
+         T_EXEC_NAME, T_TRADE_PRICE, T_CHRG, T_COMM, T_TAX, T_LIFO \
+         FROM TRADE WHERE T_CA_ID = ?1 ORDER BY T_DTS DESC, T_ID DESC LIMIT 10",
+        &[id_as_parameter(account)],
+    )?;
+    decode_rows(alloc, &rows)
+}
+
+/// Returns the fifty most recent trades of an account, or all if it has fewer: the first, sorted by
+/// the stamp of their last status change and then by id, both descending. Changes nothing if it
+/// succeeds. Fails with `Memory` or `Store` only; with `Store` also if a row is malformed.
+pub fn last_fifty_trades_of_account<S: Alter>(
+    tx: &mut Transaction<'_, S>,
+    alloc: Global,
+    account: Id,
+) -> Result<Vec<TradeRow>, Fault>
+    ensures same_reference { tx.new.conn.ghost_name ≡ tx.old.conn.ghost_name }
+    ensures step { ReadsDeskTables S.Store tx.old tx.new result (λ all t. map abstract_trade_row all.items
+        ≡ take 50 (trade_rows_recent_first (trade_rows_of_account t account))) }
+    ensures fault { IfErr result IsCallFault }
+{
+    let rows = select_rows(
+        tx,
+        "SELECT T_ID, T_DTS, T_ST_ID, T_TT_ID, T_IS_CASH, T_S_SYMB, T_QTY, T_BID_PRICE, T_CA_ID, \
+         T_EXEC_NAME, T_TRADE_PRICE, T_CHRG, T_COMM, T_TAX, T_LIFO \
+         FROM TRADE WHERE T_CA_ID = ?1 ORDER BY T_DTS DESC, T_ID DESC LIMIT 50",
+        &[id_as_parameter(account)],
+    )?;
+    decode_rows(alloc, &rows)
+}
+
+/// Returns the rows of TRADE_HISTORY of a trade: each status that it reached, with its stamp,
+/// sorted by the code of the status, ascending. Changes nothing if it succeeds. Fails with `Memory`
+/// or `Store` only; with `Store` also if a row is malformed.
+pub fn history_of_trade<S: Alter>(
+    tx: &mut Transaction<'_, S>,
+    alloc: Global,
+    trade: Id,
+) -> Result<Vec<HistoryRow>, Fault>
+    ensures same_reference { tx.new.conn.ghost_name ≡ tx.old.conn.ghost_name }
+    ensures step { ReadsMatchingRows S.Store tx.old tx.new result TradeHistory abstract_history_row (λ r. r.trade == trade) }
+    ensures fault { IfErr result IsCallFault }
+{
+    let rows = select_rows(
+        tx,
+        "SELECT TH_T_ID, TH_ST_ID, TH_DTS FROM TRADE_HISTORY WHERE TH_T_ID = ?1 ORDER BY TH_T_ID, TH_ST_ID",
+        &[id_as_parameter(trade)],
+    )?;
+    decode_rows(alloc, &rows)
+}

@@ -1,0 +1,24 @@
+use Rattle.std.proofs.Common.{[], ◌∷◌, filter, ◌==◌}
+use Rattle.sqlite.specs.Held.{state}
+use Rattle.brk_model.specs.Tables.{HoldingHistoryRow}
+use Rattle.brk_tables_sql.proofs.Answer.{look_all}
+use Rattle.brk_tables_schema.specs.Cells.{natural_as_value, holding_history_cells}
+use Rattle.brk_tables_schema.specs.Desk.{desk_tables}
+use Rattle.brk_trade_rows.specs.Rows.{abstract_lot_change_row}
+use Rattle.brk_tables_schema.proofs.TradingBack.{holding_history_back, holding_history_is_back}
+use Rattle.brk_tables_views.proofs.ListReads.{tells_changes_by}
+use Rattle.brk_tables_views.proofs.ChangesBy
+use Rattle.brk_tables_views.proofs.ChangesBy.{plain}
+use Rattle.brk_tables_views.proofs.lot_changes.lot_changes_by_trade.Goals as goal
+
+pub select_rows-requires : goal.select_rows-requires
+select_rows-requires g c = record { no_returning_clause = plain }
+
+pub returns-clause-step : goal.returns-clause-step
+returns-clause-step g c =
+    let old = state g.S.Store c.args.tx.now.conn.now in
+    let new = state g.S.Store c.select_rows.new.tx.conn.now in
+    look_all desk_tables holding_history_cells holding_history_back holding_history_is_back abstract_lot_change_row ChangesBy.statement
+    (natural_as_value c.args.trade ∷ []) old new c.in_ok-rows.rows (λ rows. rows.items) _ c.deref.ensures.value
+    (rw (c.id_as_parameter.ensures) at c.in_ok-rows.ensures.step)
+    (λ all. all.items) c.decode_rows.result c.decode_rows.ensures.value (λ t. filter (λ (r : HoldingHistoryRow). r.trade == c.args.trade) t.holding_history) (tells_changes_by old new c.args.trade _)

@@ -1,0 +1,62 @@
+//! A walk over the cash rows of an account.
+
+ghost use Rattle.std.specs.Prelude.{◌≡◌, false};
+ghost use Rattle.brk_trade_rows.specs.Rows.{abstract_move_row};
+ghost use Rattle.brk_tables_views.specs.Lists.{account_cash_rows_between};
+ghost use Rattle.brk_tables_views.specs.Walks.{TableWalkPost};
+
+use crate::visitor::Visitor;
+use crate::walking::{WalkError, walk_query_rows};
+use brk_money::{Id, Stamp};
+use brk_tables_schema::values::{id_as_parameter, stamp_as_parameter};
+use brk_trade_rows::MoveRow;
+use sqlite::{Alter, Connection};
+
+/// Passes the cash rows of an account with stamps from `from` to `to`, both included, to the
+/// visitor, sorted by stamp and then by number, ascending.
+///
+/// Stops at the first error and returns it: `Failed` with `Memory`, or with `Store`, also if a row
+/// is malformed, or `Cause` with the visitor's error. The visitor has then taken a prefix of the
+/// rows, possibly none. Returns `Ok` only after the last row. The rows that the visitor takes are
+/// specified only under the disk assumption (every read so far returned what was written), and only
+/// if the database contains all tables of a desk in schema 3.
+///
+/// Requires that `conn` is in no transaction and that the visitor is ready to take records; both
+/// hold also after the walk. Under the disk assumption a database that is open after the walk was
+/// open before it and is unchanged, and a crash after the walk exposes only states that a crash
+/// before it could expose.
+pub fn walk_cash_rows_of_account<S: Alter, E, V: Visitor<MoveRow, E>>(
+    conn: &mut Connection<S>,
+    account: Id,
+    from: Stamp,
+    to: Stamp,
+    visitor: &mut V,
+) -> Result<(), WalkError<E>>
+    // No transaction is open, and the visitor may be called, before and after the walk.
+    requires mode { conn.old.in_transaction ≡ false }
+    requires ready { V.ready visitor.old }
+    ensures mode { conn.new.in_transaction ≡ false }
+    ensures ready { V.ready visitor.new }
+
+    // The visitor is in a state to which its calls can lead.
+    ensures leads { V.leads visitor.old visitor.new }
+
+    // The visitor took the records in sequence, all of them at `Ok`; the database is unchanged if
+    // it is open.
+    ensures walked { TableWalkPost S.Store conn.old conn.new abstract_move_row
+        (account_cash_rows_between account from to) V.takes V.stops visitor.old visitor.new result }
+{
+    // The value is not needed: the call shows that an open database outside a transaction is in its
+    // committed state.
+    let _is_autocommit = conn.is_autocommit();
+    walk_query_rows::<S, MoveRow, E, V>(
+        conn,
+        "SELECT CM_ID, CM_CA_ID, CM_T_ID, CM_DTS, CM_AMT, CM_NAME FROM CASH_MOVE WHERE CM_CA_ID = ?1 AND CM_DTS >= ?2 AND CM_DTS <= ?3 ORDER BY CM_DTS, CM_ID",
+        &[
+            id_as_parameter(account),
+            stamp_as_parameter(from),
+            stamp_as_parameter(to),
+        ],
+        visitor,
+    )
+}

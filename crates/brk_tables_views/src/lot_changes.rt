@@ -1,0 +1,55 @@
+//! Lot changes: rows of HOLDING_HISTORY, sorted by lot and then by trade.
+
+ghost use Rattle.std.specs.Prelude.{◌≡◌, ◌==◌, IfErr};
+ghost use Rattle.brk_model.specs.Run.{IsCallFault};
+ghost use Rattle.brk_trade_rows.specs.Rows.{abstract_lot_change_row};
+ghost use Rattle.brk_tables_schema.specs.Desk.{HoldingHistory};
+ghost use Rattle.brk_tables_schema.specs.Statements.{ReadsMatchingRows};
+
+use brk_money::{Fault, Id};
+use brk_tables_schema::calls::select_rows;
+use brk_tables_schema::record::decode_rows;
+use brk_tables_schema::values::id_as_parameter;
+use brk_trade_rows::LotChange;
+use sqlite::{Alter, Transaction};
+use std::alloc::Global;
+
+/// Returns all changes that a trade made to lots, sorted by the id of the trade that opened the
+/// lot, ascending. Changes nothing if it succeeds. Fails with `Memory` or `Store` only; with
+/// `Store` also if a row is malformed.
+pub fn lot_changes_by_trade<S: Alter>(
+    tx: &mut Transaction<'_, S>,
+    alloc: Global,
+    trade: Id,
+) -> Result<Vec<LotChange>, Fault>
+    ensures same_reference { tx.new.conn.ghost_name ≡ tx.old.conn.ghost_name }
+    ensures step { ReadsMatchingRows S.Store tx.old tx.new result HoldingHistory abstract_lot_change_row (λ r. r.trade == trade) }
+    ensures fault { IfErr result IsCallFault }
+{
+    let rows = select_rows(
+        tx,
+        "SELECT HH_H_T_ID, HH_T_ID, HH_BEFORE_QTY, HH_AFTER_QTY FROM HOLDING_HISTORY WHERE HH_T_ID = ?1 ORDER BY HH_H_T_ID, HH_T_ID",
+        &[id_as_parameter(trade)],
+    )?;
+    decode_rows(alloc, &rows)
+}
+
+/// Returns all changes of the lot that the trade `lot` opened, sorted by the id of the trade that
+/// made the change, ascending. Changes nothing if it succeeds. Fails with `Memory` or `Store` only;
+/// with `Store` also if a row is malformed.
+pub fn lot_changes_of_lot<S: Alter>(
+    tx: &mut Transaction<'_, S>,
+    alloc: Global,
+    lot: Id,
+) -> Result<Vec<LotChange>, Fault>
+    ensures same_reference { tx.new.conn.ghost_name ≡ tx.old.conn.ghost_name }
+    ensures step { ReadsMatchingRows S.Store tx.old tx.new result HoldingHistory abstract_lot_change_row (λ r. r.lot == lot) }
+    ensures fault { IfErr result IsCallFault }
+{
+    let rows = select_rows(
+        tx,
+        "SELECT HH_H_T_ID, HH_T_ID, HH_BEFORE_QTY, HH_AFTER_QTY FROM HOLDING_HISTORY WHERE HH_H_T_ID = ?1 ORDER BY HH_H_T_ID, HH_T_ID",
+        &[id_as_parameter(lot)],
+    )?;
+    decode_rows(alloc, &rows)
+}

@@ -1,0 +1,96 @@
+ghost use Rattle.std.specs.Prelude.{◌≡◌, ◌⊎◌, IfErr, IfOk, OnOk, false};
+ghost use Rattle.sqlite.specs.Held.{state};
+ghost use Rattle.sqlite.specs.State.{HasCleanDisk, IsRolledBack, IsUnchanged, Survives};
+ghost use Rattle.sqlite.specs.Values.{bound};
+ghost use Rattle.brk_model.specs.Run.{IsCallFault};
+ghost use Rattle.brk_tables_views.specs.Walk.{IsWalkError, WalkEndsEarly, HasNoReturningClause, TakesAllRecords};
+
+use crate::visitor::Visitor;
+use brk_money::Fault;
+use brk_tables_schema::decode_error::DecodeError;
+use brk_tables_schema::record::Record;
+use sqlite::{Alter, Connection, Row};
+use sqlite_value::value::ValueRef;
+
+/// The reason why a walk ended before its last record.
+#[derive(Debug, Drop)]
+pub enum WalkError<E> {
+    /// A fault: out of memory, an error of the database, or a malformed row.
+    Failed(Fault),
+    /// The visitor's own error.
+    Cause(E),
+}
+
+// Decodes the record in a row of a query. Fails with `Memory` if memory runs out, or with `Store`
+// if the row is malformed, and with no other fault.
+fn decode_record<R: Record>(row: &Row) -> Result<R, Fault>
+    ensures value { IfOk result (λ r. R.cells r ≡ row.now) }
+    ensures fault { IfErr result IsCallFault }
+{
+    match R::from_row(row) {
+        Ok(record) => Ok(record),
+        Err(DecodeError::Form) => Err(Fault::Store),
+        Err(DecodeError::Memory) => Err(Fault::Memory),
+    }
+}
+
+/// Passes the records in the rows of the query `sql` with the parameters `params` to the visitor,
+/// in the order of the query's result, until all are passed or an error occurs. Fails with `Failed`
+/// and the fault `Memory` or `Store`, or with `Cause` and the visitor's error. The fault is `Store`
+/// also if a row is malformed, if the `sqlite` crate runs out of memory, or if no end of the result
+/// is found after 2^64 - 1 rows. Under the disk assumption (every read so far returned what was
+/// written) the visitor has taken all records at `Ok`, and at an error a prefix of them, possibly
+/// none.
+///
+/// Requires that the query `sql` has no RETURNING clause and that the visitor is ready to take
+/// records; the visitor is ready also after the walk. If `conn` was in no transaction, it is in
+/// none after the walk. Under the disk assumption the database was open and is unchanged at `Ok`;
+/// at an error it is unchanged or an open transaction is rolled back. Under this assumption a crash
+/// after the walk, at `Ok` or an error, exposes only states that a crash before it could expose.
+pub fn walk_query_rows<S: Alter, R: Record, E, V: Visitor<R, E>>(
+    conn: &mut Connection<S>,
+    sql: &str,
+    params: &[ValueRef<'_>],
+    visitor: &mut V,
+) -> Result<(), WalkError<E>>
+    requires query { HasNoReturningClause sql.now }
+    requires ready { V.ready visitor.old }
+    ensures ready { V.ready visitor.new }
+    ensures leads { V.leads visitor.old visitor.new }
+    // If the walk returns `Ok`, the visitor took all records of the result, in order.
+    ensures all { HasCleanDisk (state S.Store conn.new)
+        → OnOk result (TakesAllRecords R.cells V.takes sql.now (bound params.now) (state S.Store conn.old) visitor.old visitor.new) }
+    // At the visitor's error, the visitor took the records before the one at which it stopped. At a
+    // fault it took a prefix of the records, possibly none.
+    ensures early { HasCleanDisk (state S.Store conn.new)
+        → IfErr result (WalkEndsEarly R.cells V.takes V.stops sql.now (bound params.now) (state S.Store conn.old) visitor.old visitor.new) }
+    // The error is `Memory` or `Store`, or that of the visitor, whether or not the disk assumption
+    // holds.
+    ensures fault { IfErr result (IsWalkError V.stops visitor.new) }
+    ensures unchanged_if_ok { HasCleanDisk (state S.Store conn.new) → OnOk result (IsUnchanged (state S.Store conn.old) (state S.Store conn.new)) }
+    ensures changes_at_most_by_rollback { HasCleanDisk (state S.Store conn.new)
+        → IsUnchanged (state S.Store conn.old) (state S.Store conn.new) ⊎ IsRolledBack (state S.Store conn.old) (state S.Store conn.new) }
+    ensures mode { conn.old.in_transaction ≡ false → conn.new.in_transaction ≡ false }
+    ensures crash { Survives (state S.Store conn.old) (state S.Store conn.new) (λ _. ⊥) }
+{
+    let mut rows = match conn.query(sql, params) {
+        Ok(rows) => rows,
+        Err(_) => return Err(WalkError::Failed(Fault::Store)),
+    };
+    'rows: for _ in 0..u64::MAX {
+        let row = match rows.next() {
+            Ok(Some(row)) => row,
+            Ok(None) => return Ok(()),
+            Err(_) => return Err(WalkError::Failed(Fault::Store)),
+        };
+        let item = match decode_record::<R>(row) {
+            Ok(item) => item,
+            Err(fault) => return Err(WalkError::Failed(fault)),
+        };
+        match visitor.visit(&item) {
+            Ok(()) => (),
+            Err(cause) => return Err(WalkError::Cause(cause)),
+        }
+    }
+    Err(WalkError::Failed(Fault::Store))
+}

@@ -1,0 +1,46 @@
+ghost use Rattle.std.specs.Prelude.{◌≡◌};
+ghost use Rattle.brk_trade_plans.specs.Feed as spec;
+
+use brk_money::Price;
+use brk_ref_orders::Tick;
+
+/// The lowest and the highest of some prices, in cents.
+#[derive(Clone, Copy, Drop)]
+pub struct Span {
+    pub lowest: Price,
+    pub highest: Price,
+}
+
+// Returns the span of prices, in cents, widened to include `price`.
+fn widen_price_span(span: Span, price: Price) -> Span
+    ensures { result ≡ spec.span_including_price price span }
+{
+    let lowest = if price.get() < span.lowest.get() {
+        price
+    } else {
+        span.lowest
+    };
+    let highest = if span.highest.get() < price.get() {
+        price
+    } else {
+        span.highest
+    };
+    Span { lowest, highest }
+}
+
+/// Returns the lowest and the highest price, in cents, of `first` and of those ticks of `others`
+/// that have the symbol of `first`.
+pub fn first_symbol_price_span(first: &Tick, others: &[Tick]) -> Span
+    ensures { result ≡ spec.price_span_of_first_symbol first.now others.now }
+{
+    let mut span = Span {
+        lowest: first.price,
+        highest: first.price,
+    };
+    for tick in others {
+        if tick.symbol.as_str() == first.symbol.as_str() {
+            span = widen_price_span(span, tick.price);
+        }
+    }
+    span
+}

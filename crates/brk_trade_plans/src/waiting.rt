@@ -1,0 +1,33 @@
+ghost use Rattle.std.specs.Prelude.{◌≡◌, ◌++◌, OnOk, OnErr, Err};
+ghost use Rattle.brk_money.specs.declared.fault.Fault.TheVariants.{Memory};
+ghost use Rattle.brk_trade_plans.specs.Waiting.{row_changes_of_status_after_pending};
+
+use brk_money::{Fault, Id, Stamp, Status};
+use brk_trade_rows::{Change, HistoryRow};
+
+// Appends to `changes` the row changes by which a pending trade changes to the status `status` at
+// `stamp`: its status and its stamp are set, a history row is added, and its request is deleted.
+// Fails with `Memory` only; a part of the row changes may then be appended.
+pub(crate) fn append_pending_trade_changes(
+    trade: Id,
+    status: Status,
+    stamp: Stamp,
+    changes: &mut Vec<Change>,
+) -> Result<(), Fault>
+    ensures changes { OnOk result (changes.new.items ≡ changes.old.items ++ row_changes_of_status_after_pending trade status stamp) }
+    ensures fault { OnErr result (result ≡ Err Memory) }
+{
+    let row = HistoryRow {
+        trade,
+        status,
+        stamp,
+    };
+    changes.push(Change::SetStatus {
+        trade,
+        status,
+        stamp,
+    })?;
+    changes.push(Change::AddHistory(row))?;
+    changes.push(Change::RemoveRequest(trade))?;
+    Ok(())
+}

@@ -1,0 +1,11 @@
+pub mod BrokerNames
+pub mod Carried
+pub mod Lookup
+pub mod Lots
+pub mod Queries
+pub mod Recent
+pub mod Status
+pub mod ViewNames
+pub mod Views
+pub mod Volume
+pub mod Worths

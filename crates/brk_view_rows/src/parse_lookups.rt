@@ -1,0 +1,115 @@
+ghost use Rattle.std.specs.Prelude.{◌≡◌, IfOk, OnErr, Err};
+ghost use Rattle.brk_model.specs.Ask.{read_lots_query, read_value_and_stamps, read_volume_query};
+ghost use Rattle.brk_model.specs.Forms.{read_id, read_distinct_ids, read_symbol};
+ghost use Rattle.brk_model.specs.Parse.{read_and_wrap};
+ghost use Rattle.brk_model.specs.Queries.{TradesOfAccount, TradesOfSymbol, TradesWith};
+ghost use Rattle.brk_money.specs.declared.fault.Fault.TheVariants.{Memory};
+ghost use Rattle.brk_ref.specs.Fields.{ParsesAs, texts_of_fields};
+ghost use Rattle.brk_view_rows.specs.Queries.{abstract_query};
+
+use crate::broker_names::parse_broker_names;
+use crate::named_trades::parse_named_trades;
+use crate::query::Query;
+use brk_money::{Planned, Refusal};
+use brk_ref::{Name, Symbol, parse_id};
+use brk_ref_orders::{Span, parse_stamp};
+use std::alloc::Global;
+
+// Parses the query of trades from its arguments, 1 to 20 different ids. Refuses with `BadText` if
+// an argument is malformed, if an id occurs twice, or if there is no argument, and otherwise with
+// `TooMany` if there are more than 20. Fails with `Memory` only.
+pub(crate) fn parse_trades_query(alloc: Global, arguments: &[&[u8]]) -> Planned<Query>
+    ensures read { IfOk result (λ read. ParsesAs abstract_query read (read_and_wrap TradesWith read_distinct_ids (texts_of_fields arguments.now))) }
+    ensures fault { OnErr result (result ≡ Err Memory) }
+{
+    match parse_named_trades(alloc, arguments)? {
+        Ok(trades) => Ok(Ok(Query::Trades(trades))),
+        Err(refusal) => Ok(Err(refusal)),
+    }
+}
+
+// Parses the query of an account's trades between two stamps from its arguments: the account, the
+// first stamp and the last, which may be before the first. Refuses malformed arguments, or a wrong
+// number of them, with `BadText`.
+pub(crate) fn parse_account_trades_query(arguments: &[&[u8]]) -> Result<Query, Refusal>
+    ensures { ParsesAs abstract_query result
+        (read_value_and_stamps read_id (λ account first last. TradesOfAccount account first last) (texts_of_fields arguments.now)) }
+{
+    let [account, first, last] = arguments else {
+        return Err(Refusal::BadText);
+    };
+    let Some(account) = parse_id(account) else {
+        return Err(Refusal::BadText);
+    };
+    let Some(first) = parse_stamp(first) else {
+        return Err(Refusal::BadText);
+    };
+    let Some(last) = parse_stamp(last) else {
+        return Err(Refusal::BadText);
+    };
+    let span = Span { first, last };
+    Ok(Query::AccountTrades { account, span })
+}
+
+// Parses the query of a symbol's trades between two stamps from its arguments: the symbol, the
+// first stamp and the last, which may be before the first. Refuses malformed arguments, or a wrong
+// number of them, with `BadText`. Fails with `Memory` only.
+pub(crate) fn parse_symbol_trades_query(alloc: Global, arguments: &[&[u8]]) -> Planned<Query>
+    ensures read { IfOk result (λ read. ParsesAs abstract_query read
+        (read_value_and_stamps read_symbol (λ symbol first last. TradesOfSymbol symbol first last) (texts_of_fields arguments.now))) }
+    ensures fault { OnErr result (result ≡ Err Memory) }
+{
+    let [symbol, first, last] = arguments else {
+        return Ok(Err(Refusal::BadText));
+    };
+    let Some(symbol) = Symbol::parse(alloc, symbol)? else {
+        return Ok(Err(Refusal::BadText));
+    };
+    let Some(first) = parse_stamp(first) else {
+        return Ok(Err(Refusal::BadText));
+    };
+    let Some(last) = parse_stamp(last) else {
+        return Ok(Err(Refusal::BadText));
+    };
+    let span = Span { first, last };
+    Ok(Ok(Query::SymbolTrades { symbol, span }))
+}
+
+// Parses the query of the lots that the oldest trade of an account at or after a stamp touched,
+// from its arguments: the account and the stamp. Refuses malformed arguments, or a wrong number of
+// them, with `BadText`.
+pub(crate) fn parse_lots_query(arguments: &[&[u8]]) -> Result<Query, Refusal>
+    ensures { ParsesAs abstract_query result (read_lots_query (texts_of_fields arguments.now)) }
+{
+    let [account, first] = arguments else {
+        return Err(Refusal::BadText);
+    };
+    let Some(account) = parse_id(account) else {
+        return Err(Refusal::BadText);
+    };
+    let Some(first) = parse_stamp(first) else {
+        return Err(Refusal::BadText);
+    };
+    Ok(Query::Lots { account, first })
+}
+
+// Parses the query of the brokers' volumes in a sector from its arguments: the sector and 1 to 20
+// different broker names; a name that occurs more than once is counted once. Checks all arguments
+// before the number of names: refuses malformed arguments, no sector or no name with `BadText`, and
+// otherwise more than 20 different names with `TooMany`. Fails with `Memory` only.
+#[tactic(auto, using(brk_ref::proofs::Applied::text_left, brk_ref::proofs::Applied::text_right))]
+pub(crate) fn parse_volume_query(alloc: Global, arguments: &[&[u8]]) -> Planned<Query>
+    ensures read { IfOk result (λ read. ParsesAs abstract_query read (read_volume_query (texts_of_fields arguments.now))) }
+    ensures fault { OnErr result (result ≡ Err Memory) }
+{
+    let [sector, names @ ..] = arguments else {
+        return Ok(Err(Refusal::BadText));
+    };
+    let Some(sector) = Name::parse(alloc, sector)? else {
+        return Ok(Err(Refusal::BadText));
+    };
+    match parse_broker_names(alloc, names)? {
+        Ok(names) => Ok(Ok(Query::Volume { sector, names })),
+        Err(refusal) => Ok(Err(refusal)),
+    }
+}

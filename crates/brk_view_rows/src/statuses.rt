@@ -1,0 +1,63 @@
+//! The parties of an account, its customer and its broker, and its last trades.
+
+ghost use Rattle.std.specs.Prelude.{◌≡◌, ◌==◌, ◌∷◌, [], ℕ, Some, filter, flat_map, map, take};
+ghost use Rattle.brk_trade_rows.specs.Rows.{abstract_trade_row};
+ghost use Rattle.brk_model.specs.Joins.{trade_rows_recent_first, security_row_with_symbol, trade_rows_of_account};
+ghost use Rattle.brk_model.specs.StatusView.{customer_and_broker_names, record_of_trade_status, trade_status_view};
+ghost use Rattle.brk_model.specs.Tables.{Tables};
+ghost use Rattle.brk_ref.specs.Records.{abstract_security_row};
+ghost use Rattle.brk_view_rows.specs.Status.{trade_status_record, party_names_record, rows_of_trade_status, trade_row_with_security};
+ghost use Rattle.brk_view_rows.specs.Views.{records_of_view};
+ghost use Rattle.brk_view_rows.specs.declared.view.View.TheVariants as views;
+
+use crate::view::View;
+use brk_ref::{Name, Security};
+use brk_trade_rows::TradeRow;
+
+/// A trade with its security.
+#[derive(Drop)]
+pub struct TradeStatus {
+    pub trade: TradeRow,
+    pub security: Security,
+}
+
+/// The names of an account's customer and broker, and its last trades, the most recent first.
+#[derive(Drop)]
+pub struct AccountStatus {
+    /// The last and the first name of the account's customer.
+    pub last_name: Name,
+    pub first_name: Name,
+    /// The name of the account's broker.
+    pub broker: Name,
+    pub trades: Vec<TradeStatus>,
+}
+
+/// Returns the trade `trade` together with the security `security`, which the caller has read for
+/// the trade's symbol. Does not allocate.
+#[tactic(auto, using(crate::proofs::Shown::trade_shown, crate::proofs::Shown::trade_carried))]
+pub fn trade_with_security(trade: TradeRow, security: Security) -> TradeStatus
+    ensures shown { (t : Tables) → security_row_with_symbol t trade.symbol ≡ Some (abstract_security_row security)
+        → trade_status_record result ≡ record_of_trade_status t (abstract_trade_row trade) }
+    ensures rows { (t : Tables) → security_row_with_symbol t trade.symbol ≡ Some (abstract_security_row security)
+        → rows_of_trade_status result ≡ trade_row_with_security t (abstract_trade_row trade) }
+{
+    TradeStatus { trade, security }
+}
+
+/// Returns the view of an account's trades (Trade-Status), without reading a table. The caller
+/// passes the names of the account's customer and broker, and the account's last fifty trades, or
+/// all if it has fewer, sorted by stamp, then by id, both descending, each with its security. Does
+/// not allocate.
+#[tactic(auto, using(crate::proofs::Shown::status_shown))]
+pub fn status(account: AccountStatus) -> View
+    ensures records { records_of_view result ≡ party_names_record account ∷ map trade_status_record account.trades.items }
+    ensures value { result ≡ views.Status account }
+    // If the names equal those of the customer and the broker of an account that exists, and the
+    // trades are its last fifty with their securities, the view equals the specified view.
+    ensures view { (t : Tables) (id : ℕ)
+        → flat_map (customer_and_broker_names t) (filter (λ a. a.id == id) t.accounts) ≡ party_names_record account ∷ []
+        → map trade_status_record account.trades.items ≡ map (record_of_trade_status t) (take 50 (trade_rows_recent_first (trade_rows_of_account t id)))
+        → records_of_view result ≡ trade_status_view t id }
+{
+    View::Status(account)
+}
