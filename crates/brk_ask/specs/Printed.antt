@@ -1,5 +1,5 @@
 -- The text of a view as it is written.
-use Rattle.std.specs.Prelude.{Bool, true, false, List, [], ◌∷◌, ◌++◌, codes, flat_map, if◌then◌else◌}
+use Rattle.std.specs.Prelude.{List, [], ◌∷◌, ◌++◌, codes, flat_map, if◌then◌else◌}
 use Rattle.brk_ask.specs.declared.form.Form.{Form}
 use Rattle.brk_model_http.specs.Bodies.{json_records_object}
 use Rattle.brk_model.specs.Queries.{Query, View, PositionOf, PositionOfTaxId, SubmittedTrades, EstimateOf, VolumeOf}

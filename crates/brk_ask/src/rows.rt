@@ -1,30 +1,18 @@
 ghost use Rattle.std.specs.Prelude.{◌≡◌, IfOk, map, string_bytes};
 ghost use Rattle.brk_ask.specs.Printed.{json_line_text, csv_text};
-ghost use Rattle.brk_ref.specs.Fields.{texts_of_fields as slices};
 ghost use Rattle.brk_view_rows.specs.Views.{texts_of_record};
 ghost use Rattle.csv.specs.Writing.{default_writer, row_text};
 
 use brk_http_engine::json_text_of_view;
+use brk_ref::borrow_bytes_of_texts;
 use csv::WriterBuilder;
 use std::alloc::{AllocError, Global};
-
-// Returns the bytes of the texts of a record as borrowed slices, in order. Fails only if memory
-// runs out.
-fn bytes_of_record(alloc: Global, texts: &[String]) -> Result<Vec<&[u8]>, AllocError>
-    ensures { IfOk result (λ all. slices all.items ≡ map string_bytes texts.now) }
-{
-    let mut all = Vec::new(alloc);
-    for text in texts {
-        all.push(text.as_str().as_bytes())?;
-    }
-    Ok(all)
-}
 
 // Returns a record as a row of CSV, with its line feed. Fails only if memory runs out.
 fn format_csv_row(alloc: Global, texts: &[String]) -> Result<Vec<u8>, AllocError>
     ensures { IfOk result (λ row. row.items ≡ row_text default_writer (map string_bytes texts.now)) }
 {
-    let fields = bytes_of_record(alloc, texts)?;
+    let fields = borrow_bytes_of_texts(alloc, texts)?;
     let mut writer = WriterBuilder::new().from_writer(Vec::new(alloc));
     match writer.write_fields(&fields) {
         Ok(()) => {}

@@ -1,6 +1,6 @@
 -- The condition of form, from its groups of tests.
 use Rattle.std.proofs.Common.{◌≡◌, suc, Bool, true, List, [], ◌∷◌, refl, sym, ◌∙◌, ap, map, filter, length}
-use Rattle.std.specs.Prelude.{◌&&◌, ◌↔◌, is_none, nat_le, IsTrue, IfOk, Result, Ok, Err}
+use Rattle.std.specs.Prelude.{◌↔◌, is_none, nat_le, IsTrue, IfOk, Result, Ok, Err}
 use Rattle.brk_money.specs.declared.fault.Fault.{Fault}
 use Rattle.std.specs.Cmp.{both_ways}
 use Rattle.std.specs.List.{list_all, range_with_len}

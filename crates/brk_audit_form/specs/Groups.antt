@@ -1,5 +1,5 @@
 -- The format checks of typed rows, by groups of tables.
-use Rattle.std.specs.Prelude.{Bool, true, ◌&&◌, filter, is_none, length, map, nat_le}
+use Rattle.std.specs.Prelude.{Bool, ◌&&◌, filter, is_none, length, map, nat_le}
 use Rattle.std.specs.List.{list_all, range_with_len}
 use Rattle.brk_model.specs.Limits.{greatest_id}
 use Rattle.brk_model.specs.Schemas.{Schema}

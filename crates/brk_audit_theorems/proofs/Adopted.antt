@@ -12,8 +12,8 @@ use Rattle.brk_model.specs.Schemas.{third_schema}
 use Rattle.brk_model.specs.Lists.{all_distinct, sort_by_key}
 use Rattle.brk_model.specs.Records.{Trade, Movement}
 use Rattle.brk_model.specs.Base.{Base, completed_trades, empty_base, is_completed}
-use Rattle.brk_model.specs.Derived.{cash_trades, postings_sorted_by_stamp, posting_of_trade, postings_of_base}
-use Rattle.brk_model.specs.Tables.{Tables, TradeRow, cash_transaction_row, settlement_row, tables_of_base_in_schema}
+use Rattle.brk_model.specs.Derived.{postings_sorted_by_stamp, posting_of_trade, postings_of_base}
+use Rattle.brk_model.specs.Tables.{Tables, TradeRow, settlement_row, tables_of_base_in_schema}
 use Rattle.brk_model.specs.Sheets.{sheets, tables_sorted_by_key}
 use Rattle.brk_model.specs.Adopted.{base_of_tables, status_changes_of_trade, trade_of_row, is_posting_of_trade, postings_of_tables}
 use Rattle.brk_model.specs.Audit.{ConditionHolds}

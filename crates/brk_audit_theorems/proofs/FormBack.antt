@@ -7,7 +7,7 @@ use Rattle.std.specs.Option.{option_map_or}
 use Rattle.std.proofs.lemmas.Bool.{and_parts, eqb-true, leb-true, not-true, and_from}
 use Rattle.std.proofs.lemmas.Slice.Eq.{bytes_eq-Decides}
 use Rattle.brk_money.specs.Spelling.{Text, is_within_amount_limit}
-use Rattle.brk_money.specs.Moments.{day_of, greatest_day}
+use Rattle.brk_money.specs.Moments.{greatest_day}
 use Rattle.brk_money.specs.Kinds.{is_same_trade_status, side_of_trade_type}
 use Rattle.brk_money.specs.declared.status.Status.TheVariants.{Completed}
 use Rattle.brk_trade_books.proofs.MoveReading.{moves_counted, rows_posted}
@@ -26,7 +26,7 @@ use Rattle.brk_model.specs.Tables.{Tables, account_row, broker_row, history_rows
 use Rattle.brk_model.specs.Sheets.{sheets, tables_sorted_by_key}
 use Rattle.brk_model.specs.Adopted.{base_of_tables, posting_of_cash_move_row}
 use Rattle.brk_model.specs.Joins.{history_rows_with_trade_id, trade_row_with_id}
-use Rattle.brk_model.specs.Form.{is_well_formed_account_row, is_well_formed_broker_row, is_well_formed_cash_transaction_row, is_well_formed_charge_row}
+use Rattle.brk_model.specs.Form.{is_well_formed_account_row, is_well_formed_broker_row, is_well_formed_charge_row}
 use Rattle.brk_model.specs.Form.{is_well_formed_customer_row, is_within_customer_limits, is_well_formed_customer_tax_row, has_account, has_broker, has_customer}
 use Rattle.brk_model.specs.Form.{satisfies_form_condition, has_security, has_trade, is_well_formed_history_row, is_cash_row_name_of_trade}
 use Rattle.brk_model.specs.Form.{is_cash_type_of_trade, is_id, is_up_to_last_stamp, is_price, is_quantity_in_schema, is_well_formed_last_trade_row}
@@ -34,7 +34,7 @@ use Rattle.brk_model.specs.Form.{has_distinct_tax_ids, is_well_formed_permission
 use Rattle.brk_model.specs.Form.{is_well_formed_settlement_row, is_well_formed_summary_row, is_well_formed_trade_row, is_movement_name_and_amount}
 use Rattle.brk_model.specs.Form.{is_well_formed_cash_move_row}
 use Rattle.brk_model.specs.Forms.{is_acl, is_exchange, is_name, is_symbol, is_tax_id}
-use Rattle.brk_model.specs.Keys.{KeyPart, word, rows_sorted_by_key, is_row_key_less, account_key, band_key, broker_key, cash_transaction_key, charge_key}
+use Rattle.brk_model.specs.Keys.{KeyPart, word, rows_sorted_by_key, is_row_key_less, account_key, band_key, broker_key, charge_key}
 use Rattle.brk_model.specs.Keys.{customer_key, customer_tax_key, history_key, kept_key, last_trade_key, permission_key, security_key, settlement_key}
 use Rattle.brk_model.specs.Keys.{summary_key, tax_rate_key, trade_key}
 use Rattle.brk_trade_books.specs.Books.{BooksInvariant}

@@ -12,10 +12,10 @@ use Rattle.brk_audit_theorems.proofs.UpgradedForm.{numbered_rises}
 use Rattle.brk_model.specs.Lists.{is_zero, sort_by}
 use Rattle.brk_model.specs.Records.{Account, StatusChange, Security, Trade}
 use Rattle.brk_model.specs.Base.{Base, completed_trades, has_last_status, is_completed, last_status_stamp_of_trade}
-use Rattle.brk_model.specs.Derived.{cash_trades, deal_of_trade, deals_of_position, trades_of_account, trades_of_position, pending_trades}
+use Rattle.brk_model.specs.Derived.{deal_of_trade, deals_of_position, trades_of_account, trades_of_position, pending_trades}
 use Rattle.brk_model.specs.Derived.{holding_summary_quantity, postings_sorted_by_stamp, postings_of_base}
 use Rattle.brk_model.specs.Shares.{Deal, Share, shares_after_deal}
-use Rattle.brk_model.specs.Tables.{HistoryRow, HoldingHistoryRow, SummaryRow, account_row, broker_row, cash_transaction_row, history_rows, holding_row}
+use Rattle.brk_model.specs.Tables.{HistoryRow, HoldingHistoryRow, SummaryRow, account_row, broker_row, history_rows, holding_row}
 use Rattle.brk_model.specs.Tables.{last_trade_row, request_row, security_row, settlement_row, summary_rows, tables_of_base_in_schema, trade_row}
 use Rattle.brk_lots.proofs.HistoryRows.{rows_of_lots_are}
 use Rattle.brk_lots.specs.HistoryRows.{lot_rows_with_quantity_change, lot_history_rows_per_deal}

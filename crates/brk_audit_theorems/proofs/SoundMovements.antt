@@ -1,7 +1,6 @@
 -- An accepted movement in form, and an accepted first day of one-day settlement, leave a sound base sound.
-use Rattle.std.proofs.Common.{◌≡◌, ◌≤◌, ◌<◌, ℕ, zero, suc, ◌+◌, ◌==◌, Bool, true, false, not, cond, List, [], ◌∷◌, ◌++◌, refl, sym, ◌∙◌, ap, subst, map, length, arith, Option, Some, None, pos, neg_ℤ}
-use Rattle.std.specs.Prelude.{◌&&◌, ◌||◌, codes, is_none, nat_abs, nat_le, nat_lt, int_lt}
-use Rattle.std.specs.Option.{option_map_or}
+use Rattle.std.proofs.Common.{◌≡◌, ◌≤◌, ◌<◌, ℕ, zero, suc, ◌+◌, ◌==◌, Bool, true, false, not, cond, List, [], ◌∷◌, ◌++◌, refl, sym, ◌∙◌, ap, subst, map, length, arith, Some, None, pos, neg_ℤ}
+use Rattle.std.specs.Prelude.{◌&&◌, ◌||◌, codes, nat_abs, nat_le, nat_lt}
 use Rattle.std.specs.List.{AllByRecursion}
 use Rattle.std.proofs.lemmas.Bool.{and_from, and_parts, eqb-true, leb-true, le-leb, ltb-false, or_left}
 use Rattle.std.proofs.lemmas.Bool.Decides.{nat_tests}
@@ -11,21 +10,21 @@ use Rattle.brk_money.specs.Moments.{day_of, greatest_day}
 use Rattle.brk_money.specs.declared.status.Status.TheVariants.{Completed}
 use Rattle.brk_model.specs.Limits.{greatest_amount, greatest_id}
 use Rattle.brk_model.specs.Records.{StatusChange, Movement, SettleRule, Trade}
-use Rattle.brk_model.specs.Base.{Base, completed_trades}
-use Rattle.brk_model.specs.Commands.{Command, DepositCash, WithdrawCash, SetOneDay}
+use Rattle.brk_model.specs.Base.{Base}
+use Rattle.brk_model.specs.Commands.{DepositCash, WithdrawCash, SetOneDay}
 use Rattle.brk_model.specs.Derived.{balance_of_account, due_day_of_completion_stamp, postings_of_base}
 use Rattle.brk_model.specs.Form.{is_movement_name_and_amount}
-use Rattle.brk_model.specs.Movements.{deposit_movement, withdrawal_movement, base_after_movement, base_with_one_day_settlement_start}
+use Rattle.brk_model.specs.Movements.{deposit_movement, withdrawal_movement, base_after_movement}
 use Rattle.brk_model.specs.Step.{base_after_command_unstamped}
 use Rattle.brk_model.specs.Ways.{is_strictly_ascending}
-use Rattle.brk_model.specs.Tests.{stamp_of_next_command, refusal_of_command, checks_of_command}
+use Rattle.brk_model.specs.Tests.{stamp_of_next_command, checks_of_command}
 use Rattle.brk_trade_books.specs.Books.{BooksInvariant}
 use Rattle.brk_trade_books.proofs.MovementOrder.{movements_before}
 use Rattle.brk_trade_books.proofs.Movements.{others_stay, unset}
 use Rattle.brk_trade_books.proofs.Same.{All-append, All-map, All-mapped, map-last}
 use Rattle.brk_trade_books.proofs.Tested.{passed}
 use Rattle.brk_audit_theorems.specs.Sound.{HasDueDayInCalendar, AuditInvariant, TradeAuditInvariant, BaseTradeAuditInvariant, is_well_formed_movement}
-use Rattle.brk_audit_theorems.specs.InForm.{MeetsAuditFormats, is_movement_amount_within_limits}
+use Rattle.brk_audit_theorems.specs.InForm.{is_movement_amount_within_limits}
 use Rattle.brk_audit_theorems.proofs.OneTrade.{rising_more, sound_last}
 use Rattle.brk_audit_theorems.proofs.SoundRecords.{LeavesSound}
 

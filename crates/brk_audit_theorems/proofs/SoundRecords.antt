@@ -11,7 +11,7 @@ use Rattle.brk_model.specs.Lists.{total_by}
 use Rattle.brk_model.specs.Limits.{greatest_amount, greatest_commission_rate, greatest_tax_rate, most_accounts_per_customer}
 use Rattle.brk_model.specs.Records.{Account, Band, Broker, Charge, Customer, CustomerTax, Kept, Key, Permission, Security, TaxRate, Trade}
 use Rattle.brk_model.specs.Base.{Base, account_with_id, broker_id_in_accounts, completed_trades, customer_with_id, tax_rate_sum_of_customer, tax_rate_record_with_id}
-use Rattle.brk_model.specs.Derived.{settlement_amount, balance_of_account, cash_trades, commission_total_of_broker, trades_of_account, trades_of_broker}
+use Rattle.brk_model.specs.Derived.{balance_of_account, commission_total_of_broker, trades_of_broker}
 use Rattle.brk_model.specs.Derived.{postings_to_account, postings, postings_of_base}
 use Rattle.brk_model.specs.Commands.{Command, Listing, Reply, AddBroker, AddCustomer, AddAccount, AddPermission, AddSecurity, AddCharge, AddBand, AddTaxRate, AddCustomerTax}
 use Rattle.brk_model.specs.Form.{is_well_formed_band_row, is_well_formed_charge_row, is_well_formed_customer_row, is_id, is_up_to_last_stamp}
@@ -27,7 +27,7 @@ use Rattle.brk_trade_books.specs.Books.{BooksInvariant}
 use Rattle.brk_trade_books.specs.Steps.{base_after_command}
 use Rattle.brk_trade_books.proofs.Order.{NewKey}
 use Rattle.brk_trade_books.proofs.NewKeys.{charge_new, customer_tax_new, same_bytes, not_both}
-use Rattle.brk_trade_books.proofs.Same.{NonePass, All-append, All-filter, All-map, any-none, filter-same, find-more, find-none, total_by-same}
+use Rattle.brk_trade_books.proofs.Same.{NonePass, All-append, All-filter, All-map, any-none, filter-same, find-more, find-none}
 use Rattle.brk_trade_books.proofs.Places.{filter-append}
 use Rattle.brk_trade_books.proofs.Tested.{passed, not_not}
 use Rattle.brk_trade_books.proofs.Keepers.{found_more}

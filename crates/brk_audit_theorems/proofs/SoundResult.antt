@@ -5,7 +5,7 @@ use Rattle.std.specs.List.{AllByRecursion}
 use Rattle.std.proofs.lemmas.Bool.{and_parts, eqb-true, leb-true, le-leb, ltb-false, or_left}
 use Rattle.brk_money.specs.Amounts.{commission}
 use Rattle.brk_money.specs.Spelling.{Text}
-use Rattle.brk_money.specs.Moments.{day_of, greatest_day}
+use Rattle.brk_money.specs.Moments.{greatest_day}
 use Rattle.brk_money.specs.Kinds.{side_of_trade_type}
 use Rattle.brk_money.specs.declared.trade_type.TradeType.{TradeType}
 use Rattle.brk_money.specs.declared.status.Status.TheVariants.{Completed, Submitted}

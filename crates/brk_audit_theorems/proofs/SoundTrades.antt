@@ -8,7 +8,7 @@ use Rattle.std.proofs.lemmas.Bool.{and_from, and_parts, eqb-true, eq-eqb, le-leb
 use Rattle.std.proofs.lemmas.List.Sums.{sum_by-cons}
 use Rattle.brk_money.specs.OrderTypes.{trade_type_of_order_type, price_of_order_type}
 use Rattle.brk_money.specs.Spelling.{Text}
-use Rattle.brk_money.specs.Moments.{day_of, greatest_day}
+use Rattle.brk_money.specs.Moments.{greatest_day}
 use Rattle.brk_money.specs.Kinds.{is_market_type, is_same_trade_status, side_of_trade_type}
 use Rattle.brk_money.specs.declared.refusal.Refusal.TheVariants.{NoTrade}
 use Rattle.brk_money.specs.declared.status.Status.{Status}

@@ -4,12 +4,12 @@ use Rattle.std.specs.Prelude.{⊤, ◌&&◌, ◌||◌, if◌then◌else◌, find
 use Rattle.std.specs.Option.{option_map_or}
 use Rattle.std.specs.List.{AllByRecursion}
 use Rattle.std.proofs.lemmas.Bool.{eqb-true, eq-eqb}
-use Rattle.brk_model.specs.Lists.{all_distinct, contains_number, insert_by, sort_by, sort_by_key}
+use Rattle.brk_model.specs.Lists.{all_distinct, contains_number, sort_by, sort_by_key}
 use Rattle.brk_model.specs.Records.{Account, Movement, Trade}
 use Rattle.brk_model.specs.Base.{Base, completed_trades, is_completed, trade_with_id}
 use Rattle.brk_model.specs.Derived.{Posting, cash_trades, postings_sorted_by_stamp, posting_of_movement, posting_of_trade, postings_of_base}
 use Rattle.brk_model.specs.Schemas.{Schema, third_schema}
-use Rattle.brk_model.specs.Tables.{CashRow, MoveRow, Tables, TradeRow, cash_transaction_row, numbered_move_rows, tables_of_base_in_schema, trade_row}
+use Rattle.brk_model.specs.Tables.{MoveRow, Tables, TradeRow, cash_transaction_row, numbered_move_rows, tables_of_base_in_schema, trade_row}
 use Rattle.brk_model.specs.Sheets.{sheets, sheets_in_schema, tables_sorted_by_key}
 use Rattle.brk_model.specs.Keys.{number, rows_sorted_by_key, cash_transaction_key, cash_move_key, is_row_key_less}
 use Rattle.brk_model.specs.Adopted.{base_of_tables, is_posting_of_trade, movement_of_row, posting_of_cash_transaction_row, posting_of_cash_move_row, postings_of_tables, trade_of_row}

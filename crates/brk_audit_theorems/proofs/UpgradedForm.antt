@@ -1,13 +1,13 @@
 -- Moved rows have form in the third schema.
-use Rattle.std.proofs.Common.{◌≡◌, ◌≤◌, ◌<◌, ℕ, ◌+◌, ◌==◌, Bool, true, false, cond, List, [], ◌∷◌, ◌++◌, refl, sym, ◌∙◌, ap, subst, map, filter, length, arith, Option, Some, None}
-use Rattle.std.specs.Prelude.{◌&&◌, is_none, is_some, nat_le, nat_abs, nat_lt, bytes_eq, find}
+use Rattle.std.proofs.Common.{◌≡◌, ◌≤◌, ℕ, ◌+◌, ◌==◌, Bool, true, false, cond, List, [], ◌∷◌, ◌++◌, refl, sym, ◌∙◌, ap, subst, map, filter, length, arith, Option, Some, None}
+use Rattle.std.specs.Prelude.{is_none, nat_le, nat_abs, nat_lt, find}
 use Rattle.std.specs.Option.{option_map_or}
 use Rattle.std.specs.List.{AllByRecursion, list_all}
 use Rattle.std.proofs.lemmas.Bool.{and_from, and_parts, leb-true, le-leb}
 use Rattle.std.proofs.lemmas.Bool.Decides.{nat_tests}
 use Rattle.brk_money.specs.Spelling.{is_within_amount_limit}
 use Rattle.brk_model.specs.Limits.{greatest_amount, greatest_charge, greatest_id, greatest_cash_row_number, greatest_commission_rate}
-use Rattle.brk_model.specs.Records.{Band, Movement, Trade}
+use Rattle.brk_model.specs.Records.{Band, Trade}
 use Rattle.brk_model.specs.Base.{Base, completed_trades, is_completed}
 use Rattle.brk_model.specs.Derived.{Posting, cash_trades, postings_sorted_by_stamp, posting_of_movement, posting_of_trade, postings_of_base}
 use Rattle.brk_model.specs.Schemas.{Schema, third_schema}
@@ -31,10 +31,9 @@ use Rattle.brk_trade_books.proofs.MoveReading.{moves_counted}
 use Rattle.brk_trade_books.proofs.Postings.{length_sort}
 use Rattle.brk_trade_books.proofs.Same.{All-append, All-map, All-mapped, find-All}
 use Rattle.brk_audit_theorems.specs.Upgrade.{HasLimitsWithinThirdSchema}
-use Rattle.brk_audit_theorems.proofs.AdoptedBooks.{move_parts}
 use Rattle.brk_audit_theorems.proofs.AgainStatus.{all_list}
 use Rattle.brk_audit_theorems.proofs.Climbs.{list_all_true}
-use Rattle.brk_audit_theorems.proofs.UpgradedBase.{IsPosted, base_upgraded, upgraded_tables, moves_own}
+use Rattle.brk_audit_theorems.proofs.UpgradedBase.{IsPosted, moves_own}
 use Rattle.brk_model_theorems.specs.FormParts.{SatisfiesFormParts}
 use Rattle.brk_model_theorems.proofs.FormParts.{form_parts, form_whole}
 use Rattle.brk_model_theorems.proofs.Conjunctions.{parts3, parts5, parts6, parts10}

@@ -1,9 +1,8 @@
 -- Moved rows pass.
-use Rattle.std.proofs.Common.{◌≡◌, ◌≤◌, true, List, ◌++◌, refl, sym, ◌∙◌, ap, filter, map, arith}
+use Rattle.std.proofs.Common.{◌≡◌, true, ◌++◌, refl, sym, ◌∙◌, ap, filter, map, arith}
 use Rattle.std.specs.Prelude.{◌&&◌, is_none}
 use Rattle.std.specs.List.{list_all}
 use Rattle.brk_money.specs.declared.fault.Condition.TheVariants as condition
-use Rattle.brk_model.specs.Base.{Base}
 use Rattle.brk_model.specs.Lists.{all_distinct}
 use Rattle.brk_model.specs.Schemas.{Schema, first_schema, second_schema, third_schema}
 use Rattle.brk_model.specs.Tables.{Tables}

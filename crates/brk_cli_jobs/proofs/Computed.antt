@@ -1,20 +1,16 @@
 -- A batch that completed printed the text that the model's function computes.
-use Rattle.std.proofs.Common.{◌≡◌, ◌≤◌, ℕ, zero, suc, ◌+◌, Bool, true, false, cond, List, [], ◌∷◌, ◌++◌, length, take, replicate, refl, sym, ◌∙◌, ap, subst, arith, Option, Some, None, Ok, Err, IsTrue, codes}
-use Rattle.std.specs.Prelude.{bytes_eq, decimal}
+use Rattle.std.proofs.Common.{◌≡◌, ◌≤◌, ℕ, zero, suc, ◌+◌, Bool, true, false, cond, List, [], ◌∷◌, ◌++◌, length, take, replicate, refl, sym, ◌∙◌, ap, arith, Option, Some, None, codes}
+use Rattle.std.specs.Prelude.{decimal}
 use Rattle.std.specs.List.{AllByRecursion}
-use Rattle.csv.specs.Reading.{records, default_config}
 use Rattle.brk_money.specs.Spelling.{Text}
 use Rattle.brk_model.specs.Answers.{Fields, RowStep, ResultOfRows, result_of_rows}
-use Rattle.brk_model.specs.Base.{Base}
-use Rattle.brk_model.specs.Batch.{BatchResult, CorrectEnd, IsResultOfTextWithHeader, step_of_row}
 use Rattle.brk_model.specs.Commands.{Answer}
-use Rattle.brk_model.specs.Computed.{answers_and_base_of_rows, batch_name_of_header, has_correct_row_count, is_end_record, result_of_batch_input, result_of_batch_records, result_of_batch_rows}
-use Rattle.brk_model.specs.Computed.{result_of_complete_batch, result_of_optionally_named_batch, result_with_end_record, result_without_end_line, split_at_end_record, split_with_row_in_front, RowsAndEndRecord}
+use Rattle.brk_model.specs.Computed.{answers_and_base_of_rows, batch_name_of_header, has_correct_row_count, is_end_record, result_of_batch_records, result_of_batch_rows}
+use Rattle.brk_model.specs.Computed.{result_of_complete_batch, result_of_optionally_named_batch, result_without_end_line, split_at_end_record, split_with_row_in_front, RowsAndEndRecord}
 use Rattle.brk_model.specs.Forms.{ReadResult, is_batch_name}
-use Rattle.brk_model.specs.Input.{input_text, IsBatchName, IsEndRecord, batch_header, correct_end_record}
-use Rattle.brk_model.specs.Parse.{parse_row, parse_by_first_field, row_parsers}
+use Rattle.brk_model.specs.Input.{IsBatchName, IsEndRecord, batch_header, correct_end_record}
 use Rattle.brk_model_theorems.specs.RowCalls.{well_formed_rows_from}
-use Rattle.brk_model_theorems.proofs.BatchLaws.{end_is, formed-few, same, splits}
+use Rattle.brk_model_theorems.proofs.BatchLaws.{end_is, formed-few, same}
 use Rattle.brk_model_theorems.proofs.RowLaws.{calls-of, takes-first}
 
 -- ---- clock readings that are all the same

@@ -1,5 +1,5 @@
 -- A job on a desk that was opened or created.
-use Rattle.std.proofs.Common.{◌≡◌, inl, inr, Ok, Err, Result, refl, subst, sym}
+use Rattle.std.proofs.Common.{◌≡◌, Ok, Result, subst, sym}
 use Rattle.std.specs.Borrow.{Bor}
 use Rattle.sqlite_trees.specs.declared.store.Store.{Ghosts}
 use Rattle.sqlite.specs.Held.{Held}

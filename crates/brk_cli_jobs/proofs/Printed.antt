@@ -1,5 +1,5 @@
 -- What a batch prints on a new desk in memory at a fixed time.
-use Rattle.std.proofs.Common.{◌≡◌, ◌⊎◌, inl, inr, ℕ, List, [], ◌∷◌, ◌++◌, Option, Some, None, Ok, Err, Result, length, map, option_map, ◌+◌, replicate, refl, sym, subst, ◌∙◌, ap}
+use Rattle.std.proofs.Common.{◌≡◌, ◌⊎◌, inl, inr, ℕ, List, [], ◌∷◌, Option, Some, None, Ok, Err, Result, length, option_map, ◌+◌, refl, sym, subst, ◌∙◌, ap}
 use Rattle.std.specs.Borrow.{Bor}
 use Rattle.std.specs.Io.KnownBytes.{Appends}
 use Rattle.std.specs.List.{AllByRecursion}
@@ -19,14 +19,13 @@ use Rattle.brk_desk.proofs.AtFirst.{made_keeps}
 use Rattle.brk_cli_exit.specs.declared.ending.Ending.{Ending}
 use Rattle.brk_cli_exit.specs.declared.ending.Ending.TheVariants as ending
 use Rattle.brk_io.specs.Moments.{ClockReturnsMomentsInSequence}
-use Rattle.brk_io.specs.Readings.{ReturnsReading, program_clock}
+use Rattle.brk_io.specs.Readings.{ReturnsReading}
 use Rattle.brk_io.specs.Span.{EnvironmentChange, environment_change_with_bases}
 use Rattle.brk_io.specs.declared.batch_fault.BatchFault.{BatchFault}
 use Rattle.brk_io.specs.declared.program_clock.ProgramClock.{ProgramClock}
 use Rattle.brk_io.specs.declared.program_clock.ProgramClock.TheVariants as clocks
 use Rattle.brk_model.specs.Base.{Base, empty_base}
 use Rattle.brk_model.specs.Batch.{BatchResult, CorrectEnd, step_of_row}
-use Rattle.brk_model.specs.Commands.{Answer}
 use Rattle.brk_model.specs.Computed.{result_of_batch_input, result_of_complete_batch}
 use Rattle.brk_model.specs.Input.{batch_header, correct_end_record, input_text}
 use Rattle.brk_model.specs.Parse.{parse_by_first_field, parse_row, row_parsers}

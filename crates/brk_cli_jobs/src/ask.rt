@@ -2,12 +2,12 @@ ghost use Rattle.std.specs.Prelude.{None, map, string_bytes};
 ghost use Rattle.brk_cli_jobs.specs.Jobs.{WritesView};
 ghost use Rattle.brk_model.specs.Ask as model;
 
-use crate::borrowed::bytes_of_arguments;
 use crate::pipe::PipeWriter;
 use brk_ask::{Form, parse_query_and_write_view};
 use brk_cli_exit::Ending;
 use brk_desk::Desk;
 use brk_money::Fault;
+use brk_ref::borrow_bytes_of_texts;
 use sqlite::Alter;
 use std::alloc::Global;
 use std::io::Write;
@@ -28,7 +28,7 @@ pub(crate) fn execute_ask_job<S: Alter, W: Write>(
     ensures { WritesView S.Store form (model.parse_query view.now (map string_bytes arguments.now)) desk.old desk.new
         (record { input = None; before = W.contents output.old.output; after = W.contents output.new.output }) result }
 {
-    let Ok(arguments) = bytes_of_arguments(alloc, arguments) else {
+    let Ok(arguments) = borrow_bytes_of_texts(alloc, arguments) else {
         return Ending::Open(Fault::Memory);
     };
     let written = parse_query_and_write_view(alloc, desk, view, &arguments, form, output);

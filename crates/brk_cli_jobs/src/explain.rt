@@ -2,12 +2,12 @@ ghost use Rattle.std.specs.Prelude.{None, map, string_bytes};
 ghost use Rattle.brk_cli_jobs.specs.Jobs.{WritesExplanation};
 ghost use Rattle.brk_model_explain.specs.Explain as model;
 
-use crate::borrowed::bytes_of_arguments;
 use crate::pipe::PipeWriter;
 use brk_cli_exit::Ending;
 use brk_desk::Desk;
 use brk_explain::{parse_explain_request, write_explanation};
 use brk_money::Fault;
+use brk_ref::borrow_bytes_of_texts;
 use brk_report::ReportFault;
 use sqlite::Alter;
 use std::alloc::Global;
@@ -27,7 +27,7 @@ pub(crate) fn execute_explain_job<S: Alter, W: Write>(
     ensures { WritesExplanation S.Store (model.read_explain_request (map string_bytes words.now)) desk.old desk.new
         (record { input = None; before = W.contents output.old.output; after = W.contents output.new.output }) result }
 {
-    let Ok(words) = bytes_of_arguments(alloc, words) else {
+    let Ok(words) = borrow_bytes_of_texts(alloc, words) else {
         return Ending::Open(Fault::Memory);
     };
     let what = match parse_explain_request(alloc, &words) {

@@ -4,7 +4,6 @@
 mod ask;
 mod audit;
 mod batch;
-mod borrowed;
 mod desk;
 mod explain;
 pub mod file;

@@ -1,6 +1,6 @@
 -- Rows of whichever schema that passed, upgraded to the third: their texts can be read, and their
 -- base is sound.
-use Rattle.std.proofs.Common.{◌≡◌, ◌∙◌, ℕ, ◌+◌, Bool, true, false, List, [], ◌∷◌, ◌++◌, IsTrue, arith, refl, sym, subst, ap, map}
+use Rattle.std.proofs.Common.{◌≡◌, ◌∙◌, ℕ, ◌+◌, Bool, true, List, [], ◌∷◌, IsTrue, arith, refl, subst, map}
 use Rattle.std.specs.Prelude.{◌&&◌}
 use Rattle.std.specs.List.{AllByRecursion, list_all}
 use Rattle.std.specs.Str.{is_utf8}
@@ -9,7 +9,7 @@ use Rattle.brk_model.specs.Adopted.{base_of_tables, posting_of_cash_transaction_
 use Rattle.brk_model.specs.Derived.{Posting, postings_sorted_by_stamp}
 use Rattle.brk_model.specs.Form.{has_utf8_texts}
 use Rattle.brk_model.specs.Upgraded.{tables_with_merged_cash_rows, tables_upgraded_from_schema}
-use Rattle.brk_model.specs.Schemas.{Schema, third_schema}
+use Rattle.brk_model.specs.Schemas.{Schema}
 use Rattle.brk_model.specs.Sheets.{sheets}
 use Rattle.brk_model.specs.Tables.{MoveRow, Tables, numbered_move_rows}
 use Rattle.brk_trade_rows.specs.Schemas.{abstract_schema}

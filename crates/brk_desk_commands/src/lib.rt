@@ -16,10 +16,7 @@ pub mod update_row;
 pub use command::Command;
 pub use line::{day_text, line_text};
 pub use movement_row::{movement_row_text, one_day_settlement_row_text};
-pub use order_row::{
-    cancel_row_text, cash_or_margin_word, completion_row_text, feed_row_text, lifo_or_fifo_word,
-    order_row_text,
-};
+pub use order_row::{cancel_row_text, completion_row_text, feed_row_text, order_row_text};
 pub use parse::parse_row;
 pub use row::{reference_row_text, row_text};
 pub use update_row::update_row_text;

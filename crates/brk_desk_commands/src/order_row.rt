@@ -11,24 +11,9 @@ ghost use Rattle.brk_ref_orders.specs.Records.{abstract_order, completion_comman
 ghost use Rattle.brk_desk_commands.specs.Fields.{fields_after_separators};
 
 use brk_money::{Id, OrderType};
+use brk_ref::{cash_or_margin_word, lifo_or_fifo_word};
 use brk_ref_orders::{Completion, Order, Tick};
 use std::alloc::{AllocError, Global};
-
-/// Returns the word for how an order or a trade is paid: `cash` if `is_cash` is true, otherwise
-/// `margin`.
-pub fn cash_or_margin_word(is_cash: bool) -> &'static str
-    ensures { result.now ≡ model.cash_or_margin_word is_cash }
-{
-    if is_cash { "cash" } else { "margin" }
-}
-
-/// Returns the word for the sequence in which an order or a trade closes lots: `lifo` if `is_lifo`
-/// is true (the newest first), otherwise `fifo` (the oldest first).
-pub fn lifo_or_fifo_word(is_lifo: bool) -> &'static str
-    ensures { result.now ≡ model.lifo_or_fifo_word is_lifo }
-{
-    if is_lifo { "lifo" } else { "fifo" }
-}
 
 // Returns the first five fields of the row of an order, joined by byte 31: the kind `order`, the
 // account, the code of the type, the symbol and the quantity. Fails if memory runs out.

@@ -7,8 +7,8 @@ ghost use Rattle.brk_model.specs.Rows as model;
 ghost use Rattle.brk_ref_orders.specs.Records.{text_update_command};
 
 use brk_money::Id;
-use brk_ref::Symbol;
-use brk_ref_orders::{Span, Update};
+use brk_ref::{Span, Symbol};
+use brk_ref_orders::Update;
 use std::alloc::{AllocError, Global};
 
 // Appends to `row` byte 31 and the id of a trade, in decimal digits. Fails if memory runs out. A

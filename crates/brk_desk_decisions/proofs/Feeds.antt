@@ -23,7 +23,7 @@ use Rattle.brk_trade_rows.specs.Rows.{abstract_request_row}
 use Rattle.brk_trade_rows.specs.declared.request_row.RequestRow as request
 use Rattle.brk_trade_plans.specs.declared.plan.Plan.{Plan}
 use Rattle.brk_trade_plans.specs.declared.quote.Quote.{Quote}
-use Rattle.brk_trade_plans.specs.declared.span.Span.{Span}
+use Rattle.brk_trade_plans.specs.declared.span.PriceSpan.{PriceSpan}
 use Rattle.brk_trade_books.specs.Books.{BooksInvariant}
 use Rattle.brk_trade_theorems.specs.TradePlans.{AreQuotesOfTicks, IsQuoteOfTick, PlanFeedPrecondition}
 use Rattle.brk_trade_books.specs.TradeReads.{last_trade_row_of_symbol, requests_of_symbol}
@@ -45,7 +45,7 @@ abbrev pub QuotesAndLastStampMatch : (all ticks : List Tick) → List SymbolStat
 QuotesAndLastStampMatch all ticks quotes last t = (last ≡ t.last) × AreQuotesOfTicks t all ticks quotes
 
 -- what the selections of a tick's symbol brought, merged, is its quote
-pub selected_quote : (t : Tables) (tick : Tick) (ticks : List Tick) (span : Span) (last : LastTrade) (losses sells buys : List request.RequestRow)
+pub selected_quote : (t : Tables) (tick : Tick) (ticks : List Tick) (span : PriceSpan) (last : LastTrade) (losses sells buys : List request.RequestRow)
     (quote : Quote) → span ≡ price_span_of_first_symbol tick ticks
     → Some (abstract_last_trade_row last) ≡ last_trade_row_of_symbol t tick.symbol
     → map abstract_request_row losses ≡ stop_losses t tick.symbol span

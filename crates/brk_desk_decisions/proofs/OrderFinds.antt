@@ -1,16 +1,12 @@
 -- What was found of an account's order is what is found for its estimate.
-use Rattle.std.proofs.Common.{◌≡◌, ℕ, ◌==◌, ◌+ℤ◌, ℤ, pos, Bool, true, false, cond, List, [], ◌∷◌, ◌++◌, Option, Some, None, refl, sym, subst, ap, ◌∙◌, arith}
-use Rattle.std.proofs.Common.{filter, find, map, option_map, ◌+◌, ◌<◌, get_or, length, take}
+use Rattle.std.proofs.Common.{◌≡◌, ℕ, ◌==◌, ◌+ℤ◌, ℤ, Bool, true, false, cond, List, [], ◌∷◌, Option, Some, None, refl, sym, subst, ap, ◌∙◌}
+use Rattle.std.proofs.Common.{filter, find, map, option_map, ◌+◌}
 use Rattle.std.proofs.lemmas.Bool.{eqb-true}
-use Rattle.std.proofs.lemmas.List.{map-append, take_more}
-use Rattle.std.proofs.lemmas.Int.{ints}
 use Rattle.std.specs.Prelude.{◌&&◌, IfSome, MatchOption, option_to_list}
-use Rattle.std.specs.Option.{option_map_or}
 use Rattle.brk_model.specs.Joins.{account_row_with_id, security_row_with_symbol}
-use Rattle.brk_model.specs.Lists.{total_by}
 use Rattle.brk_model.specs.PositionView.{market_value_of_account_row}
 use Rattle.brk_model.specs.Records.{Customer}
-use Rattle.brk_model.specs.Tables.{AccountRow, LastTradeRow, Tables}
+use Rattle.brk_model.specs.Tables.{AccountRow, Tables}
 use Rattle.brk_money.specs.OrderTypes.{trade_type_of_order_type}
 use Rattle.brk_money.specs.declared.refusal.Refusal.TheVariants.{NoAccount}
 use Rattle.brk_ref_orders.specs.declared.order.Order.{Order}
@@ -18,16 +14,13 @@ use Rattle.brk_model.specs.Orders.{is_customer_or_has_permission}
 use Rattle.brk_ref.specs.Records.{abstract_account_row, abstract_customer, abstract_executor}
 use Rattle.brk_ref.specs.declared.account.AccountRow as ref
 use Rattle.brk_ref.specs.declared.customer.Customer as customer
-use Rattle.brk_trade_rows.specs.Rows.{abstract_summary_row}
 use Rattle.brk_trade.specs.declared.order.OrderPlanFacts.{OrderPlanFacts}
-use Rattle.brk_trade_rows.specs.declared.summary_row.SummaryRow.{SummaryRow}
 use Rattle.brk_trade_books.specs.OrderReads.{CustomerOfAccountSatisfies, charge_of_type_and_tier}
 use Rattle.brk_trade_theorems.specs.OrderPlans.{EstimateFactsMatchTables, order_account_of_row}
 use Rattle.brk_trade_books.specs.Reads.{customer_tax_rate_sum}
 use Rattle.brk_trade_books.specs.TradeReads.{commission_band_of_quantity, permission_list_for_tax_id, summary_row_of_position}
 use Rattle.brk_desk_decisions.specs.OrderFactReads.{EstimateAmountsMatchTables, CustomerOrderFactsMatchTables, IsCustomerWithId, EstimateFactsMatchIfAccountOfOrder}
 use Rattle.brk_desk_decisions.specs.OrderFactReads.{order_facts_with_account, order_facts_without_account}
-use Rattle.brk_store.specs.Valuation.{market_value_of_summary}
 use Rattle.brk_desk_decisions.specs.declared.tested.OrderCheckFacts.{OrderCheckFacts}
 use Rattle.brk_desk_decisions.specs.declared.amounts.Amounts.{Amounts}
 

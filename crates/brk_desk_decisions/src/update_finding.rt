@@ -11,8 +11,8 @@ ghost use Rattle.brk_ref_orders.specs.declared.update.Update.TheVariants as upda
 
 use crate::update_texts::{require_cash_name, require_cash_type};
 use brk_money::{Fault, Id};
-use brk_ref::{Name, Symbol};
-use brk_ref_orders::{Span, TradeIds};
+use brk_ref::{Name, Span, Symbol};
+use brk_ref_orders::TradeIds;
 use brk_store::{Store, read_trades_by_ids};
 use brk_trade::{CashText, SettlementText, TextUpdate};
 use sqlite::Alter;

@@ -1,5 +1,5 @@
 -- The view of submitted trades.
-use Rattle.std.proofs.Common.{◌≡◌, ◌∙◌, List, [], ◌∷◌, Ok, Err, refl, sym, ap, filter, map}
+use Rattle.std.proofs.Common.{◌≡◌, ◌∙◌, List, Ok, sym, ap, filter, map}
 use Rattle.std.specs.Global.{Vec}
 use Rattle.brk_money.specs.Kinds.{is_same_trade_status}
 use Rattle.brk_money.specs.declared.status.Status.TheVariants.{Submitted}

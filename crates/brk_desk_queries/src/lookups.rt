@@ -10,8 +10,7 @@ ghost use Rattle.brk_store.specs.Holds.{ReadPost};
 ghost use Rattle.brk_store.specs.ReadSequences.{ReadSequencePost};
 
 use brk_money::{Fault, Id, Planned, Refusal};
-use brk_ref::Symbol;
-use brk_ref_orders::Span;
+use brk_ref::{Span, Symbol};
 use brk_store::{Store, read_trades_by_ids};
 use brk_trade_rows::TradeRow;
 use brk_view_rows::{

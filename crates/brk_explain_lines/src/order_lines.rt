@@ -4,7 +4,6 @@ ghost use Rattle.std.specs.Prelude.{◌≡◌, ◌++◌, Err, OnErr, OnOk, map};
 ghost use Rattle.brk_trade_rows.specs.Rows.{abstract_history_row};
 ghost use Rattle.brk_model_explain.specs.TradeLines as lines;
 ghost use Rattle.brk_explain_rows.specs.Details.{abstract_order_details};
-ghost use Rattle.brk_model.specs.Rows.{cash_or_margin_word};
 ghost use Rattle.brk_model.specs.Statement.{text_of_lines};
 ghost use Rattle.brk_money.specs.declared.fault.Fault.TheVariants.{Memory};
 ghost use Rattle.brk_report_lines.specs.Written.{line_with_line_feed};
@@ -16,6 +15,7 @@ use brk_explain_columns::{
 };
 use brk_explain_rows::OrderDetails;
 use brk_money::{Fault, Wide};
+use brk_ref::cash_or_margin_word;
 use brk_report_lines::append_left_aligned;
 use brk_trade_rows::HistoryRow;
 use std::alloc::Global;
@@ -92,13 +92,6 @@ fn put_security_line(out: &mut Vec<u8>, order: &OrderDetails) -> Result<(), Faul
     put_space_and_text_line(out, order.security.name.as_str().as_bytes())
 }
 
-// Returns the text `cash` for a cash trade and the text `margin` for a margin trade.
-fn cash_or_margin_text(is_cash: bool) -> &'static str
-    ensures { result.now ≡ cash_or_margin_word is_cash }
-{
-    if is_cash { "cash" } else { "margin" }
-}
-
 // Returns the text `last in first out` if `is_lifo` is true, otherwise the text
 // `first in first out`.
 fn lot_closing_sequence_text(is_lifo: bool) -> &'static str
@@ -131,7 +124,7 @@ fn put_order_terms_lines(
     put_labeled_text_line(
         out,
         "Settles by",
-        cash_or_margin_text(trade.is_cash).as_bytes(),
+        cash_or_margin_word(trade.is_cash).as_bytes(),
     )?;
     put_labeled_text_line(
         out,

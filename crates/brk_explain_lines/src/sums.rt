@@ -11,7 +11,7 @@ ghost use Rattle.brk_ref.specs.Records.{abstract_tax_rate};
 use brk_explain_columns::{cents_of_wide_amount, subtract_amounts, wide_amount_of_cents};
 use brk_explain_rows::{Closing, OrderDetails, ResultDetails};
 use brk_money::{Amount, Fault, Price, Qty, Side, TaxRate, TaxStatus, Wide, commission, tax};
-use brk_ref::{Tax, tax_sum};
+use brk_ref::{Tax, is_taxable_status, tax_sum};
 
 /// Returns the number of shares that a closing closed: the absolute difference of the lot's
 /// quantities before and after it.
@@ -124,17 +124,6 @@ pub(crate) fn sum_of_tax_rates(rates: &[Tax]) -> Result<TaxRate, Fault>
     match tax_sum(rates) {
         Some(total) => Ok(total),
         None => Err(Fault::Store),
-    }
-}
-
-// Returns true if gains are taxable at the tax status: at `Withheld` and `Reported`, but not at
-// `Untaxed`.
-fn is_taxable_status(status: TaxStatus) -> bool
-    ensures { result ≡ base.is_taxable_status status }
-{
-    match status {
-        TaxStatus::Untaxed => false,
-        TaxStatus::Withheld | TaxStatus::Reported => true,
     }
 }
 

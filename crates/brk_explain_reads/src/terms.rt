@@ -11,7 +11,7 @@ ghost use Rattle.brk_store.specs.Holds.{ReadPost};
 use crate::known::{read_existing_customer, read_existing_tax};
 use brk_explain_rows::OrderDetails;
 use brk_money::{Fault, Id, Qty};
-use brk_ref::{Band, Tax, Tier};
+use brk_ref::{Band, Tax, Tier, band_contains_quantity};
 use brk_store::Store;
 use sqlite::Alter;
 use std::alloc::Global;
@@ -41,13 +41,6 @@ fn read_tax_rates_of_customer<S: Alter>(
         rates.push(rate)?;
     }
     Ok(rates)
-}
-
-// Returns true if the quantity is from the lower to the upper bound of the band, both included.
-fn band_contains_quantity(band: &Band, qty: Qty) -> bool
-    ensures { result ≡ nat_le band.now.from_qty qty && nat_le qty band.now.to_qty }
-{
-    band.from_qty.get() <= qty.get() && qty.get() <= band.to_qty.get()
 }
 
 // Returns `band` if its bounds, both included, contain the quantity, otherwise `other`, which may

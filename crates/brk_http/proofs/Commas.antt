@@ -1,16 +1,16 @@
 -- No field of a reply has a comma.
-use Rattle.std.proofs.Common.{◌≡◌, ℕ, zero, suc, ◌+◌, ◌-◌, ◌/◌, ◌%◌, List, [], ◌∷◌, ◌++◌, Bool, true, false, cond, eqb, refl, sym, ap, ◌∙◌, arith, map, length, replicate, codes}
+use Rattle.std.proofs.Common.{◌≡◌, ℕ, zero, suc, ◌+◌, ◌-◌, ◌/◌, ◌%◌, List, [], ◌∷◌, ◌++◌, Bool, true, false, cond, eqb, refl, ap, ◌∙◌, arith, map, length, replicate}
 use Rattle.std.specs.Prelude.{⊤, decimal, ℤ, pos, negsuc, ◌==◌}
 use Rattle.std.specs.Fmt.{digits, digits_onto, digit_glyph}
-use Rattle.std.specs.List.{join_with_byte, onto_first, slice_split}
+use Rattle.std.specs.List.{join_with_byte, slice_split}
 use Rattle.std.proofs.lemmas.Bool.Decides.{nat_tests}
-use Rattle.brk_money.specs.Spelling.{Text, cents_text, day_text, date_text, unsigned_cents_text, padded_decimal}
+use Rattle.brk_money.specs.Spelling.{Text, cents_text, date_text, unsigned_cents_text, padded_decimal}
 use Rattle.brk_money.specs.Moments.{CivilDate, civil_date_of_day}
 use Rattle.brk_money.specs.Kinds.{trade_status_code}
 use Rattle.brk_money.specs.declared.status.Status.{Status}
 use Rattle.brk_money.specs.declared.status.Status.TheVariants.{Completed, Active, Submitted, Pending, Canceled}
 use Rattle.brk_model.specs.Commands.{Reply, Booked, Ordered, Ticked, CanceledTrade, CompletedTrade, Changed, Estimate, Completion, MovedCash}
-use Rattle.brk_model.specs.Rows.{completion_fields, estimate_fields, line_text, nonnegative_cents_text, reply_fields}
+use Rattle.brk_model.specs.Rows.{completion_fields, estimate_fields, line_text, reply_fields}
 use Rattle.brk_model_http.specs.Routes.{split_at_byte}
 
 -- No byte of the text is a comma.

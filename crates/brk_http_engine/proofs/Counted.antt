@@ -1,8 +1,8 @@
 -- A stream that is told by a script makes no more calls than its result allows.
-use Rattle.std.proofs.Common.{◌≡◌, ℕ, ◌+◌, ◌≤◌, List, [], ◌∷◌, length, Option, ap, arith, inl, inr}
+use Rattle.std.proofs.Common.{◌≡◌, ℕ, ◌+◌, ◌≤◌, List, [], ◌∷◌, length, ap, arith, inl, inr}
 use Rattle.std.specs.Prelude.{Result, Ok, Err}
 use Rattle.brk_money.specs.Spelling.{Text}
-use Rattle.brk_io.specs.Span.{IsUnchangedEnvironment, ClockAndWriterChange, EnvironmentChange, environment_change_with_bases}
+use Rattle.brk_io.specs.Span.{ClockAndWriterChange, EnvironmentChange}
 use Rattle.brk_model_http.specs.Asked.{RequestParsers, RequestDemand, ResponseOnly, DeskCall, demand_of_request}
 use Rattle.brk_model_http.specs.Found.{RequestReading, NoBytesLeft, Unreadable, CompleteRequest}
 use Rattle.brk_model_http.specs.Replies.{Response}
@@ -10,7 +10,7 @@ use Rattle.brk_model_http.specs.Stream.{StreamState, Finished, Continues, Reques
 use Rattle.brk_http_engine.proofs.Effects.{effect_of}
 use Rattle.brk_http_engine.specs.Limits.{call_limit_at_fault, call_limit_of_stream}
 use Rattle.brk_http_engine.specs.Promises.{CallScript, StreamMatchesScript, IsNextScriptedCall}
-use Rattle.brk_http_engine.specs.Turns.{ExchangeHasReply, ExchangeFailsWith}
+use Rattle.brk_http_engine.specs.Turns.{ExchangeFailsWith}
 use Rattle.brk_io.specs.declared.stream_fault.ServeFault.{ServeFault}
 use Rattle.brk_io.specs.declared.stream_fault.FaultKind.{FaultKind}
 use Rattle.brk_io.specs.declared.stream_fault.FaultKind.TheVariants as kinds

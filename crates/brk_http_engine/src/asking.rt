@@ -6,13 +6,12 @@ ghost use Rattle.brk_money.specs.declared.fault.Fault.TheVariants.{Memory};
 ghost use Rattle.brk_http_engine.specs.Codes.{demand_in_model, route_in_model};
 
 use crate::bodies::texts_of_body;
-use crate::pieces::borrow_bytes_of_texts;
 use crate::router::RouteKind;
 use crate::routes::{Route, route_of_target};
 use crate::service::Service;
 use brk_model_http::RequestProblem;
 use brk_money::{Fault, Refusal};
-use brk_ref::Key;
+use brk_ref::{Key, borrow_bytes_of_texts};
 use matchit::Router;
 use std::alloc::Global;
 

@@ -1,4 +1,4 @@
-ghost use Rattle.std.specs.Prelude.{◌≡◌, ◌<◌, IfOk, map, string_bytes};
+ghost use Rattle.std.specs.Prelude.{◌≡◌, ◌<◌, IfOk};
 ghost use Rattle.brk_ref.specs.Fields.{texts_of_fields as slices};
 ghost use Rattle.brk_model_http.specs.Routes as spec;
 ghost use Rattle.brk_http_engine.specs.Codes.{bytes_of_texts};
@@ -23,17 +23,6 @@ pub fn copy_texts(alloc: Global, parts: &[&str]) -> Result<Vec<String>, AllocErr
     let mut all = Vec::new(alloc);
     for part in parts {
         all.push(String::from_str(alloc, part)?)?;
-    }
-    Ok(all)
-}
-
-/// Returns the bytes of the texts as borrowed slices, in order. Fails only if memory runs out.
-pub fn borrow_bytes_of_texts(alloc: Global, texts: &[String]) -> Result<Vec<&[u8]>, AllocError>
-    ensures { IfOk result (λ all. slices all.items ≡ map string_bytes texts.now) }
-{
-    let mut all = Vec::new(alloc);
-    for text in texts {
-        all.push(text.as_str().as_bytes())?;
     }
     Ok(all)
 }

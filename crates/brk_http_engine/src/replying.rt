@@ -1,6 +1,6 @@
-ghost use Rattle.std.specs.Prelude.{◌≡◌, ◌++◌, [], IfOk, OnOk, Bool, codes, decimal, map, string_bytes, unwrap_or};
+ghost use Rattle.std.specs.Prelude.{◌≡◌, ◌++◌, [], IfOk, OnOk, decimal, string_bytes, unwrap_or};
 ghost use Rattle.http.specs.StatusCode.{reason_phrase};
-ghost use Rattle.brk_model_http.specs.Replies.{FromOutcome, FromProblem, is_method_not_allowed, response_body, fault_word, http_head_line, is_fault_response};
+ghost use Rattle.brk_model_http.specs.Replies.{FromOutcome, is_method_not_allowed, response_body, fault_word, http_head_line, is_fault_response};
 ghost use Rattle.brk_model_http.specs.Replies.{http_status_of_problem, text_of_problem, reply_text, reply_bytes, http_status_of_response, head_line_if};
 ghost use Rattle.brk_model.specs.Commands as model;
 ghost use Rattle.brk_model.specs.Queries as queries;
@@ -255,26 +255,6 @@ pub fn reply_text<D: Service>(
         status_of_response(response),
         is_method_not_allowed(response),
         closes,
-        body.as_str(),
-    )
-}
-
-/// Returns the bytes of the reply to a request that could not be read, because of this problem,
-/// with a `Connection: close` line, and with an `Allow: POST` line if the problem is `NotAllowed`.
-/// Fails only if memory runs out.
-pub fn format_problem_reply(alloc: Global, problem: RequestProblem) -> Result<String, AllocError>
-    ensures { IfOk result (λ s. string_bytes s ≡ reply_text (FromProblem problem) Bool.true) }
-{
-    let body = json_text_of_error(alloc, text_of_problem(problem))?;
-    let asks_post = match problem {
-        RequestProblem::NotAllowed => true,
-        _ => false,
-    };
-    reply_bytes(
-        alloc,
-        status_of_problem(problem),
-        asks_post,
-        true,
         body.as_str(),
     )
 }

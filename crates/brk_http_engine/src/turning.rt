@@ -9,9 +9,9 @@ ghost use Rattle.brk_http_engine.specs.Limits.{call_limit_of_exchange};
 ghost use Rattle.brk_http_engine.specs.Promises.{CallWithClock, ChangesOnlyByCalls};
 ghost use Rattle.brk_http_engine.specs.Turns.{ExecutesRequest, ExchangeFailsWith, ExchangeCompletesWith};
 
-use crate::acting::execute_call_of_request;
+use crate::acting::{ServiceResponse, execute_call_of_request};
 use crate::asking::parse_call_of_request;
-use crate::replying::{format_problem_reply, is_fault_response, reply_text};
+use crate::replying::{is_fault_response, reply_text};
 use crate::router::RouteKind;
 use crate::service::Service;
 use brk_http_reader::{
@@ -157,7 +157,7 @@ pub fn serve_next_request<R: Read, W: Write, C: Clock, D: Service>(
     match front {
         NextRequest::Ended => Ok(ExchangeResult::Ended),
         NextRequest::Broken(problem) => {
-            let Ok(text) = format_problem_reply(alloc, problem) else {
+            let Ok(text) = reply_text::<D>(alloc, &ServiceResponse::Wrong(problem), true) else {
                 return Err(FaultKind::Memory);
             };
             match write_all_bytes(writer, text.as_bytes()) {

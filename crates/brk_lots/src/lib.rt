@@ -24,7 +24,7 @@ pub use closed_values::{Values, values_of_closed_shares};
 pub use closing::{ClosedLots, Closing, close, close_lots_and_open_rest};
 pub use deal::Deal;
 pub use end::PositionEnd;
-pub use lot::{Lot, Touch, are_same_side};
+pub use lot::{Lot, Touch, are_same_side, signed_qty};
 pub use position::Position;
 pub use replay::DealTouch;
 pub use shares::shares_to_close;

@@ -86,8 +86,8 @@ pub fn are_same_side(a: Side, b: Side) -> bool
     }
 }
 
-// Returns `shares` for a purchase and `-shares` for a sale.
-pub(crate) fn signed_qty(side: Side, shares: u32) -> i64
+/// Returns `shares` for a purchase and `-shares` for a sale.
+pub fn signed_qty(side: Side, shares: u32) -> i64
     ensures { result ≡ signed_by_side side shares }
 {
     match side {

@@ -1,5 +1,5 @@
 -- The request at the front of the bytes that are left on a stream.
-use Rattle.std.specs.Prelude.{◌≡◌, ℕ, ◌≤◌, ◌⊎◌, List, [], Bool, ◌||◌, ◌==◌, map, length, take, drop, nat_lt, if◌then◌else◌, Result, Ok, Err}
+use Rattle.std.specs.Prelude.{◌≡◌, ℕ, ◌≤◌, ◌⊎◌, [], Bool, ◌||◌, ◌==◌, map, length, take, drop, nat_lt, if◌then◌else◌, Result, Ok, Err}
 use Rattle.httparse.specs.Grammar.{RequestHead, ReadsRequest}
 use Rattle.httparse.specs.Spans.{name_and_value}
 use Rattle.brk_money.specs.Spelling.{Text}

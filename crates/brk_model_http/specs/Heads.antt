@@ -1,5 +1,5 @@
 -- The end of a request's head.
-use Rattle.std.specs.Prelude.{ℕ, ◌+◌, List, [], ◌∷◌, length, take, Option, Some, None, option_map, if◌then◌else◌, ◌==◌, ◌&&◌, nat_le}
+use Rattle.std.specs.Prelude.{ℕ, ◌+◌, [], ◌∷◌, length, take, Option, Some, None, option_map, if◌then◌else◌, ◌==◌, ◌&&◌, nat_le}
 use Rattle.brk_money.specs.Spelling.{Text}
 use Rattle.brk_model_http.specs.declared.head_end.HeadEnd.{HeadEnd}
 use Rattle.brk_model_http.specs.declared.head_end.HeadEnd.TheVariants.{Nothing, TooLong, Cut, At}

@@ -1,4 +1,5 @@
 pub mod Applied
 pub mod Limits
 pub mod Lists
+mod Moments
 pub mod Texts

@@ -122,8 +122,8 @@ pub fn check_band(alloc: Global, fields: &[&[u8]]) -> Planned<Band>
     parse_band_with_last_fields(alloc, tier, kind, exchange, terms)
 }
 
-// Returns true if `qty` is within the bounds of `band`, both included.
-fn has_quantity_in_bounds(band: &Band, qty: Qty) -> bool
+/// Returns true if the quantity is from the lower to the upper bound of the band, both included.
+pub fn band_contains_quantity(band: &Band, qty: Qty) -> bool
     ensures { result ≡ nat_le band.now.from_qty qty && nat_le qty band.now.to_qty }
 {
     band.from_qty.get() <= qty.get() && qty.get() <= band.to_qty.get()
@@ -149,7 +149,7 @@ pub fn is_overlapping_band(one: &Band, other: &Band) -> bool
 pub fn band_for(bands: &[Band], qty: Qty) -> Option<Rate>
     ensures { result ≡ option_map (λ b. b.rate) (find (λ b. nat_le b.from_qty qty && nat_le qty b.to_qty) (map abstract_band bands.now)) }
 {
-    let Some(band) = bands.iter().find(|band| has_quantity_in_bounds(band, qty)) else {
+    let Some(band) = bands.iter().find(|band| band_contains_quantity(band, qty)) else {
         return None;
     };
     Some(band.rate)

@@ -1,6 +1,6 @@
 -- A day of the calendar that is read.
 use Rattle.std.proofs.Common.{◌≡◌, ◌≢◌, ◌≤◌, ℕ, Bool, true, false, refl, cond}
-use Rattle.std.specs.Prelude.{Option, Some, None, Ok, Err, IfSome, IfNone, nat_le}
+use Rattle.std.specs.Prelude.{Option, Some, None, Ok, Err, nat_le}
 use Rattle.std.specs.Option.{ok_or}
 use Rattle.std.proofs.lemmas.Bool.{leb-true, le-leb}
 use Rattle.brk_money.specs.Moments.{day_of_civil_date, greatest_day}

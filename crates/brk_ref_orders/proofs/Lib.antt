@@ -2,5 +2,4 @@ mod Counts
 mod Refused
 mod Joined
 mod OrderFields
-mod Moments
 mod Days

@@ -9,7 +9,6 @@ pub mod feed;
 pub mod movement;
 pub mod one_day;
 pub mod order;
-pub mod span;
 pub mod tick;
 pub mod trade_ids;
 pub mod update;
@@ -20,7 +19,6 @@ pub use feed::{Feed, parse_market_feed};
 pub use movement::{Direction, Movement, parse_cash_movement};
 pub use one_day::parse_one_day_settlement_start;
 pub use order::{Order, parse_trade_order};
-pub use span::{Span, parse_stamp};
 pub use tick::Tick;
 pub use trade_ids::{TradeIds, parse_trade_ids};
 pub use update::{

@@ -6,10 +6,9 @@ ghost use Rattle.brk_money.specs.declared.fault.Fault.TheVariants.{Memory};
 ghost use Rattle.brk_ref_orders.specs.Records.{text_update_command};
 ghost use Rattle.brk_ref.specs.Fields.{ParsesAs, texts_of_fields};
 
-use crate::span::{Span, parse_stamp};
 use crate::trade_ids::{TradeIds, parse_trade_ids};
 use brk_money::{Id, Planned, Refusal};
-use brk_ref::{Symbol, parse_id};
+use brk_ref::{Span, Symbol, parse_id, parse_stamp};
 use std::alloc::Global;
 
 /// A requested text update (Trade-Update): the text that it replaces, and the trades that it

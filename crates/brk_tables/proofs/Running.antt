@@ -1,5 +1,5 @@
 -- Tables that are made one after another.
-use Rattle.std.proofs.Common.{◌≡◌, ℕ, zero, suc, ◌+◌, ◌<◌, List, [], ◌∷◌, map, take, length, get_or, refl, arith, add-one}
+use Rattle.std.proofs.Common.{ℕ, zero, suc, ◌+◌, ◌<◌, List, [], ◌∷◌, map, take, length, get_or, refl, arith, add-one}
 use Rattle.sqlite.specs.Effect.{Database}
 use Rattle.brk_tables_sql.specs.Desk.{CreatesTableOfShape, CreatesEachTable}
 use Rattle.brk_tables_schema.specs.Desk.{table_definition_at_tree}

@@ -10,7 +10,6 @@ use Rattle.sqlite_resolve.specs.Lowering.{Checked}
 use Rattle.sqlite_resolve.specs.Compile.{compiled, first, planned, timed, meaning, command, returning, read}
 use Rattle.sqlite_resolve.specs.declared.compiled.Compiled.{Compiled}
 use Rattle.sqlite_resolve.specs.declared.error.CompileError.{CompileError}
-use Rattle.sqlite_resolve.specs.declared.error.CompileError.TheVariants.{Mismatch}
 use Rattle.sqlite.specs.Listing.{understood, reads_listing, if_select, listing_schema, is_select}
 use Rattle.brk_tables_sql.proofs.Effects.{same_value}
 use Rattle.brk_tables_sql.proofs.Meant.{meant}

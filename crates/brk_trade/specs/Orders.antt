@@ -1,5 +1,5 @@
 -- Orders: their checks, their estimates, and the plan of an accepted one.
-use Rattle.std.specs.Prelude.{◌≡◌, ℕ, ◌+◌, Bool, not, nat_le, is_none, unwrap_or, if◌then◌else◌, pos}
+use Rattle.std.specs.Prelude.{◌≡◌, ℕ, ◌+◌, not, nat_le, is_none, unwrap_or, if◌then◌else◌, pos}
 use Rattle.std.specs.Prelude.{List, [], ◌∷◌, ◌++◌, map, Option, Some, None, option_to_list}
 use Rattle.std.specs.Option.{option_map_or}
 use Rattle.brk_trade.specs.Estimates.{AreOrderTermsInBase, commission_from_terms}

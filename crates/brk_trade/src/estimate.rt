@@ -1,5 +1,4 @@
 ghost use Rattle.std.specs.Prelude.{◌≡◌, ◌-ℤ◌, ℕ, Bool, List, drop, false, IfOk, IfErr, pos};
-ghost use Rattle.brk_model.specs.Base as spec;
 ghost use Rattle.brk_model.specs.Base.{Base, completed_trades};
 ghost use Rattle.brk_model.specs.Commands.{Order};
 ghost use Rattle.brk_model.specs.Derived.{shares_of_position};
@@ -19,7 +18,7 @@ use brk_lots::{
 use brk_money::{
     Amount, Cents, Fault, Price, Qty, Rate, Side, TaxRate, TaxStatus, Wide, commission, tax,
 };
-use brk_ref::ChargeAmount;
+use brk_ref::{ChargeAmount, is_taxable_status};
 use brk_trade_plans::Estimate;
 
 /// The terms of an order, from which it is estimated.
@@ -40,16 +39,6 @@ pub struct Terms {
     pub assets: Wide,
     /// The number of shares of the security that the account holds in all, negative if sold short.
     pub held: i64,
-}
-
-// Returns true if gains of an account with the tax status are taxable.
-fn is_taxable_status(status: TaxStatus) -> bool
-    ensures { result ≡ spec.is_taxable_status status }
-{
-    match status {
-        TaxStatus::Untaxed => false,
-        TaxStatus::Withheld | TaxStatus::Reported => true,
-    }
 }
 
 // Returns the realised gain of shares in cents, below 0 for a loss: their sell value minus their

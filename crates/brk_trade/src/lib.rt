@@ -12,8 +12,8 @@ pub mod result_found;
 mod settling;
 
 pub use brk_trade_plans::{
-    CashText, Completed, Estimate, MovementPlanFacts, Ordered, Plan, Quote, Reference,
-    ReferenceFacts, Reply, SettlementText, Span, TextUpdate, create_quote, first_symbol_price_span,
+    CashText, Completed, Estimate, MovementPlanFacts, Ordered, Plan, PriceSpan, Quote, Reference,
+    ReferenceFacts, Reply, SettlementText, TextUpdate, create_quote, first_symbol_price_span,
     has_no_quote_of_symbol, is_triggered_at_price, plan_cancel, plan_feed, plan_move, plan_oneday,
     plan_reference, plan_update,
 };

@@ -2,7 +2,6 @@
 
 ghost use Rattle.std.specs.Prelude.{◌≡◌, ◌*◌, ◌≤◌, true, false, nat_lt, nat_abs, MatchOption, MatchResult, None, Some};
 ghost use Rattle.brk_model.specs.Limits.{greatest_price, greatest_summary_quantity};
-ghost use Rattle.brk_model.specs.Shares as shares;
 ghost use Rattle.brk_model.specs.Tests.{first_refusal};
 ghost use Rattle.brk_trade.specs.Outcomes as spec;
 ghost use Rattle.brk_trade.specs.Outcomes.{checks_before_reading_lots, checks_after_reading_lots, figures_of_result};
@@ -13,8 +12,8 @@ use crate::settling::{
     commissions_after_trade_if_within_limit, due_day_if_in_calendar, settlement_amount_of_trade,
     tax_on_closed_shares,
 };
-use brk_lots::ClosedLots;
-use brk_money::{Limit, Price, Rate, Refusal, Side, Stamp};
+use brk_lots::{ClosedLots, signed_qty};
+use brk_money::{Limit, Price, Rate, Refusal, Stamp};
 use brk_trade_plans::Completed;
 use brk_trade_rows::{Amount, Schema, is_submitted};
 
@@ -38,16 +37,6 @@ pub(crate) struct RateAndSummary {
     pub summary: i64,
 }
 
-// Returns the quantity `qty`, in shares, for a purchase, and `-qty` for a sale.
-fn signed_quantity_of_side(side: Side, qty: u32) -> i128
-    ensures { result ≡ shares.signed_by_side side qty }
-{
-    match side {
-        Side::Buy => i128::from(qty),
-        Side::Sell => -i128::from(qty),
-    }
-}
-
 // Returns the number of shares of the trade's security that its account holds after the trade,
 // below 0 if sold short, or `None` if the absolute value of this number exceeds 9,999,999,999.
 fn shares_held_after_trade_if_within_limit(found: &ResultPlanFacts) -> Option<i64>
@@ -57,7 +46,7 @@ fn shares_held_after_trade_if_within_limit(found: &ResultPlanFacts) -> Option<i6
         × (nat_lt greatest_summary_quantity (nat_abs (spec.shares_held_after_trade found.now)) ≡ false)) }
 {
     let held = i128::from(found.summary.unwrap_or(0));
-    let after = held + signed_quantity_of_side(found.trade.kind.side(), found.trade.qty.get());
+    let after = held + i128::from(signed_qty(found.trade.kind.side(), found.trade.qty.get()));
     if after.unsigned_abs() > u128::from(Schema::Third.greatest_summary_quantity()) {
         return None;
     }

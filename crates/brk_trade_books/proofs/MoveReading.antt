@@ -1,21 +1,19 @@
 -- What the rows of cash tell of postings: all of them in turn, which are movements, and how many
 -- there are.
-use Rattle.std.proofs.Common.{◌≡◌, ◌≤◌, ℕ, ◌+◌, Bool, true, false, cond, List, [], ◌∷◌, ◌++◌, refl, sym, ◌∙◌, ap, map, filter, length, arith, Option, Some, None}
+use Rattle.std.proofs.Common.{◌≡◌, ℕ, ◌+◌, Bool, true, false, cond, List, [], ◌∷◌, ◌++◌, refl, sym, ◌∙◌, ap, map, filter, length, arith, Option, Some, None}
 use Rattle.std.specs.Prelude.{is_none, nat_lt, option_map, reverse, slice_get, unwrap_or}
-use Rattle.std.specs.List.{AllByRecursion}
 use Rattle.std.proofs.lemmas.List.{reverse-append}
 use Rattle.brk_model.specs.Lists.{insert_by, sort_by, sort_by_key}
 use Rattle.brk_model.specs.Records.{Account, Movement, Trade}
 use Rattle.brk_model.specs.Base.{Base, completed_trades}
 use Rattle.brk_model.specs.Derived.{Posting, cash_trades, postings_sorted_by_stamp, posting_of_movement, posting_of_trade, postings, postings_of_base}
-use Rattle.brk_model.specs.Keys.{rows_sorted_by_key, cash_move_key}
 use Rattle.brk_model.specs.Adopted.{movement_of_row, posting_of_cash_move_row}
 use Rattle.brk_model.specs.Sheets.{sheets, tables_sorted_by_key}
 use Rattle.brk_model.specs.Tables.{MoveRow, cash_move_row, numbered_move_rows, tables_of_base_in_schema}
 use Rattle.brk_trade_books.specs.TradeReads.{last_cash_row_number_or_zero}
 use Rattle.brk_trade_books.proofs.Order.{OneWay, Splits, map-insert_by, nat_one_way, nat_splits, sort_filter}
 use Rattle.brk_trade_books.proofs.Places.{filter-append}
-use Rattle.brk_trade_books.proofs.Postings.{length_insert, length_sort, numbered_stay}
+use Rattle.brk_trade_books.proofs.Postings.{length_sort, numbered_stay}
 use Rattle.brk_trade_books.proofs.TradeReading.{first_of_more}
 
 -- ---- rows as postings

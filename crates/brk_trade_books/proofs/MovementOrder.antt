@@ -1,11 +1,11 @@
 -- Movements stay in order.
-use Rattle.std.proofs.Common.{◌≡◌, ◌<◌, ◌≤◌, ℕ, ◌+◌, ◌==◌, Bool, true, false, max, List, [], ◌∷◌, ◌++◌, refl, sym, ◌∙◌, ap, subst, arith, Option, Some, None}
+use Rattle.std.proofs.Common.{◌≡◌, ◌<◌, ◌≤◌, ℕ, ◌+◌, ◌==◌, false, max, List, [], ◌∷◌, ◌++◌, ◌∙◌, ap, subst, arith, Option, Some, None}
 use Rattle.std.specs.Prelude.{is_some, find}
 use Rattle.std.specs.Option.{option_map_or}
 use Rattle.std.specs.List.{AllByRecursion}
 use Rattle.std.proofs.lemmas.Bool.Decides.{nat_tests}
 use Rattle.brk_model.specs.Records.{Account, Movement, Trade}
-use Rattle.brk_model.specs.Base.{Base, completed_trades, last_status_stamp_of_trade}
+use Rattle.brk_model.specs.Base.{Base, last_status_stamp_of_trade}
 use Rattle.brk_model.specs.Tests.{stamp_of_next_command}
 use Rattle.brk_trade_books.specs.Books.{MovementBooksInvariant, MovementAccountExists, MovementStampIsAtMostLastStamp, HasLastStatusAtOtherStamp, HasDistinctMovementStamps}
 use Rattle.brk_trade_books.proofs.Same.{All-append, All-map, find-more}

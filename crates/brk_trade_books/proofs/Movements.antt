@@ -1,7 +1,6 @@
 -- The tables and the base after a movement, and after a first day of one-day settlement is set.
-use Rattle.std.proofs.Common.{◌≡◌, ◌<◌, ◌≤◌, ℕ, ◌+◌, ◌==◌, Bool, true, false, cond, List, [], ◌∷◌, ◌++◌, refl, sym, ◌∙◌, ap, subst, map, filter, length, arith, pos, neg_ℤ, ℤ, ◌+ℤ◌, Option, Some, None}
-use Rattle.std.specs.Prelude.{codes, is_none, is_some, nat_le}
-use Rattle.std.specs.Option.{option_map_or}
+use Rattle.std.proofs.Common.{◌≡◌, ◌<◌, ◌≤◌, ℕ, ◌+◌, ◌==◌, true, false, cond, [], ◌∷◌, ◌++◌, refl, sym, ◌∙◌, ap, subst, map, filter, arith, ℤ, ◌+ℤ◌, Option, Some, None}
+use Rattle.std.specs.Prelude.{is_none, is_some, nat_le}
 use Rattle.std.specs.List.{AllByRecursion}
 use Rattle.std.proofs.lemmas.Bool.Decides.{nat_tests}
 use Rattle.std.proofs.lemmas.Nat.{le-div}
@@ -11,24 +10,23 @@ use Rattle.brk_model.specs.Lists.{total_by}
 use Rattle.brk_model.specs.Records.{Account, Movement, SettleRule, Trade}
 use Rattle.brk_model.specs.Base.{Base, account_with_id, completed_trades, last_status_stamp_of_trade, opening_balance_in_accounts}
 use Rattle.brk_model.specs.Commands.{Command, DepositCash, WithdrawCash, SetOneDay}
-use Rattle.brk_model.specs.Derived.{balance_of_account, due_day, postings_sorted_by_stamp, postings_to_account, posting_of_movement, postings, postings_of_base}
-use Rattle.brk_model.specs.Derived.{days_to_settlement, shares_of_position, holding_summary_quantity, trade_count_of_broker, commission_total_of_broker}
-use Rattle.brk_model.specs.Keys.{account_key, rows_sorted_by_key, cash_move_key, settlement_key}
+use Rattle.brk_model.specs.Derived.{balance_of_account, due_day, postings_sorted_by_stamp, postings_to_account, posting_of_movement, postings_of_base}
+use Rattle.brk_model.specs.Keys.{rows_sorted_by_key, cash_move_key, settlement_key}
 use Rattle.brk_model.specs.Movements.{deposit_movement, withdrawal_movement, base_after_movement, base_with_one_day_settlement_start}
 use Rattle.brk_model.specs.Sheets.{sheets, tables_sorted_by_key}
 use Rattle.brk_model.specs.Step.{base_after_command_unstamped}
-use Rattle.brk_model.specs.Tables.{Tables, account_row, numbered_move_rows, settlement_row, tables_of_base_in_schema}
+use Rattle.brk_model.specs.Tables.{numbered_move_rows, settlement_row, tables_of_base_in_schema}
 use Rattle.brk_model.specs.Tests.{stamp_of_next_command, refusal_of_command, checks_of_command}
 use Rattle.brk_trade_rows.specs.Changes.{tables_with_last_stamp, tables_with_one_day_settlement_start}
 use Rattle.brk_trade_books.specs.Books.{MovementBooksInvariant, BooksInvariant}
-use Rattle.brk_trade_books.specs.Movements.{account_balance_after_movement, numbered_cash_row_of_movement, tables_after_movement}
+use Rattle.brk_trade_books.specs.Movements.{tables_after_movement}
 use Rattle.brk_trade_books.specs.Steps.{HasTableEffect, PreservesBooksInvariant}
 use Rattle.brk_trade_books.proofs.Bools.{numbers_back}
 use Rattle.brk_trade_books.proofs.Completions.{later_times}
 use Rattle.brk_trade_books.proofs.MovementOrder.{movements_before, movements_later, movements_more}
 use Rattle.brk_trade_books.proofs.Keepers.{books_last}
 use Rattle.brk_trade_books.proofs.Order.{append_nil}
-use Rattle.brk_trade_books.proofs.Places.{filter-append, filter-not_one}
+use Rattle.brk_trade_books.proofs.Places.{filter-not_one}
 use Rattle.brk_trade_books.proofs.Postings.{postings_moved, rows_end}
 use Rattle.brk_trade_books.proofs.ResultKeeping.{all_before}
 use Rattle.brk_trade_books.proofs.Same.{All-map, map-same}

@@ -1,21 +1,20 @@
 -- Postings with one more among them, and their rows: the one with the last stamp has the last
 -- number.
-use Rattle.std.proofs.Common.{◌≡◌, ◌<◌, ◌≤◌, ℕ, ◌+◌, ◌==◌, Bool, true, false, cond, List, [], ◌∷◌, ◌++◌, refl, sym, ◌∙◌, ap, subst, map, filter, length, arith, ℤ, ◌+ℤ◌, Option, Some, None}
+use Rattle.std.proofs.Common.{◌≡◌, ◌<◌, ◌≤◌, ℕ, ◌+◌, ◌==◌, Bool, true, false, cond, List, [], ◌∷◌, ◌++◌, refl, sym, ◌∙◌, ap, subst, map, filter, length, arith, ℤ, ◌+ℤ◌}
 use Rattle.std.specs.Prelude.{nat_lt}
 use Rattle.std.specs.List.{AllByRecursion}
-use Rattle.std.proofs.lemmas.Bool.{eqb-false}
 use Rattle.std.proofs.lemmas.Bool.Decides.{nat_tests}
 use lib.IntN.{+ℤ_assoc, +ℤ_comm}
-use Rattle.brk_model.specs.Lists.{insert_by, sort_by, sort_by_key, total_by}
+use Rattle.brk_model.specs.Lists.{insert_by, sort_by, total_by}
 use Rattle.brk_model.specs.Records.{Account, Movement, Trade}
-use Rattle.brk_model.specs.Base.{last_status_stamp_of_trade, opening_balance_in_accounts}
+use Rattle.brk_model.specs.Base.{opening_balance_in_accounts}
 use Rattle.brk_model.specs.Derived.{Posting, settlement_amount, balance_of_account, cash_trades, postings_sorted_by_stamp, posting_of_movement, postings_to_account, posting_of_trade, postings}
-use Rattle.brk_model.specs.Keys.{KeyPart, number, rows_sorted_by_key, insert_row_by_key, is_key_less, cash_move_key, is_row_key_less}
+use Rattle.brk_model.specs.Keys.{number, rows_sorted_by_key, insert_row_by_key, is_key_less, cash_move_key, is_row_key_less}
 use Rattle.brk_model.specs.Tables.{MoveRow, cash_move_row, numbered_move_rows}
 use Rattle.brk_trade_books.proofs.Order.{NewKey, Sorted, append_nil, by_key-append, sort_sorted}
 use Rattle.brk_trade_books.proofs.Places.{append_assoc, filter-append, filter-not_one, filter-one, map-append}
 use Rattle.brk_trade_books.proofs.Positions.{sort_last}
-use Rattle.brk_trade_books.proofs.Same.{All-append, All-filter, All-map, All-mapped, map-last, map-same}
+use Rattle.brk_trade_books.proofs.Same.{All-map, map-last}
 use Rattle.brk_trade_books.proofs.Tested.{All-back, All-front}
 use Rattle.brk_trade_books.proofs.Worth.{total-append}
 

@@ -23,7 +23,7 @@ use Rattle.brk_model.specs.Names.{AccountOfTradeExists, BrokerOfAccountExists}
 use Rattle.brk_trade_books.specs.Books.{BooksInvariant}
 use Rattle.brk_trade_books.proofs.Order.{NewKey, by_key-append}
 use Rattle.brk_trade_books.proofs.Same.{NonePass, All-append, All-map, All-of, All-mapped, All-filter, map-same, map-last, filter-same, filter-none}
-use Rattle.brk_trade_books.proofs.Same.{total_by-same, flat_map-append, flat_map-empty, find-more, find-new, find-none, find-each, find-All}
+use Rattle.brk_trade_books.proofs.Same.{flat_map-append, flat_map-empty, find-more, find-new, find-none, find-each, find-All}
 
 -- ---- rows whose key is new
 

@@ -1,5 +1,5 @@
 -- The balance of an account and the numbers of a broker, by the rows that they count.
-use Rattle.std.proofs.Common.{◌≡◌, ℕ, ◌+◌, ◌==◌, ◌&&◌, Bool, false, cond, List, [], ◌∷◌, refl, sym, ◌∙◌, ap, length, map, filter, arith, ℤ, pos, ◌+ℤ◌, Option, Some, None}
+use Rattle.std.proofs.Common.{◌≡◌, ℕ, ◌+◌, ◌==◌, ◌&&◌, false, cond, List, [], ◌∷◌, refl, sym, ◌∙◌, ap, length, map, filter, arith, ℤ, pos, ◌+ℤ◌, Option, Some, None}
 use Rattle.std.specs.Prelude.{find, option_map, sum_by}
 use Rattle.std.specs.Option.{option_map_or}
 use Rattle.std.specs.List.{AllByRecursion}
@@ -9,7 +9,7 @@ use Rattle.brk_money.specs.Kinds.{is_same_trade_status}
 use Rattle.brk_money.specs.declared.status.Status.TheVariants.{Canceled, Completed}
 use Rattle.brk_model.specs.Lists.{total_by}
 use Rattle.brk_model.specs.Records.{Account, Broker, StatusChange, Trade}
-use Rattle.brk_model.specs.Base.{Base, account_with_id, broker_id_in_accounts, broker_with_id, completed_trades, is_completed, last_status_change, trade_with_id}
+use Rattle.brk_model.specs.Base.{Base, account_with_id, broker_id_in_accounts, broker_with_id, completed_trades, is_completed, last_status_change}
 use Rattle.brk_model.specs.Derived.{Posting, balance_of_account, commission_total_of_broker, trades_of_broker, postings_to_account, postings_of_base, trade_count_of_broker}
 use Rattle.brk_model.specs.Joins.{account_row_with_id, cash_move_rows_of_account}
 use Rattle.brk_model.specs.Sheets.{sheets, tables_sorted_by_key}
@@ -17,12 +17,11 @@ use Rattle.brk_model.specs.Tables.{AccountRow, BrokerRow, account_row, broker_ro
 use Rattle.brk_trade_books.specs.Books.{BooksInvariant}
 use Rattle.brk_trade_books.specs.Sums.{completed_trade_rows_of_broker, is_completed_trade_of_broker}
 use Rattle.brk_trade_books.proofs.Bools.{numbers_back}
-use Rattle.brk_trade_books.proofs.Order.{by_key-filter}
-use Rattle.brk_trade_books.proofs.Same.{All-filter, All-map, filter-same}
+use Rattle.brk_trade_books.proofs.Same.{filter-same}
 use Rattle.brk_trade_books.proofs.Places.{FoundAt, find-at}
 use Rattle.brk_trade_books.proofs.Reading.{reads_account, reads_broker}
-use Rattle.brk_trade_books.proofs.LotReading.{IdsApart, filter-both, filter-map, filter-swap, numbered_rise, rise_apart}
-use Rattle.brk_trade_books.proofs.TradeReading.{reads_trade, trades_in_order}
+use Rattle.brk_trade_books.proofs.LotReading.{IdsApart, filter-both, filter-map}
+use Rattle.brk_trade_books.proofs.TradeReading.{trades_in_order}
 use Rattle.brk_trade_books.proofs.Postings.{rows_total}
 
 -- ---- sums over rows

@@ -14,7 +14,7 @@ use Rattle.brk_trade_books.proofs.Bools.{numbers_back}
 use Rattle.brk_trade_books.proofs.Order.{by_key-map, by_key-middle}
 use Rattle.brk_trade_books.proofs.Same.{NonePass, All-append, All-filter, All-map, All-mapped, map-same}
 use Rattle.brk_trade_books.proofs.Postings.{postings_both, postings_none, postings_one, rows_last}
-use Rattle.brk_trade_books.proofs.Places.{filter-append, filter-not_one, filter-one, map-append}
+use Rattle.brk_trade_books.proofs.Places.{filter-append, filter-not_one, map-append}
 
 map-twice : {X Y Z : Type 0} (f : Y → Z) (g : X → Y) (xs : List X) → map f (map g xs) ≡ map (λ x. f (g x)) xs
 map-twice f g [] = refl

@@ -1,10 +1,8 @@
 -- What an accepted command was tested for.
 use Rattle.std.proofs.Common.{◌≡◌, ◌≤◌, ℕ, Bool, true, false, not, List, [], ◌∷◌, ◌++◌, refl, Some, None}
-use Rattle.std.specs.Prelude.{nat_lt}
 use Rattle.std.specs.List.{AllByRecursion}
 use Rattle.std.proofs.lemmas.Bool.{ltb-false}
 use Rattle.brk_money.specs.Moments.{greatest_stamp}
-use Rattle.brk_money.specs.declared.refusal.Refusal.TheVariants.{ClockEnd}
 use Rattle.brk_model.specs.Base.{Base}
 use Rattle.brk_model.specs.Commands.{Command}
 use Rattle.brk_model.specs.Tests.{RefusalCheck, checks_of_command, refusal_of_command, first_refusal, stamp_of_next_command, is_one_day_settlement_start_too_early, checks_of_stamp}

@@ -1,5 +1,5 @@
 -- The effect of a movement on the tables.
-use Rattle.std.specs.Prelude.{ℕ, ◌+◌, length, ℤ}
+use Rattle.std.specs.Prelude.{◌+◌, length, ℤ}
 use Rattle.brk_model.specs.Records.{Movement}
 use Rattle.brk_model.specs.Base.{Base}
 use Rattle.brk_model.specs.Derived.{balance_of_account, posting_of_movement, postings_of_base}

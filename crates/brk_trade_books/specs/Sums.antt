@@ -1,12 +1,12 @@
 -- The sums in the tables (broker totals, balances and summaries) and the rows that they count.
-use Rattle.std.specs.Prelude.{◌≡◌, ◌≢◌, ℕ, ◌==◌, ◌&&◌, Bool, true, false, List, filter, is_some, length, sum_by, ℤ, pos, ◌+ℤ◌, bytes_eq}
+use Rattle.std.specs.Prelude.{◌≡◌, ◌≢◌, ℕ, ◌==◌, ◌&&◌, Bool, true, List, filter, is_some, length, sum_by, ℤ, pos, ◌+ℤ◌, bytes_eq}
 use Rattle.std.specs.List.{AllByRecursion}
 use Rattle.std.specs.Option.{option_map_or}
 use Rattle.brk_lots.specs.Position.{IsPosition}
 use Rattle.brk_money.specs.Kinds.{is_same_trade_status}
 use Rattle.brk_money.specs.declared.status.Status.TheVariants.{Completed}
 use Rattle.brk_money.specs.Spelling.{Text}
-use Rattle.brk_model.specs.Joins.{account_row_with_id, trade_row_with_id, cash_move_rows_of_account}
+use Rattle.brk_model.specs.Joins.{account_row_with_id, cash_move_rows_of_account}
 use Rattle.brk_model.specs.Lists.{total_by}
 use Rattle.brk_model.specs.Tables.{AccountRow, BrokerRow, HoldingRow, SummaryRow, Tables, TradeRow}
 use Rattle.brk_trade_books.specs.Lives.{AllLotChangesFormChains}

@@ -21,7 +21,7 @@ use Rattle.brk_trade_plans.specs.declared.plan.Plan.{Plan}
 use Rattle.brk_trade_plans.specs.declared.quote.Quote.{Quote}
 use Rattle.brk_trade_plans.specs.declared.reply.Reply.{Reply}
 use Rattle.brk_trade_plans.specs.declared.reply.Reply.TheVariants as reply
-use Rattle.brk_trade_plans.specs.declared.span.Span.{Span}
+use Rattle.brk_trade_plans.specs.declared.span.PriceSpan.{PriceSpan}
 use Rattle.brk_trade_rows.specs.declared.request_row.RequestRow.{RequestRow}
 
 -- The state of one symbol: its last trade on the market, and its pending requests.
@@ -42,7 +42,7 @@ abbrev pub is_state_of_symbol : Text → SymbolState → Bool
 is_state_of_symbol symbol quote = bytes_eq quote.last.symbol symbol
 
 -- The span `span` of prices in cents, widened to include `price`.
-abbrev pub span_including_price : ℕ → Span → Span
+abbrev pub span_including_price : ℕ → PriceSpan → PriceSpan
 span_including_price price span = record {
   lowest = if nat_lt price span.lowest then price else span.lowest;
   highest = if nat_lt span.highest price then price else span.highest;
@@ -50,12 +50,12 @@ span_including_price price span = record {
 
 -- The span `span` widened to include the price of `tick` if the tick is of `symbol`, otherwise
 -- `span`.
-abbrev pub span_including_tick : Text → Span → Tick → Span
+abbrev pub span_including_tick : Text → PriceSpan → Tick → PriceSpan
 span_including_tick symbol span tick = if bytes_eq tick.symbol symbol then span_including_price tick.price span else span
 
 -- The lowest and the highest price, in cents, of `first` and of those ticks of `others` that have
 -- the symbol of `first`.
-abbrev pub price_span_of_first_symbol : Tick → List Tick → Span
+abbrev pub price_span_of_first_symbol : Tick → List Tick → PriceSpan
 price_span_of_first_symbol first others = fold (span_including_tick first.symbol) (record { lowest = first.price; highest = first.price }) others
 
 -- True if a market price of `price` cents triggers the pending trade of `request`.

@@ -28,5 +28,5 @@ pub use plan::Plan;
 pub use quote::{Quote, create_quote};
 pub use reference::{Reference, ReferenceFacts, plan_reference};
 pub use reply::{Completed, Ordered, Reply};
-pub use span::{Span, first_symbol_price_span};
+pub use span::{PriceSpan, first_symbol_price_span};
 pub use update::plan_update;

@@ -6,13 +6,13 @@ use brk_ref_orders::Tick;
 
 /// The lowest and the highest of some prices, in cents.
 #[derive(Clone, Copy, Drop)]
-pub struct Span {
+pub struct PriceSpan {
     pub lowest: Price,
     pub highest: Price,
 }
 
 // Returns the span of prices, in cents, widened to include `price`.
-fn widen_price_span(span: Span, price: Price) -> Span
+fn widen_price_span(span: PriceSpan, price: Price) -> PriceSpan
     ensures { result ≡ spec.span_including_price price span }
 {
     let lowest = if price.get() < span.lowest.get() {
@@ -25,15 +25,15 @@ fn widen_price_span(span: Span, price: Price) -> Span
     } else {
         span.highest
     };
-    Span { lowest, highest }
+    PriceSpan { lowest, highest }
 }
 
 /// Returns the lowest and the highest price, in cents, of `first` and of those ticks of `others`
 /// that have the symbol of `first`.
-pub fn first_symbol_price_span(first: &Tick, others: &[Tick]) -> Span
+pub fn first_symbol_price_span(first: &Tick, others: &[Tick]) -> PriceSpan
     ensures { result ≡ spec.price_span_of_first_symbol first.now others.now }
 {
-    let mut span = Span {
+    let mut span = PriceSpan {
         lowest: first.price,
         highest: first.price,
     };

@@ -1,7 +1,7 @@
 -- Movements of cash and settlement days are refused by what was read as by the base, and planned
 -- from it they are done.
-use Rattle.std.proofs.Common.{◌≡◌, ◌≤◌, ℕ, ◌+◌, ◌==◌, Bool, true, false, List, [], ◌∷◌, ◌++◌, refl, sym, ◌∙◌, ap, length, filter, arith, ℤ, pos, neg_ℤ, ◌+ℤ◌, Option, Some, None}
-use Rattle.std.specs.Prelude.{codes, is_none, is_some, nat_abs, nat_le, nat_lt, option_map, unwrap_or, Ok, Err}
+use Rattle.std.proofs.Common.{◌≡◌, ◌≤◌, ℕ, ◌+◌, ◌==◌, Bool, true, false, List, [], ◌∷◌, ◌++◌, refl, sym, ◌∙◌, ap, length, filter, arith, ℤ, pos, ◌+ℤ◌, Option, Some, None}
+use Rattle.std.specs.Prelude.{is_none, is_some, nat_abs, nat_le, nat_lt, option_map, unwrap_or, Ok, Err}
 use Rattle.std.specs.Option.{option_map_or}
 use Rattle.std.proofs.lemmas.Bool.{eq-eqb, eqb-true}
 use Rattle.std.proofs.lemmas.Int.{ints}
@@ -10,26 +10,25 @@ use Rattle.brk_money.specs.declared.refusal.Limit.TheVariants as limit
 use Rattle.brk_money.specs.declared.refusal.Refusal.{Refusal}
 use Rattle.brk_money.specs.declared.refusal.Refusal.TheVariants.{NoAccount, Range, ClockEnd, TooEarly, Exists}
 use Rattle.brk_model.specs.Base.{Base, account_with_id, completed_trades, opening_balance_in_accounts}
-use Rattle.brk_model.specs.Commands.{Command, Reply, Booked, MovedCash, SetOneDay}
+use Rattle.brk_model.specs.Commands.{Command, Booked, MovedCash, SetOneDay}
 use Rattle.brk_model.specs.Derived.{Posting, balance_of_account, postings_to_account, posting_of_movement, postings_of_base}
 use Rattle.brk_model.specs.Limits.{greatest_amount, greatest_id}
 use Rattle.brk_model.specs.Lists.{total_by}
-use Rattle.brk_model.specs.Movements.{deposit_movement, withdrawal_movement, base_after_movement, reply_to_movement}
+use Rattle.brk_model.specs.Movements.{reply_to_movement}
 use Rattle.brk_model.specs.Records as records
 use Rattle.brk_model.specs.Records.{Account}
 use Rattle.brk_model.specs.Sheets.{sheets, tables_sorted_by_key}
 use Rattle.brk_model.specs.Step.{reply_to_command, step}
-use Rattle.brk_model.specs.Tables.{AccountRow, MoveRow, Tables, account_row, tables_of_base_in_schema}
-use Rattle.brk_model.specs.Tests.{RefusalCheck, duplicate_check, first_refusal, checks_of_movement, stamp_of_next_command, refusal_of_command, checks_of_command}
+use Rattle.brk_model.specs.Tables.{Tables, account_row, tables_of_base_in_schema}
+use Rattle.brk_model.specs.Tests.{RefusalCheck, first_refusal, checks_of_movement, stamp_of_next_command, refusal_of_command, checks_of_command}
 use Rattle.brk_trade_rows.specs.Changes.{tables_after_changes, tables_with_balance, tables_with_last_stamp, tables_with_cash_row, tables_with_one_day_settlement_start}
 use Rattle.brk_trade_rows.specs.Rows.{abstract_move_row}
-use Rattle.brk_trade_rows.specs.declared.change.Change.TheVariants as change
 use Rattle.brk_ref_orders.specs.Records.{cash_movement_command, movement_command}
 use Rattle.brk_ref_orders.specs.declared.movement.Direction.{Direction}
 use Rattle.brk_ref_orders.specs.declared.movement.Direction.TheVariants.{Deposit, Withdrawal}
 use Rattle.brk_ref_orders.specs.declared.movement.Movement.{Movement}
 use Rattle.brk_trade_plans.specs.Movement as planner
-use Rattle.brk_trade_plans.specs.Movement.{IsMovementPlan, row_changes_of_movement, movement_checks, cash_text_of_direction, signed_cash_amount}
+use Rattle.brk_trade_plans.specs.Movement.{IsMovementPlan, movement_checks, cash_text_of_direction, signed_cash_amount}
 use Rattle.brk_trade_plans.specs.OneDay.{IsOneDaySettlementPlan, later_one_day_settlement_start_check, one_day_settlement_checks}
 use Rattle.brk_trade_plans.specs.Reference.{later_stamp_check}
 use Rattle.brk_trade_plans.specs.Replies.{abstract_reply}
@@ -46,7 +45,7 @@ use Rattle.brk_trade_books.proofs.Postings.{postings_moved, total_one}
 use Rattle.brk_trade_books.proofs.Reading.{is_none-map, reads_account}
 use Rattle.brk_trade_theorems.specs.MovePlans.{MovementFactsMatchTables, PlanMovementPrecondition, PlanOneDaySettlementPrecondition}
 use Rattle.brk_trade_theorems.specs.Plans.{PlanImplementsCommand}
-use Rattle.brk_trade_theorems.proofs.OrderFinding.{Alike, same_first}
+use Rattle.brk_trade_theorems.proofs.OrderFinding.{same_first}
 use Rattle.brk_trade_theorems.proofs.Planning.{clock_read}
 use Rattle.brk_trade_theorems.proofs.TradePlanning.{is_done, refused_step, stamp_read}
 

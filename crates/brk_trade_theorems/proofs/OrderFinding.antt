@@ -5,7 +5,7 @@ use Rattle.std.specs.Prelude.{is_some, is_none, option_map, unwrap_or, find, IfS
 use Rattle.std.specs.Option.{option_map_or}
 use Rattle.brk_trade.specs.Estimates.{AreOrderTermsInBase}
 use Rattle.brk_model.specs.Base as base_spec
-use Rattle.brk_model.specs.Base.{Base, account_with_id, commission_band_for_quantity, broker_id_of_account, charge_for_type_and_tier, completed_trades}
+use Rattle.brk_model.specs.Base.{Base, account_with_id, commission_band_for_quantity, broker_id_of_account, charge_for_type_and_tier}
 use Rattle.brk_model.specs.Base.{customer_id_of_account, customer_with_id, exchange_of_security, last_price, security_with_symbol, tier_of_account}
 use Rattle.brk_model.specs.Joins.{account_row_with_id, security_row_with_symbol}
 use Rattle.brk_model.specs.Orders.{assets_of_account, may_order_for_account, is_customer_or_has_permission}

@@ -15,7 +15,7 @@ use Rattle.brk_trade_rows.specs.Changes.{tables_after_changes, tables_with_last_
 use Rattle.brk_trade_plans.specs.Feed.{SymbolState, row_changes_of_tick_on_state, row_changes_of_tick, row_changes_of_ticks, trades_triggered_by_tick}
 use Rattle.brk_trade_plans.specs.Feed.{trades_triggered_by_ticks, is_state_of_symbol, is_request_triggered, last_trade_after_tick, state_after_tick}
 use Rattle.brk_trade_plans.specs.Feed.{states_after_tick, row_changes_of_submissions, trades_triggered_at_price, requests_not_triggered_at_price}
-use Rattle.brk_trade_plans.specs.declared.span.Span.{Span}
+use Rattle.brk_trade_plans.specs.declared.span.PriceSpan.{PriceSpan}
 use Rattle.brk_trade_rows.specs.Rows.{abstract_request_row}
 use Rattle.brk_trade_rows.specs.declared.change.Change.{Change}
 use Rattle.brk_trade_rows.specs.declared.request_row.RequestRow as request
@@ -82,7 +82,7 @@ rows_waiting price (r ∷ requests) = by_test (is_triggering_price r.kind r.bid 
     by_test false e = ap (λ rows. abstract_request_row r ∷ rows) e
 
 -- what a price within a span triggers is among what the span may trigger
-hits_kept : (span : Span) (price : ℕ) (rows : List RequestRow) → is_within span price
+hits_kept : (span : PriceSpan) (price : ℕ) (rows : List RequestRow) → is_within span price
     → filter (λ r. is_triggering_price r.kind r.bid price) (filter (may span) rows) ≡ filter (λ r. is_triggering_price r.kind r.bid price) rows
 hits_kept span price rows w =
     filter-filter (may span) (λ r. is_triggering_price r.kind r.bid price) rows

@@ -14,7 +14,7 @@ use Rattle.brk_trade_plans.specs.Feed.{SymbolState, states_of_quotes, state_of_q
 use Rattle.brk_trade_rows.specs.Rows.{abstract_request_row}
 use Rattle.brk_trade_rows.specs.declared.request_row.RequestRow as request
 use Rattle.brk_trade_plans.specs.declared.quote.Quote.{Quote}
-use Rattle.brk_trade_plans.specs.declared.span.Span.{Span}
+use Rattle.brk_trade_plans.specs.declared.span.PriceSpan.{PriceSpan}
 use Rattle.brk_trade_books.specs.Books.{BooksInvariant}
 use Rattle.brk_trade_books.specs.TradeReads.{last_trade_row_of_symbol, requests_of_symbol, volume_of_symbol}
 use Rattle.brk_trade_theorems.specs.TradePlans.{AreQuotesOfTicks, IsQuoteOfTick, IsQuoteOfSomeTick, HasQuoteIfSymbolHasLastTrade, HasDistinctQuoteSymbols}
@@ -49,7 +49,7 @@ any-at_last p (y ∷ xs) x e = ap (λ b. p y || b) (any-at_last p xs x e) ∙ or
 -- within a span in which the prices of ticks lie
 pub record IsHeld (t : Tables) (ticks : List Tick) (quote : SymbolState) : Type 0 where
   pub last_trade : last_trade_row_of_symbol t quote.last.symbol ≡ Some (abstract_last_trade_row quote.last)
-  pub span : Span
+  pub span : PriceSpan
   pub spans : Spans span quote.last.symbol ticks
   pub requests : map abstract_request_row quote.requests ≡ filter (may span) (requests_of_symbol t quote.last.symbol)
 

@@ -1,6 +1,6 @@
 -- The tables of a base of whose trades words are changed: no column but those of these words
 -- changes.
-use Rattle.std.proofs.Common.{◌≡◌, ℕ, ◌==◌, not, List, [], ◌∷◌, ◌++◌, refl, sym, ap, ◌∙◌, map, filter, length, pos, ◌+ℤ◌, ◌-ℤ◌}
+use Rattle.std.proofs.Common.{◌≡◌, ℕ, ◌==◌, not, List, [], ◌∷◌, ◌++◌, refl, sym, ap, ◌∙◌, map, filter, length, pos, ◌+ℤ◌}
 use Rattle.std.specs.Prelude.{flat_map, nat_lt, sum_by, bytes_eq}
 use Rattle.std.proofs.lemmas.List.{length-map}
 use Rattle.brk_money.specs.Kinds.{side_of_trade_type}

@@ -22,7 +22,7 @@ use Rattle.brk_model.specs.Sheets.{sheets}
 use Rattle.brk_model.specs.Tables.{RequestRow, Tables, request_row}
 use Rattle.brk_ref_orders.specs.declared.tick.Tick.{Tick}
 use Rattle.brk_trade_plans.specs.Feed.{price_span_of_first_symbol, span_including_price, span_including_tick}
-use Rattle.brk_trade_plans.specs.declared.span.Span.{Span}
+use Rattle.brk_trade_plans.specs.declared.span.PriceSpan.{PriceSpan}
 use Rattle.brk_trade_books.specs.Books.{BooksInvariant}
 use Rattle.brk_trade_theorems.specs.TradePlans.{is_request_triggered_in_span}
 use Rattle.brk_trade_books.specs.TradeReads.{requests_of_symbol}
@@ -35,22 +35,22 @@ use Rattle.brk_trade_books.proofs.TradeReading.{requests_in_order}
 -- ---- the prices of a symbol's ticks lie within their span
 
 -- a price lies within a span, both its ends included
-abbrev pub is_within : Span → ℕ → Type 0
+abbrev pub is_within : PriceSpan → ℕ → Type 0
 is_within span price = (span.lowest ≤ price) × (price ≤ span.highest)
 
 -- the prices of a symbol's ticks lie within a span
-abbrev pub Spans : Span → Text → List Tick → Type 0
+abbrev pub Spans : PriceSpan → Text → List Tick → Type 0
 Spans span symbol ticks = AllByRecursion (λ tick. tick.symbol ≡ symbol → is_within span tick.price) ticks
 
 -- one span lies within another
-record Wider (inner outer : Span) : Type 0 where
+record Wider (inner outer : PriceSpan) : Type 0 where
   low : outer.lowest ≤ inner.lowest
   high : inner.highest ≤ outer.highest
 
-wider_again : (a b c : Span) → Wider a b → Wider b c → Wider a c
+wider_again : (a b c : PriceSpan) → Wider a b → Wider b c → Wider a c
 wider_again a b c p q = let l = p.low in let m = q.low in let h = p.high in let k = q.high in record { low = omega (arith, l, m); high = omega (arith, h, k) }
 
-widened_wider : (price : ℕ) (span : Span) → Wider span (span_including_price price span)
+widened_wider : (price : ℕ) (span : PriceSpan) → Wider span (span_including_price price span)
 widened_wider price span = record { low = lower (nat_lt price span.lowest) refl; high = higher (nat_lt span.highest price) refl }
   where
     lower : (b : Bool) → nat_lt price span.lowest ≡ b → cond b price span.lowest ≤ span.lowest
@@ -61,7 +61,7 @@ widened_wider price span = record { low = lower (nat_lt price span.lowest) refl;
     higher true e = grind (arith, nat_tests)
     higher false e = omega arith
 
-widened_has : (price : ℕ) (span : Span) → is_within (span_including_price price span) price
+widened_has : (price : ℕ) (span : PriceSpan) → is_within (span_including_price price span) price
 widened_has price span = (lower (nat_lt price span.lowest) refl, higher (nat_lt span.highest price) refl)
   where
     lower : (b : Bool) → nat_lt price span.lowest ≡ b → cond b price span.lowest ≤ price
@@ -72,20 +72,20 @@ widened_has price span = (lower (nat_lt price span.lowest) refl, higher (nat_lt 
     higher true e = omega arith
     higher false e = grind (arith, nat_tests)
 
-folded_spans : (symbol : Text) (span : Span) (ticks : List Tick) → Wider span (fold (span_including_tick symbol) span ticks) × Spans (fold (span_including_tick symbol) span ticks) symbol ticks
+folded_spans : (symbol : Text) (span : PriceSpan) (ticks : List Tick) → Wider span (fold (span_including_tick symbol) span ticks) × Spans (fold (span_including_tick symbol) span ticks) symbol ticks
 folded_spans symbol span [] = (record { low = omega arith; high = omega arith }, tt)
 folded_spans symbol span (tick ∷ ticks) = by_test (λ start. folded_spans symbol start ticks) (bytes_eq tick.symbol symbol) refl
   where
-    end : Span → Span
+    end : PriceSpan → PriceSpan
     end start = fold (span_including_tick symbol) start ticks
 
-    Rest : Span → Type 0
+    Rest : PriceSpan → Type 0
     Rest start = Wider start (end start) × Spans (end start) symbol ticks
 
     not_same : false ≡ true → ⊥
     not_same f = absurd (cc)
 
-    by_test : ((start : Span) → Rest start) → (b : Bool) → bytes_eq tick.symbol symbol ≡ b
+    by_test : ((start : PriceSpan) → Rest start) → (b : Bool) → bytes_eq tick.symbol symbol ≡ b
         → Wider span (end (cond b (span_including_price tick.price span) span))
         × ((tick.symbol ≡ symbol → is_within (end (cond b (span_including_price tick.price span) span)) tick.price) × Spans (end (cond b (span_including_price tick.price span) span)) symbol ticks)
     by_test again true e =
@@ -103,7 +103,7 @@ span_spans first ticks = (folded_spans first.symbol (record { lowest = first.pri
 
 -- ---- what a price within the span triggers, the span may trigger
 
-pub triggered_may : (span : Span) (kind : TradeType) (bid price : ℕ) → is_within span price → is_triggering_price kind bid price ≡ true → is_request_triggered_in_span span kind bid ≡ true
+pub triggered_may : (span : PriceSpan) (kind : TradeType) (bid price : ℕ) → is_within span price → is_triggering_price kind bid price ≡ true → is_request_triggered_in_span span kind bid ≡ true
 triggered_may span StopLoss bid price w e = let l = w.0 in grind (arith, nat_tests)
 triggered_may span LimitSell bid price w e = let h = w.1 in grind (arith, nat_tests)
 triggered_may span LimitBuy bid price w e = let l = w.0 in grind (arith, nat_tests)
@@ -112,17 +112,17 @@ triggered_may span MarketSell bid price w e = absurd (cc)
 
 -- ---- three selections are all that a span may trigger
 
-abbrev pub may : Span → RequestRow → Bool
+abbrev pub may : PriceSpan → RequestRow → Bool
 may span r = is_request_triggered_in_span span r.kind r.bid
 
 -- what the three selections bring
-abbrev pub stop_losses : Tables → Text → Span → List RequestRow
+abbrev pub stop_losses : Tables → Text → PriceSpan → List RequestRow
 stop_losses t symbol span = filter (λ r. bytes_eq r.symbol symbol && (is_same_trade_type r.kind StopLoss && nat_le span.lowest r.bid)) t.requests
 
-abbrev pub limit_sells : Tables → Text → Span → List RequestRow
+abbrev pub limit_sells : Tables → Text → PriceSpan → List RequestRow
 limit_sells t symbol span = filter (λ r. bytes_eq r.symbol symbol && (is_same_trade_type r.kind LimitSell && nat_le r.bid span.highest)) t.requests
 
-abbrev pub limit_buys : Tables → Text → Span → List RequestRow
+abbrev pub limit_buys : Tables → Text → PriceSpan → List RequestRow
 limit_buys t symbol span = filter (λ r. bytes_eq r.symbol symbol && (is_same_trade_type r.kind LimitBuy && nat_le span.lowest r.bid)) t.requests
 
 and_one : (b : Bool) → b && true ≡ b
@@ -133,7 +133,7 @@ and_none : (b : Bool) → b && false ≡ false
 and_none true = refl
 and_none false = refl
 
-pub selected : (t : Tables) (symbol : Text) (span : Span)
+pub selected : (t : Tables) (symbol : Text) (span : PriceSpan)
     → IsPermutation (filter (may span) (requests_of_symbol t symbol)) ((stop_losses t symbol span ++ limit_sells t symbol span) ++ limit_buys t symbol span)
 selected t symbol span =
     let all = filter (may span) (requests_of_symbol t symbol) in
@@ -290,7 +290,7 @@ requests_rise base books =
     (rows_rise base.accounts (pending_trades base.trades) (rise_filter (has_last_status Pending) base.trades (numbered_rise 1 base.trades books.numbered)))
 
 -- by rising trade they are the requests of a base in its order
-pub in_order : (base : Base) (symbol : Text) (span : Span) (found : List RequestRow) → BooksInvariant base
+pub in_order : (base : Base) (symbol : Text) (span : PriceSpan) (found : List RequestRow) → BooksInvariant base
     → IsPermutation (filter (may span) (requests_of_symbol (sheets base) symbol)) found → Ascends (λ r. r.trade) found → found ≡ filter (may span) (requests_of_symbol (sheets base) symbol)
 in_order base symbol span found books p a =
     let all = filter (may span) (requests_of_symbol (sheets base) symbol) in

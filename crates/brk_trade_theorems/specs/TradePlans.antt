@@ -14,7 +14,7 @@ use Rattle.brk_model.specs.Tables.{Tables}
 use Rattle.brk_ref_orders.specs.declared.tick.Tick.{Tick}
 use Rattle.brk_ref.specs.Records.{abstract_last_trade_row}
 use Rattle.brk_trade_plans.specs.Feed.{SymbolState, is_state_of_symbol, price_span_of_first_symbol}
-use Rattle.brk_trade_plans.specs.declared.span.Span.{Span}
+use Rattle.brk_trade_plans.specs.declared.span.PriceSpan.{PriceSpan}
 use Rattle.brk_trade_rows.specs.declared.request_row.RequestRow as request
 use Rattle.brk_trade_rows.specs.Rows.{abstract_request_row}
 use Rattle.brk_trade_books.specs.Books.{BooksInvariant}
@@ -36,7 +36,7 @@ pub record PlanCancelPrecondition (base : Base) (id : ℕ) (found : Option Statu
 -- True if a price of the span can trigger a request of this trade type with the price `bid`, in
 -- cents: for a stop loss and a limit buy if the lowest price is at most `bid`, for a limit sell if
 -- the highest price is at least `bid`. Market types are never triggered.
-abbrev pub is_request_triggered_in_span : Span → TradeType → ℕ → Bool
+abbrev pub is_request_triggered_in_span : PriceSpan → TradeType → ℕ → Bool
 is_request_triggered_in_span span StopLoss bid = nat_le span.lowest bid
 is_request_triggered_in_span span LimitSell bid = nat_le bid span.highest
 is_request_triggered_in_span span LimitBuy bid = nat_le span.lowest bid

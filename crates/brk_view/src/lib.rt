@@ -14,6 +14,6 @@ pub use brk_view_rows::{
     broker_volume, create_looked_up_trade, lookup_account, lookup_ids, lookup_lots, lookup_symbol,
     merge_lot_changes_into_first_twenty, parse_broker_names, parse_named_trades, parse_query,
     parse_query_of_view, position, recent, sort_trades_oldest_first, status, submitted,
-    total_bid_value_of_requests, trade_with_security,
+    total_bid_value_of_requests,
 };
 pub use fields::view_fields;

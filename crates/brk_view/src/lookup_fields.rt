@@ -10,8 +10,8 @@ ghost use Rattle.brk_view_rows.specs.Views.{texts_of_record, texts_of_records};
 use crate::texts::{
     push_amount, push_day, push_number, push_optional_price, push_stamp, push_text,
 };
-use brk_desk_commands::{cash_or_margin_word, lifo_or_fifo_word};
 use brk_money::Wide;
+use brk_ref::{cash_or_margin_word, lifo_or_fifo_word};
 use brk_trade_rows::{MoveRow, SettlementRow, TradeRow};
 use brk_view_rows::lookups::{LookedUp, StampedStatus};
 use std::alloc::{AllocError, Global};

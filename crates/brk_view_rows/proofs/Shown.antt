@@ -1,6 +1,6 @@
 -- The views of rows are those of the definitions over the tables that the rows were read of.
 use Rattle.std.proofs.Common.{◌≡◌, ℕ, zero, suc, List, [], ◌∷◌, ◌++◌, Bool, refl, sym, ap, ◌∙◌, map, filter, take}
-use Rattle.std.specs.Prelude.{◌&&◌, ◌||◌, ◌==◌, IfSome, Option, Some, None, bytes_eq, codes, decimal, flat_map, nat_lt, option_map, option_to_list, string_bytes}
+use Rattle.std.specs.Prelude.{◌&&◌, ◌||◌, ◌==◌, IfSome, Option, Some, None, bytes_eq, codes, decimal, flat_map, nat_lt, option_map, option_to_list}
 use Rattle.std.specs.Fmt.{signed_decimal}
 use Rattle.std.specs.List.{list_any}
 use Rattle.std.specs.Option.{option_map_or}
@@ -9,7 +9,7 @@ use Rattle.brk_trade_rows.specs.declared.history_row.HistoryRow.{HistoryRow}
 use Rattle.brk_trade_rows.specs.declared.move_row.MoveRow.{MoveRow}
 use Rattle.brk_trade_rows.specs.declared.settlement_row.SettlementRow.{SettlementRow}
 use Rattle.brk_trade_rows.specs.declared.trade_row.TradeRow.{TradeRow}
-use Rattle.brk_model.specs.Joins.{history_rows_with_trade_id, trade_rows_oldest_first, trade_rows_recent_first, security_row_with_symbol, trade_rows_of_account}
+use Rattle.brk_model.specs.Joins.{history_rows_with_trade_id, trade_rows_oldest_first, trade_rows_recent_first, trade_rows_of_account}
 use Rattle.brk_model.specs.Lists.{is_pair_less, sort_by, is_text_less}
 use Rattle.brk_model.specs.LookupView as model
 use Rattle.brk_model.specs.PositionView.{is_before_by_market_value, last_ten_trade_rows, customer_position_view, recent_trades_view}
@@ -20,10 +20,8 @@ use Rattle.brk_model.specs.StatusView.{customer_and_broker_names, record_of_trad
 use Rattle.brk_model.specs.Tables as tables
 use Rattle.brk_model.specs.Tables.{Tables, AccountRow, SecurityRow}
 use Rattle.brk_model.specs.VolumeView.{is_before_by_volume, value_of_sector_requests_of_broker, broker_volume_view}
-use Rattle.brk_money.specs.Kinds.{trade_status_code, trade_status_name, trade_type_name}
+use Rattle.brk_money.specs.Kinds.{trade_status_name, trade_type_name}
 use Rattle.brk_money.specs.Spelling.{Text}
-use Rattle.brk_ref.specs.Records.{abstract_security_row}
-use Rattle.brk_ref.specs.declared.security.Security.{Security}
 use Rattle.std.specs.Global.{Vec}
 use Rattle.brk_view_rows.specs.Lookup.{AreRowsOfTrade, LookedUpRows, records_of_looked_up_trade, rows_of_looked_up_trade, table_rows_of_trade}
 use Rattle.brk_view_rows.specs.Lookup.{stamped_status_of_typed_history_row, history_status_record, is_older_trade, is_older_status, stamped_status_of_history_row}
@@ -216,17 +214,6 @@ volumes_shown t sector names rows brokers e f =
     ∙ map_map broker_volume_record (volume_of_broker_in_sector t sector) (sort_by (is_before_by_volume t sector) (filter (has_name_and_pending_request t sector names) t.brokers))
 
 -- ---- how the trades of an account stand
-
-pub trade_shown : (t : Tables) (trade : TradeRow) (security : Security) → security_row_with_symbol t trade.symbol ≡ Some (abstract_security_row security)
-    → trade_status_record (record { trade = trade; security = security }) ≡ record_of_trade_status t (abstract_trade_row trade)
-trade_shown t trade security e i =
-    decimal trade.id ∷ decimal trade.stamp ∷ trade_status_name trade.status ∷ trade_type_name trade.kind ∷ trade.symbol ∷ decimal trade.qty
-    ∷ string_bytes trade.executor ∷ nonnegative_cents_text trade.charge
-    ∷ option_map_or (λ s. s.name) (sym e i) [] ∷ option_map_or (λ s. s.exchange) (sym e i) [] ∷ []
-
-pub trade_carried : (t : Tables) (trade : TradeRow) (security : Security) → security_row_with_symbol t trade.symbol ≡ Some (abstract_security_row security)
-    → rows_of_trade_status (record { trade = trade; security = security }) ≡ trade_row_with_security t (abstract_trade_row trade)
-trade_carried t trade security e = λ i. (abstract_trade_row trade, sym e i)
 
 -- The record of a trade with its security.
 abbrev shown_status : tables.TradeRow × Option SecurityRow → List Text

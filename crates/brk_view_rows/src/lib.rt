@@ -28,7 +28,7 @@ pub use named_trades::{NamedTrades, parse_named_trades};
 pub use parse::{parse_query, parse_query_of_view};
 pub use query::Query;
 pub use recents::{Activity, recent};
-pub use statuses::{AccountStatus, TradeStatus, status, trade_with_security};
+pub use statuses::{AccountStatus, TradeStatus, status};
 pub use submitted_rows::submitted;
 pub use touched_lots::{
     LotTouch, MOST_CHANGES, TouchedLots, lookup_lots, merge_lot_changes_into_first_twenty,

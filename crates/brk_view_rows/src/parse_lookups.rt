@@ -11,8 +11,7 @@ use crate::broker_names::parse_broker_names;
 use crate::named_trades::parse_named_trades;
 use crate::query::Query;
 use brk_money::{Planned, Refusal};
-use brk_ref::{Name, Symbol, parse_id};
-use brk_ref_orders::{Span, parse_stamp};
+use brk_ref::{Name, Span, Symbol, parse_id, parse_stamp};
 use std::alloc::Global;
 
 // Parses the query of trades from its arguments, 1 to 20 different ids. Refuses with `BadText` if

@@ -1,8 +1,8 @@
 use crate::broker_names::BrokerNames;
 use crate::named_trades::NamedTrades;
 use brk_money::{Id, Stamp};
-use brk_ref::{Name, Symbol, TaxId};
-use brk_ref_orders::{Order, Span};
+use brk_ref::{Name, Span, Symbol, TaxId};
+use brk_ref_orders::Order;
 
 /// A query to a desk, parsed: every argument of it is well-formed.
 #[derive(Drop)]

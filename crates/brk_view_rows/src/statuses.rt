@@ -1,12 +1,10 @@
 //! The parties of an account, its customer and its broker, and its last trades.
 
-ghost use Rattle.std.specs.Prelude.{◌≡◌, ◌==◌, ◌∷◌, [], ℕ, Some, filter, flat_map, map, take};
-ghost use Rattle.brk_trade_rows.specs.Rows.{abstract_trade_row};
-ghost use Rattle.brk_model.specs.Joins.{trade_rows_recent_first, security_row_with_symbol, trade_rows_of_account};
+ghost use Rattle.std.specs.Prelude.{◌≡◌, ◌==◌, ◌∷◌, [], ℕ, filter, flat_map, map, take};
+ghost use Rattle.brk_model.specs.Joins.{trade_rows_recent_first, trade_rows_of_account};
 ghost use Rattle.brk_model.specs.StatusView.{customer_and_broker_names, record_of_trade_status, trade_status_view};
 ghost use Rattle.brk_model.specs.Tables.{Tables};
-ghost use Rattle.brk_ref.specs.Records.{abstract_security_row};
-ghost use Rattle.brk_view_rows.specs.Status.{trade_status_record, party_names_record, rows_of_trade_status, trade_row_with_security};
+ghost use Rattle.brk_view_rows.specs.Status.{trade_status_record, party_names_record};
 ghost use Rattle.brk_view_rows.specs.Views.{records_of_view};
 ghost use Rattle.brk_view_rows.specs.declared.view.View.TheVariants as views;
 
@@ -30,18 +28,6 @@ pub struct AccountStatus {
     /// The name of the account's broker.
     pub broker: Name,
     pub trades: Vec<TradeStatus>,
-}
-
-/// Returns the trade `trade` together with the security `security`, which the caller has read for
-/// the trade's symbol. Does not allocate.
-#[tactic(auto, using(crate::proofs::Shown::trade_shown, crate::proofs::Shown::trade_carried))]
-pub fn trade_with_security(trade: TradeRow, security: Security) -> TradeStatus
-    ensures shown { (t : Tables) → security_row_with_symbol t trade.symbol ≡ Some (abstract_security_row security)
-        → trade_status_record result ≡ record_of_trade_status t (abstract_trade_row trade) }
-    ensures rows { (t : Tables) → security_row_with_symbol t trade.symbol ≡ Some (abstract_security_row security)
-        → rows_of_trade_status result ≡ trade_row_with_security t (abstract_trade_row trade) }
-{
-    TradeStatus { trade, security }
 }
 
 /// Returns the view of an account's trades (Trade-Status), without reading a table. The caller

@@ -12,7 +12,7 @@ use Rattle.brk_model.specs.Sheets.{sheets}
 use Rattle.brk_model.specs.Tables.{HoldingHistoryRow, Tables, holding_history_row, trade_row}
 use Rattle.brk_lots.specs.HistoryRows.{has_quantity_change}
 use Rattle.brk_lots.specs.Lots as lots_spec
-use Rattle.brk_lots.specs.Lots.{abstract_touch, shares_of_lots, side_of_qty}
+use Rattle.brk_lots.specs.Lots.{abstract_touch}
 use Rattle.brk_lots.specs.Walks.{closed_share_count, touches_of_first_shares}
 use Rattle.brk_lots.specs.declared.lot.Touch.{Touch}
 use Rattle.brk_lots.proofs.Ends.{reverse_first, walk_of}

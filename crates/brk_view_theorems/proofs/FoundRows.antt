@@ -1,20 +1,18 @@
 -- What a store finds by a key is all that there is of it, and trades that are found one after
 -- another are all that are named.
-use Rattle.std.proofs.Common.{◌≡◌, ℕ, ◌==◌, List, [], ◌∷◌, ◌++◌, Bool, true, false, cond, not, refl, sym, ap, subst, ◌∙◌, map, filter, find, arith}
+use Rattle.std.proofs.Common.{◌≡◌, ℕ, ◌==◌, List, [], ◌∷◌, Bool, true, false, not, refl, sym, ap, subst, ◌∙◌, filter, find, arith}
 use Rattle.std.specs.Prelude.{◌&&◌, ◌||◌, flat_map, nat_lt, option_to_list}
 use Rattle.std.specs.List.{AllByRecursion, list_any}
 use Rattle.std.proofs.lemmas.Bool.{eqb-true}
 use Rattle.std.proofs.lemmas.Bool.Decides.{nat_tests}
-use Rattle.brk_model.specs.Adopted.{is_posting_of_trade, posting_of_cash_move_row}
-use Rattle.brk_model.specs.Base.{Base, completed_trades, is_completed}
-use Rattle.brk_model.specs.Derived.{Posting, cash_trades, postings_sorted_by_stamp, posting_of_movement, posting_of_trade, postings_of_base}
+use Rattle.brk_model.specs.Base.{Base}
+use Rattle.brk_model.specs.Derived.{postings_sorted_by_stamp, postings_of_base}
 use Rattle.brk_model.specs.Joins.{trade_rows_oldest_first}
 use Rattle.brk_model.specs.Keys.{account_key, customer_key, number, settlement_key, trade_key}
 use Rattle.brk_model.specs.Lists.{all_distinct, contains_number, is_pair_less}
 use Rattle.brk_model.specs.LookupView.{is_cash_row_of_trade}
-use Rattle.brk_model.specs.Records.{Movement, Trade}
 use Rattle.brk_model.specs.Sheets.{sheets, tables_sorted_by_key}
-use Rattle.brk_model.specs.Tables.{MoveRow, TradeRow, numbered_move_rows, tables_of_base_in_schema}
+use Rattle.brk_model.specs.Tables.{TradeRow, tables_of_base_in_schema}
 use Rattle.brk_audit_theorems.proofs.Again.{found_first}
 use Rattle.brk_audit_theorems.proofs.UpgradedBase.{IsShort, posted_once, short_rows}
 use Rattle.brk_audit_theorems.proofs.Climbs.{Climbs}
@@ -23,10 +21,7 @@ use Rattle.brk_audit_theorems.specs.Sound.{AuditInvariant}
 use Rattle.brk_audit_theorems.proofs.FormKeys.{keys_of}
 use Rattle.brk_trade_books.specs.Books.{BooksInvariant}
 use Rattle.brk_trade_books.proofs.Bools.{numbers_back}
-use Rattle.brk_trade_books.proofs.LotReading.{numbered_rise, rise_apart, rise_filter}
-use Rattle.brk_trade_books.proofs.MoveReading.{postings_back, turn_filter}
-use Rattle.brk_trade_books.proofs.Order.{Splits, append_nil}
-use Rattle.brk_trade_books.proofs.Places.{filter-append}
+use Rattle.brk_trade_books.proofs.Order.{Splits}
 use Rattle.brk_trade_books.proofs.Postings.{numbered_stay}
 use Rattle.brk_view_theorems.proofs.Gathering.{Excludes, same_pieces, sort_gathered}
 use Rattle.brk_view_theorems.proofs.OneRow.{found_is_all}

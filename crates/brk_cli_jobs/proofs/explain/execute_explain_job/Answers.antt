@@ -1,6 +1,5 @@
 use Rattle.std.proofs.Common.{◌∙◌, ap, refl, rules}
 use Rattle.brk_model_explain.specs.Explain.{read_explain_request}
-use Rattle.brk_ref.specs.Fields.{texts_of_fields}
 use Rattle.brk_cli_jobs.proofs.Explained.{refuses}
 use Rattle.brk_cli_jobs.proofs.explain.execute_explain_job.Goals as goal
 

@@ -1,6 +1,5 @@
 use Rattle.std.proofs.Common.{refl}
 use Rattle.brk_cli_jobs.proofs.Printed.{done_in_file, prints}
-use Rattle.brk_cli_jobs.specs.Places.{RunsJob}
 use Rattle.brk_cli_jobs.proofs.jobs.execute_job.Goals as goal
 
 pub returns-clause-ran : goal.returns-clause-ran

@@ -1,6 +1,6 @@
 use Rattle.std.proofs.Common.{◌∙◌, ◌+ℤ◌, ℤ, ◌++◌, [], ◌∷◌, ap, map, sym, take}
 use Rattle.std.proofs.lemmas.List.{map-append, take_more}
-use Rattle.brk_model_explain.specs.AccountLines.{PricedHolding, market_value_of_holding}
+use Rattle.brk_model_explain.specs.AccountLines.{market_value_of_holding}
 use Rattle.brk_model_explain.specs.AccountLines as lines
 use Rattle.brk_explain_rows.specs.Details.{abstract_priced_holding}
 use Rattle.brk_model.specs.Lists.{total_by}

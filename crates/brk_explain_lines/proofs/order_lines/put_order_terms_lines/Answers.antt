@@ -12,7 +12,7 @@ unfolding order_terms_lines
 returns-clause-ok c =
     let o0 = abstract_order_details c.args.order.now in
     let qty = c.from.ensures ∙ c.get.ensures.value in
-    let settles = c.as_bytes.ensures.value ∙ c.cash_or_margin_text.ensures in
+    let settles = c.as_bytes.ensures.value ∙ c.cash_or_margin_word.ensures in
     let closes = c.as_bytes-2.ensures.value ∙ c.lot_closing_sequence_text.ensures in
     let o = c.args.out.now.items in
     let x1 = c.put_trade_type_line.new.out.items in

@@ -4,9 +4,9 @@ use Rattle.std.proofs.lemmas.Int.{to_z_pos}
 use Rattle.brk_money.specs.Spelling.{decimal_number_of_text}
 use Rattle.brk_money.specs.declared.refusal.Refusal.TheVariants.{BadText}
 use Rattle.brk_money.proofs.Spellings.{at_most_found}
-use Rattle.brk_ref_orders.proofs.Moments.{stamp_within}
+use Rattle.brk_ref.proofs.Moments.{stamp_within}
 use Rattle.brk_ref.proofs.Limits.{within_both}
-use Rattle.brk_ref_orders.proofs.span.parse_stamp.Goals as goal
+use Rattle.brk_ref.proofs.span.parse_stamp.Goals as goal
 
 pub returns : goal.returns
 returns c =

@@ -1,5 +1,5 @@
 -- A number of milliseconds that is a stamp.
-use Rattle.std.proofs.Common.{◌≡◌, ◌≤◌, ℕ, ℤ, pos, ◌≤ℤ◌, Option, Some, None, sym, ◌∙◌, subst, arith}
+use Rattle.std.proofs.Common.{◌≡◌, ◌≤◌, ℕ, ℤ, pos, ◌≤ℤ◌, Option, Some, None, sym, ◌∙◌, arith}
 use Rattle.std.specs.Prelude.{IfSome, SomeIff, option_map}
 use Rattle.std.proofs.lemmas.Int.{ints}
 use Rattle.brk_money.specs.Moments.{greatest_stamp}

@@ -1,0 +1,15 @@
+ghost use Rattle.std.specs.Prelude.{◌≡◌};
+ghost use Rattle.brk_model.specs.Base as spec;
+
+use brk_money::TaxStatus;
+
+/// Returns true if gains are taxable at the tax status: at `Withheld` and `Reported`, but not at
+/// `Untaxed`.
+pub fn is_taxable_status(status: TaxStatus) -> bool
+    ensures { result ≡ spec.is_taxable_status status }
+{
+    match status {
+        TaxStatus::Untaxed => false,
+        TaxStatus::Withheld | TaxStatus::Reported => true,
+    }
+}
