@@ -1,7 +1,7 @@
 #!/usr/bin/env python3
 """Joins the transcripts of crates/brk_tests_cases/data and of its folder files into the input of brk_tests_cases and into the output that is wanted
-of it, which are the same bytes. It stops if no command `test` of crates/brk_tests_cases/data/tests.txt names a test, since that test would never run. Run it at the top of the repository after a
-change of a transcript; .ci/run runs it, and asks that nothing changed.
+of it, which are the same bytes. It stops if no command `test` of crates/brk_tests_cases/data/tests.txt names a test, since that test would never
+run. Run it at the top of the repository after a change of a transcript; .ci/run runs it, and asks that nothing changed.
 
     tools/generate/cases.py
 """
@@ -14,6 +14,8 @@ PROGRAM, FOLDERS = 'crates/brk_tests_cases', ('crates/brk_tests_cases/data', 'cr
 # where the tests are listed by their names, and the transcript that runs them
 TESTS = [f'crates/{file}' for file in ('brk_tests_unit/src/lib.rt', 'brk_tests/src/lib.rt', 'brk_tests_replay/src/tests.rt')]
 LIST = 'crates/brk_tests_cases/data/tests.txt'
+# the first line of both files: a comment, which the program prints unchanged
+HEAD = b'# Joined by tools/generate/cases.py from the transcripts of data and data/files. Do not edit it.\n'
 
 
 def tests_that_never_run():
@@ -37,7 +39,7 @@ def joined(folder):
 def main():
     if never := tests_that_never_run():
         sys.exit(f'tools/generate/cases.py: {LIST} does not run {", ".join(never)}')
-    text = b''.join(map(joined, FOLDERS))
+    text = HEAD + b''.join(map(joined, FOLDERS))
     for name in ('stdin', 'stdout'):
         path = pathlib.Path(PROGRAM) / name
         if not path.exists() or path.read_bytes() != text:
