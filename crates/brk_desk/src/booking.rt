@@ -13,14 +13,14 @@ use crate::formats::{prove_command_meets_audit_formats, prove_key_is_well_formed
 use crate::keeping::{answer_retry, plan_with_stored_reply, read_stored_reply};
 use brk_desk_commands::Command;
 use brk_money::{Fault, Stamp};
-use brk_ref::{Answer, Key};
+use brk_ref::Key;
 use brk_store::Store;
 use brk_trade::Reply;
 use sqlite::Alter;
 use std::alloc::Global;
 
 /// The answer to a command: `Done` with its reply, `Again` with the stored reply, or `Refused`.
-pub type CommandAnswer = Answer<Reply>;
+pub type Answer = brk_ref::Answer<Reply>;
 
 // Proves that a command meets the formats that an audit checks, and that its key, if it has one, is
 // well-formed. Does nothing at run time.
@@ -61,7 +61,7 @@ pub(crate) fn execute_and_commit_command<S: Alter>(
     now: Stamp,
     command: &Command,
     key: Option<&Key>,
-) -> Result<CommandAnswer, Fault>
+) -> Result<Answer, Fault>
     ensures called { CommandPost S.Store store.old store.new now (abstract_command command.now) (optional_model_key (option_copied key.entry)) result }
 {
     prove_command_and_key_meet_formats(command, key);

@@ -1,7 +1,7 @@
 ghost use Rattle.std.specs.Prelude.{◌≡◌};
 ghost use Rattle.brk_desk.specs.Answers.{outcome_of_command, outcome_of_query};
 
-use crate::CommandAnswer;
+use crate::Answer;
 use brk_desk_commands::Command;
 use brk_money::{Fault, Planned, Refusal};
 use brk_ref::Key;
@@ -20,7 +20,7 @@ pub enum Call {
 #[derive(Drop)]
 pub enum Outcome {
     /// The answer of the command: `Done`, `Again` or `Refused`.
-    Did(CommandAnswer),
+    Did(Answer),
     /// The view of the query.
     Saw(View),
     /// The refusal of the query.
@@ -34,7 +34,7 @@ pub enum Outcome {
 impl Outcome {
     // Returns the outcome of a command with this result: `Did` with its answer, or `Failed` with
     // its fault.
-    pub(crate) fn from_command_result(answered: Result<CommandAnswer, Fault>) -> Outcome
+    pub(crate) fn from_command_result(answered: Result<Answer, Fault>) -> Outcome
         ensures { result ≡ outcome_of_command answered }
     {
         match answered {

@@ -1,5 +1,5 @@
 use crate::asking::answer_query;
-use crate::booking::{CommandAnswer, execute_and_commit_command};
+use crate::booking::{Answer, execute_and_commit_command};
 use crate::call::{Call, Outcome};
 use brk_desk_commands::Command;
 use brk_desk_queries::{Head, read_statement_head};
@@ -121,7 +121,7 @@ impl<S: Alter> Desk<S> {
         now: Stamp,
         command: &Command,
         key: Option<&Key>,
-    ) -> Result<CommandAnswer, Fault>
+    ) -> Result<Answer, Fault>
         ensures called { CommandPost S.Store self.old self.new now (abstract_command command.now) (optional_model_key (option_copied key.entry)) result }
     {
         execute_and_commit_command(alloc, &mut self.store, now, command, key)

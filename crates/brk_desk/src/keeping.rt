@@ -16,10 +16,10 @@ ghost use Rattle.brk_trade_rows.specs.Changes.{tables_after_changes};
 ghost use Rattle.brk_trade_plans.specs.Replies.{abstract_reply};
 ghost use Rattle.brk_ref.specs.Records.{abstract_kept_row};
 
-use crate::booking::CommandAnswer;
+use crate::booking::Answer;
 use brk_desk_commands::{Command, line_text, row_text};
 use brk_money::{Fault, Refusal};
-use brk_ref::{Answer, Kept, Key};
+use brk_ref::{Kept, Key};
 use brk_store::Store;
 use brk_trade::{Change, Plan};
 use sqlite::Alter;
@@ -45,11 +45,7 @@ pub(crate) fn read_stored_reply<S: Alter>(
 // Returns the answer to a command whose key already has the stored row `kept`: `Again` with the
 // stored reply if the command is the stored one, otherwise `Refused` with refusal 19. Fails with
 // `Memory` only.
-pub(crate) fn answer_retry(
-    alloc: Global,
-    command: &Command,
-    kept: Kept,
-) -> Result<CommandAnswer, Fault>
+pub(crate) fn answer_retry(alloc: Global, command: &Command, kept: Kept) -> Result<Answer, Fault>
     ensures answer { IfOk result (λ answer. (base : Base)
         → answer_and_base_of_retry base (abstract_command command.now) (abstract_kept_row kept) ≡ (model_answer answer, base)) }
     ensures fault { OnErr result (result ≡ Err Memory) }

@@ -15,11 +15,11 @@ pub mod reopening;
 pub mod runs;
 mod viewing;
 
-pub use booking::CommandAnswer;
+pub use booking::Answer;
 pub use brk_desk_commands::{Command, line_text, parse_row, row_text};
 pub use brk_desk_queries::Head;
 pub use brk_money::{Fault, Planned, Refusal, Stamp};
-pub use brk_ref::{Answer, Key};
+pub use brk_ref::Key;
 pub use brk_store;
 pub use brk_store::{Visitor, WalkError};
 pub use brk_view::view_fields;

@@ -6,7 +6,7 @@ ghost use Rattle.brk_view_rows.specs.Queries.{abstract_query};
 ghost use Rattle.brk_view_rows.specs.ViewNames.{text_of_view_name};
 ghost use Rattle.brk_view_rows.specs.Views.{records_of_view};
 
-use brk_desk::{Command, CommandAnswer, Desk, Query, View, line_text, parse_row, view_fields};
+use brk_desk::{Answer, Command, Desk, Query, View, line_text, parse_row, view_fields};
 use brk_http_engine::{Service, fields_between_commas};
 use brk_money::{Fault, Planned, Stamp};
 use brk_ref::Key;
@@ -75,7 +75,7 @@ impl<S: Alter> Service for DeskService<S> {
         now: Stamp,
         command: &Command,
         key: Option<&Key>,
-    ) -> Result<CommandAnswer, Fault> {
+    ) -> Result<Answer, Fault> {
         desk.call(alloc, now, command, key)
     }
 

@@ -10,7 +10,7 @@ ghost use Rattle.brk_import.specs.Rows.{RowCallHasOutcome};
 ghost use Rattle.sqlite.specs.Held.{state};
 ghost use Rattle.sqlite.specs.State.{HasCleanDisk};
 
-use brk_desk::{Command, CommandAnswer, Desk, line_text, parse_row};
+use brk_desk::{Answer, Command, Desk, line_text, parse_row};
 use brk_import_engine::Rows;
 use brk_money::{Fault, Planned, Stamp};
 use brk_ref::Key;
@@ -66,7 +66,7 @@ impl<S: Alter> Rows for DeskRows<S> {
         now: Stamp,
         command: &Command,
         key: &Key,
-    ) -> Result<CommandAnswer, Fault> {
+    ) -> Result<Answer, Fault> {
         desk.call(alloc, now, command, Some(key))
     }
 
