@@ -12,6 +12,7 @@ use crate::service::Service;
 use brk_model_http::RequestProblem;
 use brk_money::{Fault, Refusal};
 use brk_ref::{Key, borrow_bytes_of_texts};
+use http::Method;
 use matchit::Router;
 use std::alloc::Global;
 
@@ -77,7 +78,7 @@ pub fn parse_call_of_request<D: Service>(
     let Some(route) = route_of_target::<D>(alloc, router, target)? else {
         return Ok(RequestedCall::Wrong(RequestProblem::NotFound));
     };
-    if method != b"POST".as_slice() {
+    if method != Method::POST.as_str().as_bytes() {
         return Ok(RequestedCall::Wrong(RequestProblem::NotAllowed));
     }
     let Some(texts) = texts_of_body(alloc, body)? else {
