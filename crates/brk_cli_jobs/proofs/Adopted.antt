@@ -5,8 +5,8 @@ use Rattle.sqlite_trees.specs.Tree.{Trees}
 use Rattle.sqlite_trees.specs.declared.store.Store.{Ghosts}
 use Rattle.sqlite.specs.Effect.{Database}
 use Rattle.sqlite.specs.Held.{Held, state}
-use Rattle.brk_store.specs.Audited.{AdoptPost}
-use Rattle.brk_store.proofs.Taking.{upgraded_books}
+use Rattle.brk_store_transactions.specs.Audited.{AdoptPost}
+use Rattle.brk_store_transactions.proofs.Taking.{upgraded_books}
 use Rattle.brk_cli_jobs.specs.Opened.{RepresentsRowsOfFile}
 
 pub stands_on_rows : {S : Type 0} (g : Ghosts S) → ((s : S) (db : Trees) → IsTrue (g.view s).is_open → g.recovers s db → db ≡ (g.view s).committed)

@@ -21,7 +21,7 @@ use Rattle.brk_io.specs.declared.program_clock.ProgramClock.{ProgramClock}
 use Rattle.brk_model.specs.Batch.{step_of_row}
 use Rattle.brk_model.specs.Input.{input_text}
 use Rattle.brk_model.specs.Parse.{parse_by_first_field, row_parsers}
-use Rattle.brk_store.specs.Audited.{Represents}
+use Rattle.brk_store_transactions.specs.Audited.{Represents}
 use Rattle.brk_cli_jobs.specs.Endings.{ending_of_batch}
 use Rattle.brk_cli_jobs.specs.Jobs.{ExecutesBatch, InputAndOutput}
 

@@ -8,7 +8,7 @@ use Rattle.brk_money.specs.declared.fault.Condition.{Condition}
 use Rattle.brk_money.specs.declared.fault.Condition.TheVariants as condition
 use Rattle.brk_money.specs.declared.fault.Fault.{Fault}
 use Rattle.brk_money.specs.declared.fault.Fault.TheVariants as fault
-use Rattle.brk_store.specs.Holds.{CreatePost}
+use Rattle.brk_store_transactions.specs.Holds.{CreatePost}
 use Rattle.brk_cli_jobs.specs.Files.{IsNewConnectionToFile, HasLastCommitInFile}
 use Rattle.brk_cli_jobs.specs.Opening.{IsAdoptionResult, FollowsFailedCreation, HasNewDeskOrDeskTable, OpenPost, OpenOrCreatePost}
 

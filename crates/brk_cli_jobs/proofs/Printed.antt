@@ -10,7 +10,7 @@ use Rattle.sqlite.specs.Steps.{over_memory}
 use Rattle.std.specs.Global.{Global}
 use Rattle.std.specs.Prelude.{String, string_bytes}
 use Rattle.brk_cli_exit.specs.Ending.{ending_after_close}
-use Rattle.brk_store.specs.Audited.{Represents}
+use Rattle.brk_store_transactions.specs.Audited.{Represents}
 use Rattle.brk_cli_args.specs.declared.job.Job.{Job}
 use Rattle.brk_cli_args.specs.declared.job.Job.TheVariants as job
 use Rattle.brk_import_engine.specs.Batch.{BatchEndsWith, IsBatchResult}

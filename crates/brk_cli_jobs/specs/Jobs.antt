@@ -45,7 +45,7 @@ use Rattle.brk_ask.specs.Asked.{PrintViewPost, FailsWritingNothing}
 use Rattle.brk_explain.specs.LinesOutput.{WriteLinesPost}
 use Rattle.brk_report.specs.StatementOutput.{StatementPost}
 use Rattle.brk_ask.specs.declared.form.Form.{Form}
-use Rattle.brk_store.specs.Audited.{Represents}
+use Rattle.brk_store_transactions.specs.Audited.{Represents}
 use Rattle.brk_cli_jobs.specs.Endings.{ending_of_batch, ending_of_report, ending_of_serving, ending_of_statement}
 
 -- The bytes that a job may read (`input`), and the content of its writer before and after the job.

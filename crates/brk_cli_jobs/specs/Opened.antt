@@ -8,8 +8,8 @@ use Rattle.brk_model.specs.Sheets.{sheets}
 use Rattle.brk_model.specs.Tables.{Tables}
 use Rattle.brk_trade_rows.specs.declared.schema.Schema as known
 use Rattle.brk_trade_rows.specs.Schemas.{abstract_schema}
-use Rattle.brk_store.specs.Audited.{StoresRowsWithAuditResult, Represents, AdoptPost, ConnectionTablesWithDeskNamesAreDeskTables}
-use Rattle.brk_store.specs.Holds.{IsDiskContentOfRows, CrashStatesSatisfy}
+use Rattle.brk_store_transactions.specs.Audited.{StoresRowsWithAuditResult, Represents, AdoptPost, ConnectionTablesWithDeskNamesAreDeskTables}
+use Rattle.brk_store_transactions.specs.Holds.{IsDiskContentOfRows, CrashStatesSatisfy}
 
 -- The store was adopted from a connection in the state `found`. If the tables of `found` satisfy
 -- `ConnectionTablesWithDeskNamesAreDeskTables`, its rows pass the audit of their schema, the store

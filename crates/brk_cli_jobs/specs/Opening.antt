@@ -7,8 +7,8 @@ use Rattle.sqlite.specs.Held.{Held}
 use Rattle.brk_money.specs.declared.fault.Condition.TheVariants as condition
 use Rattle.brk_money.specs.declared.fault.Fault.{Fault}
 use Rattle.brk_money.specs.declared.fault.Fault.TheVariants as fault
-use Rattle.brk_store.specs.Audited.{AdoptPost}
-use Rattle.brk_store.specs.Holds.{CreatePost}
+use Rattle.brk_store_transactions.specs.Audited.{AdoptPost}
+use Rattle.brk_store_transactions.specs.Holds.{CreatePost}
 use Rattle.brk_cli_jobs.specs.Files.{IsNewConnectionToFile, HasLastCommitInFile}
 
 -- The result of adopting the database of the connection `conn` as a store. `Ok`: the adoption

@@ -13,7 +13,7 @@ use Rattle.brk_cli_exit.specs.declared.ending.Ending.{Ending}
 use Rattle.brk_cli_exit.specs.declared.ending.Ending.TheVariants as ending
 use Rattle.brk_money.specs.Spelling.{Text}
 use Rattle.brk_money.specs.declared.fault.Fault.{Fault}
-use Rattle.brk_store.specs.Holds.{CreatePost}
+use Rattle.brk_store_transactions.specs.Holds.{CreatePost}
 use Rattle.brk_cli_jobs.specs.Jobs.{ExecutesJob, InputAndOutput, WritesAuditOk}
 
 -- The desk could not be opened or created: the job was not executed, and nothing was written.

@@ -3,7 +3,7 @@
 ghost use Rattle.std.specs.Prelude.{◌≡◌, Err, IfOk, MatchResult, Ok, OnErr, OnOk};
 ghost use Rattle.brk_money.specs.declared.fault.Fault.TheVariants as fault;
 ghost use Rattle.sqlite.specs.Files.{over_files};
-ghost use Rattle.brk_store.specs.Audited.{AdoptPost};
+ghost use Rattle.brk_store_transactions.specs.Audited.{AdoptPost};
 ghost use Rattle.brk_cli_jobs.specs.Files.{HasLastCommitInFile, IsNewConnectionToFile};
 ghost use Rattle.brk_cli_jobs.specs.Opened.{RepresentsRowsOfFile};
 ghost use Rattle.brk_cli_jobs.specs.Opening.{IsAdoptionResult, OpenOrCreatePost, OpenPost};

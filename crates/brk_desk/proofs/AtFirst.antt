@@ -16,8 +16,8 @@ use Rattle.brk_trade_books.proofs.Steps.{empty_books, empty_rows}
 use Rattle.brk_audit_theorems.specs.Runs.{CallMeetsAuditFormats}
 use Rattle.brk_audit_theorems.proofs.SoundRuns.{Both, keyed_both, run_both}
 use Rattle.brk_audit_theorems.proofs.SoundSteps.{empty_sound}
-use Rattle.brk_store.specs.Holds.{HoldsRows}
-use Rattle.brk_store.specs.Audited.{Represents}
+use Rattle.brk_store_transactions.specs.Holds.{HoldsRows}
+use Rattle.brk_store_transactions.specs.Audited.{Represents}
 use Rattle.brk_desk.specs.CrashBases.{CrashMayExposeBase}
 use Rattle.brk_desk.proofs.UpgradedRows.{are_upgraded}
 

@@ -4,8 +4,8 @@ use Rattle.sqlite_trees.specs.declared.store.Store.{Ghosts}
 use Rattle.sqlite.specs.Held.{Held}
 use Rattle.brk_money.specs.declared.fault.Fault.{Fault}
 use Rattle.brk_model.specs.Sheets.{sheets}
-use Rattle.brk_store.specs.Audited.{AuditPost}
-use Rattle.brk_store.proofs.Taking.{sound_books_pass}
+use Rattle.brk_store_transactions.specs.Audited.{AuditPost}
+use Rattle.brk_store_transactions.proofs.Taking.{sound_books_pass}
 use Rattle.brk_desk.specs.CallPosts.{DeskAuditPost}
 use Rattle.brk_desk.proofs.Seen.{still_kept}
 

@@ -34,11 +34,11 @@ use Rattle.brk_trade_books.proofs.Keepers.{books_kept}
 use Rattle.brk_audit_theorems.specs.InForm.{MeetsAuditFormats, IsWellFormedKey}
 use Rattle.brk_audit_theorems.specs.Sound.{AuditInvariant}
 use Rattle.brk_audit_theorems.proofs.SoundSteps.{keyed_sound}
-use Rattle.brk_store.specs.Holds.{IsDiskContentOfRows, HoldsRows, ApplyPost, ReadPost}
+use Rattle.brk_store_transactions.specs.Holds.{IsDiskContentOfRows, HoldsRows, ApplyPost, ReadPost}
 use Rattle.brk_store.proofs.Sequences.{none_then, same_then}
 use Rattle.brk_desk.specs.CommandAnswers.{CommandAnswer, IsDoneResult, model_answer}
 use Rattle.brk_desk.specs.Booked.{CommandPost, IsDiskContentAfterCommand, base_after_keyed_command}
-use Rattle.brk_store.specs.Audited.{Represents}
+use Rattle.brk_store_transactions.specs.Audited.{Represents}
 use Rattle.brk_desk.specs.Keys.{ReadStoredReplyPost, kept_row_under_key, tables_with_stored_command}
 use Rattle.brk_ref.specs.declared.answer.Answer.TheVariants as given
 use Rattle.brk_desk.proofs.Kept.{rows_with_key, steps_again, steps_anew}

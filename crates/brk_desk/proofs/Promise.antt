@@ -9,7 +9,7 @@ use Rattle.brk_trade_books.proofs.RunSums.{run_adds_up}
 use Rattle.brk_audit_theorems.proofs.Adopted.{sound_passes}
 use Rattle.brk_desk.specs.Answers.{model_outcome}
 use Rattle.brk_desk.specs.Commands.{model_call}
-use Rattle.brk_store.specs.Audited.{Represents}
+use Rattle.brk_store_transactions.specs.Audited.{Represents}
 use Rattle.brk_desk.specs.CallPosts.{RunPost, RunGuarantee, ReachesBasePassingAudit}
 use Rattle.brk_desk.specs.declared.call.Call.{Call}
 use Rattle.brk_desk.specs.declared.call.Outcome.{Outcome}

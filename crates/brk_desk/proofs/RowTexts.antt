@@ -23,7 +23,7 @@ use Rattle.brk_trade_books.proofs.Order.{All-insert}
 use Rattle.brk_trade_books.proofs.Places.{All-updated}
 use Rattle.brk_audit_theorems.proofs.AgainStatus.{all_list}
 use Rattle.brk_audit_theorems.proofs.Climbs.{list_all_true}
-use Rattle.brk_store.proofs.Texts.{text_is_utf8}
+use Rattle.brk_store_transactions.proofs.Texts.{text_is_utf8}
 
 -- True if the stored request and the stored reply are UTF-8.
 abbrev has_utf8_request_and_reply : Kept → Bool

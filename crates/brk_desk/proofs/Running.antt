@@ -7,7 +7,7 @@ use Rattle.brk_model.specs.Commands as model_commands
 use Rattle.brk_model.specs.Keyed.{keyed_step}
 use Rattle.brk_model.specs.Sheets.{sheets}
 use Rattle.brk_audit_theorems.specs.Runs.{CallMeetsAuditFormats}
-use Rattle.brk_store.specs.Holds.{IsDiskContentOfRows, WasOpenAndIsUnchanged, CrashStatesSatisfy}
+use Rattle.brk_store_transactions.specs.Holds.{IsDiskContentOfRows, WasOpenAndIsUnchanged, CrashStatesSatisfy}
 use Rattle.brk_store.proofs.Sequences.{same_then}
 use Rattle.brk_desk.specs.CrashBases.{AcknowledgesNothing, CrashMayExposeBase}
 use Rattle.brk_desk.proofs.Seen.{still}
@@ -30,7 +30,7 @@ use Rattle.brk_desk_commands.specs.Commands.{abstract_command}
 use Rattle.brk_desk.specs.Keys.{optional_model_key}
 use Rattle.brk_desk.specs.Commands.{model_call}
 use Rattle.brk_desk.specs.Booked.{CommandPost, IsDiskContentAfterCommand, base_after_keyed_command}
-use Rattle.brk_store.specs.Audited.{Represents}
+use Rattle.brk_store_transactions.specs.Audited.{Represents}
 use Rattle.brk_desk.specs.CallPosts.{OutcomesAcknowledgeNothing, IsDiskContentWithAcknowledgedCommands, AskPost, FailsOnlyWithMemoryOrStore, CrashMayExposeDiskContent, OutcomePost, RunPost}
 use Rattle.brk_desk.specs.declared.call.Call.{Call}
 use Rattle.brk_desk.specs.declared.call.Call.TheVariants as call

@@ -24,10 +24,10 @@ use Rattle.brk_tables_sql.proofs.Inside.{clean_before}
 use Rattle.brk_tables_schema.specs.Made.{HasDeskTables}
 use Rattle.brk_tables_scan.proofs.Defined.{desk_is_there}
 use Rattle.brk_tables.proofs.OneTables.{one_schema}
-use Rattle.brk_store.specs.Audited.{StoresRowsWithAuditResult, IsDatabaseAuditResult, AdoptPost, ConnectionTablesWithDeskNamesAreDeskTables, AuditAnswerSatisfies, IsConsistent}
-use Rattle.brk_store.specs.Holds.{IsDiskContentOfRows}
-use Rattle.brk_store.proofs.Schemas.{third_rows}
-use Rattle.brk_store.proofs.Taking.{one_answer}
+use Rattle.brk_store_transactions.specs.Audited.{StoresRowsWithAuditResult, IsDatabaseAuditResult, AdoptPost, ConnectionTablesWithDeskNamesAreDeskTables, AuditAnswerSatisfies, IsConsistent}
+use Rattle.brk_store_transactions.specs.Holds.{IsDiskContentOfRows}
+use Rattle.brk_store_transactions.proofs.Schemas.{third_rows}
+use Rattle.brk_store_transactions.proofs.Taking.{one_answer}
 use Rattle.brk_desk.specs.Reopening.{RepresentsAuditedRowsDurably, IsNewConnectionToDiskContent, AdoptsBaseWithoutDamage, IsNewConnectionAfterCrash, FindsBaseWithoutDamage, RepresentsDurableBase}
 use Rattle.brk_desk.proofs.Defined.{defined_whole}
 use Rattle.brk_desk.proofs.UpgradedRows.{are_upgraded}

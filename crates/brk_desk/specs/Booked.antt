@@ -13,8 +13,8 @@ use Rattle.brk_model.specs.Records.{Key}
 use Rattle.brk_model.specs.Keyed.{keyed_step}
 use Rattle.brk_model.specs.Run.{IsCallFault}
 use Rattle.brk_audit_theorems.specs.InForm.{MeetsAuditFormats, IsWellFormedKey}
-use Rattle.brk_store.specs.Audited.{Represents}
-use Rattle.brk_store.specs.Holds.{IsDiskContentOfRows, WasOpenAndIsUnchanged, CrashStatesSatisfy}
+use Rattle.brk_store_transactions.specs.Audited.{Represents}
+use Rattle.brk_store_transactions.specs.Holds.{IsDiskContentOfRows, WasOpenAndIsUnchanged, CrashStatesSatisfy}
 use Rattle.brk_desk.specs.CommandAnswers.{CommandAnswer, IsNotDoneResult, IsDoneResult, model_answer}
 
 -- For every base that the store represented before the call (in the state `old`), `answer` is the
@@ -48,8 +48,8 @@ IsDiskContentAfterCommand g old now command key trees =
 -- a crash before it could expose, or the tables after the command; after `Done` only these tables.
 -- An error is `Memory` or `Store`. The command meets the formats that an audit checks, and its key
 -- is well-formed. The clauses with the premise `HasCleanDisk`, and the promise on crashes in
--- `survives`, are vacuous if the disk assumption fails. `brk_store/specs/Holds.antt` explains the
--- terms of the clauses; `g` is the specification of the storage `S`.
+-- `survives`, are vacuous if the disk assumption fails. `brk_store_transactions/specs/Holds.antt`
+-- explains the terms of the clauses; `g` is the specification of the storage `S`.
 pub record CommandPost {S : Type 0} (g : Ghosts S) (old new : Held S) (now : ℕ) (command : Command) (key : Option Key)
     (result : Result CommandAnswer Fault) : Type 0 where
   -- At `Ok` the call refines the model's step. Vacuous if the disk assumption fails.

@@ -1,9 +1,10 @@
 -- The postconditions of a desk's calls: a query, a run and an audit. The postcondition of a command
--- is `CommandPost` (`Booked.antt`). `g` is the specification of the storage `S`; `old` and `new` are
--- the connection before and after a call. `brk_store/specs/Holds.antt` explains the other terms of
--- the clauses: `state`, `HasCleanDisk`, `is_open`, `Survives` and disk contents (`Trees`). A clause
--- with the premise `HasCleanDisk` for the new state, and the promise on crashes in `survives`, are
--- vacuous if some read up to the return of the call did not return what was written.
+-- is `CommandPost` (`Booked.antt`). `g` is the specification of the storage `S`; `old` and `new`
+-- are the connection before and after a call. `brk_store_transactions/specs/Holds.antt` explains
+-- the other terms of the clauses: `state`, `HasCleanDisk`, `is_open`, `Survives` and disk contents
+-- (`Trees`). A clause with the premise `HasCleanDisk` for the new state, and the promise on crashes
+-- in `survives`, are vacuous if some read up to the return of the call did not return what was
+-- written.
 use Rattle.brk_model.specs.Form.{has_utf8_texts}
 use Rattle.std.specs.Prelude.{◌≡◌, ℕ, List, None, map, length, Result, IfOk, IfErr, IsTrue}
 use Rattle.std.specs.List.{AllByRecursion}
@@ -27,8 +28,8 @@ use Rattle.brk_trade_rows.specs.declared.schema.Schema as typed_schema
 use Rattle.brk_trade_books.specs.Runs.{IsRunWithSumsAndTaxes}
 use Rattle.brk_audit_theorems.specs.Passing.{PassesAudit}
 use Rattle.brk_audit_theorems.specs.Runs.{CallMeetsAuditFormats}
-use Rattle.brk_store.specs.Audited.{AuditPost, AuditAnswerSatisfies, Represents}
-use Rattle.brk_store.specs.Holds.{IsDiskContentOfRows, HoldsRows, WasOpenAndIsUnchanged, CrashStatesSatisfy}
+use Rattle.brk_store_transactions.specs.Audited.{AuditPost, AuditAnswerSatisfies, Represents}
+use Rattle.brk_store_transactions.specs.Holds.{IsDiskContentOfRows, HoldsRows, WasOpenAndIsUnchanged, CrashStatesSatisfy}
 use Rattle.brk_desk_queries.specs.QueryResults.{model_query_result}
 use Rattle.brk_view_rows.specs.Carried.{HasRowsOfQuery}
 use Rattle.brk_view_rows.specs.Queries.{abstract_query}

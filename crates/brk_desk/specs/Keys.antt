@@ -10,7 +10,7 @@ use Rattle.brk_trade_books.specs.Steps.{stored_reply_row}
 use Rattle.brk_ref.specs.Records.{abstract_kept_row, abstract_key}
 use Rattle.brk_ref.specs.declared.key.Kept as row
 use Rattle.brk_ref.specs.declared.key.Key as given
-use Rattle.brk_store.specs.Holds.{ReadPost}
+use Rattle.brk_store_transactions.specs.Holds.{ReadPost}
 use Rattle.brk_trade_rows.specs.Changes.{tables_with_stored_reply}
 
 -- The key of the model that the key of a command represents, or `None` if the command has no key.

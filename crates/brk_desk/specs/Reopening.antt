@@ -11,8 +11,8 @@ use Rattle.brk_model.specs.Sheets.{sheets}
 use Rattle.brk_model.specs.Tables.{Tables}
 use Rattle.brk_trade_rows.specs.Schemas.{abstract_schema}
 use Rattle.brk_trade_rows.specs.declared.schema.Schema as typed_schema
-use Rattle.brk_store.specs.Audited.{StoresRowsWithAuditResult, AuditAnswerSatisfies, Represents}
-use Rattle.brk_store.specs.Holds.{IsDiskContentOfRows, IsConnectionToDiskContent, CrashStatesSatisfy}
+use Rattle.brk_store_transactions.specs.Audited.{StoresRowsWithAuditResult, AuditAnswerSatisfies, Represents}
+use Rattle.brk_store_transactions.specs.Holds.{IsDiskContentOfRows, IsConnectionToDiskContent, CrashStatesSatisfy}
 
 -- The store represents the base, and a crash exposes, in the desk's tables, only the rows of this
 -- base.

@@ -80,8 +80,8 @@ impl<S: Alter> Desk<S> {
     ghost use Rattle.brk_explain_rows.specs.Details.{AreDetailsOfAccount, AreDetailsOfBroker, AreDetailsOfHolding, AreDetailsOfTrade};
     ghost use Rattle.brk_model.specs.Run.{IsCallFault};
     ghost use Rattle.brk_model.specs.Statement.{holding_rows_of_account};
-    ghost use Rattle.brk_store.specs.Calling.{IsClosureCallWithLot};
-    ghost use Rattle.brk_store.specs.Holds.{ReadPost};
+    ghost use Rattle.brk_tables_views.specs.Calling.{IsClosureCallWithLot};
+    ghost use Rattle.brk_store_transactions.specs.Holds.{ReadPost};
     ghost use Rattle.brk_store.specs.Walked.{CallsClosureWithEachRecord, WalkPost, cash_rows_in_span};
 
     /// Creates a desk over a store and changes nothing in the store. In contracts the value of the

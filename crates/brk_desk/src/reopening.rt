@@ -23,8 +23,8 @@ ghost use Rattle.brk_model.specs.Records.{Key};
 ghost use Rattle.brk_model.specs.Tables.{Tables};
 ghost use Rattle.brk_trade_rows.specs.Schemas.{abstract_schema};
 ghost use Rattle.brk_trade_rows.specs.declared.schema.Schema.{Schema};
-ghost use Rattle.brk_store.specs.Audited.{StoresRowsWithAuditResult, AdoptPost, ConnectionTablesWithDeskNamesAreDeskTables};
-ghost use Rattle.brk_store.specs.Holds.{CreatePost};
+ghost use Rattle.brk_store_transactions.specs.Audited.{StoresRowsWithAuditResult, AdoptPost, ConnectionTablesWithDeskNamesAreDeskTables};
+ghost use Rattle.brk_store_transactions.specs.Holds.{CreatePost};
 
 use sqlite::Alter;
 

@@ -6,7 +6,7 @@ ghost use Rattle.brk_model.specs.Queries.{EstimateOf};
 ghost use Rattle.brk_model.specs.Run.{IsCallFault};
 ghost use Rattle.brk_ref_orders.specs.Records.{abstract_order};
 ghost use Rattle.brk_desk_queries.specs.QueryResults.{AnswersQueryAsModel};
-ghost use Rattle.brk_store.specs.Holds.{ReadPost};
+ghost use Rattle.brk_store_transactions.specs.Holds.{ReadPost};
 ghost use Rattle.brk_view_rows.specs.Queries.{abstract_query};
 
 use brk_desk_decisions::compute_order_estimate;

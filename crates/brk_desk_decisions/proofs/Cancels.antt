@@ -19,7 +19,7 @@ use Rattle.brk_trade_plans.specs.declared.plan.Plan.{Plan}
 use Rattle.brk_trade_books.specs.Books.{BooksInvariant}
 use Rattle.brk_trade_theorems.specs.TradePlans.{PlanCancelPrecondition}
 use Rattle.brk_trade_theorems.proofs.CancelPlanning.{cancel_plan_does, cancel_refused}
-use Rattle.brk_store.specs.Holds.{ReadPost}
+use Rattle.brk_store_transactions.specs.Holds.{ReadPost}
 use Rattle.brk_trade_theorems.specs.Decisions.{DecidesCommand}
 use Rattle.brk_store.proofs.Sequences.{read_with}
 

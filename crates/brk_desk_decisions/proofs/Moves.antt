@@ -21,7 +21,7 @@ use Rattle.brk_trade_plans.specs.declared.plan.Plan.{Plan}
 use Rattle.brk_trade_books.specs.Books.{BooksInvariant}
 use Rattle.brk_trade_theorems.specs.MovePlans.{MovementFactsMatchTables, PlanMovementPrecondition}
 use Rattle.brk_trade_theorems.proofs.MovePlanning.{move_plan_does, move_refused}
-use Rattle.brk_store.specs.Holds.{ReadPost}
+use Rattle.brk_store_transactions.specs.Holds.{ReadPost}
 use Rattle.brk_trade_theorems.specs.Decisions.{DecidesCommand}
 use Rattle.brk_store.proofs.Sequences.{read_with}
 

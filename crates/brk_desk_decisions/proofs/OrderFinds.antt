@@ -19,7 +19,8 @@ use Rattle.brk_trade_books.specs.OrderReads.{CustomerOfAccountSatisfies, charge_
 use Rattle.brk_trade_theorems.specs.OrderPlans.{EstimateFactsMatchTables, order_account_of_row}
 use Rattle.brk_trade_books.specs.Reads.{customer_tax_rate_sum}
 use Rattle.brk_trade_books.specs.TradeReads.{commission_band_of_quantity, permission_list_for_tax_id, summary_row_of_position}
-use Rattle.brk_desk_decisions.specs.OrderFactReads.{EstimateAmountsMatchTables, CustomerOrderFactsMatchTables, IsCustomerWithId, EstimateFactsMatchIfAccountOfOrder}
+use Rattle.brk_desk_decisions.specs.OrderFactReads.{EstimateAmountsMatchTables, CustomerOrderFactsMatchTables, EstimateFactsMatchIfAccountOfOrder}
+use Rattle.brk_store_required.specs.Required.{IsCustomerWithId}
 use Rattle.brk_desk_decisions.specs.OrderFactReads.{order_facts_with_account, order_facts_without_account}
 use Rattle.brk_desk_decisions.specs.declared.tested.OrderCheckFacts.{OrderCheckFacts}
 use Rattle.brk_desk_decisions.specs.declared.amounts.Amounts.{Amounts}

@@ -22,7 +22,7 @@ use Rattle.brk_trade_plans.specs.declared.plan.Plan.{Plan}
 use Rattle.brk_trade_books.specs.Books.{BooksInvariant}
 use Rattle.brk_trade_theorems.specs.OrderPlans.{OrderPositionLotsSatisfy, EstimateFactsMatchTables, OrderFactsMatchTables, PlanOrderPrecondition}
 use Rattle.brk_trade_theorems.proofs.OrderDoing.{estimate_answered, estimate_refused, estimate_told, order_refused, plan_order_does}
-use Rattle.brk_store.specs.Holds.{ReadPost}
+use Rattle.brk_store_transactions.specs.Holds.{ReadPost}
 use Rattle.brk_desk_decisions.specs.Estimates.{IsEstimateOfModel}
 use Rattle.brk_trade_theorems.specs.Decisions.{DecidesCommand}
 use Rattle.brk_store.proofs.Sequences.{read_with}

@@ -20,7 +20,7 @@ use Rattle.brk_trade_theorems.specs.Decisions.{DecidesCommand}
 use Rattle.brk_trade_theorems.specs.Plans.{PlanReferencePrecondition as IsLookedUp}
 use Rattle.brk_trade_theorems.specs.Found.{ReferenceFactsMatchTables}
 use Rattle.brk_trade_theorems.proofs.Planning.{plan_does, refusal_does}
-use Rattle.brk_store.specs.Holds.{ReadPost}
+use Rattle.brk_store_transactions.specs.Holds.{ReadPost}
 use Rattle.brk_store.proofs.Sequences.{read_with}
 
 -- `last` is the last stamp of the tables, and the facts for the reference record equal those of the

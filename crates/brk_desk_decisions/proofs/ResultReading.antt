@@ -16,8 +16,8 @@ use Rattle.brk_trade_rows.specs.declared.trade_row.TradeRow.{TradeRow}
 use Rattle.brk_trade_books.specs.Reads.{customer_tax_rate_sum}
 use Rattle.brk_trade_theorems.specs.ResultPlans.{result_account_of_row}
 use Rattle.brk_trade_books.specs.TradeReads.{commission_band_of_quantity, summary_row_of_position}
-use Rattle.brk_desk_decisions.specs.OrderFactReads.{IsCustomerWithId}
-use Rattle.brk_desk_decisions.specs.ResultFactReads.{AreTotalsOfBroker, PartyFactsMatchTables, AreResultFactsOfTradeWithId, AreResultFactsOfTrade, SecurityFactsMatchTables, PostingFactsMatchTables}
+use Rattle.brk_store_required.specs.Required.{AreTotalsOfBroker, IsCustomerWithId}
+use Rattle.brk_desk_decisions.specs.ResultFactReads.{PartyFactsMatchTables, AreResultFactsOfTradeWithId, AreResultFactsOfTrade, SecurityFactsMatchTables, PostingFactsMatchTables}
 use Rattle.brk_desk_decisions.specs.declared.parties.PartyFacts.{PartyFacts}
 use Rattle.brk_desk_decisions.specs.declared.result_finding.SecurityFacts.{SecurityFacts}
 use Rattle.brk_desk_decisions.specs.declared.result_finding.Posting.{Posting}

@@ -21,7 +21,7 @@ use Rattle.brk_trade_books.specs.Books.{BooksInvariant}
 use Rattle.brk_trade_theorems.specs.ResultPlans.{ResultFactsMatchTables, PlanResultPrecondition}
 use Rattle.brk_trade_theorems.proofs.ResultDoing.{result_plan_does}
 use Rattle.brk_trade_theorems.proofs.ResultRefusing.{result_refused}
-use Rattle.brk_store.specs.Holds.{ReadPost}
+use Rattle.brk_store_transactions.specs.Holds.{ReadPost}
 use Rattle.brk_trade_theorems.specs.Decisions.{DecidesCommand}
 use Rattle.brk_desk_decisions.specs.ResultFactReads.{AreResultFactsOfTradeWithId, AreLotsOfTradedPosition}
 use Rattle.brk_store.proofs.Sequences.{read_with}

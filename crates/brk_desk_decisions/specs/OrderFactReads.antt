@@ -1,5 +1,5 @@
 -- The facts in the tables that decide on an order.
-use Rattle.std.specs.Prelude.{◌≡◌, ℕ, ◌==◌, ◌+ℤ◌, ℤ, pos, false, find, Option, Some, None, IfSome, option_map}
+use Rattle.std.specs.Prelude.{◌≡◌, ◌+ℤ◌, ℤ, pos, false, Option, Some, None, IfSome, option_map}
 use Rattle.brk_model.specs.Joins.{account_row_with_id, security_row_with_symbol}
 use Rattle.brk_model.specs.Orders.{is_customer_or_has_permission}
 use Rattle.brk_model.specs.Tables.{Tables}
@@ -16,12 +16,7 @@ use Rattle.brk_trade_books.specs.Reads.{customer_tax_rate_sum}
 use Rattle.brk_trade_books.specs.TradeReads.{commission_band_of_quantity, permission_list_for_tax_id, summary_row_of_position}
 use Rattle.brk_desk_decisions.specs.declared.tested.OrderCheckFacts.{OrderCheckFacts}
 use Rattle.brk_desk_decisions.specs.declared.amounts.Amounts.{Amounts}
-use Rattle.brk_store.specs.Valuation.{market_value_of_account}
-
--- The customer with the id `id` exists in the tables `t`, and its first row, in the order of the
--- table, equals `customer`.
-abbrev pub IsCustomerWithId : Tables → ℕ → Customer → Type 0
-IsCustomerWithId t id customer = find (λ r. r.id == id) t.customers ≡ Some (abstract_customer customer)
+use Rattle.brk_store_required.specs.Valuation.{market_value_of_account}
 
 -- The facts `tested` that the checks of the order `order` of the customer `customer` test agree
 -- with the tables `t`: the last price of its symbol in cents, whether its executor is the customer

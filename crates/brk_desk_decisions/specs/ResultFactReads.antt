@@ -1,40 +1,20 @@
 -- The facts in the tables that decide on a result.
-use Rattle.std.specs.Prelude.{◌≡◌, ℕ, ◌+◌, ◌==◌, List, [], find, IfSome, Option, Some, None, option_map, pos}
+use Rattle.std.specs.Prelude.{◌≡◌, ℕ, ◌+◌, ◌==◌, List, [], find, IfSome, Option, Some, None, option_map}
 use Rattle.brk_lots.specs.Lots.{list_reversed_if_lifo}
 use Rattle.brk_lots.specs.Sources.{EqualsLots}
 use Rattle.brk_lots.specs.declared.lot.Lot.{Lot}
-use Rattle.brk_model.specs.Joins.{account_row_with_id, security_row_with_symbol, trade_row_with_id}
+use Rattle.brk_model.specs.Joins.{trade_row_with_id}
 use Rattle.brk_model.specs.Tables.{AccountRow, SecurityRow, Tables}
-use Rattle.brk_money.specs.Spelling.{Text}
-use Rattle.brk_ref.specs.Records.{abstract_account_row, abstract_security_row}
-use Rattle.brk_ref.specs.declared.account.AccountRow as ref
-use Rattle.brk_ref.specs.declared.security.Security.{Security}
 use Rattle.brk_trade_rows.specs.Rows.{abstract_trade_row}
-use Rattle.brk_trade_rows.specs.declared.broker_totals.BrokerTotals.{BrokerTotals}
 use Rattle.brk_trade.specs.declared.result_found.ResultPlanFacts.{ResultPlanFacts}
 use Rattle.brk_trade_rows.specs.declared.trade_row.TradeRow.{TradeRow}
 use Rattle.brk_trade_books.specs.Reads.{customer_tax_rate_sum}
 use Rattle.brk_trade_theorems.specs.ResultPlans.{ResultFactsMatchTables, result_account_of_row}
 use Rattle.brk_trade_books.specs.TradeReads.{commission_band_of_quantity, last_cash_row_number_or_zero, lots_of_position}
+use Rattle.brk_store_required.specs.Required.{AreTotalsOfBroker}
 use Rattle.brk_desk_decisions.specs.declared.parties.PartyFacts.{PartyFacts}
 use Rattle.brk_desk_decisions.specs.declared.result_finding.SecurityFacts.{SecurityFacts}
 use Rattle.brk_desk_decisions.specs.declared.result_finding.Posting.{Posting}
-
--- The account with the id `id` exists in the tables `t`, and its first row, in the order of the
--- table, equals `account`.
-abbrev pub IsAccountWithId : Tables → ℕ → ref.AccountRow → Type 0
-IsAccountWithId t id account = account_row_with_id t id ≡ Some (abstract_account_row account)
-
--- The security with the symbol `symbol` exists in the tables `t`, and its first row, in the order
--- of the table, equals `security`.
-abbrev pub IsSecurityWithSymbol : Tables → Text → Security → Type 0
-IsSecurityWithSymbol t symbol security = security_row_with_symbol t symbol ≡ Some (abstract_security_row security)
-
--- The totals `numbers`, a number of completed trades and a sum of commissions in cents, equal the
--- totals in the first row, in the order of the table, of the broker with the id `id` in the tables
--- `t`. Vacuous if this broker does not exist.
-abbrev pub AreTotalsOfBroker : Tables → ℕ → BrokerTotals → Type 0
-AreTotalsOfBroker t id numbers = IfSome (find (λ r. r.id == id) t.brokers) (λ b. (pos numbers.trades ≡ b.trades) × (numbers.commissions ≡ b.commissions))
 
 -- The facts `parties` of the account in the row `row` agree with the tables `t`: the broker, the
 -- tax status and the balance in the row, the tier of the account's customer and the sum of this

@@ -4,14 +4,15 @@ ghost use Rattle.std.specs.Prelude.{◌≡◌, ◌+ℤ◌, IfErr, IfSome};
 ghost use Rattle.brk_trade_books.specs.Reads.{customer_tax_rate_sum};
 ghost use Rattle.brk_desk_decisions.specs.OrderFactReads.{AreAssetsAndSharesOfAccount, EstimateAmountsMatchTables};
 ghost use Rattle.brk_model.specs.Run.{IsCallFault};
-ghost use Rattle.brk_store.specs.Holds.{ReadPost};
+ghost use Rattle.brk_store_transactions.specs.Holds.{ReadPost};
 
 use crate::summary_finding::shares_of_symbol;
 use crate::terms::read_tax_rate_sum_within_limit;
 use brk_money::{Cents, Fault, Id, TaxRate, Wide};
 use brk_ref::{AccountRow, Symbol};
 use brk_ref_orders::Order;
-use brk_store::{Store, read_holding_summaries_and_value};
+use brk_store::Store;
+use brk_store_required::read_holding_summaries_and_value;
 use sqlite::Alter;
 use std::alloc::Global;
 

@@ -5,7 +5,7 @@ ghost use Rattle.brk_trade_theorems.specs.Decisions.{DecidesCommand};
 ghost use Rattle.brk_model.specs.Commands.{CancelTrade};
 ghost use Rattle.brk_model.specs.Joins.{trade_row_with_id};
 ghost use Rattle.brk_model.specs.Run.{IsCallFault};
-ghost use Rattle.brk_store.specs.Holds.{ReadPost};
+ghost use Rattle.brk_store_transactions.specs.Holds.{ReadPost};
 
 use brk_money::{Fault, Id, Planned, Stamp, Status};
 use brk_store::Store;

@@ -8,7 +8,7 @@ ghost use Rattle.brk_model.specs.Commands.{FeedTicks};
 ghost use Rattle.brk_model.specs.Run.{IsCallFault};
 ghost use Rattle.brk_ref_orders.specs.Records.{abstract_ticks};
 ghost use Rattle.brk_ref.specs.Records.{abstract_last_trade_row};
-ghost use Rattle.brk_store.specs.Holds.{ReadPost};
+ghost use Rattle.brk_store_transactions.specs.Holds.{ReadPost};
 ghost use Rattle.brk_trade_plans.specs.Feed.{states_of_quotes, state_of_quote};
 
 use brk_money::{Fault, Planned, Stamp, TradeType};

@@ -5,7 +5,7 @@ ghost use Rattle.brk_model.specs.Run.{IsCallFault};
 ghost use Rattle.brk_trade_theorems.specs.Found.{ReferenceFactsMatchTables, AccountFactsMatchTables};
 ghost use Rattle.brk_model.specs.Form.{has_account, has_broker, has_customer, has_security};
 ghost use Rattle.brk_trade_books.specs.Reads.{account_count_of_customer, contains_customer_with_tax_id, contains_tax_rate};
-ghost use Rattle.brk_store.specs.Holds.{ReadPost};
+ghost use Rattle.brk_store_transactions.specs.Holds.{ReadPost};
 
 use crate::terms::{
     read_new_band_facts, read_new_charge_facts, read_new_customer_tax_facts,

@@ -6,7 +6,6 @@ pub mod cancel;
 pub mod estimate;
 pub mod feed;
 mod finding;
-mod known;
 pub mod movement;
 mod movement_finding;
 pub mod one_day;

@@ -4,7 +4,7 @@ ghost use Rattle.std.specs.Prelude.{IfErr};
 ghost use Rattle.brk_trade_theorems.specs.Decisions.{DecidesCommand};
 ghost use Rattle.brk_model.specs.Commands.{SetOneDay};
 ghost use Rattle.brk_model.specs.Run.{IsCallFault};
-ghost use Rattle.brk_store.specs.Holds.{ReadPost};
+ghost use Rattle.brk_store_transactions.specs.Holds.{ReadPost};
 
 use brk_money::{Day, Planned, Stamp};
 use brk_store::Store;

@@ -9,7 +9,7 @@ ghost use Rattle.brk_model.specs.Run.{IsCallFault};
 ghost use Rattle.brk_model.specs.Tests.{first_refusal};
 ghost use Rattle.brk_ref_orders.specs.Records.{abstract_order};
 ghost use Rattle.brk_trade_plans.specs.Reference.{later_stamp_check};
-ghost use Rattle.brk_store.specs.Holds.{ReadPost};
+ghost use Rattle.brk_store_transactions.specs.Holds.{ReadPost};
 ghost use Rattle.brk_store.specs.ReadSequences.{IsUnchangedByReads};
 ghost use Rattle.brk_store.specs.RemainingLots.{borrowed_store, number_of_rows_read};
 ghost use Rattle.brk_trade.specs.Estimates.{OrderReadsAtMostOneLotMore};

@@ -4,15 +4,15 @@ ghost use Rattle.std.specs.Prelude.{◌≡◌, IfErr};
 ghost use Rattle.brk_trade_theorems.specs.OrderPlans.{EstimateFactsMatchTables, OrderFactsMatchTables};
 ghost use Rattle.brk_desk_decisions.specs.OrderFactReads.{EstimateFactsMatchIfAccountOfOrder, order_facts_with_account, order_facts_without_account};
 ghost use Rattle.brk_model.specs.Run.{IsCallFault};
-ghost use Rattle.brk_store.specs.Holds.{ReadPost};
+ghost use Rattle.brk_store_transactions.specs.Holds.{ReadPost};
 
 use crate::amounts::{Amounts, read_estimate_amounts};
-use crate::known::require_customer;
 use crate::tested::{OrderCheckFacts, read_order_check_facts};
 use brk_money::{Fault, TaxRate, Wide};
 use brk_ref::AccountRow;
 use brk_ref_orders::Order;
 use brk_store::Store;
+use brk_store_required::require_customer;
 use brk_trade::{OrderAccount, OrderPlanFacts};
 use sqlite::Alter;
 use std::alloc::Global;

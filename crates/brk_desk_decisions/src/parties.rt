@@ -4,14 +4,14 @@ ghost use Rattle.std.specs.Prelude.{IfErr, IfSome};
 ghost use Rattle.brk_desk_decisions.specs.ResultFactReads.{PartyFactsMatchTables};
 ghost use Rattle.brk_model.specs.Joins.{account_row_with_id};
 ghost use Rattle.brk_model.specs.Run.{IsCallFault};
-ghost use Rattle.brk_store.specs.Holds.{ReadPost};
+ghost use Rattle.brk_store_transactions.specs.Holds.{ReadPost};
 ghost use Rattle.brk_ref.specs.Records.{abstract_account_row};
 
 use crate::amounts::read_tax_rate_sum;
-use crate::known::{require_account, require_broker_totals, require_customer};
 use brk_money::{Fault, Id, TaxRate};
 use brk_ref::{AccountRow, Tier};
 use brk_store::Store;
+use brk_store_required::{require_account, require_broker_totals, require_customer};
 use brk_trade::{BrokerTotals, ResultAccount};
 use sqlite::Alter;
 use std::alloc::Global;

@@ -10,7 +10,7 @@ ghost use Rattle.brk_model.specs.Commands.{CompleteTrade};
 ghost use Rattle.brk_model.specs.Run.{IsCallFault};
 ghost use Rattle.brk_model.specs.Tables.{Tables};
 ghost use Rattle.brk_money.specs.Moments as moments;
-ghost use Rattle.brk_store.specs.Holds.{HoldsRows, ReadPost};
+ghost use Rattle.brk_store_transactions.specs.Holds.{HoldsRows, ReadPost};
 ghost use Rattle.brk_store.specs.ReadSequences.{IsUnchangedByReads};
 ghost use Rattle.brk_store.specs.RemainingLots.{borrowed_store, number_of_rows_read};
 ghost use Rattle.brk_trade.specs.Results.{ResultReadsAtMostOneLotMore, CompletesExistingTrade, IsResultRefusal, ClosesNoHeldShares, stamp_or_clock_reading};

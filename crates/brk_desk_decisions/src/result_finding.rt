@@ -4,15 +4,15 @@ ghost use Rattle.std.specs.Prelude.{◌<◌, IfErr, IfOk, IfSome};
 ghost use Rattle.brk_desk_decisions.specs.ResultFactReads.{AreResultFactsOfTradeWithId, AreResultFactsOfTrade, SecurityFactsMatchTables, PostingFactsMatchTables};
 ghost use Rattle.brk_model.specs.Joins.{security_row_with_symbol};
 ghost use Rattle.brk_model.specs.Run.{IsCallFault};
-ghost use Rattle.brk_store.specs.Holds.{ReadPost};
+ghost use Rattle.brk_store_transactions.specs.Holds.{ReadPost};
 
-use crate::known::require_security;
 use crate::parties::read_party_facts;
 use crate::summary_finding::read_summary_shares;
 use crate::tested::read_commission_rate_for_quantity;
 use brk_money::{Day, Fault, Id, MoveId, Rate};
 use brk_ref::{Name, Tier};
 use brk_store::Store;
+use brk_store_required::require_security;
 use brk_trade::{ResultPlanFacts, TradeRow};
 use sqlite::Alter;
 use std::alloc::Global;

@@ -4,7 +4,7 @@ ghost use Rattle.std.specs.Prelude.{◌≡◌, IfErr, bytes_eq, find, map, optio
 ghost use Rattle.brk_trade_books.specs.TradeReads.{summary_row_of_position};
 ghost use Rattle.brk_trade_rows.specs.Rows.{abstract_summary_row};
 ghost use Rattle.brk_model.specs.Run.{IsCallFault};
-ghost use Rattle.brk_store.specs.Holds.{ReadPost};
+ghost use Rattle.brk_store_transactions.specs.Holds.{ReadPost};
 
 use brk_money::{Fault, Id};
 use brk_ref::Symbol;

@@ -9,7 +9,7 @@ ghost use Rattle.brk_trade_books.specs.Reads.{contains_customer_tax, rate_of_tax
 ghost use Rattle.brk_model.specs.Limits.{greatest_tax_rate};
 ghost use Rattle.brk_model.specs.Run.{IsCallFault};
 ghost use Rattle.brk_ref.specs.Records.{abstract_band, abstract_tax_rate};
-ghost use Rattle.brk_store.specs.Holds.{ReadPost};
+ghost use Rattle.brk_store_transactions.specs.Holds.{ReadPost};
 
 use crate::finding::{NO_REFERENCE_FACTS, account_exists, customer_exists};
 use brk_money::{Fault, Id, TaxRate};

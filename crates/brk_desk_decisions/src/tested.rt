@@ -9,7 +9,7 @@ ghost use Rattle.brk_model.specs.Joins.{security_row_with_symbol};
 ghost use Rattle.brk_model.specs.Orders.{is_customer_or_has_permission};
 ghost use Rattle.brk_model.specs.Run.{IsCallFault};
 ghost use Rattle.brk_ref.specs.Records.{abstract_customer, abstract_executor};
-ghost use Rattle.brk_store.specs.Holds.{ReadPost};
+ghost use Rattle.brk_store_transactions.specs.Holds.{ReadPost};
 
 use brk_money::{Fault, Id, Price, Qty, Rate, TradeType};
 use brk_ref::{ChargeAmount, Customer, Exchange, Executor, Symbol, Tier, band_for, permitted};

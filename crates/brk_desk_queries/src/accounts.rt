@@ -5,12 +5,13 @@ ghost use Rattle.brk_desk_queries.specs.QueryResults.{AnswersQueryAsModel};
 ghost use Rattle.brk_model.specs.Queries.{PositionOf, PositionOfTaxId};
 ghost use Rattle.brk_model.specs.Run.{IsCallFault};
 ghost use Rattle.brk_ref.specs.Records.{abstract_account_row};
-ghost use Rattle.brk_store.specs.Holds.{ReadPost};
+ghost use Rattle.brk_store_transactions.specs.Holds.{ReadPost};
 ghost use Rattle.brk_view_rows.specs.Worths.{worth_of_account};
 
 use brk_money::{Fault, Id, Planned, Refusal};
 use brk_ref::{AccountRow, TaxId};
-use brk_store::{Store, read_holdings_value};
+use brk_store::Store;
+use brk_store_required::read_holdings_value;
 use brk_view_rows::{AccountWorth, View, position};
 use sqlite::Alter;
 use std::alloc::Global;

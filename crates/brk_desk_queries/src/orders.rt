@@ -4,7 +4,7 @@ ghost use Rattle.std.specs.Prelude.{IfErr};
 ghost use Rattle.brk_desk_queries.specs.QueryResults.{AnswersQueryAsModel};
 ghost use Rattle.brk_model.specs.Queries.{SubmittedTrades};
 ghost use Rattle.brk_model.specs.Run.{IsCallFault};
-ghost use Rattle.brk_store.specs.Holds.{ReadPost};
+ghost use Rattle.brk_store_transactions.specs.Holds.{ReadPost};
 
 use brk_money::Planned;
 use brk_store::Store;

@@ -1,30 +1,19 @@
 //! The parties of an account: its customer and its broker. If one of them does not exist, the fault
 //! is `Store`.
 
-ghost use Rattle.std.specs.Prelude.{◌≡◌, ◌==◌, IfErr, Some, find};
+ghost use Rattle.std.specs.Prelude.{◌≡◌, IfErr};
 ghost use Rattle.brk_desk_queries.specs.Parties.{IsAccountStatusWithTrades};
 ghost use Rattle.brk_model.specs.Run.{IsCallFault};
 ghost use Rattle.brk_model.specs.StatusView.{broker_name_with_id};
-ghost use Rattle.brk_ref.specs.Records.{abstract_account_row, abstract_customer};
-ghost use Rattle.brk_store.specs.Holds.{ReadPost};
+ghost use Rattle.brk_ref.specs.Records.{abstract_account_row};
+ghost use Rattle.brk_store_transactions.specs.Holds.{ReadPost};
 
 use brk_money::{Fault, Id};
-use brk_ref::{AccountRow, Customer, Name};
+use brk_ref::{AccountRow, Name};
 use brk_store::Store;
+use brk_store_required::require_customer;
 use brk_view_rows::{AccountStatus, TradeStatus};
 use sqlite::Alter;
-
-// Returns the customer with the id `id`. If the database is still open, it is unchanged. Fails with
-// `Memory` or `Store` only; with `Store` also if there is no such customer.
-fn require_customer_with_id<S: Alter>(store: &mut Store<S>, id: Id) -> Result<Customer, Fault>
-    ensures read { ReadPost S.Store store.old store.new result (λ customer t. Some (abstract_customer customer) ≡ find (λ c. c.id == id) t.customers) }
-    ensures fault { IfErr result IsCallFault }
-{
-    match store.customer(id)? {
-        Some(customer) => Ok(customer),
-        None => Err(Fault::Store),
-    }
-}
 
 // Returns the name of the broker with the id `id`. If the database is still open, it is unchanged.
 // Fails with `Memory` or `Store` only; with `Store` also if there is no such broker.
@@ -49,7 +38,7 @@ pub(crate) fn read_account_status<S: Alter>(
     ensures read { ReadPost S.Store store.old store.new result (IsAccountStatusWithTrades (abstract_account_row row.now) trades) }
     ensures fault { IfErr result IsCallFault }
 {
-    let customer = require_customer_with_id(store, row.account.customer)?;
+    let customer = require_customer(store, row.account.customer)?;
     let broker = require_broker_name(store, row.account.broker)?;
     Ok(AccountStatus {
         last_name: customer.last_name,

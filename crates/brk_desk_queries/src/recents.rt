@@ -7,7 +7,7 @@ ghost use Rattle.brk_model.specs.Joins.{history_rows_with_trade_id};
 ghost use Rattle.brk_model.specs.PositionView.{last_ten_trade_rows};
 ghost use Rattle.brk_model.specs.Queries.{RecentOf};
 ghost use Rattle.brk_model.specs.Run.{IsCallFault};
-ghost use Rattle.brk_store.specs.Holds.{ReadPost};
+ghost use Rattle.brk_store_transactions.specs.Holds.{ReadPost};
 
 use brk_money::{Fault, Id, Planned, Refusal};
 use brk_store::Store;

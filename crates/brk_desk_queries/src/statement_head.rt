@@ -1,11 +1,12 @@
 ghost use Rattle.std.specs.Prelude.{IfErr};
 ghost use Rattle.brk_desk_queries.specs.Heads.{IsStatementHeadOfAccount};
 ghost use Rattle.brk_model.specs.Run.{IsCallFault};
-ghost use Rattle.brk_store.specs.Holds.{ReadPost};
+ghost use Rattle.brk_store_transactions.specs.Holds.{ReadPost};
 
 use brk_money::{Cents, Fault, Id, Wide};
 use brk_ref::Name;
-use brk_store::{Store, read_holdings_value};
+use brk_store::Store;
+use brk_store_required::read_holdings_value;
 use sqlite::Alter;
 use std::alloc::Global;
 

@@ -7,7 +7,7 @@ ghost use Rattle.brk_model.specs.Joins.{trade_rows_recent_first, trade_rows_of_a
 ghost use Rattle.brk_model.specs.Queries.{StatusOf};
 ghost use Rattle.brk_model.specs.Run.{IsCallFault};
 ghost use Rattle.brk_money.specs.declared.fault.Fault.TheVariants.{Memory};
-ghost use Rattle.brk_store.specs.Holds.{ReadPost};
+ghost use Rattle.brk_store_transactions.specs.Holds.{ReadPost};
 ghost use Rattle.brk_view_rows.specs.Status.{rows_of_trade_status, trade_row_with_security};
 
 use crate::parties::read_account_status;

@@ -5,7 +5,7 @@ ghost use Rattle.brk_desk_queries.specs.QueryResults.{AnswersQueryAsModel};
 ghost use Rattle.brk_desk_queries.specs.Touched.{AreTouchedLotsOfTrade, last_status_stamp};
 ghost use Rattle.brk_model.specs.Queries.{LotsTouched};
 ghost use Rattle.brk_model.specs.Run.{IsCallFault};
-ghost use Rattle.brk_store.specs.Holds.{ReadPost};
+ghost use Rattle.brk_store_transactions.specs.Holds.{ReadPost};
 ghost use Rattle.brk_view_rows.specs.Lots.{stamped_lot_change};
 
 use brk_money::{Fault, Id, Planned, Refusal, Stamp};

@@ -3,7 +3,7 @@ use Rattle.std.proofs.Common.{Err, Ok, Result}
 use Rattle.sqlite_trees.specs.declared.store.Store.{Ghosts}
 use Rattle.sqlite.specs.Held.{Held}
 use Rattle.brk_model.specs.Tables.{Tables}
-use Rattle.brk_store.specs.Holds.{ReadPost}
+use Rattle.brk_store_transactions.specs.Holds.{ReadPost}
 use Rattle.brk_store.specs.ReadSequences.{IsUnchangedByReads, joined_reads_change_nothing, single_read_changes_nothing}
 use Rattle.brk_store.proofs.Retelling.{read_after}
 

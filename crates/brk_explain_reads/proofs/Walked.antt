@@ -10,7 +10,7 @@ use Rattle.brk_trade_rows.specs.declared.move_row.MoveRow as move
 use Rattle.brk_model.specs.Lists.{total_by}
 use Rattle.brk_model.specs.Statement.{sorted_cash_rows_of_account, cash_row_total}
 use Rattle.brk_model.specs.Tables.{MoveRow, Tables}
-use Rattle.brk_store.specs.Holds.{ReadPost}
+use Rattle.brk_store_transactions.specs.Holds.{ReadPost}
 use Rattle.brk_store.specs.Walked.{WalkPost, cash_rows_in_span}
 use Rattle.brk_tables_views.specs.declared.walking.WalkError.{WalkError}
 use Rattle.brk_explain_reads.specs.Earlier.{AddsEarlierCashRow}

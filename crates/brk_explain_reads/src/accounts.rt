@@ -5,11 +5,12 @@ ghost use Rattle.brk_trade_rows.specs.Rows.{abstract_summary_row};
 ghost use Rattle.brk_model_explain.specs.AccountLines.{priced_holding, priced_holdings_of_account};
 ghost use Rattle.brk_explain_rows.specs.Details.{AreDetailsOfAccount, abstract_priced_holding};
 ghost use Rattle.brk_model.specs.Run.{IsCallFault};
-ghost use Rattle.brk_store.specs.Holds.{ReadPost};
+ghost use Rattle.brk_store_transactions.specs.Holds.{ReadPost};
 
 use brk_explain_rows::{AccountDetails, PricedHolding};
 use brk_money::{Fault, Id};
-use brk_store::{Store, require_last_price};
+use brk_store::Store;
+use brk_store_required::require_last_price;
 use brk_trade_rows::SummaryRow;
 use sqlite::Alter;
 use std::alloc::Global;

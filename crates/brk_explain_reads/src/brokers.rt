@@ -6,7 +6,7 @@ ghost use Rattle.brk_trade_rows.specs.Rows.{abstract_trade_row};
 ghost use Rattle.brk_model_explain.specs.BrokerLines.{completed_trades_of_broker};
 ghost use Rattle.brk_explain_rows.specs.Details.{AreDetailsOfBroker};
 ghost use Rattle.brk_model.specs.Run.{IsCallFault};
-ghost use Rattle.brk_store.specs.Holds.{ReadPost};
+ghost use Rattle.brk_store_transactions.specs.Holds.{ReadPost};
 ghost use Rattle.brk_store.specs.Walked.{WalkPost};
 
 use brk_explain_rows::BrokerDetails;

@@ -4,7 +4,7 @@ ghost use Rattle.std.specs.Prelude.{◌≡◌, ◌+◌, ◌+ℤ◌, Err, IfErr, 
 ghost use Rattle.brk_explain_reads.specs.Found.{IsCashSumBeforeStamp};
 ghost use Rattle.brk_model.specs.Run.{IsCallFault};
 ghost use Rattle.brk_money.specs.declared.fault.Fault.TheVariants as fault;
-ghost use Rattle.brk_store.specs.Holds.{ReadPost};
+ghost use Rattle.brk_store_transactions.specs.Holds.{ReadPost};
 
 use brk_money::{Cents, Fault, Id, Stamp, Wide};
 use brk_store::{Store, Visitor, WalkError};

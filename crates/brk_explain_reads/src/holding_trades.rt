@@ -5,14 +5,14 @@ ghost use Rattle.brk_explain_reads.specs.HoldingParts.{AreTradesAndLotsOfHolding
 ghost use Rattle.brk_explain_rows.specs.Details.{abstract_lot_details};
 ghost use Rattle.brk_model.specs.Run.{IsCallFault};
 ghost use Rattle.brk_money.specs.declared.fault.Fault.TheVariants.{Memory};
-ghost use Rattle.brk_store.specs.Holds.{ReadPost};
+ghost use Rattle.brk_store_transactions.specs.Holds.{ReadPost};
 
-use crate::known::read_existing_trade;
 use crate::lot_changes::{OpeningAndLaterChanges, read_lot_changes_sorted_by_completion};
 use brk_explain_rows::{LotDetails, PricedLotChange};
 use brk_money::{Fault, Id};
 use brk_ref::Symbol;
 use brk_store::Store;
+use brk_store_required::require_trade;
 use brk_trade_rows::{LotChange, TradeRow};
 use sqlite::Alter;
 use std::alloc::Global;
@@ -70,7 +70,7 @@ fn read_lot_of_trade<S: Alter>(
     let Some(first) = opening else {
         return Ok(None);
     };
-    let row = read_existing_trade(store, trade)?;
+    let row = require_trade(store, trade)?;
     Ok(Some(lot_details_of_opening(row, &first, changes_by_others)))
 }
 
@@ -85,7 +85,7 @@ fn read_trade_and_lot<S: Alter>(
     ensures read { ReadPost S.Store store.old store.new result (λ one t. IsTradeWithLot t trade one) }
     ensures fault { IfErr result IsCallFault }
 {
-    let row = read_existing_trade(store, trade)?;
+    let row = require_trade(store, trade)?;
     let lot = read_lot_of_trade(alloc, store, trade)?;
     Ok(TradeAndLot { trade: row, lot })
 }

@@ -6,13 +6,14 @@ ghost use Rattle.brk_trade_rows.specs.Rows.{abstract_summary_row};
 ghost use Rattle.brk_explain_reads.specs.HoldingParts.{AreQuantityAndPrice};
 ghost use Rattle.brk_explain_rows.specs.Details.{AreDetailsOfHolding};
 ghost use Rattle.brk_model.specs.Run.{IsCallFault};
-ghost use Rattle.brk_store.specs.Holds.{ReadPost};
+ghost use Rattle.brk_store_transactions.specs.Holds.{ReadPost};
 
 use crate::holding_trades::{TradesAndLots, read_trades_and_lots_of_holding};
 use brk_explain_rows::HoldingDetails;
 use brk_money::{Fault, Id, Planned, Price, Refusal};
 use brk_ref::{AccountRow, Security, Symbol};
-use brk_store::{Store, require_last_price};
+use brk_store::Store;
+use brk_store_required::require_last_price;
 use brk_trade_rows::SummaryRow;
 use sqlite::Alter;
 use std::alloc::Global;

@@ -6,7 +6,6 @@ pub mod brokers;
 mod cash;
 mod holding_trades;
 pub mod holdings;
-mod known;
 mod lot_changes;
 mod ordering;
 mod orders;

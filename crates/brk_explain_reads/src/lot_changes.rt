@@ -9,13 +9,13 @@ ghost use Rattle.brk_explain_rows.specs.Details.{abstract_priced_lot_change};
 ghost use Rattle.brk_model.specs.Lists.{sort_by_key};
 ghost use Rattle.brk_model.specs.Run.{IsCallFault};
 ghost use Rattle.brk_money.specs.declared.fault.Fault.TheVariants.{Memory};
-ghost use Rattle.brk_store.specs.Holds.{ReadPost};
+ghost use Rattle.brk_store_transactions.specs.Holds.{ReadPost};
 
-use crate::known::read_existing_trade;
 use crate::ordering::sort_by_age;
 use brk_explain_rows::PricedLotChange;
 use brk_money::{Fault, Id, Price, Stamp};
 use brk_store::Store;
+use brk_store_required::require_trade;
 use brk_trade_rows::LotChange;
 use sqlite::Alter;
 use std::alloc::Global;
@@ -110,7 +110,7 @@ fn read_priced_lot_change<S: Alter>(
         ≡ model.recorded_lot_change t (abstract_lot_change_row change.now)) }
     ensures fault { IfErr result IsCallFault }
 {
-    let trade = read_existing_trade(store, change.trade)?;
+    let trade = require_trade(store, change.trade)?;
     let Some(price) = trade.price else {
         return Err(Fault::Store);
     };

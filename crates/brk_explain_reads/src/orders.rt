@@ -5,13 +5,13 @@ ghost use Rattle.brk_trade_rows.specs.Rows.{abstract_history_row};
 ghost use Rattle.brk_model_explain.specs.Trades.{sorted_statuses_of_trade};
 ghost use Rattle.brk_explain_reads.specs.Found.{IsOrderOfTrade};
 ghost use Rattle.brk_model.specs.Run.{IsCallFault};
-ghost use Rattle.brk_store.specs.Holds.{ReadPost};
+ghost use Rattle.brk_store_transactions.specs.Holds.{ReadPost};
 
-use crate::known::{read_existing_account, read_existing_security};
 use crate::ordering::sort_by_age;
 use brk_explain_rows::OrderDetails;
 use brk_money::{Fault, Id};
 use brk_store::Store;
+use brk_store_required::{require_account, require_security};
 use brk_trade_rows::{HistoryRow, TradeRow};
 use sqlite::Alter;
 use std::alloc::Global;
@@ -42,8 +42,8 @@ pub(crate) fn read_order_of_trade<S: Alter>(
     ensures read { ReadPost S.Store store.old store.new result (λ order t. IsOrderOfTrade trade order t) }
     ensures fault { IfErr result IsCallFault }
 {
-    let account = read_existing_account(store, trade.account)?;
-    let security = read_existing_security(store, &trade.symbol)?;
+    let account = require_account(store, trade.account)?;
+    let security = require_security(store, &trade.symbol)?;
     let statuses = read_sorted_statuses(alloc, store, trade.id)?;
     Ok(OrderDetails {
         trade,

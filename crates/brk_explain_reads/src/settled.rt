@@ -3,11 +3,11 @@
 ghost use Rattle.std.specs.Prelude.{IfErr};
 ghost use Rattle.brk_explain_reads.specs.Found.{IsSettlementAndCashOfTrade};
 ghost use Rattle.brk_model.specs.Run.{IsCallFault};
-ghost use Rattle.brk_store.specs.Holds.{ReadPost};
+ghost use Rattle.brk_store_transactions.specs.Holds.{ReadPost};
 
-use crate::known::read_existing_settlement;
 use brk_money::{Day, Fault, Id};
 use brk_store::Store;
+use brk_store_required::require_settlement;
 use brk_trade_rows::{MoveRow, SettlementRow};
 use sqlite::Alter;
 
@@ -32,7 +32,7 @@ pub(crate) fn read_settlement_cash_and_one_day_start<S: Alter>(
     ensures read { ReadPost S.Store store.old store.new result (λ settled t. IsSettlementAndCashOfTrade t trade settled) }
     ensures fault { IfErr result IsCallFault }
 {
-    let settlement = read_existing_settlement(store, trade)?;
+    let settlement = require_settlement(store, trade)?;
     let cash = store.cash_row(trade)?;
     let rule = store.one_day_settlement_start()?;
     Ok(SettlementAndCash {

@@ -6,13 +6,13 @@ ghost use Rattle.brk_model_explain.specs.Trades.{band_for_tier_and_exchange, tax
 ghost use Rattle.brk_explain_reads.specs.Found.{AreTaxRatesAndBand};
 ghost use Rattle.brk_model.specs.Run.{IsCallFault};
 ghost use Rattle.brk_ref.specs.Records.{abstract_band, abstract_tax_rate};
-ghost use Rattle.brk_store.specs.Holds.{ReadPost};
+ghost use Rattle.brk_store_transactions.specs.Holds.{ReadPost};
 
-use crate::known::{read_existing_customer, read_existing_tax};
 use brk_explain_rows::OrderDetails;
 use brk_money::{Fault, Id, Qty};
 use brk_ref::{Band, Tax, Tier, band_contains_quantity};
 use brk_store::Store;
+use brk_store_required::{require_customer, require_tax};
 use sqlite::Alter;
 use std::alloc::Global;
 
@@ -37,7 +37,7 @@ fn read_tax_rates_of_customer<S: Alter>(
     let rows = store.taxes_of_customer(alloc, customer)?;
     let mut rates = Vec::new(alloc);
     for row in &rows {
-        let rate = read_existing_tax(store, row.tax)?;
+        let rate = require_tax(store, row.tax)?;
         rates.push(rate)?;
     }
     Ok(rates)
@@ -100,7 +100,7 @@ pub(crate) fn read_tax_rates_and_band<S: Alter>(
     ensures fault { IfErr result IsCallFault }
 {
     let id = order.account.account.customer;
-    let customer = read_existing_customer(store, id)?;
+    let customer = require_customer(store, id)?;
     let rates = read_tax_rates_of_customer(alloc, store, id)?;
     let band = read_band_for_tier(alloc, store, order, customer.tier)?;
     Ok(TaxRatesAndBand { rates, band })

@@ -5,7 +5,7 @@ ghost use Rattle.brk_explain_rows.specs.Details.{AreDetailsOfTrade};
 ghost use Rattle.brk_model.specs.Run.{IsCallFault};
 ghost use Rattle.brk_money.specs.Kinds.{is_same_trade_status};
 ghost use Rattle.brk_money.specs.declared.status.Status.TheVariants.{Completed};
-ghost use Rattle.brk_store.specs.Holds.{ReadPost};
+ghost use Rattle.brk_store_transactions.specs.Holds.{ReadPost};
 
 use crate::orders::read_order_of_trade;
 use crate::results::read_result_of_trade;

@@ -11,7 +11,7 @@ use Rattle.brk_model.specs.Run.{IsOutcomeOfCall, Ask, Call, Did, Do, Failed, Out
 use Rattle.brk_ref.specs.declared.key.Key.{Key}
 use Rattle.brk_desk.specs.CommandAnswers.{CommandAnswer, model_answer}
 use Rattle.brk_desk.specs.Booked.{CommandPost}
-use Rattle.brk_store.specs.Audited.{Represents}
+use Rattle.brk_store_transactions.specs.Audited.{Represents}
 use Rattle.brk_desk.specs.Keys.{optional_model_key}
 use Rattle.brk_trade_plans.specs.Replies.{abstract_reply}
 use Rattle.brk_ref.specs.Answers.{abstract_command_outcome}

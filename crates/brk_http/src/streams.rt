@@ -1,5 +1,5 @@
 ghost use Rattle.std.specs.Prelude.{◌<◌, ◌≤◌, ℕ, IfErr, IfOk, IfSome, List, length, map};
-ghost use Rattle.brk_store.specs.Audited.{Represents};
+ghost use Rattle.brk_store_transactions.specs.Audited.{Represents};
 ghost use Rattle.brk_desk.specs.Answers.{model_outcome};
 ghost use Rattle.brk_desk.specs.Commands.{model_call};
 ghost use Rattle.brk_desk.specs.Runs.{IsRunWithOutcomes};

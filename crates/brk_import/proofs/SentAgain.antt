@@ -26,8 +26,8 @@ use Rattle.brk_model_theorems.proofs.LeftLaws.{done-kept, left-over, one-run}
 use Rattle.brk_model_theorems.proofs.StoppedLaws.{booked-completed, completed, next-goes-on, rows-go-on}
 use Rattle.brk_io.specs.Moments.{ClockReturnsMomentsInSequence}
 use Rattle.brk_io.specs.Span.{ClockAndWriterChange, environment_change_with_bases}
-use Rattle.brk_store.specs.Audited.{AdoptPost, AuditAnswerSatisfies, Represents, IsConsistent}
-use Rattle.brk_store.specs.Holds.{IsDiskContentOfRows}
+use Rattle.brk_store_transactions.specs.Audited.{AdoptPost, AuditAnswerSatisfies, Represents, IsConsistent}
+use Rattle.brk_store_transactions.specs.Holds.{IsDiskContentOfRows}
 use Rattle.brk_desk.specs.Reopening.{IsNewConnectionAfterCrash, RepresentsDurableBase}
 use Rattle.brk_desk.proofs.Reopened.{RecoversOnlyLastCommit, kept_can_be, taken_over}
 use Rattle.brk_import_engine.specs.Batch.{IsBatchResult, BatchEndsWith, BatchFailsWith, CrashMayCommitFailedRow, BatchRefinesModel, BoundsBatchCrashStates, IsBatchCrashSafe, BatchProgress}

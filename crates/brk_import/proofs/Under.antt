@@ -12,10 +12,10 @@ use Rattle.brk_model.specs.Commands.{Command}
 use Rattle.brk_model.specs.Records.{Key}
 use Rattle.brk_model.specs.Run.{Did, Failed}
 use Rattle.brk_model.specs.Sheets.{sheets}
-use Rattle.brk_store.specs.Holds.{IsDiskContentOfRows}
+use Rattle.brk_store_transactions.specs.Holds.{IsDiskContentOfRows}
 use Rattle.brk_desk.specs.CommandAnswers.{CommandAnswer, model_answer}
 use Rattle.brk_desk.specs.Booked.{CommandPost}
-use Rattle.brk_store.specs.Audited.{Represents, IsConsistent}
+use Rattle.brk_store_transactions.specs.Audited.{Represents, IsConsistent}
 use Rattle.brk_desk.specs.Keys.{optional_model_key}
 use Rattle.brk_desk_commands.specs.Commands.{abstract_command}
 use Rattle.brk_desk_commands.specs.declared.command.Command as commands

@@ -4,8 +4,8 @@ use Rattle.sqlite.specs.Held.{Held}
 use Rattle.sqlite_trees.specs.declared.store.Store.{Ghosts}
 use Rattle.brk_model.specs.Base.{Base}
 use Rattle.brk_model.specs.Sheets.{sheets}
-use Rattle.brk_store.specs.Audited.{IsConsistent}
-use Rattle.brk_store.specs.Holds.{IsDiskContentOfRows, CrashStatesSatisfy}
+use Rattle.brk_store_transactions.specs.Audited.{IsConsistent}
+use Rattle.brk_store_transactions.specs.Holds.{IsDiskContentOfRows, CrashStatesSatisfy}
 
 -- All that a crash may expose are the tables of `base` or, only if `other` is consistent, the
 -- tables of `other`.

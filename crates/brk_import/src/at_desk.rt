@@ -4,7 +4,7 @@ ghost use Rattle.brk_model.specs.Commands as model;
 ghost use Rattle.brk_model.specs.Parse.{parse_by_first_field, row_parsers};
 ghost use Rattle.brk_desk_commands.specs.Commands.{abstract_command};
 ghost use Rattle.brk_trade_plans.specs.Replies.{abstract_reply};
-ghost use Rattle.brk_store.specs.Audited.{Represents};
+ghost use Rattle.brk_store_transactions.specs.Audited.{Represents};
 ghost use Rattle.brk_import.specs.CrashTables.{CrashExposesOnlyOneOf};
 ghost use Rattle.brk_import.specs.Rows.{RowCallHasOutcome};
 ghost use Rattle.sqlite.specs.Held.{state};

@@ -2,7 +2,7 @@ ghost use Rattle.std.specs.Prelude.{ℕ, List, map, option_map};
 ghost use Rattle.brk_model.specs.Batch.{step_of_row};
 ghost use Rattle.brk_model.specs.Input.{input_text};
 ghost use Rattle.brk_model.specs.Parse.{parse_by_first_field, row_parsers};
-ghost use Rattle.brk_store.specs.Audited.{Represents};
+ghost use Rattle.brk_store_transactions.specs.Audited.{Represents};
 ghost use Rattle.brk_import_engine.specs.Batch.{BatchRefinesModel, IsBatchCrashSafe};
 ghost use Rattle.brk_desk.specs.Answers.{model_outcome};
 ghost use Rattle.brk_desk.specs.Commands.{model_call};

@@ -13,7 +13,7 @@ ghost use Rattle.brk_model.specs.Input.{input_text};
 ghost use Rattle.brk_model.specs.Parse.{parse_by_first_field, row_parsers};
 ghost use Rattle.brk_money.specs.declared.fault.Fault as money;
 ghost use Rattle.brk_io.specs.Span.{ClockAndWriterChange};
-ghost use Rattle.brk_store.specs.Audited.{AdoptPost, AuditAnswerSatisfies, Represents};
+ghost use Rattle.brk_store_transactions.specs.Audited.{AdoptPost, AuditAnswerSatisfies, Represents};
 ghost use Rattle.sqlite.specs.Held.{Held, state};
 ghost use Rattle.sqlite.specs.State.{HasCleanDisk};
 

@@ -14,7 +14,7 @@ use Rattle.brk_trade_rows.specs.Rows.{abstract_move_row}
 use Rattle.brk_trade_rows.specs.declared.move_row.MoveRow as typed
 use Rattle.brk_model.specs.Statement.{text_of_lines}
 use Rattle.brk_model.specs.Tables.{MoveRow, Tables}
-use Rattle.brk_store.specs.Holds.{HoldsRows}
+use Rattle.brk_store_transactions.specs.Holds.{HoldsRows}
 use Rattle.brk_store.specs.Walked.{WalkPost}
 use Rattle.brk_tables_views.specs.declared.walking.WalkError.{WalkError}
 use Rattle.brk_tables_views.specs.declared.walking.WalkError.TheVariants.{Failed, Cause}

@@ -5,7 +5,7 @@ use Rattle.sqlite.specs.Held.{Held, state}
 use Rattle.sqlite.specs.State.{HasCleanDisk, State, Survives}
 use Rattle.sqlite.proofs.StateLemmas.{survives_then}
 use Rattle.brk_model.specs.Tables.{Tables}
-use Rattle.brk_store.specs.Holds.{ReadPost}
+use Rattle.brk_store_transactions.specs.Holds.{ReadPost}
 use Rattle.brk_store.specs.Walked.{WalkPost}
 use Rattle.brk_tables_views.specs.declared.walking.WalkError.{WalkError}
 use Rattle.brk_report.specs.StatementOutput.{PreservesDesk}

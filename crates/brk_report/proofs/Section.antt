@@ -9,7 +9,7 @@ use Rattle.sqlite.specs.State.{HasCleanDisk}
 use Rattle.brk_money.specs.Spelling.{Text}
 use Rattle.brk_model.specs.Statement.{text_of_lines}
 use Rattle.brk_model.specs.Tables.{Tables}
-use Rattle.brk_store.specs.Holds.{HoldsRows}
+use Rattle.brk_store_transactions.specs.Holds.{HoldsRows}
 use Rattle.brk_store.specs.Walked.{WalkPost}
 use Rattle.brk_tables_views.specs.declared.walking.WalkError.{WalkError}
 use Rattle.brk_tables_views.specs.declared.walking.WalkError.TheVariants.{Failed, Cause}

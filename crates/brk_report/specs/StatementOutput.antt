@@ -11,7 +11,7 @@ use Rattle.brk_model.specs.Joins.{account_row_with_id}
 use Rattle.brk_model.specs.Run.{IsCallFault}
 use Rattle.brk_model.specs.Statement.{sorted_cash_rows_of_account, text_of_lines, lot_line, holding_rows_of_account, statement, statement_lines}
 use Rattle.brk_model.specs.Tables.{AccountRow, Tables}
-use Rattle.brk_store.specs.Holds.{HoldsRows, WasOpenAndIsUnchanged}
+use Rattle.brk_store_transactions.specs.Holds.{HoldsRows, WasOpenAndIsUnchanged}
 use Rattle.brk_report_lines.specs.Written.{FailsWithinFirstLines, WritesProperPrefixOfLines, WritesLinesAndPartOfNext}
 use Rattle.brk_io.specs.declared.report_fault.LinesFault.{LinesFault}
 use Rattle.brk_io.specs.declared.report_fault.LinesFault.TheVariants as lines

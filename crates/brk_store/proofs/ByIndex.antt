@@ -15,7 +15,7 @@ use Rattle.brk_store_lots.specs.declared.age.LotAge.{LotAge}
 use Rattle.brk_store_lots.specs.declared.index.LotIndex.{LotIndex}
 use Rattle.brk_store_lots.specs.Ages.{IsIndexOf, in_closing_order, lots_at}
 use Rattle.brk_store_lots.proofs.Ordered.{page_found}
-use Rattle.brk_store.specs.Holds.{HoldsRows}
+use Rattle.brk_store_transactions.specs.Holds.{HoldsRows}
 use Rattle.brk_store.specs.Indexed.{HasRowOfEachAge, IndexIsTrue}
 use Rattle.brk_store.specs.Pages.{lot_rows_in_closing_order}
 use Rattle.brk_store.proofs.WalkedLists.{holdings_climb}

@@ -10,10 +10,10 @@ use Rattle.brk_tables_sql.proofs.Inside.{clean_before}
 use Rattle.brk_tables_schema.specs.Desk.{desk_tables}
 use Rattle.brk_tables_schema.specs.Made.{HasDeskTables}
 use Rattle.brk_tables_scan.specs.Schemas.{TablesWithDeskNamesAreDeskTables}
-use Rattle.brk_store.specs.Audited.{AdoptPost}
-use Rattle.brk_store.specs.Holds.{ApplyPost, WasOpenAndIsUnchanged}
+use Rattle.brk_store_transactions.specs.Audited.{AdoptPost}
+use Rattle.brk_store_transactions.specs.Holds.{ApplyPost, WasOpenAndIsUnchanged}
 use Rattle.brk_store.specs.Indexed.{IsIndexOfTables, IndexIsTrue}
-use Rattle.brk_store.proofs.Ending.{is_read, with_transaction_open}
+use Rattle.brk_store_transactions.proofs.Ending.{is_read, with_transaction_open}
 use Rattle.brk_store_lots.specs.declared.index.LotIndex.{LotIndex}
 
 module _ {S : Type 0} (g : Ghosts S) (old new : Held S) (known : Bool) (index : Option LotIndex) where

@@ -6,7 +6,7 @@ use Rattle.sqlite.specs.Held.{Held, state}
 use Rattle.sqlite.specs.State.{HasCleanDisk}
 use Rattle.brk_money.specs.declared.fault.Fault.{Fault}
 use Rattle.brk_model.specs.Tables.{Tables}
-use Rattle.brk_store.specs.Holds.{HoldsRows, ReadPost}
+use Rattle.brk_store_transactions.specs.Holds.{HoldsRows, ReadPost}
 use Rattle.brk_store.specs.ReadSequences.{IsUnchangedByReads, disk_was_clean_before_reads}
 use Rattle.brk_store.proofs.Retelling.{retold}
 use Rattle.brk_store.proofs.Sequences.{none_then, same_then}

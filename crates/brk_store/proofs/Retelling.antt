@@ -6,7 +6,7 @@ use Rattle.sqlite.specs.State.{HasCleanDisk}
 use Rattle.brk_model.specs.Tables.{Tables}
 use Rattle.brk_tables_sql.proofs.Inside.{clean_before}
 use Rattle.brk_tables_schema.specs.Made.{HasDeskTables}
-use Rattle.brk_store.specs.Holds.{HoldsRows, ReadPost}
+use Rattle.brk_store_transactions.specs.Holds.{HoldsRows, ReadPost}
 use Rattle.brk_store.specs.ReadSequences.{IsUnchangedByReads, disk_was_clean_before_reads, single_read_changes_nothing, joined_reads_change_nothing}
 
 module _ {S : Type 0} (g : Ghosts S) where

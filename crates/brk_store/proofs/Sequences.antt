@@ -5,7 +5,7 @@ use Rattle.sqlite.specs.Held.{Held, state}
 use Rattle.sqlite.specs.State.{State, HasCleanDisk, Survives}
 use Rattle.sqlite.proofs.StateLemmas.{survives_then}
 use Rattle.brk_model.specs.Tables.{Tables}
-use Rattle.brk_store.specs.Holds.{ReadPost, WasOpenAndIsUnchanged}
+use Rattle.brk_store_transactions.specs.Holds.{ReadPost, WasOpenAndIsUnchanged}
 use Rattle.brk_store.specs.ReadSequences.{IsUnchangedByReads, ReadSequencePost, disk_was_clean_before_reads, joined_reads_change_nothing}
 use Rattle.brk_store.specs.ReadSequences.{empty_read_sequence_changes_nothing, single_read_changes_nothing}
 

@@ -10,7 +10,7 @@ use Rattle.brk_lots.specs.Lots.{list_reversed_if_lifo}
 use Rattle.brk_lots.specs.declared.lot.Lot.{Lot}
 use Rattle.brk_trade_books.specs.OrderReads.{lot_of_typed_row}
 use Rattle.brk_money.specs.Spelling.{Text}
-use Rattle.brk_store.specs.Holds.{HoldsRows}
+use Rattle.brk_store_transactions.specs.Holds.{HoldsRows}
 use Rattle.brk_model.specs.Tables.{Tables, HoldingRow}
 use Rattle.brk_trade_rows.specs.Rows.{abstract_holding_row}
 use Rattle.brk_trade_rows.specs.declared.holding_row.HoldingRow as row

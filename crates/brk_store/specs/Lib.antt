@@ -1,11 +1,6 @@
-pub mod Audited
-pub mod AuditResult
-pub mod Holds
 pub mod ReadSequences
 pub mod Numbers
 pub mod Walked
-pub mod Calling
 pub mod Pages
 pub mod Indexed
 pub mod RemainingLots
-pub mod Valuation

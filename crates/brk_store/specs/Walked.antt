@@ -1,7 +1,8 @@
 -- The postconditions of the walks of a store, which pass the rows of a list to a visitor or a
--- closure, one at a time. `brk_store/specs/Holds.antt` explains the terms of the clauses. A clause
--- with the premise `HasCleanDisk` for the new state, and the promise on crashes in `survives`, are
--- vacuous if some read up to the return of the call did not return what was written.
+-- closure, one at a time. `brk_store_transactions/specs/Holds.antt` explains the terms of the
+-- clauses. A clause with the premise `HasCleanDisk` for the new state, and the promise on crashes
+-- in `survives`, are vacuous if some read up to the return of the call did not return what was
+-- written.
 use Rattle.std.specs.Prelude.{◌≡◌, ℕ, List, ◌++◌, filter, Result, Ok, Err, OnOk, IfErr, IsTrue}
 use Rattle.sqlite_trees.specs.declared.store.Store.{Ghosts}
 use Rattle.sqlite.specs.Held.{Held, state}
@@ -17,7 +18,7 @@ use Rattle.brk_tables_views.specs.Walk.{IsWalkError}
 use Rattle.brk_tables_views.specs.Walks.{TableWalkEndsEarly, TakesListSatisfying}
 use Rattle.brk_tables_views.specs.declared.walking.WalkError.{WalkError}
 use Rattle.brk_tables_views.specs.declared.walking.WalkError.TheVariants.{Failed, Cause}
-use Rattle.brk_store.specs.Holds.{HoldsRows, WasOpenAndIsUnchanged}
+use Rattle.brk_store_transactions.specs.Holds.{HoldsRows, WasOpenAndIsUnchanged}
 
 -- The cash rows of `account` whose stamps are from `from` to `to`, both included, sorted by stamp,
 -- ascending. Rows with equal stamps are in the order of the table CASH_MOVE.

@@ -7,14 +7,14 @@ ghost use Rattle.std.specs.Prelude.{◌≡◌, ◌==◌, IfErr, bytes_eq, filter
 ghost use Rattle.brk_trade_rows.specs.Rows.{abstract_request_row};
 ghost use Rattle.brk_model.specs.Run.{IsCallFault};
 ghost use Rattle.brk_ref.specs.Records.{abstract_broker_row};
-ghost use Rattle.brk_store.specs.Holds.{ReadPost};
+ghost use Rattle.brk_store_transactions.specs.Holds.{ReadPost};
 ghost use Rattle.brk_tables_schema.specs.Desk.{Brokers};
 ghost use Rattle.brk_tables_schema.specs.Statements.{AreMatchingRows};
 
 use crate::Store;
-use crate::beginning::begin_transaction;
 use brk_money::{Fault, Id};
 use brk_ref::{BrokerRow, Name};
+use brk_store_transactions::begin_transaction;
 use brk_trade_rows::RequestRow;
 use sqlite::Alter;
 use std::alloc::Global;

@@ -9,13 +9,13 @@ ghost use Rattle.brk_model.specs.Limits.{greatest_id};
 ghost use Rattle.brk_model.specs.LookupView.{is_cash_row_of_trade};
 ghost use Rattle.brk_trade_rows.specs.Rows.{abstract_move_row};
 ghost use Rattle.brk_trade_books.specs.TradeReads.{last_cash_row_number_or_zero};
-ghost use Rattle.brk_store.specs.Holds.{ReadPost};
+ghost use Rattle.brk_store_transactions.specs.Holds.{ReadPost};
 ghost use Rattle.brk_tables_schema.specs.Desk.{CashMoves};
 ghost use Rattle.brk_tables_schema.specs.Statements.{IsFirstMatch};
 
 use crate::Store;
-use crate::beginning::begin_transaction;
 use brk_money::{Day, Fault, Id, MoveId};
+use brk_store_transactions::begin_transaction;
 use brk_trade_rows::MoveRow;
 use sqlite::Alter;
 

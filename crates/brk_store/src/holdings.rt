@@ -8,12 +8,12 @@ ghost use Rattle.brk_model.specs.Joins.{trade_rows_oldest_first};
 ghost use Rattle.brk_model.specs.Run.{IsCallFault};
 ghost use Rattle.brk_money.specs.Kinds.{is_same_trade_status};
 ghost use Rattle.brk_money.specs.declared.status.Status.TheVariants.{Completed};
-ghost use Rattle.brk_store.specs.Holds.{ReadPost};
+ghost use Rattle.brk_store_transactions.specs.Holds.{ReadPost};
 
 use crate::Store;
-use crate::beginning::begin_transaction;
 use brk_money::{Fault, Id};
 use brk_ref::Symbol;
+use brk_store_transactions::begin_transaction;
 use sqlite::Alter;
 use std::alloc::Global;
 

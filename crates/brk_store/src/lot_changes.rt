@@ -6,13 +6,13 @@
 ghost use Rattle.std.specs.Prelude.{◌==◌, IfErr};
 ghost use Rattle.brk_trade_rows.specs.Rows.{abstract_lot_change_row};
 ghost use Rattle.brk_model.specs.Run.{IsCallFault};
-ghost use Rattle.brk_store.specs.Holds.{ReadPost};
+ghost use Rattle.brk_store_transactions.specs.Holds.{ReadPost};
 ghost use Rattle.brk_tables_schema.specs.Desk.{HoldingHistory};
 ghost use Rattle.brk_tables_schema.specs.Statements.{AreMatchingRows};
 
 use crate::Store;
-use crate::beginning::begin_transaction;
 use brk_money::{Fault, Id};
+use brk_store_transactions::begin_transaction;
 use brk_trade_rows::LotChange;
 use sqlite::Alter;
 use std::alloc::Global;

@@ -6,7 +6,7 @@ ghost use Rattle.std.specs.Prelude.{IfSome, IfNone, ℕ, ◌≤◌, pos, ◌≡�
 ghost use Rattle.brk_money.specs.declared.fault.Fault.TheVariants as fault;
 ghost use Rattle.brk_trade_rows.specs.declared.trade_count.TheConstants.TradeCount;
 ghost use Rattle.brk_money.specs.declared.amount.TheConstants.Amount;
-ghost use Rattle.brk_store.specs.Holds.{ReadPost};
+ghost use Rattle.brk_store_transactions.specs.Holds.{ReadPost};
 ghost use Rattle.brk_store.specs.Numbers.{AreBrokerTotals};
 
 use crate::Store;

@@ -6,7 +6,7 @@ ghost use Rattle.brk_model.specs.Run.{IsCallFault};
 ghost use Rattle.brk_trade_rows.specs.Rows.{abstract_holding_row};
 ghost use Rattle.brk_tables_trading.specs.Pages.{page_after_skipped, page_size};
 ghost use Rattle.brk_trade_books.specs.OrderReads.{lot_of_typed_row};
-ghost use Rattle.brk_store.specs.Holds.{ReadPost};
+ghost use Rattle.brk_store_transactions.specs.Holds.{ReadPost};
 ghost use Rattle.brk_store.specs.Pages.{lot_rows_in_closing_order};
 
 use crate::Store;
@@ -121,7 +121,7 @@ impl<S: Alter> Store<S> {
     ghost use Rattle.std.specs.Prelude.{◌≡◌};
     ghost use Rattle.brk_lots.specs.Lots.{list_reversed_if_lifo};
     ghost use Rattle.brk_model.specs.Tables.{Tables};
-    ghost use Rattle.brk_store.specs.Holds.{HoldsRows};
+    ghost use Rattle.brk_store_transactions.specs.Holds.{HoldsRows};
     ghost use Rattle.brk_store.specs.RemainingLots.{borrowed_store, number_of_rows_read};
     ghost use Rattle.brk_trade_books.specs.TradeReads.{lots_of_position};
 
@@ -179,7 +179,7 @@ impl<S: Alter> Pages<'_, S, Page> {
     ghost use Rattle.brk_trade_rows.specs.Rows.{abstract_holding_row};
     ghost use Rattle.brk_model.specs.Run.{IsCallFault};
     ghost use Rattle.brk_model.specs.Tables.{Tables};
-    ghost use Rattle.brk_store.specs.Holds.{HoldsRows};
+    ghost use Rattle.brk_store_transactions.specs.Holds.{HoldsRows};
     ghost use Rattle.brk_store.specs.ReadSequences.{IsUnchangedByReads};
     ghost use Rattle.brk_store.specs.Pages.{lot_rows_in_closing_order};
     ghost use Rattle.brk_store.specs.RemainingLots.{AreRemainingLots, number_of_rows_read};

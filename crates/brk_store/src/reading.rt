@@ -8,14 +8,14 @@ ghost use Rattle.std.specs.Prelude.{◌≡◌, ◌==◌, ◌&&◌, Err, IfErr, O
 ghost use Rattle.brk_money.specs.declared.fault.Fault.TheVariants as fault;
 ghost use Rattle.brk_model.specs.Run.{IsCallFault};
 ghost use Rattle.brk_ref.specs.Records.{abstract_account_row, abstract_broker_row, abstract_customer, abstract_kept_row};
-ghost use Rattle.brk_store.specs.Holds.{ReadPost};
+ghost use Rattle.brk_store_transactions.specs.Holds.{ReadPost};
 ghost use Rattle.brk_tables_schema.specs.Desk.{Accounts, Brokers, Customers, KeptRows};
 ghost use Rattle.brk_tables_schema.specs.Statements.{IsFirstMatch, AreMatchingRows};
 
 use crate::Store;
-use crate::beginning::begin_transaction;
 use brk_money::{Fault, Id, Stamp};
 use brk_ref::{AccountRow, BrokerRow, Customer, Kept, Key, TaxId};
+use brk_store_transactions::begin_transaction;
 use sqlite::Alter;
 use std::alloc::Global;
 

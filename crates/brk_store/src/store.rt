@@ -1,7 +1,7 @@
-use crate::changing::{apply_changes_in_transaction, create_tables_in_transaction};
 use crate::indexed::index_after_changes;
 use brk_money::Fault;
 use brk_store_lots::LotIndex;
+use brk_store_transactions::{apply_changes_in_transaction, create_tables_in_transaction};
 use brk_trade_rows::Change;
 use sqlite::{Alter, Connection};
 use std::marker::Model;
@@ -63,7 +63,7 @@ impl<S: Alter> Store<S> {
     ghost use Rattle.brk_money.specs.declared.fault.Condition.TheVariants.{NotEmpty};
     ghost use Rattle.brk_money.specs.declared.fault.Fault.TheVariants as fault;
     ghost use Rattle.brk_trade_rows.specs.Changes.{tables_after_changes};
-    ghost use Rattle.brk_store.specs.Holds.{ApplyPost, CreatePost};
+    ghost use Rattle.brk_store_transactions.specs.Holds.{ApplyPost, CreatePost};
 
     /// Creates the tables of a desk in the database of `conn`, commits them and returns the store.
     /// The tables have no rows, except for one row of DESK. The rows of tables that are not the

@@ -9,16 +9,16 @@ ghost use Rattle.brk_money.specs.declared.fault.Fault.TheVariants as fault;
 ghost use Rattle.brk_model.specs.Run.{IsCallFault};
 ghost use Rattle.brk_money.specs.Kinds.{is_same_trade_type};
 ghost use Rattle.brk_ref.specs.Records.{abstract_band, abstract_charge, abstract_customer_tax, abstract_permission, abstract_security_row, abstract_tax_rate};
-ghost use Rattle.brk_store.specs.Holds.{ReadPost};
+ghost use Rattle.brk_store_transactions.specs.Holds.{ReadPost};
 ghost use Rattle.brk_tables_schema.specs.Desk.{Bands, Charges, CustomerTaxes, Permissions, Securities, TaxRates};
 ghost use Rattle.brk_tables_schema.specs.Statements.{IsFirstMatch, AreMatchingRows};
 
 use crate::Store;
-use crate::beginning::begin_transaction;
 use brk_money::{Fault, Id, TradeType};
 use brk_ref::{
     Band, Charge, CustomerTax, Exchange, Permission, Security, Symbol, Tax, TaxId, Tier,
 };
+use brk_store_transactions::begin_transaction;
 use sqlite::Alter;
 use std::alloc::Global;
 

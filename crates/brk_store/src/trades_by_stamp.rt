@@ -9,12 +9,12 @@ ghost use Rattle.brk_trade_rows.specs.Rows.{abstract_trade_row};
 ghost use Rattle.brk_model.specs.Joins.{trade_rows_oldest_first, trade_rows_of_account};
 ghost use Rattle.brk_model.specs.LookupView.{row_stamp_is_between};
 ghost use Rattle.brk_model.specs.Run.{IsCallFault};
-ghost use Rattle.brk_store.specs.Holds.{ReadPost};
+ghost use Rattle.brk_store_transactions.specs.Holds.{ReadPost};
 
 use crate::Store;
-use crate::beginning::begin_transaction;
 use brk_money::{Fault, Id, Stamp};
 use brk_ref::{Span, Symbol};
+use brk_store_transactions::begin_transaction;
 use brk_trade_rows::TradeRow;
 use sqlite::Alter;
 use std::alloc::Global;

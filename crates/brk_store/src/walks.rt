@@ -5,14 +5,13 @@
 ghost use Rattle.std.specs.Fn.{CalledAt};
 ghost use Rattle.brk_trade_rows.specs.Rows.{abstract_holding_row, abstract_move_row, abstract_trade_row};
 ghost use Rattle.brk_model.specs.Statement.{holding_rows_of_account};
-ghost use Rattle.brk_store.specs.Calling.{IsClosureCallWithLot};
+ghost use Rattle.brk_tables_views.specs.Calling.{IsClosureCallWithLot};
 ghost use Rattle.brk_store.specs.Walked.{CallsClosureWithEachRecord, WalkPost, cash_rows_in_span, completed_trades_by_stamp};
 
 use crate::Store;
-use crate::calling::{ClosureVisitor, LotClosureVisitor};
 use brk_lots::Lot;
 use brk_money::{Fault, Id, Stamp};
-use brk_tables_views::{Visitor, WalkError};
+use brk_tables_views::{ClosureVisitor, LotClosureVisitor, Visitor, WalkError};
 use brk_trade_rows::{HoldingRow, MoveRow, TradeRow};
 use sqlite::Alter;
 

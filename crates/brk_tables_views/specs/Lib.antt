@@ -1,3 +1,4 @@
 pub mod Lists
 pub mod Walk
 pub mod Walks
+pub mod Calling

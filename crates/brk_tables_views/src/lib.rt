@@ -9,6 +9,7 @@
 #![tactic(auto)]
 
 pub mod brokers;
+pub mod calling;
 pub mod cash_walk;
 pub mod holdings;
 pub mod lot_changes;
@@ -19,6 +20,7 @@ pub mod visitor;
 pub mod walking;
 
 pub use brokers::{account_ids_of_broker, all_requests, brokers_with_name};
+pub use calling::{ClosureVisitor, LotClosureVisitor};
 pub use cash_walk::walk_cash_rows_of_account;
 pub use holdings::completed_trade_ids_of_position;
 pub use lot_changes::{lot_changes_by_trade, lot_changes_of_lot};

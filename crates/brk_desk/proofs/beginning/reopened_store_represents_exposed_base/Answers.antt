@@ -1,5 +1,5 @@
 use Rattle.brk_model.specs.Sheets.{sheets}
-use Rattle.brk_store.proofs.Found.{found_again}
+use Rattle.brk_store_transactions.proofs.Found.{found_again}
 use Rattle.brk_desk.proofs.AtFirst.{stands}
 use Rattle.brk_desk.proofs.beginning.reopened_store_represents_exposed_base.Goals as goal
 

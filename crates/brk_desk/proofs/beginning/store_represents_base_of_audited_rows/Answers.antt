@@ -1,4 +1,4 @@
-use Rattle.brk_store.proofs.Taking.{passing_books_held}
+use Rattle.brk_store_transactions.proofs.Taking.{passing_books_held}
 use Rattle.brk_desk.proofs.AtFirst.{upgraded_keeps}
 use Rattle.brk_desk.proofs.beginning.store_represents_base_of_audited_rows.Goals as goal
 

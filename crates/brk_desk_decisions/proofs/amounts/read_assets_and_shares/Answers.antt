@@ -3,7 +3,7 @@ use Rattle.std.specs.Prelude.{bytes_eq}
 use Rattle.brk_trade_rows.specs.Rows.{abstract_summary_row}
 use Rattle.brk_model.specs.Tables.{SummaryRow, Tables}
 use Rattle.brk_desk_decisions.specs.OrderFactReads.{AreAssetsAndSharesOfAccount}
-use Rattle.brk_store.specs.Valuation.{AreValuedSummariesOfAccount}
+use Rattle.brk_store_required.specs.Valuation.{AreValuedSummariesOfAccount}
 use Rattle.brk_store.proofs.Retelling.{retold}
 use Rattle.brk_desk_decisions.proofs.OrderFinds.{find-filter}
 use Rattle.brk_desk_decisions.proofs.amounts.read_assets_and_shares.Goals as goal

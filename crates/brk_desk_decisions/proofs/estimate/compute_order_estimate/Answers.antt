@@ -1,6 +1,6 @@
 use Rattle.std.proofs.Common.{rules}
 use Rattle.brk_ref_orders.specs.Records.{abstract_order}
-use Rattle.brk_store.specs.Holds.{HoldsRows}
+use Rattle.brk_store_transactions.specs.Holds.{HoldsRows}
 use Rattle.brk_trade_theorems.specs.OrderPlans.{EstimateFactsMatchTables}
 use Rattle.brk_desk_decisions.specs.Estimates.{IsEstimateOfModel}
 use Rattle.brk_store.proofs.ReadResults.{decided_on, read_at}

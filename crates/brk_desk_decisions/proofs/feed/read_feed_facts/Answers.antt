@@ -8,7 +8,7 @@ use Rattle.brk_trade_plans.specs.Feed.{states_of_quotes, has_no_state_of_symbol}
 use Rattle.brk_trade_plans.specs.declared.quote.Quote.{Quote}
 use Rattle.brk_trade_theorems.specs.TradePlans.{AreQuotesOfTicks}
 use Rattle.brk_trade_theorems.proofs.Quotes.{no_quotes}
-use Rattle.brk_store.specs.Holds.{ReadPost}
+use Rattle.brk_store_transactions.specs.Holds.{ReadPost}
 use Rattle.brk_desk_decisions.proofs.Feeds.{IsQuoteOfTickOrNone, QuotesAndLastStampMatch, one_quoted, one_not_listed, one_read}
 use Rattle.brk_store.proofs.Retelling.{retold}
 use Rattle.brk_store.proofs.Sequences.{failed_after, read_with}

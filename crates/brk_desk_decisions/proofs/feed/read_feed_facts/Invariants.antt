@@ -1,6 +1,6 @@
 use Rattle.std.proofs.Common.{Ok, take}
 use Rattle.brk_money.specs.declared.fault.Fault.{Fault}
-use Rattle.brk_store.specs.Holds.{ReadPost}
+use Rattle.brk_store_transactions.specs.Holds.{ReadPost}
 use Rattle.brk_trade_plans.specs.Feed.{states_of_quotes}
 use Rattle.brk_desk_decisions.proofs.Feeds.{QuotesAndLastStampMatch}
 use Rattle.brk_desk_decisions.proofs.feed.read_feed_facts.Given as goal

@@ -1,7 +1,7 @@
 use Rattle.std.proofs.Common.{rules}
 use Rattle.brk_model.specs.Commands.{PlaceOrder}
 use Rattle.brk_ref_orders.specs.Records.{abstract_order}
-use Rattle.brk_store.specs.Holds.{HoldsRows}
+use Rattle.brk_store_transactions.specs.Holds.{HoldsRows}
 use Rattle.brk_trade_theorems.specs.Decisions.{DecidesCommand}
 use Rattle.brk_store.proofs.ReadResults.{decided_on, read_at}
 use Rattle.brk_desk_decisions.proofs.Ordering.{OrderFactsAndLastStampMatch, order_decided, order_read}

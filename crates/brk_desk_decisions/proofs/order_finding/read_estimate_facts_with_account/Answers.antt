@@ -1,7 +1,8 @@
 use Rattle.std.proofs.Common.{subst, sym}
 use Rattle.brk_money.specs.declared.fault.Fault.{Fault}
 use Rattle.brk_model.specs.Tables.{Tables}
-use Rattle.brk_desk_decisions.specs.OrderFactReads.{EstimateAmountsMatchTables, CustomerOrderFactsMatchTables, IsCustomerWithId, EstimateFactsMatchIfAccountOfOrder}
+use Rattle.brk_desk_decisions.specs.OrderFactReads.{EstimateAmountsMatchTables, CustomerOrderFactsMatchTables, EstimateFactsMatchIfAccountOfOrder}
+use Rattle.brk_store_required.specs.Required.{IsCustomerWithId}
 use Rattle.brk_store.proofs.Sequences.{failed_after, read_with, unchanged_after}
 use Rattle.brk_desk_decisions.proofs.OrderFinds.{all_found}
 use Rattle.std.proofs.lemmas.Result.{err_from_is_err_and}

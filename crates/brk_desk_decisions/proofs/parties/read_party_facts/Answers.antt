@@ -4,7 +4,8 @@ use Rattle.brk_money.specs.declared.fault.Fault.{Fault}
 use Rattle.brk_model.specs.Joins.{account_row_with_id}
 use Rattle.brk_model.specs.Tables.{AccountRow, Tables}
 use Rattle.brk_ref.specs.Records.{abstract_account_row}
-use Rattle.brk_desk_decisions.specs.ResultFactReads.{PartyFactsMatchTables, IsAccountWithId}
+use Rattle.brk_desk_decisions.specs.ResultFactReads.{PartyFactsMatchTables}
+use Rattle.brk_store_required.specs.Required.{IsAccountWithId}
 use Rattle.brk_store.proofs.Sequences.{failed_after, read_with}
 use Rattle.std.proofs.lemmas.Result.{err_from_is_err_and}
 use Rattle.brk_store.specs.ReadSequences.{single_read_changes_nothing}

@@ -3,8 +3,8 @@ use Rattle.brk_money.specs.declared.fault.Fault.{Fault}
 use Rattle.brk_model.specs.Tables.{Tables}
 use Rattle.brk_ref.specs.Records.{abstract_account_row}
 use Rattle.brk_trade_books.specs.Reads.{customer_tax_rate_sum}
-use Rattle.brk_desk_decisions.specs.OrderFactReads.{IsCustomerWithId}
-use Rattle.brk_desk_decisions.specs.ResultFactReads.{AreTotalsOfBroker, PartyFactsMatchTables}
+use Rattle.brk_store_required.specs.Required.{AreTotalsOfBroker, IsCustomerWithId}
+use Rattle.brk_desk_decisions.specs.ResultFactReads.{PartyFactsMatchTables}
 use Rattle.brk_store.proofs.Sequences.{failed_after, read_with, unchanged_after}
 use Rattle.brk_desk_decisions.proofs.ResultReading.{parties_known, parties_of_rows}
 use Rattle.std.proofs.lemmas.Result.{err_from_is_err_and}

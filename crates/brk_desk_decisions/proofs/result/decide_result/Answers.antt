@@ -1,5 +1,5 @@
 use Rattle.brk_model.specs.Commands.{CompleteTrade}
-use Rattle.brk_store.specs.Holds.{HoldsRows}
+use Rattle.brk_store_transactions.specs.Holds.{HoldsRows}
 use Rattle.brk_trade_theorems.specs.Decisions.{DecidesCommand}
 use Rattle.brk_store.proofs.ReadResults.{decided_on}
 use Rattle.brk_desk_decisions.proofs.Resulting.{ResultFactsAndLastStampMatch, last_and_found, result_decided}

@@ -1,7 +1,7 @@
 use Rattle.std.proofs.Common.{Some, rules}
 use Rattle.sqlite.specs.Held.{state}
 use Rattle.sqlite.specs.State.{HasCleanDisk}
-use Rattle.brk_store.specs.Holds.{HoldsRows}
+use Rattle.brk_store_transactions.specs.Holds.{HoldsRows}
 use Rattle.brk_store.specs.ReadSequences.{empty_read_sequence_changes_nothing}
 use Rattle.brk_store.proofs.ReadResults.{kept_at}
 use Rattle.brk_desk_decisions.proofs.Resulting.{none_over, result_over}

@@ -5,7 +5,8 @@ use Rattle.brk_model.specs.Joins.{security_row_with_symbol}
 use Rattle.brk_model.specs.Records.{Band}
 use Rattle.brk_model.specs.Tables.{SecurityRow, Tables}
 use Rattle.brk_trade_books.specs.TradeReads.{commission_band_of_quantity}
-use Rattle.brk_desk_decisions.specs.ResultFactReads.{SecurityFactsMatchTables, IsSecurityWithSymbol}
+use Rattle.brk_desk_decisions.specs.ResultFactReads.{SecurityFactsMatchTables}
+use Rattle.brk_store_required.specs.Required.{IsSecurityWithSymbol}
 use Rattle.brk_desk_decisions.specs.declared.result_finding.SecurityFacts.{SecurityFacts}
 use Rattle.brk_store.proofs.Sequences.{failed_after, read_with}
 use Rattle.std.proofs.lemmas.Result.{err_from_is_err_and}

@@ -1,5 +1,5 @@
 use Rattle.std.proofs.Common.{◌≡◌, ℤ, ap}
-use Rattle.brk_store.specs.Valuation.{market_value_of_account}
+use Rattle.brk_store_required.specs.Valuation.{market_value_of_account}
 use Rattle.brk_model.specs.Tables.{Tables}
 use Rattle.brk_ref.specs.Records.{abstract_account_row}
 use Rattle.brk_store.proofs.Retelling.{retold}

@@ -1,7 +1,7 @@
 use Rattle.std.proofs.Common.{◌≡◌, ◌==◌, Ok, filter, map, take}
 use Rattle.brk_money.specs.declared.fault.Fault.{Fault}
 use Rattle.brk_ref.specs.Records.{abstract_account_row}
-use Rattle.brk_store.specs.Holds.{ReadPost}
+use Rattle.brk_store_transactions.specs.Holds.{ReadPost}
 use Rattle.brk_view_rows.specs.Worths.{worth_of_account}
 use Rattle.brk_desk_queries.proofs.accounts.read_balances_and_market_values.Given as goal
 

@@ -4,7 +4,7 @@ use Rattle.brk_money.specs.declared.fault.Fault.{Fault}
 use Rattle.brk_trade_rows.specs.Rows.{abstract_history_row, abstract_trade_row}
 use Rattle.brk_model.specs.Joins.{history_rows_with_trade_id}
 use Rattle.brk_model.specs.PositionView.{last_ten_trade_rows}
-use Rattle.brk_store.specs.Holds.{ReadPost}
+use Rattle.brk_store_transactions.specs.Holds.{ReadPost}
 use Rattle.brk_desk_queries.proofs.recents.read_recent_trades_with_history.Given as goal
 
 abbrev pub invariant-loop-trade : goal.invariant-loop-trade

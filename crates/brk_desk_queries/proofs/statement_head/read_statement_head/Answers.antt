@@ -7,7 +7,7 @@ use Rattle.brk_ref.specs.declared.account.AccountRow as account
 use Rattle.brk_ref.specs.Records.{abstract_account_row}
 use Rattle.brk_trade_books.proofs.Places.{find-at}
 use Rattle.brk_store.proofs.Retelling.{retold}
-use Rattle.brk_store.specs.Valuation.{market_value_of_account}
+use Rattle.brk_store_required.specs.Valuation.{market_value_of_account}
 use Rattle.brk_store.proofs.Sequences.{failed_after, read_with}
 use Rattle.brk_desk_queries.specs.Heads.{IsStatementHeadOfAccount}
 use Rattle.brk_desk_queries.specs.declared.statement_head.Head.{Head}

@@ -1,6 +1,6 @@
 use Rattle.std.proofs.Common.{Ok, length}
 use Rattle.brk_money.specs.declared.fault.Fault.{Fault}
-use Rattle.brk_store.specs.Holds.{ReadPost}
+use Rattle.brk_store_transactions.specs.Holds.{ReadPost}
 use Rattle.brk_desk_queries.proofs.StatusViews.{AreStatusesReadSoFar}
 use Rattle.brk_desk_queries.proofs.statuses.read_recent_trades_with_securities.Given as goal
 

@@ -4,7 +4,7 @@ use Rattle.brk_money.specs.declared.fault.Fault.{Fault}
 use Rattle.brk_trade_rows.specs.Rows.{abstract_lot_change_row}
 use Rattle.brk_trade_rows.specs.declared.lot_change.LotChange.{LotChange}
 use Rattle.brk_model.specs.Lists.{sort_by}
-use Rattle.brk_store.specs.Holds.{ReadPost}
+use Rattle.brk_store_transactions.specs.Holds.{ReadPost}
 use Rattle.brk_view_rows.specs.Lots.{is_earlier_lot_change}
 use Rattle.brk_desk_queries.specs.Touched.{stamped_changes_of_lot}
 use Rattle.brk_desk_queries.proofs.touched_lots.read_changes_of_touched_lots.Given as goal

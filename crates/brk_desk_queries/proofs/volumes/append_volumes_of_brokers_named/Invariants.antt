@@ -3,7 +3,7 @@ use Rattle.std.specs.Prelude.{bytes_eq}
 use Rattle.brk_money.specs.declared.fault.Fault.{Fault}
 use Rattle.brk_trade_rows.specs.Rows.{abstract_request_row}
 use Rattle.brk_ref.specs.Records.{abstract_broker_row}
-use Rattle.brk_store.specs.Holds.{ReadPost}
+use Rattle.brk_store_transactions.specs.Holds.{ReadPost}
 use Rattle.brk_desk_queries.specs.Volumes.{volumes_of_brokers_in_sector}
 use Rattle.brk_desk_queries.proofs.volumes.append_volumes_of_brokers_named.Given as goal
 

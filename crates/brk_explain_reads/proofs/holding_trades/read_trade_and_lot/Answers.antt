@@ -17,7 +17,7 @@ returns-clause-read g c =
     let row = c.in_ok-row.row in
     let lot = c.in_ok-lot.lot in
     let one : TradeAndLot = record { trade = row; lot = lot } in
-    read_with g.S.Store c.args.store.now c.read_existing_trade.new.store c.read_lot_of_trade.new.store {H = Fault} row lot one
+    read_with g.S.Store c.args.store.now c.require_trade.new.store c.read_lot_of_trade.new.store {H = Fault} row lot one
     (λ row (t : Tables). trade_row_with_id t trade ≡ Some (abstract_trade_row row)) (λ lot (t : Tables). option_map abstract_lot_details lot ≡ lot_opened_by_trade t trade)
     (λ one (t : Tables). IsTradeWithLot t trade one)
     (λ t e k. (e, k))
@@ -26,7 +26,7 @@ returns-clause-read g c =
 pub returns-in_err-lot-clause-read : goal.returns-in_err-lot-clause-read
 returns-in_err-lot-clause-read g c =
     let old = c.args.store.now in
-    let mid = c.read_existing_trade.new.store in
+    let mid = c.require_trade.new.store in
     let end = c.read_lot_of_trade.new.store in
     let p = err_from_is_err_and c.from_residual-in_err-lot.result c.from_residual-in_err-lot.ensures.1 in
     rw p.1 (none_read g.S.Store old end p.0 _ (both_change_nothing g.S.Store old mid end _ _ _ _ c.in_ok-row.ensures.read c.in_err-lot.ensures.read))

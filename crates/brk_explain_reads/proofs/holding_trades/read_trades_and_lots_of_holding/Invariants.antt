@@ -3,7 +3,7 @@ use Rattle.std.specs.Prelude.{flat_map, option_to_list}
 use Rattle.brk_money.specs.declared.fault.Fault.{Fault}
 use Rattle.brk_trade_rows.specs.Rows.{abstract_trade_row}
 use Rattle.brk_model.specs.Joins.{trade_row_with_id}
-use Rattle.brk_store.specs.Holds.{ReadPost}
+use Rattle.brk_store_transactions.specs.Holds.{ReadPost}
 use Rattle.brk_explain_rows.specs.Details.{abstract_lot_details}
 use Rattle.brk_explain_reads.specs.HoldingParts.{lot_opened_by_trade}
 use Rattle.brk_explain_reads.proofs.ById.{held_ids}

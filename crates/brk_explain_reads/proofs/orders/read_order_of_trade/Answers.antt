@@ -21,12 +21,12 @@ returns-clause-read g c =
     let security = c.in_ok-security.security in
     let statuses = c.in_ok-statuses.statuses in
     let order : OrderDetails = record { trade = trade; account = account; security = security; statuses = statuses } in
-    read_with g.S.Store old c.read_existing_security.new.store c.read_sorted_statuses.new.store {H = Fault} security statuses order
+    read_with g.S.Store old c.require_security.new.store c.read_sorted_statuses.new.store {H = Fault} security statuses order
     (λ security (t : Tables). (account_row_with_id t trade.account ≡ Some (abstract_account_row account)) × (security_row_with_symbol t trade.symbol ≡ Some (abstract_security_row security)))
     (λ statuses (t : Tables). map abstract_history_row statuses.items ≡ sorted_statuses_of_trade t trade.id)
     (λ order (t : Tables). IsOrderOfTrade trade order t)
     (λ t k e. record { trade = refl; account = k.0; security = k.1; statuses = e })
-    (read_with g.S.Store old c.read_existing_account.new.store c.read_existing_security.new.store {H = Fault} account security security
+    (read_with g.S.Store old c.require_account.new.store c.require_security.new.store {H = Fault} account security security
     (λ account (t : Tables). account_row_with_id t trade.account ≡ Some (abstract_account_row account))
     (λ security (t : Tables). security_row_with_symbol t trade.symbol ≡ Some (abstract_security_row security))
     (λ security (t : Tables). (account_row_with_id t trade.account ≡ Some (abstract_account_row account)) × (security_row_with_symbol t trade.symbol ≡ Some (abstract_security_row security)))
@@ -36,16 +36,16 @@ returns-clause-read g c =
 pub returns-in_err-security-clause-read : goal.returns-in_err-security-clause-read
 returns-in_err-security-clause-read g c =
     let old = c.args.store.now in
-    let mid = c.read_existing_account.new.store in
-    let end = c.read_existing_security.new.store in
+    let mid = c.require_account.new.store in
+    let end = c.require_security.new.store in
     let p = err_from_is_err_and c.from_residual-in_err-security.result c.from_residual-in_err-security.ensures.1 in
     rw p.1 (none_read g.S.Store old end p.0 _ (both_change_nothing g.S.Store old mid end _ _ _ _ c.in_ok-account.ensures.read c.in_err-security.ensures.read))
 
 pub returns-in_err-statuses-clause-read : goal.returns-in_err-statuses-clause-read
 returns-in_err-statuses-clause-read g c =
     let old = c.args.store.now in
-    let mid = c.read_existing_account.new.store in
-    let late = c.read_existing_security.new.store in
+    let mid = c.require_account.new.store in
+    let late = c.require_security.new.store in
     let end = c.read_sorted_statuses.new.store in
     let p = err_from_is_err_and c.from_residual-in_err-statuses.result c.from_residual-in_err-statuses.ensures.1 in
     rw p.1

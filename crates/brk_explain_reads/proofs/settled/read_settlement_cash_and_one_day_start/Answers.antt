@@ -27,7 +27,7 @@ returns-clause-read g c =
     (λ rule (t : Tables). rule ≡ t.rule)
     (λ settled (t : Tables). IsSettlementAndCashOfTrade t trade settled)
     (λ t k e. (sym (ap (λ o. unwrap_or o zero_settlement_row) k.0), k.1, e))
-    (read_with g.S.Store old c.read_existing_settlement.new.store c.cash_row.new.self {H = Fault} settlement cash cash
+    (read_with g.S.Store old c.require_settlement.new.store c.cash_row.new.self {H = Fault} settlement cash cash
     (λ settlement (t : Tables). find (λ (s : SettlementRow). s.trade == trade) t.settlements ≡ Some (abstract_settlement_row settlement))
     (λ cash (t : Tables). option_map abstract_move_row cash ≡ find (is_cash_row_of_trade trade) t.moves)
     (λ cash (t : Tables). (find (λ (s : SettlementRow). s.trade == trade) t.settlements ≡ Some (abstract_settlement_row settlement))
@@ -38,7 +38,7 @@ returns-clause-read g c =
 pub returns-in_err-cash-clause-read : goal.returns-in_err-cash-clause-read
 returns-in_err-cash-clause-read g c =
     let old = c.args.store.now in
-    let mid = c.read_existing_settlement.new.store in
+    let mid = c.require_settlement.new.store in
     let end = c.cash_row.new.self in
     let p = err_from_is_err_and c.from_residual-in_err-cash.result c.from_residual-in_err-cash.ensures.1 in
     rw p.1 (none_read g.S.Store old end p.0 _ (both_change_nothing g.S.Store old mid end _ _ _ _ c.in_ok-settlement.ensures.read c.in_err-cash.ensures.read))
@@ -46,7 +46,7 @@ returns-in_err-cash-clause-read g c =
 pub returns-in_err-rule-clause-read : goal.returns-in_err-rule-clause-read
 returns-in_err-rule-clause-read g c =
     let old = c.args.store.now in
-    let mid = c.read_existing_settlement.new.store in
+    let mid = c.require_settlement.new.store in
     let late = c.cash_row.new.self in
     let end = c.one_day_settlement_start.new.self in
     let p = err_from_is_err_and c.from_residual-in_err-rule.result c.from_residual-in_err-rule.ensures.1 in

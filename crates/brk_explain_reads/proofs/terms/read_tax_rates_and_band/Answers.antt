@@ -28,7 +28,7 @@ returns-clause-read g c =
     (λ band (t : Tables). option_map abstract_band band ≡ band_for_tier_and_exchange t u customer.tier order.security.exchange)
     (λ terms (t : Tables). AreTaxRatesAndBand t order terms)
     (λ t k e. (k.1, e ∙ ap (λ (o : Option Customer). band_for_customer_and_security t u o (Some (abstract_security_row order.security))) (sym k.0)))
-    (read_with g.S.Store old c.read_existing_customer.new.store c.read_tax_rates_of_customer.new.store {H = Fault} customer rates rates
+    (read_with g.S.Store old c.require_customer.new.store c.read_tax_rates_of_customer.new.store {H = Fault} customer rates rates
     (λ customer (t : Tables). find (λ (r : Customer). r.id == id) t.customers ≡ Some (abstract_customer customer))
     (λ rates (t : Tables). map abstract_tax_rate rates.items ≡ tax_rates_of_customer t id)
     (λ rates (t : Tables). (find (λ (r : Customer). r.id == id) t.customers ≡ Some (abstract_customer customer)) × (map abstract_tax_rate rates.items ≡ tax_rates_of_customer t id))
@@ -38,7 +38,7 @@ returns-clause-read g c =
 pub returns-in_err-rates-clause-read : goal.returns-in_err-rates-clause-read
 returns-in_err-rates-clause-read g c =
     let old = c.args.store.now in
-    let mid = c.read_existing_customer.new.store in
+    let mid = c.require_customer.new.store in
     let end = c.read_tax_rates_of_customer.new.store in
     let p = err_from_is_err_and c.from_residual-in_err-rates.result c.from_residual-in_err-rates.ensures.1 in
     rw p.1 (none_read g.S.Store old end p.0 _ (both_change_nothing g.S.Store old mid end _ _ _ _ c.in_ok-customer.ensures.read c.in_err-rates.ensures.read))
@@ -46,7 +46,7 @@ returns-in_err-rates-clause-read g c =
 pub returns-in_err-band-clause-read : goal.returns-in_err-band-clause-read
 returns-in_err-band-clause-read g c =
     let old = c.args.store.now in
-    let mid = c.read_existing_customer.new.store in
+    let mid = c.require_customer.new.store in
     let late = c.read_tax_rates_of_customer.new.store in
     let end = c.read_band_for_tier.new.store in
     let p = err_from_is_err_and c.from_residual-in_err-band.result c.from_residual-in_err-band.ensures.1 in

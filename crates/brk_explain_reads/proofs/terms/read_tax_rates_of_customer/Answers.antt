@@ -41,7 +41,7 @@ loop-row-preserved g c =
     let before = c.loop-row.rates.items in
     let rate = c.in_ok-rate.rate in
     rw c.in_ok-push.ensures.items
-    (read_with g.S.Store c.args.store.now c.loop-row.store c.read_existing_tax.new.store {H = Fault} tt rate tt
+    (read_with g.S.Store c.args.store.now c.loop-row.store c.require_tax.new.store {H = Fault} tt rate tt
     (λ _. FirstRates c.args.customer rows before i)
     (λ rate (t : Tables). rate_of t (abstract_customer_tax row) ≡ Some (abstract_tax_rate rate))
     (λ _. FirstRates c.args.customer rows (before ++ rate ∷ []) (i + 1))
@@ -65,7 +65,7 @@ pub returns-in_err-rate-clause-read : goal.returns-in_err-rate-clause-read
 returns-in_err-rate-clause-read g c =
     let old = c.args.store.now in
     let mid = c.loop-row.store in
-    let end = c.read_existing_tax.new.store in
+    let end = c.require_tax.new.store in
     let p = err_from_is_err_and c.from_residual-in_err-rate.result c.from_residual-in_err-rate.ensures.1 in
     rw p.1 (none_read g.S.Store old end p.0 _ (both_change_nothing g.S.Store old mid end _ _ _ _ c.loop-row.invariant c.in_err-rate.ensures.read))
 
@@ -73,6 +73,6 @@ pub returns-in_err-push-clause-read : goal.returns-in_err-push-clause-read
 returns-in_err-push-clause-read g c =
     let old = c.args.store.now in
     let mid = c.loop-row.store in
-    let end = c.read_existing_tax.new.store in
+    let end = c.require_tax.new.store in
     let p = err_from_is_err_and c.from_residual-in_err-push.result c.from_residual-in_err-push.ensures.1 in
     rw p.1 (none_read g.S.Store old end p.0 _ (both_change_nothing g.S.Store old mid end _ _ _ _ c.loop-row.invariant c.in_ok-rate.ensures.read))

@@ -1,7 +1,7 @@
 use Rattle.std.proofs.Common.{◌≡◌, ◌==◌, Ok, Some, filter, find, map, take}
 use Rattle.brk_money.specs.declared.fault.Fault.{Fault}
 use Rattle.brk_ref.specs.Records.{abstract_customer_tax, abstract_tax_rate}
-use Rattle.brk_store.specs.Holds.{ReadPost}
+use Rattle.brk_store_transactions.specs.Holds.{ReadPost}
 use Rattle.brk_explain_reads.proofs.terms.read_tax_rates_of_customer.Given as goal
 
 abbrev pub invariant-loop-row : goal.invariant-loop-row

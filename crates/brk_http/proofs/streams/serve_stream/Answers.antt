@@ -1,7 +1,7 @@
 use Rattle.std.proofs.Common.{None, Option, List, ℕ, Some, IfSome}
 use Rattle.sqlite.specs.Held.{state}
 use Rattle.sqlite.specs.State.{HasCleanDisk}
-use Rattle.brk_store.specs.Audited.{Represents}
+use Rattle.brk_store_transactions.specs.Audited.{Represents}
 use Rattle.brk_model.specs.Run.{IsOutcomeOfCall}
 use Rattle.brk_http_engine.proofs.Promised.{keeps}
 use Rattle.brk_http.specs.CallOutcomes.{DeskCallHasOutcome}

@@ -1,5 +1,5 @@
 use Rattle.std.proofs.Common.{refl, rules}
-use Rattle.brk_store.proofs.Ending.{read_is_over}
+use Rattle.brk_store_transactions.proofs.Ending.{read_is_over}
 use Rattle.brk_store.proofs.indexed.read_lot_by_trade.Goals as goal
 
 pub returns-clause-read : goal.returns-clause-read

@@ -4,7 +4,7 @@ use Rattle.sqlite.specs.State.{HasCleanDisk}
 use Rattle.brk_trade_rows.specs.Rows.{abstract_move_row}
 use Rattle.brk_model.specs.Tables.{Tables}
 use Rattle.brk_io.specs.declared.report_fault.LinesFault.{LinesFault}
-use Rattle.brk_store.specs.Holds.{HoldsRows}
+use Rattle.brk_store_transactions.specs.Holds.{HoldsRows}
 use Rattle.brk_store.specs.Walked.{cash_rows_in_span}
 use Rattle.brk_report.specs.CashWalk.{WritesLinesOfCashWalk}
 use Rattle.brk_report.specs.declared.statements.visitors.CashLineWriter.{CashLineWriter}

@@ -1,5 +1,5 @@
 use Rattle.std.proofs.Common.{Ok, subst}
-use Rattle.brk_store.specs.Audited.{AdoptPost}
+use Rattle.brk_store_transactions.specs.Audited.{AdoptPost}
 use Rattle.brk_store.proofs.KeptIndex.{index_of_adopted}
 use Rattle.brk_store.proofs.store.Store.adopt.Goals as goal
 

@@ -1,5 +1,5 @@
 use Rattle.std.proofs.Common.{rules}
-use Rattle.brk_store.proofs.Ending.{read_is_over}
+use Rattle.brk_store_transactions.proofs.Ending.{read_is_over}
 use Rattle.brk_store.proofs.KeptIndex.{read_keeps_index}
 use Rattle.brk_store.proofs.store.Store.broker.Goals as goal
 

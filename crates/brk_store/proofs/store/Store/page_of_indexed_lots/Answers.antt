@@ -6,7 +6,7 @@ use Rattle.brk_trade_rows.specs.declared.holding_row.HoldingRow as row
 use Rattle.brk_store_lots.specs.Ages.{ages_in}
 use Rattle.brk_model.specs.Tables.{Tables}
 use Rattle.brk_tables_trading.specs.Pages.{page_after_skipped}
-use Rattle.brk_store.specs.Holds.{ReadPost}
+use Rattle.brk_store_transactions.specs.Holds.{ReadPost}
 use Rattle.brk_store.specs.Indexed.{HasRowOfEachAge}
 use Rattle.brk_store.specs.Pages.{lot_rows_in_closing_order}
 use Rattle.brk_store.specs.ReadSequences.{disk_was_clean_before_reads, single_read_changes_nothing}

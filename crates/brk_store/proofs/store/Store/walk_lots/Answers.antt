@@ -1,5 +1,5 @@
 use Rattle.std.proofs.Common.{Ok, Err, refl}
-use Rattle.brk_store.specs.Calling.{IsClosureCallWithLot}
+use Rattle.brk_tables_views.specs.Calling.{IsClosureCallWithLot}
 use Rattle.brk_store.proofs.Walking.{is_walked_by}
 use Rattle.brk_store.proofs.store.Store.walk_lots.Goals as goal
 

@@ -1,5 +1,0 @@
-use Rattle.brk_store.proofs.Taking.{one_answer, one_answer_by}
-use Rattle.brk_store.proofs.adopting.audit_results_are_unique.Goals as goal
-
-pub returns : goal.returns
-returns c = record { of_database = one_answer; by_schema = one_answer_by }

@@ -1,0 +1,106 @@
+//! The market value of an account's holdings at last prices. A crash after a read exposes only
+//! states that a crash before it could expose.
+
+ghost use Rattle.std.specs.Prelude.{◌≡◌, ◌+ℤ◌, ◌*ℤ◌, IfErr, IfSome, pos};
+ghost use Rattle.brk_trade_rows.specs.Rows.{abstract_summary_row};
+ghost use Rattle.brk_model.specs.Joins.{last_price_in_tables};
+ghost use Rattle.brk_model.specs.Run.{IsCallFault};
+ghost use Rattle.brk_store_transactions.specs.Holds.{ReadPost};
+ghost use Rattle.brk_store_required.specs.Valuation.{AreValuedSummariesOfAccount, market_value_of_summary, market_value_of_account};
+
+use brk_money::{Fault, Id, Price, Wide};
+use brk_ref::Symbol;
+use brk_store::Store;
+use brk_trade_rows::SummaryRow;
+use sqlite::Alter;
+use std::alloc::Global;
+
+/// The holding summaries of an account, and their market value.
+#[derive(Drop)]
+pub struct ValuedSummaries {
+    /// The holding summaries, one for each security that the account holds.
+    pub rows: Vec<SummaryRow>,
+    /// The market value of the summaries at last prices, in cents. Shares that were sold short
+    /// count below 0.
+    pub value: Wide,
+}
+
+/// Returns the last price of a symbol on the market, in cents. If the database is still open, it is
+/// unchanged. Fails with `Memory` or `Store` only; with `Store` also if the symbol has no last
+/// trade.
+pub fn require_last_price<S: Alter>(store: &mut Store<S>, symbol: &Symbol) -> Result<Price, Fault>
+    ensures read { ReadPost S.Store store.old store.new result (λ price t. price ≡ last_price_in_tables t symbol.now) }
+    ensures fault { IfErr result IsCallFault }
+{
+    match store.last_trade(symbol)? {
+        Some(last) => Ok(last.price),
+        None => Err(Fault::Store),
+    }
+}
+
+// Returns an amount in cents plus the market value of a holding summary at a price, or `None` if
+// the market value or the sum overflows.
+fn add_market_value(amount: Wide, row: &SummaryRow, price: Price) -> Option<Wide>
+    ensures { IfSome result (λ sum. sum ≡ amount +ℤ row.now.qty *ℤ pos price) }
+{
+    let Some(worth) = i128::from(row.qty).checked_mul(i128::from(price.get())) else {
+        return None;
+    };
+    match amount.get().checked_add(worth) {
+        Some(sum) => Some(Wide::new(sum)),
+        None => None,
+    }
+}
+
+// Returns an amount in cents plus the market value of a holding summary at the last price of its
+// symbol. If the database is still open, it is unchanged. Fails with `Memory` or `Store` only; with
+// `Store` also if the symbol has no last price or the sum overflows.
+fn add_value_at_last_price<S: Alter>(
+    store: &mut Store<S>,
+    amount: Wide,
+    row: &SummaryRow,
+) -> Result<Wide, Fault>
+    ensures read { ReadPost S.Store store.old store.new result (λ sum t. sum ≡ amount +ℤ market_value_of_summary t (abstract_summary_row row.now)) }
+    ensures fault { IfErr result IsCallFault }
+{
+    let price = require_last_price(store, &row.symbol)?;
+    match add_market_value(amount, row, price) {
+        Some(sum) => Ok(sum),
+        None => Err(Fault::Store),
+    }
+}
+
+/// Returns the holding summaries of an account, sorted by symbol, ascending, and their market value
+/// at last prices, in cents. If the database is still open, it is unchanged. Fails with `Memory` or
+/// `Store` only; with `Store` also if a held symbol has no last price or the sum overflows.
+pub fn read_holding_summaries_and_value<S: Alter>(
+    alloc: Global,
+    store: &mut Store<S>,
+    account: Id,
+) -> Result<ValuedSummaries, Fault>
+    ensures read { ReadPost S.Store store.old store.new result (λ held t. AreValuedSummariesOfAccount t account held) }
+    ensures fault { IfErr result IsCallFault }
+{
+    let mut total = Wide::new(0);
+    let rows = store.summaries_of(alloc, account)?;
+    for row in &rows {
+        let sum = add_value_at_last_price(store, total, row)?;
+        total = sum;
+    }
+    Ok(ValuedSummaries { rows, value: total })
+}
+
+/// Returns the market value of an account's holdings at last prices, in cents. Shares that were
+/// sold short count below 0. If the database is still open, it is unchanged. Fails with `Memory` or
+/// `Store` only; with `Store` also if a held symbol has no last price or the sum overflows.
+pub fn read_holdings_value<S: Alter>(
+    alloc: Global,
+    store: &mut Store<S>,
+    account: Id,
+) -> Result<Wide, Fault>
+    ensures read { ReadPost S.Store store.old store.new result (λ worth t. worth ≡ market_value_of_account t account) }
+    ensures fault { IfErr result IsCallFault }
+{
+    let held = read_holding_summaries_and_value(alloc, store, account)?;
+    Ok(held.value)
+}

@@ -1,0 +1,11 @@
+pub mod Adoption
+pub mod Answering
+pub mod Closing
+pub mod Ending
+pub mod Found
+pub mod KeptTexts
+pub mod Making
+pub mod Schemas
+pub mod Taking
+pub mod Telling
+pub mod Texts

@@ -1,0 +1,81 @@
+//! The audit of a database by the conditions of schema 3.
+
+ghost use Rattle.std.specs.Prelude.{◌≡◌, ◌≢◌, IfErr, IfOk, IsTrue, Some, false};
+ghost use Rattle.brk_money.specs.declared.fault.Condition.TheVariants.{NotEmpty};
+ghost use Rattle.brk_money.specs.declared.fault.Fault.TheVariants as fault;
+ghost use Rattle.brk_model.specs.Run.{IsCallFault};
+ghost use Rattle.brk_model.specs.Schemas.{third_schema};
+ghost use Rattle.brk_trade_rows.specs.Schemas.{abstract_schema};
+ghost use Rattle.brk_tables_sql.specs.Model.{IsConnectionStep};
+ghost use Rattle.brk_store_transactions.specs.Audited.{IsDatabaseAuditResultBySchema, AuditPost};
+ghost use Rattle.brk_tables_scan.specs.Schemas.{DatabaseHasSchema, TablesWithSchemaNamesAreDeskTables};
+
+use crate::beginning::begin_transaction;
+use brk_audit::audit_rows;
+use brk_money::{Condition, Fault};
+use brk_tables_scan::{database_has_schema, read_typed_rows_of_schema};
+use brk_trade_rows::Schema;
+use sqlite::{Alter, Connection, Transaction};
+use std::alloc::Global;
+
+/// Returns the first condition of `schema` that the rows of its tables fail, or `None` if they
+/// pass. At `Ok` the database was open and is unchanged. Fails with `Memory` or `Store` only, and
+/// commits nothing. The result is specified only if the database has the schema
+/// (`DatabaseHasSchema`) and its tables satisfy `HasDeskDefinitions`
+/// (`TablesWithSchemaNamesAreDeskTables`).
+pub(crate) fn audit_rows_of_schema<S: Alter>(
+    tx: &mut Transaction<'_, S>,
+    alloc: Global,
+    schema: Schema,
+) -> Result<Option<Condition>, Fault>
+    ensures same_reference { tx.new.conn.ghost_name ≡ tx.old.conn.ghost_name }
+    ensures step { IsConnectionStep S.Store tx.old tx.new result (λ answer a b. IsTrue a.is_open × (b.now ≡ a.now)
+        × (TablesWithSchemaNamesAreDeskTables (abstract_schema schema) a.now → DatabaseHasSchema (abstract_schema schema) a.now
+        → IsDatabaseAuditResultBySchema (abstract_schema schema) a.now answer)) }
+    ensures condition { IfOk result (λ answer. answer ≢ Some NotEmpty) }
+    ensures fault { IfErr result IsCallFault }
+{
+    match read_typed_rows_of_schema(tx, alloc, schema)? {
+        None => Ok(Some(Condition::Form)),
+        Some(sheets) => audit_rows(alloc, schema, &sheets),
+    }
+}
+
+// Returns the first condition of schema 3 that the database fails, or `None` if it passes. At `Ok`
+// the database was open and is unchanged. Fails with `Memory` or `Store` only, and commits nothing.
+// The result is specified only if tables with the names and column names of schema 3 satisfy
+// `HasDeskDefinitions` (`TablesWithSchemaNamesAreDeskTables`).
+fn first_failing_condition<S: Alter>(
+    tx: &mut Transaction<'_, S>,
+    alloc: Global,
+) -> Result<Option<Condition>, Fault>
+    ensures same_reference { tx.new.conn.ghost_name ≡ tx.old.conn.ghost_name }
+    ensures step { IsConnectionStep S.Store tx.old tx.new result (λ answer a b. IsTrue a.is_open × (b.now ≡ a.now)
+        × (TablesWithSchemaNamesAreDeskTables third_schema a.now → IsDatabaseAuditResultBySchema third_schema a.now answer)) }
+    ensures condition { IfOk result (λ answer. answer ≢ Some NotEmpty) }
+    ensures fault { IfErr result IsCallFault }
+{
+    if !database_has_schema(tx, Schema::Third)? {
+        return Ok(Some(Condition::Schema));
+    }
+    audit_rows_of_schema(tx, alloc, Schema::Third)
+}
+
+/// Audits the database by the conditions of schema 3 in a transaction, which ends without a commit.
+/// Returns `Ok` only if the rows pass. The connection must be in autocommit mode, and is so after
+/// the call. Fails with `Damaged` and the first condition that fails, or with `Memory` or `Store`.
+/// If the database is still open, it is unchanged. A crash after the call exposes only states that
+/// a crash before the call could expose. The result is specified only if the database satisfies
+/// `ConnectionTablesWithThirdSchemaNamesAreDeskTables`.
+pub fn audit_database<S: Alter>(conn: &mut Connection<S>, alloc: Global) -> Result<(), Fault>
+    requires { conn.old.in_transaction ≡ false }
+    ensures mode { conn.new.in_transaction ≡ false }
+    ensures audited { AuditPost S.Store conn.old conn.new result }
+    ensures condition { IfErr result (λ f. f ≢ fault.Damaged NotEmpty) }
+{
+    let mut tx = begin_transaction(conn);
+    match first_failing_condition(&mut tx, alloc)? {
+        None => Ok(()),
+        Some(condition) => Err(Fault::Damaged(condition)),
+    }
+}

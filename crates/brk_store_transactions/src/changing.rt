@@ -1,0 +1,177 @@
+//! Changes of rows, all in one transaction, and the creation of the tables in one.
+
+ghost use Rattle.std.specs.Prelude.{◌≡◌, ◌⊎◌, Err, IfErr, OnErr, false};
+ghost use Rattle.brk_money.specs.declared.fault.Condition.TheVariants.{NotEmpty};
+ghost use Rattle.brk_money.specs.declared.fault.Fault.TheVariants as fault;
+ghost use Rattle.sqlite.specs.Held.{state};
+ghost use Rattle.brk_tables_sql.specs.Desk.{ChangesTablesBy};
+ghost use Rattle.brk_tables_sql.specs.Model.{IsTransactionStep};
+ghost use Rattle.brk_tables_schema.specs.Desk.{desk_tables};
+ghost use Rattle.brk_trade_rows.specs.Changes.{tables_after_change, tables_after_changes};
+ghost use Rattle.brk_store_transactions.specs.Holds.{ApplyPost, CreatePost};
+
+use brk_money::{Condition, Fault};
+use brk_tables_schema::Table;
+use brk_tables_schema::calls::statement_compiles;
+use brk_trade_rows::Change;
+use sqlite::{Alter, Connection, Transaction};
+
+// Applies one change to the tables of a desk within the transaction, by one SQL statement. A change
+// that updates or deletes a row that does not exist changes nothing. The rows of other tables are
+// unchanged, unless a foreign key of such a table may change or delete them. Fails with `Store`
+// only, also if the row to add breaks PRIMARY KEY or another constraint of its table, or if the
+// `sqlite` crate runs out of memory. At an error nothing is committed; the transaction and its rows
+// are not specified.
+fn apply_change<S: Alter>(tx: &mut Transaction<'_, S>, change: &Change) -> Result<(), Fault>
+    ensures same_reference { tx.new.conn.ghost_name ≡ tx.old.conn.ghost_name }
+    ensures step { IsTransactionStep (state S.Store tx.old.conn.now) (state S.Store tx.new.conn.now) result
+        (λ _ a b. ChangesTablesBy desk_tables (tables_after_change change.now) a.now b.now) }
+    ensures fault { OnErr result (result ≡ Err fault.Store) }
+{
+    match change {
+        Change::AddBroker(broker) => brk_tables_reference::add_broker(tx, broker),
+        Change::AddCustomer(customer) => brk_tables_reference::add_customer(tx, customer),
+        Change::AddAccount(account) => brk_tables_reference::add_account(tx, account),
+        Change::AddPermission(permission) => brk_tables_reference::add_permission(tx, permission),
+        Change::AddSecurity(security) => brk_tables_reference::add_security(tx, security),
+        Change::AddLastTrade(last_trade) => brk_tables_reference::add_last_trade(tx, last_trade),
+        Change::AddCharge(charge) => brk_tables_reference::add_charge(tx, charge),
+        Change::AddBand(band) => brk_tables_reference::add_band(tx, band),
+        Change::AddTaxRate(tax) => brk_tables_reference::add_tax_rate(tx, tax),
+        Change::AddCustomerTax(pays) => brk_tables_reference::add_customer_tax(tx, pays),
+        Change::AddTrade(trade) => brk_tables_trading::add_trade(tx, trade),
+        Change::SetStatus {
+            trade,
+            status,
+            stamp,
+        } => brk_tables_trading::set_trade_status(tx, *trade, *status, *stamp),
+        Change::AddHistory(mark) => brk_tables_trading::add_trade_history_row(tx, mark),
+        Change::AddRequest(request) => brk_tables_trading::add_request(tx, request),
+        Change::RemoveRequest(trade) => brk_tables_trading::remove_request(tx, *trade),
+        Change::SetLastTrade(last_trade) => brk_tables_trading::set_last_trade(tx, last_trade),
+        Change::CompleteTrade {
+            trade,
+            stamp,
+            price,
+            commission,
+            tax,
+        } => brk_tables_trading::complete_trade(tx, *trade, *stamp, *price, *commission, *tax),
+        Change::AddLot(lot) => brk_tables_trading::add_lot(tx, lot),
+        Change::SetLot { trade, qty } => brk_tables_trading::set_lot_quantity(tx, *trade, *qty),
+        Change::RemoveLot(trade) => brk_tables_trading::remove_lot(tx, *trade),
+        Change::AddLotChange(made) => brk_tables_trading::add_lot_change(tx, made),
+        Change::AddSummary(summary) => brk_tables_trading::add_holding_summary(tx, summary),
+        Change::SetSummary(summary) => brk_tables_trading::set_holding_summary_quantity(
+            tx, summary,
+        ),
+        Change::RemoveSummary { account, symbol } => brk_tables_trading::remove_holding_summary(
+            tx, *account, symbol,
+        ),
+        Change::AddSettlement(settlement) => brk_tables_trading::add_settlement(tx, settlement),
+        Change::AddMove(posted) => brk_tables_cash::add_cash_row(tx, posted),
+        Change::SetBalance { account, balance } => brk_tables_trading::set_account_balance(
+            tx, *account, *balance,
+        ),
+        Change::SetBrokerTotals {
+            broker,
+            trades,
+            commissions,
+        } => brk_tables_trading::set_broker_totals(tx, *broker, *trades, *commissions),
+        Change::SetExecutor { trade, executor } => brk_tables_trading::set_executor(
+            tx,
+            *trade,
+            executor.as_str(),
+        ),
+        Change::SetCashType { trade, cash_type } => brk_tables_trading::set_cash_type(
+            tx, *trade, *cash_type,
+        ),
+        Change::SetCashName { trade, name } => brk_tables_cash::set_cash_row_name(
+            tx,
+            *trade,
+            name.as_str(),
+        ),
+        Change::SetOneDaySettlementStart(day) => brk_tables_cash::set_one_day_settlement_start(
+            tx, *day,
+        ),
+        Change::AddStoredReply(kept) => brk_tables_schema::add_kept_row(tx, kept),
+        Change::SetLastStamp(stamp) => brk_tables_schema::set_last_stamp(tx, *stamp),
+    }
+}
+
+// Applies the changes to the tables of the desk, in order, within the transaction, up to the first
+// that fails. The rows of each table that is not the desk's are unchanged, unless a foreign key of
+// that table may change or delete them. Fails with `Store` only, if `apply_change` does. After a
+// failure nothing is committed; the transaction and its rows are not specified.
+fn apply_each_change<S: Alter>(tx: &mut Transaction<'_, S>, changes: &[Change]) -> Result<(), Fault>
+    ensures same_reference { tx.new.conn.ghost_name ≡ tx.old.conn.ghost_name }
+    ensures step { IsTransactionStep (state S.Store tx.old.conn.now) (state S.Store tx.new.conn.now) result
+        (λ _ a b. ChangesTablesBy desk_tables (tables_after_changes changes.now) a.now b.now) }
+    ensures fault { OnErr result (result ≡ Err fault.Store) }
+{
+    for change in changes {
+        apply_change(tx, change)?;
+    }
+    Ok(())
+}
+
+/// Applies the changes in order in one transaction and commits it. The SQLite schema is unchanged,
+/// and so are the rows of each table that is not the desk's, unless a foreign key of that table may
+/// change or delete them. The connection must be in autocommit mode, and is so after the call.
+///
+/// Fails with `Store` only, also if a row to add breaks PRIMARY KEY or another constraint of its
+/// table, or if the `sqlite` crate runs out of memory. A database that is still open is then
+/// unchanged.
+///
+/// A crash after the call exposes a state that a crash before the call could expose or, in the
+/// desk's tables, the rows with all changes; after `Ok` only the latter.
+pub fn apply_changes_in_transaction<S: Alter>(
+    conn: &mut Connection<S>,
+    changes: &[Change],
+) -> Result<(), Fault>
+    requires { conn.old.in_transaction ≡ false }
+    ensures mode { conn.new.in_transaction ≡ false }
+    ensures applied { ApplyPost S.Store conn.old conn.new result (tables_after_changes changes.now) }
+    ensures fault { OnErr result (result ≡ Err fault.Store) }
+{
+    // Called only for its contract, by which an open database outside a transaction is in its
+    // committed state.
+    let _is_autocommit = conn.is_autocommit();
+    let mut tx = conn.transaction();
+    // Fails on a closed store, also without changes: only an open one compiles a statement.
+    let _exists = statement_compiles(&mut tx, Table::TheDesk.existence_probe_text())?;
+    apply_each_change(&mut tx, changes)?;
+    match tx.commit() {
+        Ok(()) => Ok(()),
+        Err(_) => Err(Fault::Store),
+    }
+}
+
+/// Creates the tables of schema 3, without rows, except for the one row of DESK, in one transaction
+/// and commits it. The rows of other tables are unchanged. The connection must be in autocommit
+/// mode, and is so after the call.
+///
+/// Fails with `Damaged(NotEmpty)` only if a table with the name of a desk's table exists; if one
+/// exists, fails with this fault or with `Store`. Fails with `Store` also if the `sqlite` crate
+/// runs out of memory. At an error, a database that is still open is unchanged.
+///
+/// A crash after the call exposes a state that a crash before the call could expose, or the tables
+/// without rows; after `Ok` only the latter.
+pub fn create_tables_in_transaction<S: Alter>(conn: &mut Connection<S>) -> Result<(), Fault>
+    requires { conn.old.in_transaction ≡ false }
+    ensures mode { conn.new.in_transaction ≡ false }
+    ensures created { CreatePost S.Store conn.old conn.new result }
+    ensures fault { IfErr result (λ f. (f ≡ fault.Store) ⊎ (f ≡ fault.Damaged NotEmpty)) }
+{
+    // Called only for its contract, by which an open database outside a transaction is in its
+    // committed state.
+    let _is_autocommit = conn.is_autocommit();
+    let mut tx = conn.transaction();
+    if brk_tables_scan::has_some_desk_table(&mut tx)? {
+        return Err(Fault::Damaged(Condition::NotEmpty));
+    }
+    brk_tables::create_third_schema_tables(&mut tx)?;
+    match tx.commit() {
+        Ok(()) => Ok(()),
+        Err(_) => Err(Fault::Store),
+    }
+}

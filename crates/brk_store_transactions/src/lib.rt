@@ -1,0 +1,16 @@
+//! The tables of a desk in a database: created, changed, audited and upgraded, each in one
+//! transaction on a connection.
+#![tactic(auto)]
+
+pub mod adopting;
+mod auditing;
+mod beginning;
+mod changing;
+mod examining;
+pub mod reopening;
+mod upgrading;
+
+pub use auditing::audit_database;
+pub use beginning::begin_transaction;
+pub use changing::{apply_changes_in_transaction, create_tables_in_transaction};
+pub use upgrading::audit_and_upgrade_database;

@@ -1,0 +1,49 @@
+//! The audit of a database by its own schema and, if that is older, its upgrade to schema 3.
+
+ghost use Rattle.std.specs.Prelude.{◌≡◌, ◌≢◌, IfErr, false};
+ghost use Rattle.brk_money.specs.declared.fault.Condition.TheVariants.{NotEmpty};
+ghost use Rattle.brk_money.specs.declared.fault.Fault.TheVariants as fault;
+ghost use Rattle.brk_store_transactions.specs.Audited.{AdoptPost};
+
+use crate::beginning::begin_transaction;
+use crate::examining::{AuditResult, audit_by_own_schema};
+use brk_money::Fault;
+use brk_tables::upgrade_tables;
+use sqlite::{Alter, Connection};
+use std::alloc::Global;
+
+/// Audits the database by the conditions of the schema that it has. If its rows pass this audit and
+/// the schema is older than 3, upgrades the tables to schema 3 in the same transaction and commits
+/// it. The connection must be in autocommit mode, and is so after the call. Fails with `Damaged`
+/// and the first condition that fails (`Schema` if the database has none of the three schemas,
+/// never `NotEmpty`), or with `Memory` or `Store`; a database that is still open is then unchanged.
+/// The result is specified only if the database satisfies
+/// `ConnectionTablesWithDeskNamesAreDeskTables`.
+///
+/// A crash after the call exposes a state that a crash before the call could expose or, if rows of
+/// an older schema passed their audit, the upgraded tables; after `Ok` of an upgrade only the
+/// latter. After an error it may expose the upgraded tables only if the database is closed.
+pub fn audit_and_upgrade_database<S: Alter>(
+    conn: &mut Connection<S>,
+    alloc: Global,
+) -> Result<(), Fault>
+    requires { conn.old.in_transaction ≡ false }
+    ensures mode { conn.new.in_transaction ≡ false }
+    ensures adopted { AdoptPost S.Store conn.old conn.new result }
+    ensures condition { IfErr result (λ f. f ≢ fault.Damaged NotEmpty) }
+{
+    let mut tx = begin_transaction(conn);
+    let schema = match audit_by_own_schema(&mut tx, alloc)? {
+        AuditResult::Fails(condition) => return Err(Fault::Damaged(condition)),
+        AuditResult::Passes(schema) => schema,
+    };
+    // A database of schema 3 needs no upgrade.
+    if schema.has_settle_rule_table() {
+        return Ok(());
+    }
+    upgrade_tables(&mut tx, alloc, schema)?;
+    match tx.commit() {
+        Ok(()) => Ok(()),
+        Err(_) => Err(Fault::Store),
+    }
+}
