@@ -1,60 +1,118 @@
-//! Replays transcripts: reads one from standard input, executes its commands, and prints it again
-//! with new output lines in place of the old ones. If the desk answers as the transcript states,
-//! the bytes that are printed equal the transcript.
+//! Replays the transcripts of the folder in which it runs, and those of its folder `files`, and
+//! prints a line for each transcript that its replay equals. If a replay differs, prints the first
+//! line that does, as the transcript and as the replay have it.
 #![tactic(auto)]
 
-use brk_tests_replay::replay_transcript;
-use std::io;
+use brk_tests_replay::{
+    OutOfMemory, count_commands, first_difference, list_transcripts, replay_transcript,
+};
+use std::fmt::{Display, Formatter};
 use std::process::ExitCode;
+use std::{fmt, fs, io};
 
-// The reason why the program fails.
-#[derive(Clone, Copy)]
+// The folders of the transcripts.
+const FOLDERS: [&str; 2] = [".", "files"];
+
+// The reason why the program ends before the last transcript.
+#[derive(Drop)]
 enum Failed {
-    // Standard input cannot be read, is not UTF-8 or does not fit in memory.
-    Input,
+    // A folder of transcripts cannot be listed.
+    Listing(io::Error),
+    // The transcript at this path cannot be read, is not UTF-8 or does not fit in memory.
+    Reading(String, io::Error),
     // Standard output cannot be written.
-    Output,
-    // Memory ran out during the replay.
+    Output(io::Error),
+    // Memory ran out during a replay.
     Memory,
 }
 
-impl Failed {
-    // Returns the line that the program writes to standard error for this failure.
-    fn stderr_line(self) -> &'static str {
+impl Display for Failed {
+    // Writes the reason as the program writes it to standard error, without its own name.
+    fn fmt<W: fmt::Write>(&self, f: &mut Formatter<W>) -> fmt::Result {
         match self {
-            Failed::Input => "brk_tests_cases: input\n",
-            Failed::Output => "brk_tests_cases: output\n",
-            Failed::Memory => "brk_tests_cases: memory\n",
+            Failed::Listing(error) => write!(f, "folder: {error}"),
+            Failed::Reading(path, error) => write!(f, "{path}: {error}"),
+            Failed::Output(error) => write!(f, "output: {error}"),
+            Failed::Memory => write!(f, "memory"),
         }
     }
 }
 
-// Reads a transcript from standard input and writes its replay to standard output. Fails with
-// `Input` if the input cannot be read, is not UTF-8 or does not fit in memory, with `Memory` if
-// memory runs out during the replay, and with `Output` if the replay cannot be written, perhaps
-// after a part of it.
-fn replay_standard_input(rt: &HostRuntime) -> Result<(), Failed> {
-    let Ok(text) = io::read_to_string(rt.alloc(), rt.reader()) else {
-        return Err(Failed::Input);
-    };
-    let Ok(replayed) = replay_transcript(rt, text.as_str()) else {
-        return Err(Failed::Memory);
-    };
-    match rt.print(replayed.as_str()) {
-        Ok(()) => Ok(()),
-        Err(_) => Err(Failed::Output),
+impl From<OutOfMemory> for Failed {
+    // Returns the reason: memory ran out.
+    fn from(_: OutOfMemory) -> Failed {
+        Failed::Memory
     }
 }
 
-// Runs the program: replays the transcript, writes the reason of a failure to standard error, and
-// returns the exit status, 0 without a failure and otherwise 1. A failure to write to standard
-// error is ignored.
+// Prints the result of the replay `replayed` of the transcript `text` at a path, whose name is the
+// path without `.txt`: the number of commands if the two are equal, and otherwise their first
+// difference. Returns true if the two are equal. Fails if standard output cannot be written.
+fn print_result(rt: &HostRuntime, path: &str, text: &str, replayed: &str) -> io::Result<bool> {
+    let name = path.strip_suffix(".txt").unwrap_or(path);
+    match first_difference(text, replayed) {
+        None => {
+            println!(rt; "{name} {} commands ok", count_commands(text))?;
+            Ok(true)
+        }
+        Some(difference) => {
+            println!(rt; "{name} {difference}")?;
+            Ok(false)
+        }
+    }
+}
+
+// Replays the transcript at a path and prints the result. Returns true if the replay equals the
+// transcript. Fails with `Reading` if the transcript cannot be read, is not UTF-8 or does not fit in
+// memory, with `Memory` if memory runs out during the replay, and with `Output` if the result cannot
+// be written.
+fn replay_file(rt: &HostRuntime, path: String) -> Result<bool, Failed> {
+    let text = match fs::read_to_string(rt, path.as_str()) {
+        Ok(text) => text,
+        Err(error) => return Err(Failed::Reading(path, error)),
+    };
+    let replayed = replay_transcript(rt, text.as_str())?;
+    match print_result(rt, path.as_str(), text.as_str(), replayed.as_str()) {
+        Ok(is_equal) => Ok(is_equal),
+        Err(error) => Err(Failed::Output(error)),
+    }
+}
+
+// Replays the transcripts of a folder in the order of their names, and prints the result of each.
+// Returns true if each replay equals its transcript. Fails with `Listing` if the folder cannot be
+// listed, and with the first failure of a transcript.
+fn replay_folder(rt: &HostRuntime, folder: &str) -> Result<bool, Failed> {
+    let paths = match list_transcripts(rt, folder) {
+        Ok(paths) => paths,
+        Err(error) => return Err(Failed::Listing(error)),
+    };
+    let mut are_equal = true;
+    for path in paths {
+        are_equal = replay_file(rt, path)? && are_equal;
+    }
+    Ok(are_equal)
+}
+
+// Replays the transcripts of all folders, and prints the result of each. Returns true if each
+// replay equals its transcript. Fails with the first failure of a folder.
+fn replay_all_folders(rt: &HostRuntime) -> Result<bool, Failed> {
+    let mut are_equal = true;
+    for folder in FOLDERS {
+        are_equal = replay_folder(rt, folder)? && are_equal;
+    }
+    Ok(are_equal)
+}
+
+// Runs the program, and returns the exit status: 0 if each replay equals its transcript, 1 if one
+// differs, and 2 if the program fails, after a line on standard error. A failure to write to
+// standard error is ignored.
 fn main(rt: HostRuntime) -> ExitCode {
-    match replay_standard_input(&rt) {
-        Ok(()) => ExitCode::SUCCESS,
+    match replay_all_folders(&rt) {
+        Ok(true) => ExitCode::SUCCESS,
+        Ok(false) => ExitCode::FAILURE,
         Err(failed) => {
-            let _ = rt.eprint(failed.stderr_line());
-            ExitCode::FAILURE
+            let _ = eprintln!(rt; "brk_tests_cases: {failed}");
+            ExitCode::from(2)
         }
     }
 }

@@ -171,6 +171,17 @@ fn is_comment_or_empty(line: &str) -> bool {
     line.is_empty() || line.starts_with('#')
 }
 
+// Returns true if a line of a transcript is a command: no comment, not empty, no input line and no
+// output line.
+fn is_command(line: &str) -> bool {
+    !(is_comment_or_empty(line) || line.starts_with("| ") || line.starts_with("> "))
+}
+
+/// Returns the number of commands of a transcript.
+pub fn count_commands(text: &str) -> usize {
+    text.split('\n').filter(|line| is_command(line)).count()
+}
+
 // The state of a replay: the open desk or database, and the pending command.
 #[derive(Drop)]
 struct Replay<'a> {
