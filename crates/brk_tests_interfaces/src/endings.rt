@@ -1,9 +1,9 @@
-use crate::expect::expect_equal;
 use brk_cli_args::UsageFault;
 use brk_cli_exit::brk_io::{BatchFault, FaultKind, ReportFault};
 use brk_cli_exit::{Ending, end_with};
 use brk_http_engine::{FaultKind as StreamFault, ServeFault};
 use brk_money::{Condition, Fault, Refusal};
+use brk_tests_unit::expect::expect_equal;
 use std::alloc::Global;
 use std::io;
 use std::io::Write;

@@ -1,6 +1,6 @@
-use crate::expect::expect;
 use brk_cli_args::{Job, UsageFault, read_words};
 use brk_money::Stamp;
+use brk_tests_unit::expect::expect;
 use std::alloc::{AllocError, Global};
 use std::test::Fail;
 
