@@ -33,8 +33,8 @@ pub fn account_and_days(account: u64, from: &str, to: &str) -> Result<Asked, Fai
     }
 }
 
-// Two purchases and a sale of a part.
-const BOUGHT: Step = Step {
+/// Two purchases and a sale of a part.
+pub const BOUGHT: Step = Step {
     batch: b"batch,T\n\
         order,100,TMB,ABC,100,,cash,fifo,Ann,Lee,T10\n\
         result,1,10.10\n\
@@ -52,8 +52,8 @@ const BOUGHT: Step = Step {
         end,6,0,0\n",
 };
 
-// The statement of account 100 for March 2024 after these trades.
-const WANTED: &str = "Statement of account 100\n\
+/// The statement of account 100 for March 2024 after these trades.
+pub const WANTED: &str = "Statement of account 100\n\
     Main\n\
     From 2024-03-01 to 2024-03-31\n\
     Opening                  10000.00\n\

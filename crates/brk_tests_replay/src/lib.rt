@@ -9,6 +9,7 @@ mod files;
 mod records;
 mod replay;
 mod sockets;
+mod surface;
 mod table_list;
 mod tests;
 

@@ -3,6 +3,7 @@
 use crate::failed::OutOfMemory;
 use crate::replay::append_output_line;
 use crate::sockets::socket_streams_share_one_desk;
+use crate::surface::run_surface_test;
 use std::alloc::Global;
 use std::process::Termination;
 use std::test::Fail;
@@ -25,13 +26,17 @@ fn run_test_over_desks(alloc: Global, name: &str) -> Option<Result<(), Fail>> {
     }
 }
 
-// Runs the test `name`: the test over sockets, or a test of one of the four crates of tests. Returns
-// `None` if no test has this name, and otherwise the result of the test.
+// Runs the test `name`: the test over sockets, a test of public names over a desk, or a test of one of
+// the four crates of tests. Returns `None` if no test has this name, and otherwise the result of the
+// test.
 fn run_test(rt: &HostRuntime, name: &str) -> Option<Result<(), Fail>> {
     match name {
         "socket_streams_share_one_desk" => Some(socket_streams_share_one_desk(rt)),
-        _ => match run_test_without_database(rt, name) {
-            None => run_test_over_desks(rt.alloc(), name),
+        _ => match run_surface_test(rt, name) {
+            None => match run_test_without_database(rt, name) {
+                None => run_test_over_desks(rt.alloc(), name),
+                tested => tested,
+            },
             tested => tested,
         },
     }

@@ -3,12 +3,12 @@
 #![tactic(auto)]
 
 pub mod expect;
-mod lots;
+pub mod lots;
 mod money;
 mod move_plans;
-mod planned_reply;
-mod plans;
-mod result_plans;
+pub mod planned_reply;
+pub mod plans;
+pub mod result_plans;
 mod slow_lots;
 
 use std::alloc::Global;
