@@ -11,6 +11,7 @@ mod listing;
 mod records;
 mod replay;
 mod sockets;
+mod surface;
 mod table_list;
 mod tests;
 
