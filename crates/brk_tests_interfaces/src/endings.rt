@@ -16,7 +16,7 @@ fn ending_of_batch_fault(kind: FaultKind) -> Ending {
 
 /// Checks that `end_with` returns the exit status `status` for an ending, and that it writes exactly
 /// the text `text` to its error stream. Fails with both statuses and texts if not.
-pub(crate) fn expect_status_and_line(
+pub fn expect_status_and_line(
     alloc: Global,
     ending: Ending,
     status: u8,

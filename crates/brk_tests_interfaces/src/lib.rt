@@ -1,14 +1,13 @@
 //! Tests of the edges of the program, which need no database: batches over a desk of the tests, the
-//! program's clock, the amounts of a statement, command-line arguments, exit statuses with their
-//! lines, and the public names of the crates. The command `test` of a transcript runs one of them.
+//! program's clock, the amounts of a statement, command-line arguments, and exit statuses with their
+//! lines. The command `test` of a transcript runs one of them.
 #![tactic(auto)]
 
 mod amounts;
 mod batches;
 mod clock;
-mod endings;
-pub mod surface;
-mod words;
+pub mod endings;
+pub mod words;
 
 use std::test::Fail;
 
@@ -48,13 +47,6 @@ pub fn run_test(rt: &HostRuntime, name: &str) -> Option<Result<(), Fail>> {
             endings::a_closed_error_stream_changes_no_exit_status(),
         "parses_the_arguments_of_each_job" => words::parses_the_arguments_of_each_job(alloc),
         "reports_empty_arguments" => words::reports_empty_arguments(alloc),
-        "surface_of_brk_money" => surface::money::surface_of_brk_money(alloc),
-        "surface_of_brk_ref" => surface::reference::surface_of_brk_ref(alloc),
-        "surface_of_brk_lots" => surface::lots::surface_of_brk_lots(alloc),
-        "surface_of_brk_trade" => surface::trade::surface_of_brk_trade(alloc),
-        "surface_of_brk_view" => surface::view::surface_of_brk_view(alloc),
-        "surface_of_brk_audit" => surface::audit::surface_of_brk_audit(alloc),
-        "surface_of_brk_cli" => surface::program::surface_of_brk_cli(alloc),
         _ => return None,
     };
     Some(tested)

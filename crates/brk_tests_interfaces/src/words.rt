@@ -76,7 +76,7 @@ fn format_job(alloc: Global, job: &Job) -> Result<String, AllocError> {
 
 /// Returns the words of a command line, which are separated by `|`: the name of the program and its
 /// arguments. Fails only if memory runs out.
-pub(crate) fn words_of_command_line(alloc: Global, line: &str) -> Result<Vec<String>, AllocError> {
+pub fn words_of_command_line(alloc: Global, line: &str) -> Result<Vec<String>, AllocError> {
     let mut all = Vec::new(alloc);
     for word in line.split('|') {
         all.push(String::from_str(alloc, word)?)?;

@@ -10,8 +10,6 @@ mod files;
 mod listing;
 mod records;
 mod replay;
-mod sockets;
-mod surface;
 mod table_list;
 mod tests;
 

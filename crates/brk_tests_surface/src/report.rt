@@ -1,4 +1,4 @@
-use crate::surface::store::store_after_trades;
+use crate::store::store_after_trades;
 use brk_desk::Desk;
 use brk_money::{Day, Id, Refusal, parse_day};
 use brk_report::{StatementFault, statement};

@@ -1,4 +1,5 @@
-use crate::surface::store::{add_amount, add_shares, store_after_trades};
+use crate::store::{add_amount, add_shares, store_after_trades};
+use crate::view::expect_records;
 use brk_desk::{
     Answer, Call, Command, CommandAnswer, Desk, Head, Key, Outcome, Query, View, line_text,
     parse_query, parse_row, row_text, view_fields,
@@ -8,7 +9,6 @@ use brk_money::{Fault, Id, Stamp};
 use brk_ref::{BatchName, RowNumber};
 use brk_tests::worked::FIRST_MOMENT;
 use brk_tests::{expect, open_in_memory};
-use brk_tests_interfaces::surface::view::expect_records;
 use brk_trade_rows::MoveRow;
 use sqlite::{Alter, Connection};
 use std::alloc::Global;

@@ -1,11 +1,11 @@
-use crate::endings::expect_status_and_line;
-use crate::words::words_of_command_line;
 use brk_cli_args::{Job, UsageFault, read_words};
 use brk_cli_exit::brk_io::{BatchFault, FaultKind};
 use brk_cli_exit::{Ending, end_with};
 use brk_http_engine::{FaultKind as StreamFault, ServeFault};
 use brk_money::{Condition, Fault, Refusal};
 use brk_report_lines::ReportFault;
+use brk_tests_interfaces::endings::expect_status_and_line;
+use brk_tests_interfaces::words::words_of_command_line;
 use brk_tests_unit::expect::{expect, expect_equal, expect_text};
 use std::alloc::Global;
 use std::test::Fail;
