@@ -1,5 +1,5 @@
-//! Tests of the fixed public names of the crates over a database, over desks in memory. Each name is
-//! imported under its path, each function is called once with a known answer, and each type is
+//! Tests of the fixed public names of the crates over a database, over desks in memory. Each name
+//! is imported under its path, each function is called once with a known answer, and each type is
 //! constructed or matched, so a name that changes fails to compile. Those of the crates below the
 //! database are in `brk_tests_interfaces`.
 
@@ -12,8 +12,8 @@ mod tables;
 
 use std::test::Fail;
 
-/// Runs the test `name` of the public names of a crate. Returns `None` if no such test has this name,
-/// and otherwise the result of the test.
+/// Runs the test `name` of the public names of a crate. Returns `None` if no such test has this
+/// name, and otherwise the result of the test.
 pub fn run_surface_test(rt: &HostRuntime, name: &str) -> Option<Result<(), Fail>> {
     let alloc = rt.alloc();
     let tested = match name {

@@ -8,8 +8,8 @@ use std::alloc::Global;
 use std::process::Termination;
 use std::test::Fail;
 
-// Runs the test `name` of `brk_tests_unit` or of `brk_tests_interfaces`. Returns `None` if no test of
-// these crates has this name, and otherwise the result of the test.
+// Runs the test `name` of `brk_tests_unit` or of `brk_tests_interfaces`. Returns `None` if no test
+// of these crates has this name, and otherwise the result of the test.
 fn run_test_without_database(rt: &HostRuntime, name: &str) -> Option<Result<(), Fail>> {
     match brk_tests_unit::run_test(rt.alloc(), name) {
         None => brk_tests_interfaces::run_test(rt, name),
@@ -26,9 +26,9 @@ fn run_test_over_desks(alloc: Global, name: &str) -> Option<Result<(), Fail>> {
     }
 }
 
-// Runs the test `name`: the test over sockets, a test of public names over a desk, or a test of one of
-// the four crates of tests. Returns `None` if no test has this name, and otherwise the result of the
-// test.
+// Runs the test `name`: the test over sockets, a test of public names over a desk, or a test of one
+// of the four crates of tests. Returns `None` if no test has this name, and otherwise the result of
+// the test.
 fn run_test(rt: &HostRuntime, name: &str) -> Option<Result<(), Fail>> {
     match name {
         "socket_streams_share_one_desk" => Some(socket_streams_share_one_desk(rt)),
