@@ -1,8 +1,8 @@
 //! Tests of desks in memory that no transcript of `crates/brk_tests_cases/data/` can show: readers
 //! and writers that fail, the creation of stores, runs of calls, walks, and the number of rows that
-//! a sale reads. The command `test` of a transcript runs one of them. A test fails if what it checks
-//! is not so, and also if a desk for it cannot be set up or memory runs out. `brk_tests_files` uses
-//! their desks, batches and tables.
+//! a sale reads. The command `test` of a transcript runs one of them. A test fails if what it
+//! checks is not so, and also if a desk for it cannot be set up or memory runs out.
+//! `brk_tests_files` uses their desks, batches and tables.
 #![tactic(auto)]
 
 pub mod cuts;

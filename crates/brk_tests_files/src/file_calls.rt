@@ -1,5 +1,5 @@
-//! Tests of the calls of the database file that a sale makes: the sale of one share of 100 lots makes
-//! no more than the sale of one share of a single lot.
+//! Tests of the calls of the database file that a sale makes: the sale of one share of 100 lots
+//! makes no more than the sale of one share of a single lot.
 
 use crate::jobs::{Job, Task};
 use crate::machine::{

@@ -1,7 +1,7 @@
-//! Tests of desks in files in memory, and of streams of HTTP requests: crashes, disks that fail, the
-//! calls of a file that a sale makes, streams that come in pieces or end early, readers and writers
-//! that fail. The command `test` of a transcript runs one of them. A test fails if what it checks is
-//! not so, and also if a desk for it cannot be set up or memory runs out.
+//! Tests of desks in files in memory, and of streams of HTTP requests: crashes, disks that fail,
+//! the calls of a file that a sale makes, streams that come in pieces or end early, readers and
+//! writers that fail. The command `test` of a transcript runs one of them. A test fails if what it
+//! checks is not so, and also if a desk for it cannot be set up or memory runs out.
 #![tactic(auto)]
 
 mod crashes;

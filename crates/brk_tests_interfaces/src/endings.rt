@@ -14,8 +14,8 @@ fn ending_of_batch_fault(kind: FaultKind) -> Ending {
     Ending::Batch(BatchFault { rows: 3, kind })
 }
 
-/// Checks that `end_with` returns the exit status `status` for an ending, and that it writes exactly
-/// the text `text` to its error stream. Fails with both statuses and texts if not.
+/// Checks that `end_with` returns the exit status `status` for an ending, and that it writes
+/// exactly the text `text` to its error stream. Fails with both statuses and texts if not.
 pub fn expect_status_and_line(
     alloc: Global,
     ending: Ending,

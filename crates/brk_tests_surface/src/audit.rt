@@ -6,8 +6,8 @@ use brk_trade_rows::Schema;
 use std::alloc::Global;
 use std::test::Fail;
 
-// Returns the rows of a desk that has one broker, with this number of completed trades, and no other
-// rows. Fails only if memory runs out.
+// Returns the rows of a desk that has one broker, with this number of completed trades, and no
+// other rows. Fails only if memory runs out.
 fn rows_of_one_broker(alloc: Global, trades: i64) -> Result<Sheets, Fail> {
     let row = BrokerRow {
         broker: check_broker(alloc, &[b"1", b"Bo"])??,
@@ -41,8 +41,8 @@ fn rows_of_one_broker(alloc: Global, trades: i64) -> Result<Sheets, Fail> {
 }
 
 /// Checks the public names of brk_audit: the rows of a desk with a broker without trades pass, and
-/// those with a trade too many fail the condition `Count`. Fails if an answer differs, and if memory
-/// runs out.
+/// those with a trade too many fail the condition `Count`. Fails if an answer differs, and if
+/// memory runs out.
 pub fn surface_of_brk_audit(alloc: Global) -> Result<(), Fail> {
     let sheets = rows_of_one_broker(alloc, 0)?;
     expect_equal(audit_rows(alloc, Schema::Third, &sheets)?, None)?;

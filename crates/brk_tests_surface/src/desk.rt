@@ -44,8 +44,8 @@ fn format_answer(alloc: Global, answer: &CommandAnswer) -> Result<String, Fail> 
     }
 }
 
-// Returns the text of the answer to a command at 2024-03-01 00:00 UTC (`format_answer`), under a key
-// if there is one. Fails if the desk fails, and if memory runs out.
+// Returns the text of the answer to a command at 2024-03-01 00:00 UTC (`format_answer`), under a
+// key if there is one. Fails if the desk fails, and if memory runs out.
 fn answer_to_command<S: Alter>(
     alloc: Global,
     desk: &mut Desk<S>,
@@ -56,9 +56,9 @@ fn answer_to_command<S: Alter>(
     format_answer(alloc, &answer)
 }
 
-// Checks that a command is accepted under its key, repeated under it, and refused without it because
-// its broker exists, and that its stored row is that of its fields. Fails if not, if the desk fails,
-// and if memory runs out.
+// Checks that a command is accepted under its key, repeated under it, and refused without it
+// because its broker exists, and that its stored row is that of its fields. Fails if not, if the
+// desk fails, and if memory runs out.
 fn expect_answers<S: Alter>(alloc: Global, desk: &mut Desk<S>) -> Result<(), Fail> {
     let command = new_broker(alloc)?;
     let key = first_key(alloc)?;
@@ -85,8 +85,8 @@ fn expect_account_record(alloc: Global, view: &View) -> Result<(), Fail> {
     expect_records(alloc, view, "100,8403.40,1500.00,\n")
 }
 
-// Checks that a run of a command that is refused and of a query has these two outcomes. Fails if not,
-// if the run fails, and if memory runs out.
+// Checks that a run of a command that is refused and of a query has these two outcomes. Fails if
+// not, if the run fails, and if memory runs out.
 fn expect_outcomes_of_run<S: Alter>(alloc: Global, desk: &mut Desk<S>) -> Result<(), Fail> {
     let now = Stamp::nearest(FIRST_MOMENT);
     let mut calls = Vec::new(alloc);
@@ -153,9 +153,9 @@ fn expect_walked_sums<S: Alter>(desk: &mut Desk<S>) -> Result<(), Fail> {
     expect(cash == -159_660 && shares == 150, "other sums")
 }
 
-// Checks the answers, views and walks of a desk over the store in the database of a connection, after
-// two purchases and a sale. Fails if one differs, without a connection, if the store cannot be set up
-// or fails its audit, and if memory runs out.
+// Checks the answers, views and walks of a desk over the store in the database of a connection,
+// after two purchases and a sale. Fails if one differs, without a connection, if the store cannot
+// be set up or fails its audit, and if memory runs out.
 fn expect_desk_after_trades<S: Alter + Drop>(
     alloc: Global,
     conn: Option<Connection<S>>,
@@ -171,8 +171,8 @@ fn expect_desk_after_trades<S: Alter + Drop>(
     Ok(desk.into_store().audit(alloc)?)
 }
 
-/// Checks the public names of brk_desk: commands under keys, queries, runs, the head of a statement,
-/// walks and the audit. Fails if an answer differs, and if memory runs out.
+/// Checks the public names of brk_desk: commands under keys, queries, runs, the head of a
+/// statement, walks and the audit. Fails if an answer differs, and if memory runs out.
 pub fn surface_of_brk_desk(alloc: Global) -> Result<(), Fail> {
     expect_desk_after_trades(alloc, open_in_memory(alloc))
 }

@@ -33,8 +33,8 @@ fn serve_reader<R: Read + Drop, S: Alter>(
     serve_stream(alloc, reader, out, &mut clock, desk)
 }
 
-// Checks that the request has its reply on a desk, and that a stream whose reader fails after it is a
-// fault after one reply. Fails if not.
+// Checks that the request has its reply on a desk, and that a stream whose reader fails after it is
+// a fault after one reply. Fails if not.
 fn expect_streams<S: Alter>(alloc: Global, desk: &mut Desk<S>) -> Result<(), Fail> {
     let mut out = Vec::new(alloc);
     let served = serve_reader(alloc, REQUEST.as_bytes(), &mut out, desk);
@@ -64,8 +64,8 @@ fn serve_one_stream<S: Alter>(
     serve_on(alloc, listener, 1, &mut Still::at_first_timestamp(), desk)
 }
 
-// Checks that the request, sent by a peer to a listener, has the reply of a repeated request. Fails if
-// not, if a socket of this machine cannot be used, and if memory runs out.
+// Checks that the request, sent by a peer to a listener, has the reply of a repeated request. Fails
+// if not, if a socket of this machine cannot be used, and if memory runs out.
 fn expect_served_peer<S: Alter>(rt: &HostRuntime, desk: &mut Desk<S>) -> Result<(), Fail> {
     let mut listener = TcpListener::bind(rt, ("127.0.0.1", 0))?;
     let peer = connect_peer_and_send(rt, &listener, REQUEST, true)?;
@@ -75,9 +75,9 @@ fn expect_served_peer<S: Alter>(rt: &HostRuntime, desk: &mut Desk<S>) -> Result<
     expect_peer_replies(rt.alloc(), waiting)
 }
 
-// Checks the streams of a new desk in the database of a connection. Fails if a reply differs, without
-// a connection, if the desk cannot be set up, if a socket of this machine cannot be used, and if
-// memory runs out.
+// Checks the streams of a new desk in the database of a connection. Fails if a reply differs,
+// without a connection, if the desk cannot be set up, if a socket of this machine cannot be used,
+// and if memory runs out.
 fn expect_streams_on_new_desk<S: Alter + Drop>(
     rt: &HostRuntime,
     conn: Option<Connection<S>>,
@@ -87,9 +87,9 @@ fn expect_streams_on_new_desk<S: Alter + Drop>(
     expect_served_peer(rt, &mut desk)
 }
 
-/// Checks the public names of brk_http: a stream that completes, one whose reader fails, and one over a
-/// socket of this machine. Fails if a reply differs, if a socket cannot be used, and if memory runs
-/// out.
+/// Checks the public names of brk_http: a stream that completes, one whose reader fails, and one
+/// over a socket of this machine. Fails if a reply differs, if a socket cannot be used, and if
+/// memory runs out.
 pub fn surface_of_brk_http(rt: &HostRuntime) -> Result<(), Fail> {
     expect_streams_on_new_desk(rt, open_in_memory(rt.alloc()))
 }

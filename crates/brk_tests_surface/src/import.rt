@@ -26,8 +26,8 @@ const CUT: &[u8] = b"batch,C\nbroker,2,Cy\nbroker,3\nbroker,4,D";
 // The lines of this batch after the other one.
 const CUT_LINES: &[u8] = b"1,ok,1709251200003\n2,no,18\n3,no,18\n";
 
-// Checks that a batch has the result `wanted` on a desk at the readings of a clock, and writes exactly
-// the lines `lines`. Fails if not.
+// Checks that a batch has the result `wanted` on a desk at the readings of a clock, and writes
+// exactly the lines `lines`. Fails if not.
 fn expect_batch<C: Clock, S: Alter>(
     alloc: Global,
     desk: &mut Desk<S>,

@@ -28,8 +28,8 @@ fn expect_first_and_last_lot(alloc: Global) -> Result<(), Fail> {
 }
 
 // Closes lots of a position by a deal, from its oldest lots on, and applies the closing to the
-// position. Returns the closing. Fails if the position does not accept the trade, and if memory runs
-// out.
+// position. Returns the closing. Fails if the position does not accept the trade, and if memory
+// runs out.
 fn close_oldest_lots(alloc: Global, position: &mut Position, deal: Deal) -> Result<Closing, Fail> {
     if !position.accepts_trade(deal.trade, deal.stamp) {
         return Err("the position does not accept the trade")?;
@@ -42,9 +42,9 @@ fn close_oldest_lots(alloc: Global, position: &mut Position, deal: Deal) -> Resu
     Ok(closing)
 }
 
-// Checks that a sale of 150 shares at 13.00 closes the lot of 100 shares and a part of the other one,
-// with a buy value of 1610.00 and a sell value of 1950.00, and that 150 shares of the other one
-// remain. Fails if not, and if memory runs out.
+// Checks that a sale of 150 shares at 13.00 closes the lot of 100 shares and a part of the other
+// one, with a buy value of 1610.00 and a sell value of 1950.00, and that 150 shares of the other
+// one remain. Fails if not, and if memory runs out.
 fn expect_sale_of_150_shares(alloc: Global) -> Result<(), Fail> {
     let mut position = position_of_two_lots(alloc)?;
     let deal = deal_from_numbers(9, Side::Sell, 150, 1300, 3)?;
@@ -90,8 +90,8 @@ fn expect_replayed_lot(alloc: Global) -> Result<(), Fail> {
     )
 }
 
-/// Checks the public names of brk_lots: positions, their ends, closings and replayed deals. Fails if
-/// an answer differs, and if memory runs out.
+/// Checks the public names of brk_lots: positions, their ends, closings and replayed deals. Fails
+/// if an answer differs, and if memory runs out.
 pub fn surface_of_brk_lots(alloc: Global) -> Result<(), Fail> {
     expect_first_and_last_lot(alloc)?;
     expect_sale_of_150_shares(alloc)?;

@@ -7,8 +7,8 @@ use brk_tests_unit::expect::{expect_equal, expect_text};
 use std::alloc::Global;
 use std::test::Fail;
 
-// Checks that 5/10 is rounded to 1, that the commission of one share at 0.50 and 1 percent is 1 cent,
-// and that the tax on a gain of 340.00 at 20 percent is 68.00. Fails if not.
+// Checks that 5/10 is rounded to 1, that the commission of one share at 0.50 and 1 percent is 1
+// cent, and that the tax on a gain of 340.00 at 20 percent is 68.00. Fails if not.
 fn expect_rounded_amounts() -> Result<(), Fail> {
     let rate = Rate::new(100).ok_or("rate")?;
     let qty = Qty::new(1).ok_or("quantity")?;

@@ -109,8 +109,8 @@ fn executor_with_tax_id(alloc: Global, tax_id: &[u8]) -> Result<Executor, Fail> 
     })
 }
 
-// Checks that a customer is permitted without a permission, and that an executor with another tax id
-// is permitted only with one. Fails if not, and if memory runs out.
+// Checks that a customer is permitted without a permission, and that an executor with another tax
+// id is permitted only with one. Fails if not, and if memory runs out.
 fn expect_permitted_executors(alloc: Global) -> Result<(), Fail> {
     let customer = check_customer(alloc, &CUSTOMER)??;
     let own = executor_with_tax_id(alloc, b"T10")?;
@@ -142,8 +142,8 @@ fn expect_kept_reply(alloc: Global) -> Result<(), Fail> {
     expect_text(line.as_str(), "1709251200000")
 }
 
-/// Checks the public names of brk_ref: the records and the parsers of their fields, which executor is
-/// permitted, the rate of a quantity, bands that overlap, and the sum of tax rates. Fails if an
+/// Checks the public names of brk_ref: the records and the parsers of their fields, which executor
+/// is permitted, the rate of a quantity, bands that overlap, and the sum of tax rates. Fails if an
 /// answer differs, and if memory runs out.
 pub fn surface_of_brk_ref(alloc: Global) -> Result<(), Fail> {
     expect_people(alloc)?;

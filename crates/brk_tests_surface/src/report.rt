@@ -8,7 +8,8 @@ use sqlite::{Alter, Connection};
 use std::alloc::Global;
 use std::test::Fail;
 
-// Writes the statement of an account for these days to `out`. Fails with the fault of the statement.
+// Writes the statement of an account for these days to `out`. Fails with the fault of the
+// statement.
 fn write_statement_of_account<S: Alter>(
     alloc: Global,
     desk: &mut Desk<S>,
@@ -40,9 +41,9 @@ fn expect_statements<S: Alter>(alloc: Global, desk: &mut Desk<S>) -> Result<(), 
     )
 }
 
-// Checks the statements of a desk over the store in the database of a connection, after two purchases
-// and a sale. Fails if one differs, without a connection, if the store cannot be set up, and if memory
-// runs out.
+// Checks the statements of a desk over the store in the database of a connection, after two
+// purchases and a sale. Fails if one differs, without a connection, if the store cannot be set up,
+// and if memory runs out.
 fn expect_statements_after_trades<S: Alter + Drop>(
     alloc: Global,
     conn: Option<Connection<S>>,
@@ -51,8 +52,8 @@ fn expect_statements_after_trades<S: Alter + Drop>(
     expect_statements(alloc, &mut desk)
 }
 
-/// Checks the public names of brk_report: a statement, and one that is refused. Fails if one differs,
-/// and if memory runs out.
+/// Checks the public names of brk_report: a statement, and one that is refused. Fails if one
+/// differs, and if memory runs out.
 pub fn surface_of_brk_report(alloc: Global) -> Result<(), Fail> {
     expect_statements_after_trades(alloc, open_in_memory(alloc))
 }

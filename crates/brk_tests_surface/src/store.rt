@@ -33,8 +33,8 @@ fn apply_new_broker<S: Alter>(alloc: Global, store: &mut Store<S>) -> Result<(),
     Ok(store.apply(&[Change::AddBroker(broker)])?)
 }
 
-// Returns the number of completed trades and the commissions in cents of a broker. Fails if there is
-// no such broker, and if the store fails.
+// Returns the number of completed trades and the commissions in cents of a broker. Fails if there
+// is no such broker, and if the store fails.
 fn numbers_of_broker<S: Alter>(store: &mut Store<S>, broker: u64) -> Result<(u64, u64), Fail> {
     let broker = Id::new(broker).ok_or("broker")?;
     let numbers: BrokerTotals = store.broker_numbers(broker)?.ok_or("no broker")?;
@@ -160,8 +160,8 @@ fn expect_numbers_after_trades<S: Alter>(alloc: Global, store: &mut Store<S>) ->
     expect_walked_sums(store)
 }
 
-/// Returns the store of a desk in the database of a connection after two purchases and a sale. Fails
-/// without a connection, if the desk cannot be set up, and if memory runs out.
+/// Returns the store of a desk in the database of a connection after two purchases and a sale.
+/// Fails without a connection, if the desk cannot be set up, and if memory runs out.
 pub fn store_after_trades<S: Alter + Drop>(
     alloc: Global,
     conn: Option<Connection<S>>,
@@ -171,9 +171,9 @@ pub fn store_after_trades<S: Alter + Drop>(
     Ok(desk.into_store())
 }
 
-/// Checks the public names of brk_store: the creation, the adoption and the audit of a store, a change
-/// of its rows, its reads, its pages of lots and its walks. Fails if an answer differs, and if memory
-/// runs out.
+/// Checks the public names of brk_store: the creation, the adoption and the audit of a store, a
+/// change of its rows, its reads, its pages of lots and its walks. Fails if an answer differs, and
+/// if memory runs out.
 pub fn surface_of_brk_store(alloc: Global) -> Result<(), Fail> {
     expect_store_with_new_broker(alloc, open_in_memory(alloc))?;
     let mut store = store_after_trades(alloc, open_in_memory(alloc))?;

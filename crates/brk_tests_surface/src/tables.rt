@@ -33,8 +33,8 @@ fn read_broker_and_stamp<S: Alter>(
 }
 
 // Checks that the tables are created in a transaction on a connection, and that a broker and a last
-// stamp are read as they were written. Fails if not, if a transaction is open, if a statement fails,
-// and if memory runs out.
+// stamp are read as they were written. Fails if not, if a transaction is open, if a statement
+// fails, and if memory runs out.
 fn expect_broker_and_stamp<S: Alter>(alloc: Global, conn: &mut Connection<S>) -> Result<(), Fail> {
     if !conn.is_autocommit() {
         return Err("an open transaction")?;

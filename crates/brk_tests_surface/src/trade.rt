@@ -34,8 +34,8 @@ const NO_SUCH_BROKER: ReferenceFacts = ReferenceFacts {
     rates: None,
 };
 
-// Checks that the plan for a new broker adds it and has its stamp as the reply. Fails if not, and if
-// memory runs out.
+// Checks that the plan for a new broker adds it and has its stamp as the reply. Fails if not, and
+// if memory runs out.
 fn expect_reference_plan(alloc: Global) -> Result<(), Fail> {
     let broker = Reference::Broker(check_broker(alloc, &[b"1", b"Bo"])??);
     let planned: Planned<Plan> = plan_reference(alloc, &broker, NO_SUCH_BROKER, None, stamp_at(0));
@@ -50,8 +50,8 @@ fn expect_reference_plan(alloc: Global) -> Result<(), Fail> {
     }
 }
 
-// Checks the replies of the plans that read no lots: of a tick of 100 shares, a cancel, and an update
-// of the name in one trade. Fails if one differs, and if memory runs out.
+// Checks the replies of the plans that read no lots: of a tick of 100 shares, a cancel, and an
+// update of the name in one trade. Fails if one differs, and if memory runs out.
 fn expect_plans_without_lots(alloc: Global) -> Result<(), Fail> {
     let feed = parse_market_feed(alloc, &[b"ABC", b"9.50", b"100"])??;
     let quotes = one_quote_100_shares_below_volume_limit(alloc)?;
@@ -124,8 +124,8 @@ fn expect_result_plan(alloc: Global) -> Result<(), Fail> {
     expect_planned_reply(alloc, planned, wanted)
 }
 
-/// Checks the public names of brk_trade: plans, their row changes and replies, and an estimate. Fails
-/// if an answer differs, and if memory runs out.
+/// Checks the public names of brk_trade: plans, their row changes and replies, and an estimate.
+/// Fails if an answer differs, and if memory runs out.
 pub fn surface_of_brk_trade(alloc: Global) -> Result<(), Fail> {
     expect_reference_plan(alloc)?;
     expect_plans_without_lots(alloc)?;

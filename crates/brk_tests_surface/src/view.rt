@@ -42,8 +42,8 @@ fn completed_purchase(alloc: Global) -> Result<TradeRow, Fail> {
     Ok(trade)
 }
 
-// Returns the status of trade 1 `after` milliseconds after 2024-03-01 00:00 UTC. Does not fail, since
-// the id is within its limits.
+// Returns the status of trade 1 `after` milliseconds after 2024-03-01 00:00 UTC. Does not fail,
+// since the id is within its limits.
 fn history_row(after: i64, status: Status) -> Result<HistoryRow, Fail> {
     Ok(HistoryRow {
         trade: Id::new(1).ok_or("trade")?,
@@ -118,8 +118,8 @@ fn expect_status_of_account(alloc: Global) -> Result<(), Fail> {
     expect_records(alloc, &view, wanted)
 }
 
-// Returns a list of the completed purchase with its settlement, its cash row and its statuses. Fails
-// only if memory runs out.
+// Returns a list of the completed purchase with its settlement, its cash row and its statuses.
+// Fails only if memory runs out.
 fn looked_up_purchase(alloc: Global) -> Result<Vec<LookedUp>, Fail> {
     let trade = Id::new(1).ok_or("trade")?;
     let amount = Cents::new(-102_510).ok_or("amount")?;

@@ -1,5 +1,5 @@
-//! Tests of the rules of a desk, which need no database: amounts, days and stamps, lots, and plans at
-//! their limits. The command `test` of a transcript runs one of them.
+//! Tests of the rules of a desk, which need no database: amounts, days and stamps, lots, and plans
+//! at their limits. The command `test` of a transcript runs one of them.
 #![tactic(auto)]
 
 pub mod expect;

@@ -62,10 +62,10 @@ pub fn a_feed_beyond_volume_limit_is_refused(alloc: Global) -> Result<(), Fail> 
 }
 
 /// Returns the facts of the tables on which the plan for a purchase of ABC depends: an account of
-/// the broker 1 with the tax status `Withheld`, an executor who is permitted, a last price of 10.00,
-/// a charge of 5.00, a commission rate of one percent, tax rates of 20 percent in all, assets of
-/// 10000.00, no shares held, and `trades` as the last trade id, or no trade if it is not within the
-/// limits of an id. Does not fail, because all of its constants are within their limits.
+/// the broker 1 with the tax status `Withheld`, an executor who is permitted, a last price of
+/// 10.00, a charge of 5.00, a commission rate of one percent, tax rates of 20 percent in all,
+/// assets of 10000.00, no shares held, and `trades` as the last trade id, or no trade if it is not
+/// within the limits of an id. Does not fail, because all of its constants are within their limits.
 pub fn purchase_facts(trades: u64) -> Result<OrderPlanFacts, Fail> {
     let account = OrderAccount {
         broker: Id::new(1).ok_or("broker")?,
