@@ -14,6 +14,7 @@ MODEL = ['brk_money', 'brk_model', 'brk_model_http']
 
 # The crates that implement it, whose definitions are all our own.
 CODE = [
+    'brk_ref',
     'brk_trade_rows',
     'brk_store_lots',
     'brk_tables_sql',
@@ -92,7 +93,7 @@ NAMES = {
         'consistency conditions': 'holding_summary_quantity trade_count_of_broker commission_total_of_broker',
         'consistency conditions, with an opening of our own': 'balance_of_account',
     },
-    'Tables': {'own': 'tables_without_rows tables_from_completed_trades tables_of_base_in_schema tables_of_base MoveRow cash_move_row numbered_move_rows cash_move_rows'},
+    'Tables': {'own': 'tables_without_rows tables_from_completed_trades tables_of_base_in_schema tables_of_base CashRow cash_move_row numbered_cash_move_rows cash_move_rows'},
     'Tests': {'Trade-Order': 'charge_exists_check commission_band_exists_check checks_of_order'},
     'Audit': {'consistency conditions for Summary, Count and Commission; the others are our own': 'ConditionHolds'},
 }
@@ -111,9 +112,16 @@ def sentence(words):
 
 
 def files(crate):
-    """The files of a crate's definitions, in their order"""
+    """The files of a crate's definitions, in their order; not those that say that no contract cites them"""
     with open(f'crates/{crate}/specs/Lib.antt') as file:
-        return re.findall(r'^pub mod (\w+)', file.read(), re.M)
+        names = re.findall(r'^pub mod (\w+)', file.read(), re.M)
+    return [name for name in names if not is_for_proofs(crate, name)]
+
+
+def is_for_proofs(crate, name):
+    """Whether the head of a file says that it is for proofs alone"""
+    with open(f'crates/{crate}/specs/{name}.antt') as file:
+        return 'no contract cites them' in file.readline()
 
 
 def definitions(crate, name):

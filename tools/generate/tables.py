@@ -39,8 +39,8 @@ DATA = [
     ('summary', 'HOLDING_SUMMARY', 'Summaries', 'SummaryRow', 'summary_key', 't.summaries', False, [('HS_CA_ID', 'integer_column', 'natural_as_value r.account', 'CUSTOMER_ACCOUNT.CA_ID'), ('HS_S_SYMB', 'text_column', 'Words r.symbol', 'SECURITY.S_SYMB'), ('HS_QTY', 'integer_column', 'Int r.qty', None)]),
     ('holding_history', 'HOLDING_HISTORY', 'HoldingHistory', 'HoldingHistoryRow', 'holding_history_key', 't.holding_history', False, [('HH_H_T_ID', 'integer_column', 'natural_as_value r.lot', 'TRADE.T_ID'), ('HH_T_ID', 'integer_column', 'natural_as_value r.trade', 'TRADE.T_ID'), ('HH_BEFORE_QTY', 'integer_column', 'Int r.before', None), ('HH_AFTER_QTY', 'integer_column', 'Int r.after', None)]),
     ('settlement', 'SETTLEMENT', 'Settlements', 'SettlementRow', 'settlement_key', 't.settlements', True, [('SE_T_ID', 'integer_column', 'natural_as_value r.trade', 'TRADE.T_ID'), ('SE_CASH_TYPE', 'text_column', 'Words r.cash_type', None), ('SE_CASH_DUE_DATE', 'integer_column', 'natural_as_value r.due_day', None), ('SE_AMT', 'integer_column', 'Int r.amount', None)]),
-    ('cash', 'CASH_TRANSACTION', 'CashRows', 'CashRow', 'cash_transaction_key', 't.cash', True, [('CT_T_ID', 'integer_column', 'natural_as_value r.trade', 'TRADE.T_ID'), ('CT_DTS', 'integer_column', 'natural_as_value r.stamp', None), ('CT_AMT', 'integer_column', 'Int r.amount', None), ('CT_NAME', 'text_column', 'Words r.name', None)]),
-    ('move', 'CASH_MOVE', 'CashMoves', 'MoveRow', 'cash_move_key', 't.moves', True, [('CM_ID', 'integer_column', 'natural_as_value r.id', None), ('CM_CA_ID', 'integer_column', 'natural_as_value r.account', 'CUSTOMER_ACCOUNT.CA_ID'), ('CM_T_ID', 'nullable_integer_column', 'optional_natural_as_value r.trade', 'TRADE.T_ID'), ('CM_DTS', 'integer_column', 'natural_as_value r.stamp', None), ('CM_AMT', 'integer_column', 'Int r.amount', None), ('CM_NAME', 'text_column', 'Words r.name', None)]),
+    ('cash', 'CASH_TRANSACTION', 'CashRows', 'OldCashRow', 'cash_transaction_key', 't.cash', True, [('CT_T_ID', 'integer_column', 'natural_as_value r.trade', 'TRADE.T_ID'), ('CT_DTS', 'integer_column', 'natural_as_value r.stamp', None), ('CT_AMT', 'integer_column', 'Int r.amount', None), ('CT_NAME', 'text_column', 'Words r.name', None)]),
+    ('move', 'CASH_MOVE', 'CashMoves', 'CashRow', 'cash_move_key', 't.moves', True, [('CM_ID', 'integer_column', 'natural_as_value r.id', None), ('CM_CA_ID', 'integer_column', 'natural_as_value r.account', 'CUSTOMER_ACCOUNT.CA_ID'), ('CM_T_ID', 'nullable_integer_column', 'optional_natural_as_value r.trade', 'TRADE.T_ID'), ('CM_DTS', 'integer_column', 'natural_as_value r.stamp', None), ('CM_AMT', 'integer_column', 'Int r.amount', None), ('CM_NAME', 'text_column', 'Words r.name', None)]),
     ('rule', 'SETTLE_RULE', 'SettleRules', 'RuleRow', 'rule_key', 'rule_rows t.rule', True, [('SR_ID', 'integer_column', 'natural_as_value r.id', None), ('SR_DAY', 'integer_column', 'natural_as_value r.day', None)]),
 ]
 
@@ -428,7 +428,7 @@ abbrev pub {shape(t)} : ℕ → Table
 """
     save(f'{SPECS}/Shapes.antt', out)
 
-ROWS = 'BrokerRow, AccountRow, SecurityRow, LastTradeRow, TradeRow, HistoryRow, RequestRow, HoldingRow, SummaryRow, HoldingHistoryRow, SettlementRow, CashRow, MoveRow'
+ROWS = 'BrokerRow, AccountRow, SecurityRow, LastTradeRow, TradeRow, HistoryRow, RequestRow, HoldingRow, SummaryRow, HoldingHistoryRow, SettlementRow, OldCashRow, CashRow'
 RECORDS = 'Customer, Permission, Charge, Band, TaxRate, CustomerTax, Kept'
 
 def cells():
@@ -1095,10 +1095,10 @@ def record_meaning(d):
     """What a row in code is in the model"""
     return 'abstract_' + MEANINGS.get(d[0], words_of(d[3]))
 
-def records_of(crate):
-    """The tables whose type of rows is in brk_ref, which are those before the trades, or in brk_trade_rows"""
+def records_of(spec):
+    """The tables whose rows have their meaning in this spec of brk_ref: in Records those before the trades, in Rows the others"""
     trades = [d[0] for d in DATA].index('trade')
-    tables = DATA[:trades] if crate == 'brk_ref' else DATA[trades:]
+    tables = DATA[:trades] if spec == 'Records' else DATA[trades:]
     return [d for d in tables if d[0] not in VALUES]
 
 def all_of(words):
@@ -1219,7 +1219,7 @@ fn {group_function('read', word)}<S: Alter>(
 
 def all_tables_code():
     """The reads of all tables in code"""
-    types = lambda crate, *more: ', '.join(sorted([sheet_type(d) for d in records_of(crate)] + list(more)))
+    types = ', '.join(sorted(sheet_type(d) for d in DATA if d[0] not in VALUES))
     reads = sorted(f'{rows_name(d)}_in_schema' if d[0] in LATER else rows_name(d) for d in DATA)
     out = f"""//! The reads of all tables: each table is read and decoded, and its raw rows are dropped, before
 //! the next is read.
@@ -1232,9 +1232,9 @@ ghost use Rattle.brk_tables_scan.specs.Decoded.{{{', '.join(f'Reads{group[0]}Tab
 
 use crate::decoder::Decoder;
 use crate::rows::{{{', '.join(reads)}}};
-use brk_trade_rows::{{{types('brk_trade_rows', 'Schema', 'Sheets')}}};
 use brk_money::{{Day, Fault, Stamp}};
-use brk_ref::{{{types('brk_ref')}}};
+use brk_ref::{{{types}}};
+use brk_trade_rows::{{Schema, Sheets}};
 use sqlite::{{Alter, Transaction}};
 use std::alloc::Global;
 """
@@ -1265,9 +1265,9 @@ def declared(suffix):
 
 def meanings(*but):
     """The imports of what rows in code are in the model"""
-    names = lambda crate: ', '.join(record_meaning(d) for d in records_of(crate) if record_meaning(d) not in but)
-    return f"""use Rattle.brk_ref.specs.Records.{{{names('brk_ref')}}}
-use Rattle.brk_trade_rows.specs.Rows.{{{names('brk_trade_rows')}}}"""
+    names = lambda spec: ', '.join(record_meaning(d) for d in records_of(spec) if record_meaning(d) not in but)
+    return f"""use Rattle.brk_ref.specs.Records.{{{names('Records')}}}
+use Rattle.brk_ref.specs.Rows.{{{names('Rows')}}}"""
 
 def raw_record(word, tables):
     """The raw rows of a group"""
@@ -1493,14 +1493,12 @@ abstract_sheets s = record {{
 
 def sheets_code():
     """The sheets in code"""
-    module = lambda d: words_of(record_type(d))
-    uses = sorted(f'use crate::{module(d)}::{record_type(d)};' for d in records_of('brk_trade_rows'))
+    types = sorted(sheet_type(d) for d in DATA if d[0] not in VALUES)
     told = {'desk_row': 'The stamp of the last accepted command.', 'kept': 'The keys of the rows of KEPT. The texts of these rows are no part of the sheets.', 'rule': 'The first day of one-day settlement, if one is set (SR_DAY).'}
     kind = lambda d: VALUES[d[0]][0] if d[0] in VALUES else f'Vec<{sheet_type(d)}>'
     fields = ''.join((remark(told[d[0]], '    ///') + '\n' if d[0] in told else '') + f'    pub {sheet_field(d)}: {kind(d)},\n' for d in DATA)
-    text = f"""{chr(10).join(uses)}
-use brk_money::{{Day, Stamp}};
-use brk_ref::{{{', '.join(sorted(sheet_type(d) for d in records_of('brk_ref')))}}};
+    text = f"""use brk_money::{{Day, Stamp}};
+use brk_ref::{{{', '.join(types)}}};
 
 /// The rows of all tables of a desk, each list sorted by key, ascending.
 #[derive(Drop)]

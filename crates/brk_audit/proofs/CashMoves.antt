@@ -16,7 +16,7 @@ use Rattle.brk_model.specs.Records.{Movement, Trade}
 use Rattle.brk_model.specs.Base.{Base, completed_trades, last_status_stamp_of_trade}
 use Rattle.brk_model.specs.Derived.{Posting, cash_trades, postings_sorted_by_stamp, posting_of_movement, posting_of_trade, postings_of_base}
 use Rattle.brk_model.specs.Schemas.{Schema}
-use Rattle.brk_model.specs.Tables.{MoveRow, Tables, TradeRow, cash_transaction_row, numbered_move_rows, tables_of_base_in_schema}
+use Rattle.brk_model.specs.Tables.{CashRow, Tables, TradeRow, cash_transaction_row, numbered_cash_move_rows, tables_of_base_in_schema}
 use Rattle.brk_model.specs.Sheets.{tables_sorted_by_key}
 use Rattle.brk_model.specs.Keys.{number, rows_sorted_by_key, cash_transaction_key, is_key_less, cash_move_key, is_row_key_less, trade_key}
 use Rattle.brk_model.specs.Adopted.{base_of_tables, is_posting_of_trade, movement_of_row, posting_of_cash_transaction_row, posting_of_cash_move_row, postings_of_tables, trade_of_row}
@@ -36,13 +36,13 @@ use Rattle.brk_audit_theorems.proofs.Parts.{key_parts}
 use Rattle.brk_model_theorems.specs.FormParts.{SatisfiesFormParts}
 use Rattle.brk_model_theorems.proofs.FormParts.{form_parts}
 use Rattle.brk_money.specs.Spelling.{Text}
-use Rattle.brk_audit_sums.specs.Settling.{MoveRowFigures, is_completed_cash_trade, is_numbered_by_stamp, posted_figures_of_trade, posted_figures_of_row, account_tax_status_or_untaxed}
+use Rattle.brk_audit_sums.specs.Settling.{CashRowFigures, is_completed_cash_trade, is_numbered_by_stamp, posted_figures_of_trade, posted_figures_of_row, account_tax_status_or_untaxed}
 use Rattle.brk_audit_sums.proofs.Completed.{right_rows, row_moment}
 use Rattle.brk_audit_sums.proofs.Settling.{accounts_in, cash_rows, no_rows, same_amount}
 
 -- ---- rows in turn are numbered, and rise
 
-back_in_turn : (n stamp : ℕ) (rs : List MoveRow) → is_numbered_by_stamp n stamp rs ≡ true → rs ≡ numbered_move_rows n (map posting_of_cash_move_row rs)
+back_in_turn : (n stamp : ℕ) (rs : List CashRow) → is_numbered_by_stamp n stamp rs ≡ true → rs ≡ numbered_cash_move_rows n (map posting_of_cash_move_row rs)
 back_in_turn n stamp [] e = refl
 back_in_turn n stamp (r ∷ rs) e =
     let p = and_parts (r.id == n) (nat_le stamp r.stamp && is_numbered_by_stamp (n + 1) r.stamp rs) e in
@@ -50,7 +50,7 @@ back_in_turn n stamp (r ∷ rs) e =
     let k : r.id ≡ n = eqb-true r.id n p.0 in
     λ i. record r { id = k i } ∷ back_in_turn (n + 1) r.stamp rs q.1 i
 
-no_less : (n stamp : ℕ) (rs : List MoveRow) → is_numbered_by_stamp n stamp rs ≡ true → AllByRecursion (λ p. stamp ≤ p.stamp) (map posting_of_cash_move_row rs)
+no_less : (n stamp : ℕ) (rs : List CashRow) → is_numbered_by_stamp n stamp rs ≡ true → AllByRecursion (λ p. stamp ≤ p.stamp) (map posting_of_cash_move_row rs)
 no_less n stamp [] e = tt
 no_less n stamp (r ∷ rs) e =
     let p = and_parts (r.id == n) (nat_le stamp r.stamp && is_numbered_by_stamp (n + 1) r.stamp rs) e in
@@ -58,18 +58,18 @@ no_less n stamp (r ∷ rs) e =
     let l : stamp ≤ r.stamp = leb-true stamp r.stamp q.0 in
     (l, All-map (map posting_of_cash_move_row rs) (λ p m. let h : r.stamp ≤ p.stamp = m in omega (arith, l, h)) (no_less (n + 1) r.stamp rs q.1))
 
-turn_ascends : (n stamp : ℕ) (rs : List MoveRow) → is_numbered_by_stamp n stamp rs ≡ true → Ascends (λ p. p.stamp) (map posting_of_cash_move_row rs)
+turn_ascends : (n stamp : ℕ) (rs : List CashRow) → is_numbered_by_stamp n stamp rs ≡ true → Ascends (λ p. p.stamp) (map posting_of_cash_move_row rs)
 turn_ascends n stamp [] e = tt
 turn_ascends n stamp (r ∷ rs) e =
     let p = and_parts (r.id == n) (nat_le stamp r.stamp && is_numbered_by_stamp (n + 1) r.stamp rs) e in
     let q = and_parts (nat_le stamp r.stamp) (is_numbered_by_stamp (n + 1) r.stamp rs) p.1 in
     (no_less (n + 1) r.stamp rs q.1, turn_ascends (n + 1) r.stamp rs q.1)
 
-numbered_in_turn : (n stamp : ℕ) (ps : List Posting) → AllByRecursion (λ p. stamp ≤ p.stamp) ps → Ascends (λ p. p.stamp) ps → is_numbered_by_stamp n stamp (numbered_move_rows n ps) ≡ true
+numbered_in_turn : (n stamp : ℕ) (ps : List Posting) → AllByRecursion (λ p. stamp ≤ p.stamp) ps → Ascends (λ p. p.stamp) ps → is_numbered_by_stamp n stamp (numbered_cash_move_rows n ps) ≡ true
 numbered_in_turn n stamp [] h a = refl
 numbered_in_turn n stamp (p ∷ ps) h a =
-    and_from (n == n) (nat_le stamp p.stamp && is_numbered_by_stamp (n + 1) p.stamp (numbered_move_rows (n + 1) ps)) (eq-eqb n n refl)
-    (and_from (nat_le stamp p.stamp) (is_numbered_by_stamp (n + 1) p.stamp (numbered_move_rows (n + 1) ps)) (le-leb stamp p.stamp h.0) (numbered_in_turn (n + 1) p.stamp ps a.0 a.1))
+    and_from (n == n) (nat_le stamp p.stamp && is_numbered_by_stamp (n + 1) p.stamp (numbered_cash_move_rows (n + 1) ps)) (eq-eqb n n refl)
+    (and_from (nat_le stamp p.stamp) (is_numbered_by_stamp (n + 1) p.stamp (numbered_cash_move_rows (n + 1) ps)) (le-leb stamp p.stamp h.0) (numbered_in_turn (n + 1) p.stamp ps a.0 a.1))
 
 -- ---- postings in turn
 
@@ -181,10 +181,10 @@ postings_decide a b = (
       ((bytes_eq-Decides a.name b.name).1 (ap (λ (p : Posting). p.name) e)))))),
 )
 
-same_posted : MoveRowFigures → MoveRowFigures → Bool
+same_posted : CashRowFigures → CashRowFigures → Bool
 same_posted a b = (a.account == b.account) && ((a.trade == b.trade) && ((a.stamp == b.stamp) && int_eq a.amount b.amount))
 
-posted_decide : (a b : MoveRowFigures) → Decides (same_posted a b) (a ≡ b)
+posted_decide : (a b : CashRowFigures) → Decides (same_posted a b) (a ≡ b)
 unfolding same_posted
 posted_decide a b = (
   (λ e.
@@ -199,10 +199,10 @@ posted_decide a b = (
             (Decides-int_eq a.amount b.amount).0 r.1 i;
       }),
   (λ e.
-      and_from (a.account == b.account) _ (eq-eqb a.account b.account (ap (λ (p : MoveRowFigures). p.account) e))
-      (and_from (a.trade == b.trade) _ (eq-eqb a.trade b.trade (ap (λ (p : MoveRowFigures). p.trade) e))
-      (and_from (a.stamp == b.stamp) (int_eq a.amount b.amount) (eq-eqb a.stamp b.stamp (ap (λ (p : MoveRowFigures). p.stamp) e))
-      ((Decides-int_eq a.amount b.amount).1 (ap (λ (p : MoveRowFigures). p.amount) e))))),
+      and_from (a.account == b.account) _ (eq-eqb a.account b.account (ap (λ (p : CashRowFigures). p.account) e))
+      (and_from (a.trade == b.trade) _ (eq-eqb a.trade b.trade (ap (λ (p : CashRowFigures). p.trade) e))
+      (and_from (a.stamp == b.stamp) (int_eq a.amount b.amount) (eq-eqb a.stamp b.stamp (ap (λ (p : CashRowFigures). p.stamp) e))
+      ((Decides-int_eq a.amount b.amount).1 (ap (λ (p : CashRowFigures). p.amount) e))))),
 )
 
 -- ---- the name of a trade's posting is that of its row
@@ -214,7 +214,7 @@ both_false : (a b : Bool) → a || b ≡ false → (a ≡ false) × (b ≡ false
 both_false true b e = absurd (cc)
 both_false false b e = (refl, e)
 
-behind : (m : ℕ) (qs : List MoveRow) → contains_number m (trade_ids_of_cash_rows qs) ≡ false → AllByRecursion (λ q. (id : ℕ) → q.trade ≡ Some id → (m == id) ≡ false) qs
+behind : (m : ℕ) (qs : List CashRow) → contains_number m (trade_ids_of_cash_rows qs) ≡ false → AllByRecursion (λ q. (id : ℕ) → q.trade ≡ Some id → (m == id) ≡ false) qs
 behind m [] c = tt
 behind m (q ∷ qs) c = by_trade q.trade refl c (behind m qs)
   where
@@ -226,10 +226,10 @@ behind m (q ∷ qs) c = by_trade q.trade refl c (behind m qs)
         let p = both_false (n == m) (contains_number m (trade_ids_of_cash_rows qs)) c in
         ((λ id f. let k : Some n ≡ Some id = sym e ∙ f in let j : n ≡ id = cc in other_stamp id m (ap (λ x. x == m) (sym j) ∙ p.0)), ih p.1)
 
-abbrev IsOwn : List MoveRow → MoveRow → Type 0
+abbrev IsOwn : List CashRow → CashRow → Type 0
 IsOwn rs r = (id : ℕ) → r.trade ≡ Some id → find (is_posting_of_trade id) (map posting_of_cash_move_row rs) ≡ Some (posting_of_cash_move_row r)
 
-found_own : (rs : List MoveRow) → all_distinct (trade_ids_of_cash_rows rs) ≡ true → AllByRecursion (IsOwn rs) rs
+found_own : (rs : List CashRow) → all_distinct (trade_ids_of_cash_rows rs) ≡ true → AllByRecursion (IsOwn rs) rs
 found_own [] d = tt
 found_own (r ∷ rs) d = (here, later r.trade refl d (found_own rs))
   where
@@ -237,7 +237,7 @@ found_own (r ∷ rs) d = (here, later r.trade refl d (found_own rs))
     here id e =
         ap (λ b. cond b (Some (posting_of_cash_move_row r)) (find (is_posting_of_trade id) (map posting_of_cash_move_row rs))) (ap (λ o. option_map_or (λ n. n == id) o false) e ∙ eq-eqb id id refl)
 
-    passed : (qs : List MoveRow) → AllByRecursion (λ q. (id : ℕ) → q.trade ≡ Some id → is_posting_of_trade id (posting_of_cash_move_row r) ≡ false) qs
+    passed : (qs : List CashRow) → AllByRecursion (λ q. (id : ℕ) → q.trade ≡ Some id → is_posting_of_trade id (posting_of_cash_move_row r) ≡ false) qs
         → AllByRecursion (IsOwn rs) qs → AllByRecursion (IsOwn (r ∷ rs)) qs
     passed [] n h = tt
     passed (q ∷ qs) n h = ((λ id e. ap (λ b. cond b (Some (posting_of_cash_move_row r)) (find (is_posting_of_trade id) (map posting_of_cash_move_row rs))) (n.0 id e) ∙ h.0 id e), passed qs n.1 h.1)
@@ -249,7 +249,7 @@ found_own (r ∷ rs) d = (here, later r.trade refl d (found_own rs))
         let p = and_parts (not (contains_number m (trade_ids_of_cash_rows rs))) (all_distinct (trade_ids_of_cash_rows rs)) d in
         passed rs (All-map rs (λ q k id f. ap (λ o. option_map_or (λ n. n == id) o false) e ∙ k id f) (behind m rs (not-true (contains_number m (trade_ids_of_cash_rows rs)) p.0))) (ih p.1)
 
-abbrev HasName : Tables → MoveRow → Type 0
+abbrev HasName : Tables → CashRow → Type 0
 HasName t r = (id : ℕ) → r.trade ≡ Some id → r.name ≡ name_at t id
 
 names : (t : Tables) → t.cash ≡ [] → all_distinct (trade_ids_of_cash_rows t.moves) ≡ true → AllByRecursion (HasName t) t.moves
@@ -260,18 +260,18 @@ names t e d =
 -- ---- rows of trades and rows of movements
 
 -- a posting with the name that the tables have for its trade
-abbrev back : Tables → MoveRowFigures → Posting
+abbrev back : Tables → CashRowFigures → Posting
 back t p = record { account = p.account; trade = Some p.trade; stamp = p.stamp; amount = p.amount; name = name_at t p.trade }
 
-abbrev moved_rows : List MoveRow → List Posting
+abbrev moved_rows : List CashRow → List Posting
 moved_rows rs = map posting_of_movement (map movement_of_row (filter (λ r. is_none r.trade) rs))
 
-parts : (t : Tables) (rs : List MoveRow) (g : Posting → ℕ) → AllByRecursion (HasName t) rs
+parts : (t : Tables) (rs : List CashRow) (g : Posting → ℕ) → AllByRecursion (HasName t) rs
     → sum_by g (map posting_of_cash_move_row rs) ≡ sum_by g (map (back t) (filter_map posted_figures_of_row rs)) + sum_by g (moved_rows rs)
 parts t [] g h = refl
 parts t (r ∷ rs) g h = by_trade r.trade refl (parts t rs g h.1)
   where
-    F : List MoveRow
+    F : List CashRow
     F = filter (λ r. is_none r.trade) rs
 
     by_trade : (o : Option ℕ) → r.trade ≡ o → sum_by g (map posting_of_cash_move_row rs) ≡ sum_by g (map (back t) (filter_map posted_figures_of_row rs)) + sum_by g (moved_rows rs)
@@ -315,27 +315,27 @@ trades_back t s =
     { stamp = sym (row_moment t r e) i; amount = sym (same_amount t r) i }) (right_cash t s))
 
 -- what a posting has of a trade
-abbrev of_posting : Posting → Option MoveRowFigures
+abbrev of_posting : Posting → Option CashRowFigures
 of_posting p = option_map (λ id. record { account = p.account; trade = id; stamp = p.stamp; amount = p.amount }) p.trade
 
-abbrev counted : (MoveRowFigures → ℕ) → Posting → ℕ
+abbrev counted : (CashRowFigures → ℕ) → Posting → ℕ
 counted g p = option_map_or g (of_posting p) 0
 
-numbered_posted : (n : ℕ) (ps : List Posting) → filter_map posted_figures_of_row (numbered_move_rows n ps) ≡ filter_map of_posting ps
+numbered_posted : (n : ℕ) (ps : List Posting) → filter_map posted_figures_of_row (numbered_cash_move_rows n ps) ≡ filter_map of_posting ps
 numbered_posted n [] = refl
 numbered_posted n (p ∷ ps) = ap (λ xs. cons_option (of_posting p) xs) (numbered_posted (n + 1) ps)
 
-sum_posted : (g : MoveRowFigures → ℕ) (ps : List Posting) → sum_by g (filter_map of_posting ps) ≡ sum_by (counted g) ps
+sum_posted : (g : CashRowFigures → ℕ) (ps : List Posting) → sum_by g (filter_map of_posting ps) ≡ sum_by (counted g) ps
 sum_posted g [] = refl
 sum_posted g (p ∷ ps) = by_trade (of_posting p) refl (sum_posted g ps)
   where
-    by_trade : (o : Option MoveRowFigures) → of_posting p ≡ o → sum_by g (filter_map of_posting ps) ≡ sum_by (counted g) ps
+    by_trade : (o : Option CashRowFigures) → of_posting p ≡ o → sum_by g (filter_map of_posting ps) ≡ sum_by (counted g) ps
         → sum_by g (cons_option o (filter_map of_posting ps)) ≡ sum_by (counted g) (p ∷ ps)
     by_trade None e ih = let v : counted g p ≡ 0 = ap (λ o. option_map_or g o 0) e in omega (arith, v, ih, sum_by-cons (counted g) p ps)
     by_trade (Some x) e ih =
         let v : counted g p ≡ g x = ap (λ o. option_map_or g o 0) e in omega (arith, v, ih, sum_by-cons (counted g) p ps, sum_by-cons g x (filter_map of_posting ps))
 
-none_counted : (g : MoveRowFigures → ℕ) (ms : List Movement) → sum_by (counted g) (map posting_of_movement ms) ≡ 0
+none_counted : (g : CashRowFigures → ℕ) (ms : List Movement) → sum_by (counted g) (map posting_of_movement ms) ≡ 0
 none_counted g [] = refl
 none_counted g (m ∷ ms) =
     let v : counted g (posting_of_movement m) ≡ 0 = refl in
@@ -343,7 +343,7 @@ none_counted g (m ∷ ms) =
     omega (arith, v, ih, sum_by-cons (counted g) (posting_of_movement m) (map posting_of_movement ms))
 
 -- of all postings of the base, those of trades
-base_counted : (t : Tables) (g : MoveRowFigures → ℕ) → satisfies_status_condition t ≡ true
+base_counted : (t : Tables) (g : CashRowFigures → ℕ) → satisfies_status_condition t ≡ true
     → sum_by (counted g) (postings_of_base (base_of_tables t)) ≡ sum_by g (map (posted_figures_of_trade (account_tax_status_or_untaxed t)) (cash_done t))
 base_counted t g s =
     let T : List Posting = by_trades t in
@@ -359,7 +359,7 @@ base_counted t g s =
 later_trade : (m n : ℕ) → is_key_less (number m ∷ []) (number n ∷ []) ≡ true → m < n
 later_trade m n h = grind (arith, nat_tests)
 
-trades_rise : (f : TradeRow → MoveRowFigures) (rs : List TradeRow) → ((r : TradeRow) → (f r).trade ≡ r.id) → Climbs trade_key rs → Rises (λ p. p.trade) (map f rs)
+trades_rise : (f : TradeRow → CashRowFigures) (rs : List TradeRow) → ((r : TradeRow) → (f r).trade ≡ r.id) → Climbs trade_key rs → Rises (λ p. p.trade) (map f rs)
 trades_rise f [] e c = tt
 trades_rise f (r ∷ rs) e c = (
   All-mapped (λ p. (f r).trade < p.trade) f rs
@@ -377,19 +377,19 @@ wanted_no_cash schema t n =
     ∙ no_rows (is_row_key_less cash_transaction_key)
 
 wanted_moves : (schema : Schema) (t : Tables) → schema.has_cash_move_table ≡ true
-    → (expected_tables schema t).moves ≡ numbered_move_rows 1 (postings_sorted_by_stamp (postings_of_base (base_of_tables t)))
+    → (expected_tables schema t).moves ≡ numbered_cash_move_rows 1 (postings_sorted_by_stamp (postings_of_base (base_of_tables t)))
 unfolding tables_sorted_by_key tables_of_base_in_schema
 wanted_moves schema t n =
-    ap (λ b. rows_sorted_by_key cash_move_key (cond b (numbered_move_rows 1 (postings_sorted_by_stamp (postings_of_base (base_of_tables t)))) [])) n
+    ap (λ b. rows_sorted_by_key cash_move_key (cond b (numbered_cash_move_rows 1 (postings_sorted_by_stamp (postings_of_base (base_of_tables t)))) [])) n
     ∙ numbered_stay 1 (postings_sorted_by_stamp (postings_of_base (base_of_tables t)))
 
 -- what the rows of cash are to be, where they are numbered
-pub record AreMoves (t : Tables) (own : List MoveRowFigures) : Type 0 where
+pub record AreMoves (t : Tables) (own : List CashRowFigures) : Type 0 where
   pub no_others : t.cash ≡ []
   pub turn : is_numbered_by_stamp 1 0 t.moves ≡ true
   pub posted : own ≡ map (posted_figures_of_trade (account_tax_status_or_untaxed t)) (filter is_completed_cash_trade t.trades)
 
-pub cash_by_moves : (schema : Schema) (t : Tables) (own : List MoveRowFigures) → schema.has_cash_move_table ≡ true → satisfies_form_condition schema t ≡ true → satisfies_status_condition t ≡ true
+pub cash_by_moves : (schema : Schema) (t : Tables) (own : List CashRowFigures) → schema.has_cash_move_table ≡ true → satisfies_form_condition schema t ≡ true → satisfies_status_condition t ≡ true
     → IsPermutation (filter_map posted_figures_of_row t.moves) own → Ascends (λ p. p.trade) own → (AreMoves t own → ConditionHolds schema condition.Cash t)
     × (ConditionHolds schema condition.Cash t → AreMoves t own)
 unfolding ConditionHolds
@@ -398,7 +398,7 @@ cash_by_moves schema t own n f s p a =
     let M : List Posting = map posting_of_cash_move_row t.moves in
     let T : List Posting = by_trades t in
     let V : List Posting = moved_rows t.moves in
-    let E : List MoveRowFigures = map (posted_figures_of_trade (account_tax_status_or_untaxed t)) (cash_done t) in
+    let E : List CashRowFigures = map (posted_figures_of_trade (account_tax_status_or_untaxed t)) (cash_done t) in
     let rise : Rises (λ p. p.stamp) W = postings_rise (base_of_tables t) (adopted_books schema t f s) in
     let parts_of : SatisfiesFormParts schema t = form_parts schema t f in (
       (λ h.
@@ -411,9 +411,9 @@ cash_by_moves schema t own n f s p a =
           sum_sort g (λ a b. nat_lt a.stamp b.stamp) (postings_of_base (base_of_tables t)) ∙ ap (sum_by g) (base_postings t s) ∙ sum_append g T V in
           omega (arith, all, of_trades, wanted) in
           let same : M ≡ W = one_order (λ p. p.stamp) same_posting postings_decide W M rise (turn_ascends 1 0 t.moves h.turn) sums in
-          (h.no_others ∙ sym (wanted_no_cash schema t n), back_in_turn 1 0 t.moves h.turn ∙ ap (numbered_move_rows 1) same ∙ sym (wanted_moves schema t n))),
+          (h.no_others ∙ sym (wanted_no_cash schema t n), back_in_turn 1 0 t.moves h.turn ∙ ap (numbered_cash_move_rows 1) same ∙ sym (wanted_moves schema t n))),
       (λ h.
-          let rows : t.moves ≡ numbered_move_rows 1 W = h.1 ∙ wanted_moves schema t n in
+          let rows : t.moves ≡ numbered_cash_move_rows 1 W = h.1 ∙ wanted_moves schema t n in
           let asc : Ascends (λ p. p.stamp) W = rise_ascend W rise in
           record {
             no_others = h.0 ∙ wanted_no_cash schema t n;

@@ -6,19 +6,19 @@ use Rattle.std.proofs.lemmas.List.{map-id}
 use Rattle.brk_money.specs.declared.fault.Condition.TheVariants as condition
 use Rattle.brk_model.specs.Derived.{due_day_of_completion_stamp}
 use Rattle.brk_model.specs.Audit.{ConditionHolds}
-use Rattle.brk_model.specs.Tables.{MoveRow, Tables, TradeRow}
+use Rattle.brk_model.specs.Tables.{CashRow, Tables, TradeRow}
 use Rattle.brk_model.specs.Form.{has_rows_only_in_tables_of_schema, satisfies_form_condition}
 use Rattle.std.proofs.lemmas.Bool.{and_parts, eqb-true}
 use Rattle.brk_trade_books.proofs.Same.{All-of, map-same}
 use Rattle.brk_audit_theorems.proofs.Parts.{KeyParts, key_parts}
 use Rattle.brk_model_theorems.proofs.FormParts.{form_parts}
-use Rattle.brk_trade_rows.specs.Rows.{abstract_cash_row, abstract_request_row, abstract_settlement_row, abstract_trade_row}
+use Rattle.brk_ref.specs.Rows.{abstract_old_cash_row, abstract_request_row, abstract_settlement_row, abstract_trade_row}
 use Rattle.brk_trade_rows.specs.Sheets.{abstract_sheets}
 use Rattle.brk_trade_rows.specs.declared.sheets.Sheets.{Sheets}
-use Rattle.brk_trade_rows.specs.declared.trade_row.TradeRow as trade
-use Rattle.brk_trade_rows.specs.declared.request_row.RequestRow as request
-use Rattle.brk_trade_rows.specs.declared.settlement_row.SettlementRow as settlement
-use Rattle.brk_trade_rows.specs.declared.cash_row.CashRow as cash
+use Rattle.brk_ref.specs.declared.trade_row.TradeRow as trade
+use Rattle.brk_ref.specs.declared.request_row.RequestRow as request
+use Rattle.brk_ref.specs.declared.settlement_row.SettlementRow as settlement
+use Rattle.brk_ref.specs.declared.old_cash_row.OldCashRow as cash
 use Rattle.brk_audit_sums.specs.AccountTerms.{account_broker_in_terms, account_tax_status_in_terms}
 use Rattle.brk_audit_sums.specs.Completed.{is_completed_trade_row, is_pending_trade_row}
 use Rattle.brk_audit_sums.specs.Conditions.{HasWellFormedRows, HasValidStatuses}
@@ -50,7 +50,7 @@ settlements_hold schema s terms ss ts f w h e g =
     (All-of rows (λ r i. record { trade = r.id; due_day = due_day_of_completion_stamp s.rule r.stamp; amount = settlement_amount_at_tax_status (same_tax_statuses s terms h r.account i) r })) in
     ((λ k. law.1 (sym left ∙ k ∙ right)), (λ k. left ∙ law.0 k ∙ sym right))
 
-no_moves : (rows : List MoveRow) → (length rows == 0) ≡ true → rows ≡ []
+no_moves : (rows : List CashRow) → (length rows == 0) ≡ true → rows ≡ []
 no_moves [] e = refl
 no_moves (r ∷ rows) e = let l : length (r ∷ rows) ≡ 0 = eqb-true (length (r ∷ rows)) 0 e in absurd (omega (arith, l))
 
@@ -58,18 +58,18 @@ fitting : (schema : Schema) (t : Tables) → has_rows_only_in_tables_of_schema s
 fitting schema t f n =
     no_moves t.moves (ap (λ b. b || (length t.moves == 0)) (sym n) ∙ (and_parts (schema.has_cash_move_table || (length t.moves == 0)) (schema.has_settle_rule_table || is_none t.rule) f).0)
 
-pub cash_holds : (schema : Schema) (s : Sheets) (terms : BTreeMap ℕ AccountTerms) (cs : List cash.CashRow) (ts : List trade.TradeRow) → schema.has_cash_move_table ≡ false
+pub cash_holds : (schema : Schema) (s : Sheets) (terms : BTreeMap ℕ AccountTerms) (cs : List cash.OldCashRow) (ts : List trade.TradeRow) → schema.has_cash_move_table ≡ false
     → satisfies_form_condition schema (abstract_sheets s) ≡ true → HasValidStatuses s
     → HasTerms terms s.accounts.items → cs ≡ s.cash.items → ts ≡ s.trades.items
-    → (map cash_transaction_figures_of_row (map abstract_cash_row cs)
+    → (map cash_transaction_figures_of_row (map abstract_old_cash_row cs)
     ≡ map (cash_transaction_figures_of_trade (account_tax_status_in_terms terms)) (filter is_completed_cash_trade (map abstract_trade_row ts))) ↔ ConditionHolds schema
     condition.Cash (abstract_sheets s)
 cash_holds schema s terms cs ts n f w h e g =
     let t : Tables = abstract_sheets s in
     let formed : HasWellFormedRows s = record { schema = schema; form = f } in
     let law = cash_by_rows schema t n (fitting schema t (form_parts schema t f).fits n) (keys_of s formed).trades (keys_of s formed).cash w in
-    let left : map cash_transaction_figures_of_row (map abstract_cash_row cs) ≡ map cash_transaction_figures_of_row t.cash =
-    ap (λ xs. map cash_transaction_figures_of_row (map abstract_cash_row xs)) e in
+    let left : map cash_transaction_figures_of_row (map abstract_old_cash_row cs) ≡ map cash_transaction_figures_of_row t.cash =
+    ap (λ xs. map cash_transaction_figures_of_row (map abstract_old_cash_row xs)) e in
     let rows : List TradeRow = filter is_completed_cash_trade (map abstract_trade_row s.trades.items) in
     let right : map (cash_transaction_figures_of_trade (account_tax_status_in_terms terms)) (filter is_completed_cash_trade (map abstract_trade_row ts))
     ≡ map (cash_transaction_figures_of_trade (account_tax_status_or_untaxed t)) rows =

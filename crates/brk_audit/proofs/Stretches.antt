@@ -3,8 +3,8 @@ use Rattle.std.proofs.Common.{arith, ◌≡◌, ◌+◌, ◌-◌, ◌<◌, ◌++
 use Rattle.std.specs.List.{AllByRecursion, IsDistinct}
 use Rattle.std.specs.List.Sorted.{IsSortedBy}
 use Rattle.std.proofs.lemmas.List.{drop-drop, drop_more, map-append, take-append-drop, take_rest}
-use Rattle.brk_trade_rows.specs.Rows.{abstract_trade_row}
-use Rattle.brk_trade_rows.specs.declared.trade_row.TradeRow as code
+use Rattle.brk_ref.specs.Rows.{abstract_trade_row}
+use Rattle.brk_ref.specs.declared.trade_row.TradeRow as code
 use Rattle.brk_lots.specs.Deals.{AreDistinctAscendingDeals}
 use Rattle.brk_model.specs.Tables.{TradeRow}
 use Rattle.brk_trade_books.proofs.Order.{Sorted}

@@ -7,10 +7,10 @@ use Rattle.std.proofs.lemmas.List.{append-nil, drop_more, drop-map, take-append-
 use Rattle.brk_money.specs.Kinds.{is_same_trade_status}
 use Rattle.brk_money.specs.declared.status.Status.TheVariants.{Completed}
 use Rattle.brk_model.specs.Lists.{all_distinct, contains_number}
-use Rattle.brk_trade_rows.specs.Rows.{abstract_history_row, abstract_move_row, abstract_trade_row}
-use Rattle.brk_trade_rows.specs.declared.trade_row.TradeRow.{TradeRow}
-use Rattle.brk_trade_rows.specs.declared.history_row.HistoryRow.{HistoryRow}
-use Rattle.brk_trade_rows.specs.declared.move_row.MoveRow.{MoveRow}
+use Rattle.brk_ref.specs.Rows.{abstract_history_row, abstract_cash_row, abstract_trade_row}
+use Rattle.brk_ref.specs.declared.trade_row.TradeRow.{TradeRow}
+use Rattle.brk_ref.specs.declared.history_row.HistoryRow.{HistoryRow}
+use Rattle.brk_ref.specs.declared.cash_row.CashRow.{CashRow}
 use Rattle.brk_audit.specs.Statuses.{all_histories_are_valid, is_valid_history, movement_stamps_of_cash_rows, completion_stamps_of_history}
 
 false_true : {A : Type 0} → false ≡ true → A
@@ -140,16 +140,16 @@ not_apart hs i h was l e f g =
 -- ---- movements, after stamps that were seen
 
 -- the stamps of movements that rows tell
-abbrev pub moved_told : List MoveRow → List ℕ
-moved_told rs = movement_stamps_of_cash_rows (map abstract_move_row rs)
+abbrev pub moved_told : List CashRow → List ℕ
+moved_told rs = movement_stamps_of_cash_rows (map abstract_cash_row rs)
 
-moved-append : (rs ks : List MoveRow) → moved_told (rs ++ ks) ≡ moved_told rs ++ moved_told ks
+moved-append : (rs ks : List CashRow) → moved_told (rs ++ ks) ≡ moved_told rs ++ moved_told ks
 moved-append [] ks = refl
 moved-append (r ∷ rs) ks = by_test (is_none r.trade) (moved-append rs ks)
   where
     by_test : (b : Bool) → moved_told (rs ++ ks) ≡ moved_told rs ++ moved_told ks
-        → map (λ r. r.stamp) (cond b (abstract_move_row r ∷ filter (λ r. is_none r.trade) (map abstract_move_row (rs ++ ks))) (filter (λ r. is_none r.trade) (map abstract_move_row (rs ++ ks))))
-        ≡ map (λ r. r.stamp) (cond b (abstract_move_row r ∷ filter (λ r. is_none r.trade) (map abstract_move_row rs)) (filter (λ r. is_none r.trade) (map abstract_move_row rs))) ++ moved_told ks
+        → map (λ r. r.stamp) (cond b (abstract_cash_row r ∷ filter (λ r. is_none r.trade) (map abstract_cash_row (rs ++ ks))) (filter (λ r. is_none r.trade) (map abstract_cash_row (rs ++ ks))))
+        ≡ map (λ r. r.stamp) (cond b (abstract_cash_row r ∷ filter (λ r. is_none r.trade) (map abstract_cash_row rs)) (filter (λ r. is_none r.trade) (map abstract_cash_row rs))) ++ moved_told ks
     by_test true e = ap (λ ns. r.stamp ∷ ns) e
     by_test false e = e
 
@@ -157,38 +157,38 @@ append_twice : (ms ns ks : List ℕ) → ms ++ (ns ++ ks) ≡ (ms ++ ns) ++ ks
 append_twice [] ns ks = refl
 append_twice (m ∷ ms) ns ks = ap (λ xs. m ∷ xs) (append_twice ms ns ks)
 
-moved_more : (before : List ℕ) (rs : List MoveRow) (i : ℕ) (r : MoveRow) → i < length rs → r ≡ get_or rs i r
+moved_more : (before : List ℕ) (rs : List CashRow) (i : ℕ) (r : CashRow) → i < length rs → r ≡ get_or rs i r
     → before ++ moved_told (take (i + 1) rs) ≡ (before ++ moved_told (take i rs)) ++ moved_told (r ∷ [])
 moved_more before rs i r l e =
     ap (λ ns. before ++ ns) (ap moved_told (take_more rs i r l ∙ ap (λ k. take i rs ++ k ∷ []) (sym e)) ∙ moved-append (take i rs) (r ∷ []))
     ∙ append_twice before (moved_told (take i rs)) (moved_told (r ∷ []))
 
 -- what is seen after one more movement
-pub seen_moved : (before : List ℕ) (rs : List MoveRow) (i : ℕ) (r : MoveRow) (q : ℕ) (was is : Bool) → i < length rs → r ≡ get_or rs i r
+pub seen_moved : (before : List ℕ) (rs : List CashRow) (i : ℕ) (r : CashRow) (q : ℕ) (was is : Bool) → i < length rs → r ≡ get_or rs i r
     → was ≡ contains_number q (before ++ moved_told (take i rs)) → is ≡ was || (is_none r.trade && (r.stamp == q))
     → is ≡ contains_number q (before ++ moved_told (take (i + 1) rs))
 seen_moved before rs i r q was is l e f g =
     g ∙ ap (λ b. b || (is_none r.trade && (r.stamp == q))) f ∙ by_test (is_none r.trade) (before ++ moved_told (take i rs))
     ∙ sym (ap (contains_number q) (moved_more before rs i r l e))
   where
-    by_test : (b : Bool) (ns : List ℕ) → contains_number q ns || (b && (r.stamp == q)) ≡ contains_number q (ns ++ map (λ r. r.stamp) (cond b (abstract_move_row r ∷ []) []))
+    by_test : (b : Bool) (ns : List ℕ) → contains_number q ns || (b && (r.stamp == q)) ≡ contains_number q (ns ++ map (λ r. r.stamp) (cond b (abstract_cash_row r ∷ []) []))
     by_test true ns = sym (contains_more q ns r.stamp)
     by_test false ns = or_false (contains_number q ns) ∙ ap (contains_number q) (sym (append-nil ns))
 
 -- stamps stay apart after a new one
-pub apart_moved : (before : List ℕ) (rs : List MoveRow) (i : ℕ) (r : MoveRow) (was : Bool) → i < length rs → r ≡ get_or rs i r
+pub apart_moved : (before : List ℕ) (rs : List CashRow) (i : ℕ) (r : CashRow) (was : Bool) → i < length rs → r ≡ get_or rs i r
     → was ≡ contains_number r.stamp (before ++ moved_told (take i rs)) → not (is_none r.trade && was) ≡ true
     → all_distinct (before ++ moved_told (take i rs)) ≡ true → all_distinct (before ++ moved_told (take (i + 1) rs)) ≡ true
 apart_moved before rs i r was l e f g d =
     ap all_distinct (moved_more before rs i r l e)
     ∙ by_test (is_none r.trade) (before ++ moved_told (take i rs)) (sym (ap (λ b. not (is_none r.trade && b)) f) ∙ g) d
   where
-    by_test : (b : Bool) (ns : List ℕ) → not (b && contains_number r.stamp ns) ≡ true → all_distinct ns ≡ true → all_distinct (ns ++ map (λ r. r.stamp) (cond b (abstract_move_row r ∷ []) [])) ≡ true
+    by_test : (b : Bool) (ns : List ℕ) → not (b && contains_number r.stamp ns) ≡ true → all_distinct ns ≡ true → all_distinct (ns ++ map (λ r. r.stamp) (cond b (abstract_cash_row r ∷ []) [])) ≡ true
     by_test true ns n d = distinct_more ns r.stamp ∙ and_from (all_distinct ns) (not (contains_number r.stamp ns)) d n
     by_test false ns n d = ap all_distinct (append-nil ns) ∙ d
 
 -- and are not apart where a movement's was seen
-pub not_apart_moved : (before : List ℕ) (rs : List MoveRow) (i : ℕ) (r : MoveRow) (was : Bool) → i < length rs → r ≡ get_or rs i r
+pub not_apart_moved : (before : List ℕ) (rs : List CashRow) (i : ℕ) (r : CashRow) (was : Bool) → i < length rs → r ≡ get_or rs i r
     → was ≡ contains_number r.stamp (before ++ moved_told (take i rs)) → not (is_none r.trade && was) ≡ false → all_distinct (before ++ moved_told rs) ≡ false
 not_apart_moved before rs i r was l e f g =
     ap all_distinct (ap (λ ks. before ++ moved_told ks) (sym (take-append-drop (i + 1) rs)) ∙ ap (λ ns. before ++ ns) (moved-append (take (i + 1) rs) (drop (i + 1) rs))
@@ -196,6 +196,6 @@ not_apart_moved before rs i r was l e f g =
     ∙ not_distinct_front (before ++ moved_told (take (i + 1) rs)) (moved_told (drop (i + 1) rs))
     (ap all_distinct (moved_more before rs i r l e) ∙ by_test (is_none r.trade) (before ++ moved_told (take i rs)) (sym (ap (λ b. not (is_none r.trade && b)) f) ∙ g))
   where
-    by_test : (b : Bool) (ns : List ℕ) → not (b && contains_number r.stamp ns) ≡ false → all_distinct (ns ++ map (λ r. r.stamp) (cond b (abstract_move_row r ∷ []) [])) ≡ false
+    by_test : (b : Bool) (ns : List ℕ) → not (b && contains_number r.stamp ns) ≡ false → all_distinct (ns ++ map (λ r. r.stamp) (cond b (abstract_cash_row r ∷ []) [])) ≡ false
     by_test true ns n = distinct_more ns r.stamp ∙ and_right (all_distinct ns) (not (contains_number r.stamp ns)) n
     by_test false ns n = false_true (sym n)

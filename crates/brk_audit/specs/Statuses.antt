@@ -5,7 +5,7 @@ use Rattle.std.specs.List.{prefix_len}
 use Rattle.brk_money.specs.Kinds.{is_same_trade_status}
 use Rattle.brk_money.specs.declared.status.Status.{Status}
 use Rattle.brk_money.specs.declared.status.Status.TheVariants.{Completed, Active, Submitted, Pending, Canceled}
-use Rattle.brk_model.specs.Tables.{HistoryRow, MoveRow, TradeRow}
+use Rattle.brk_model.specs.Tables.{HistoryRow, CashRow, TradeRow}
 
 -- True if the history of a trade can begin with the status: `Submitted` or `Pending`.
 abbrev pub can_be_first_status : Status → Bool
@@ -73,5 +73,5 @@ completion_stamps_of_history hs = map (λ h. h.stamp) (filter (λ h. is_same_tra
 
 -- The stamps of the rows of CASH_MOVE without a trade, which are deposits and withdrawals, in the
 -- order of the rows.
-abbrev pub movement_stamps_of_cash_rows : List MoveRow → List ℕ
+abbrev pub movement_stamps_of_cash_rows : List CashRow → List ℕ
 movement_stamps_of_cash_rows rows = map (λ r. r.stamp) (filter (λ r. is_none r.trade) rows)

@@ -9,7 +9,7 @@ ghost use Rattle.brk_audit_sums.specs.Conditions.{HasValidStatuses};
 ghost use Rattle.brk_audit_sums.specs.Settling.{RowsCannotMatchTrades, RowsMatchTradesIffOthersDo, settlement_amount_at_tax_status, is_completed_cash_trade};
 ghost use Rattle.brk_audit_sums.specs.Settling.{is_numbered_by_stamp, cash_transaction_figures_of_trade, cash_transaction_figures_of_row};
 ghost use Rattle.brk_audit_sums.specs.Settling.{posted_figures_of_trade, posted_figures_of_row};
-ghost use Rattle.brk_trade_rows.specs.Rows.{abstract_cash_row, abstract_move_row, abstract_trade_row};
+ghost use Rattle.brk_ref.specs.Rows.{abstract_old_cash_row, abstract_cash_row, abstract_trade_row};
 ghost use Rattle.brk_trade_rows.specs.Schemas.{abstract_schema};
 ghost use Rattle.brk_trade_rows.specs.Sheets.{abstract_sheets};
 
@@ -19,14 +19,15 @@ use brk_audit_sums::amounts::settlement_amount_of_row;
 use brk_audit_sums::completion::is_completed;
 use brk_audit_sums::summaries::are_all_three_true;
 use brk_money::{Cents, Fault, Id, Stamp, TaxStatus};
-use brk_trade_rows::{CashRow, MoveRow, Schema, Sheets, TradeRow};
+use brk_ref::{CashRow, OldCashRow, TradeRow};
+use brk_trade_rows::{Schema, Sheets};
 use std::alloc::Global;
 use std::collections::BTreeMap;
 
 // Returns true if the row of CASH_TRANSACTION has the id and the stamp of the completed trade, and
 // the trade's settlement amount at the tax status `tax_status`. A missing price counts as 0. The
 // name of the row is not compared.
-fn is_cash_transaction_of_trade(cash: &CashRow, trade: &TradeRow, tax_status: TaxStatus) -> bool
+fn is_cash_transaction_of_trade(cash: &OldCashRow, trade: &TradeRow, tax_status: TaxStatus) -> bool
     ensures { IsTrue result
         ↔ ((cash.now.trade ≡ trade.now.id) × (cash.now.stamp ≡ trade.now.stamp)
         × (cash.now.amount ≡ settlement_amount_at_tax_status tax_status (abstract_trade_row trade.now))) }
@@ -48,17 +49,17 @@ fn is_completed_cash_trade_row(trade: &TradeRow) -> bool
 // begin with its row. Names of rows are not compared. An account that `terms` does not contain
 // counts as `Untaxed`, and a missing price as 0.
 fn strip_cash_transaction_of_trade<'a>(
-    cash: &'a [CashRow],
+    cash: &'a [OldCashRow],
     trade: &TradeRow,
     terms: &BTreeMap<u64, AccountTerms>,
-) -> Option<&'a [CashRow]>
+) -> Option<&'a [OldCashRow]>
     ensures { MatchOption result
         (RowsCannotMatchTrades cash_transaction_figures_of_row (cash_transaction_figures_of_trade (account_tax_status_in_terms terms.now))
         is_completed_cash_trade
-        (map abstract_cash_row cash.now) (abstract_trade_row trade.now))
+        (map abstract_old_cash_row cash.now) (abstract_trade_row trade.now))
         (λ others. RowsMatchTradesIffOthersDo cash_transaction_figures_of_row (cash_transaction_figures_of_trade (account_tax_status_in_terms terms.now))
         is_completed_cash_trade
-        (map abstract_cash_row cash.now) (abstract_trade_row trade.now) (map abstract_cash_row others.now)) }
+        (map abstract_old_cash_row cash.now) (abstract_trade_row trade.now) (map abstract_old_cash_row others.now)) }
 {
     if !is_completed_cash_trade_row(trade) {
         return Some(cash);
@@ -77,12 +78,12 @@ fn strip_cash_transaction_of_trade<'a>(
 // in the order of the trades. Names of rows are not compared. An account that `terms` does not
 // contain counts as `Untaxed`, and a missing price as 0.
 fn are_cash_transactions_of_trades(
-    cash: &[CashRow],
+    cash: &[OldCashRow],
     trades: &[TradeRow],
     terms: &BTreeMap<u64, AccountTerms>,
 ) -> bool
     ensures { IsTrue result
-        ↔ (map cash_transaction_figures_of_row (map abstract_cash_row cash.now)
+        ↔ (map cash_transaction_figures_of_row (map abstract_old_cash_row cash.now)
         ≡ map (cash_transaction_figures_of_trade (account_tax_status_in_terms terms.now))
         (filter is_completed_cash_trade (map abstract_trade_row trades.now))) }
 {
@@ -107,8 +108,8 @@ struct CashMoveFigures {
 
 // Returns the account, the trade, the stamp and the amount of the row of CASH_MOVE, or `None` if it
 // belongs to no trade.
-fn figures_of_move_row_with_trade(row: &MoveRow) -> Option<CashMoveFigures>
-    ensures { option_map abstract_posted_figures result ≡ posted_figures_of_row (abstract_move_row row.now) }
+fn figures_of_cash_move_row_with_trade(row: &CashRow) -> Option<CashMoveFigures>
+    ensures { option_map abstract_posted_figures result ≡ posted_figures_of_row (abstract_cash_row row.now) }
 {
     let trade = row.trade?;
     Some(CashMoveFigures {
@@ -121,16 +122,16 @@ fn figures_of_move_row_with_trade(row: &MoveRow) -> Option<CashMoveFigures>
 
 // Returns the account, the trade, the stamp and the amount of each row of CASH_MOVE that belongs to
 // a trade, in the order of the rows. Fails with `Memory` only.
-fn figures_of_move_rows_with_trade(
+fn figures_of_cash_move_rows_with_trade(
     alloc: Global,
-    moves: &[MoveRow],
+    moves: &[CashRow],
 ) -> Result<Vec<CashMoveFigures>, Fault>
-    ensures all { IfOk result (λ all. map abstract_posted_figures all.items ≡ filter_map (λ r. posted_figures_of_row (abstract_move_row r)) moves.now) }
+    ensures all { IfOk result (λ all. map abstract_posted_figures all.items ≡ filter_map (λ r. posted_figures_of_row (abstract_cash_row r)) moves.now) }
     ensures fault { IfErr result (λ fault. fault ≡ Memory) }
 {
     let mut all = Vec::new(alloc);
     for row in moves {
-        if let Some(posted) = figures_of_move_row_with_trade(row) {
+        if let Some(posted) = figures_of_cash_move_row_with_trade(row) {
             all.push(posted)?;
         }
     }
@@ -203,7 +204,7 @@ fn cash_move_figures_match_trades(
 
 // Returns true if the row of CASH_MOVE has the number `number` and a stamp of at least `stamp`, in
 // milliseconds since 1970-01-01 UTC.
-fn has_number_and_no_earlier_stamp(row: &MoveRow, number: u64, stamp: u64) -> bool
+fn has_number_and_no_earlier_stamp(row: &CashRow, number: u64, stamp: u64) -> bool
     ensures { result ≡ (row.now.id == number) && nat_le stamp row.now.stamp }
 {
     row.id.get() == number && stamp <= stamp_in_millis(row.stamp)
@@ -211,8 +212,8 @@ fn has_number_and_no_earlier_stamp(row: &MoveRow, number: u64, stamp: u64) -> bo
 
 // Returns true if the rows of CASH_MOVE, in the order of the list, are numbered 1, 2, 3 and so on,
 // and their stamps do not decrease. Returns true if there are no rows.
-fn move_rows_are_numbered_by_stamp(moves: &[MoveRow]) -> bool
-    ensures { result ≡ is_numbered_by_stamp 1 0 (map abstract_move_row moves.now) }
+fn cash_move_rows_are_numbered_by_stamp(moves: &[CashRow]) -> bool
+    ensures { result ≡ is_numbered_by_stamp 1 0 (map abstract_cash_row moves.now) }
 {
     let mut stamp = 0;
     for (i, row) in moves.iter().enumerate() {
@@ -244,10 +245,10 @@ pub(crate) fn cash_condition_holds(
     if !schema.has_cash_move_table() {
         return Ok(are_cash_transactions_of_trades(&sheets.cash, &sheets.trades, &terms));
     }
-    let mut rows = figures_of_move_rows_with_trade(alloc, &sheets.moves)?;
+    let mut rows = figures_of_cash_move_rows_with_trade(alloc, &sheets.moves)?;
     rows.sort_unstable_by_key(|row| row.trade.get());
     let no_others = sheets.cash.is_empty();
-    let in_turn = move_rows_are_numbered_by_stamp(&sheets.moves);
+    let in_turn = cash_move_rows_are_numbered_by_stamp(&sheets.moves);
     let posted = cash_move_figures_match_trades(&rows, &sheets.trades, &terms);
     Ok(are_all_three_true(no_others, in_turn, posted))
 }

@@ -4,7 +4,7 @@ ghost use Rattle.std.specs.List.Sorted.{IsSortedBy};
 ghost use Rattle.std.specs.Ordering.{is_lt};
 ghost use Rattle.brk_audit_sums.specs.Conditions.{HasWellFormedRows, HasValidStatuses};
 ghost use Rattle.brk_audit.specs.Positions.{AreLotChangesOfTrades, has_same_id_or_stamp, is_before_by_position, deal_of_completed_row};
-ghost use Rattle.brk_trade_rows.specs.Rows.{abstract_lot_change_row, abstract_trade_row};
+ghost use Rattle.brk_ref.specs.Rows.{abstract_lot_change_row, abstract_trade_row};
 ghost use Rattle.brk_trade_rows.specs.Sheets.{abstract_sheets};
 ghost use Rattle.brk_lots.specs.Chains.{abstract_deal_touch, lot_changes_of_deals};
 ghost use Rattle.brk_lots.specs.Deals.{AreDistinctAscendingDeals};
@@ -19,7 +19,8 @@ use crate::positions::{
 };
 use brk_lots::{DealTouch, Position};
 use brk_money::Fault;
-use brk_trade_rows::{LotChange, Sheets, TradeRow};
+use brk_ref::{LotChange, TradeRow};
+use brk_trade_rows::Sheets;
 use std::alloc::Global;
 use std::cmp::Ordering;
 

@@ -3,7 +3,7 @@ ghost use Rattle.std.specs.List.{AllByRecursion, IsDistinct};
 ghost use Rattle.std.specs.List.Sorted.{IsSortedBy};
 ghost use Rattle.brk_audit_sums.specs.Conditions.{HasWellFormedRows, HasValidStatuses};
 ghost use Rattle.brk_audit.specs.Positions.{AreLotsLeftByTrades, has_same_id_or_stamp, holding_row_in_position_of_trade, is_before_by_position};
-ghost use Rattle.brk_trade_rows.specs.Rows.{abstract_holding_row, abstract_trade_row};
+ghost use Rattle.brk_ref.specs.Rows.{abstract_holding_row, abstract_trade_row};
 ghost use Rattle.brk_trade_rows.specs.Sheets.{abstract_sheets};
 ghost use Rattle.brk_lots.specs.Lots.{abstract_lot};
 ghost use Rattle.brk_model.specs.Audit.{ConditionHolds};
@@ -16,7 +16,8 @@ use crate::positions::{
 };
 use brk_lots::Lot;
 use brk_money::Fault;
-use brk_trade_rows::{HoldingRow, Sheets, TradeRow};
+use brk_ref::{HoldingRow, TradeRow};
+use brk_trade_rows::Sheets;
 use std::alloc::Global;
 
 // Appends to `held` the rows of HOLDING of the lots, in the order of the lots, with the account and

@@ -4,7 +4,7 @@ ghost use Rattle.std.specs.List.Sorted.{IsSortedBy};
 ghost use Rattle.std.specs.Ordering.{is_lt};
 ghost use Rattle.brk_audit_sums.specs.Completed.{is_completed_trade_row};
 ghost use Rattle.brk_audit.specs.Positions.{FirstElementSatisfies, is_before_by_position, deal_of_completed_row, has_same_position};
-ghost use Rattle.brk_trade_rows.specs.Rows.{abstract_trade_row};
+ghost use Rattle.brk_ref.specs.Rows.{abstract_trade_row};
 ghost use Rattle.brk_lots.specs.Deals.{AreDistinctAscendingDeals};
 ghost use Rattle.brk_lots.specs.Lots.{abstract_deal, shares_of_lots};
 ghost use Rattle.brk_model.specs.Shares.{replay};
@@ -12,7 +12,7 @@ ghost use Rattle.brk_money.specs.declared.fault.Fault.TheVariants.{Memory};
 
 use brk_lots::{Deal, Position};
 use brk_money::{Fault, Status};
-use brk_trade_rows::TradeRow;
+use brk_ref::TradeRow;
 use std::alloc::Global;
 use std::cmp::Ordering;
 

@@ -9,12 +9,13 @@ ghost use Rattle.brk_audit_sums.specs.AccountTerms.{account_broker_in_terms};
 ghost use Rattle.brk_audit_sums.specs.Completed.{is_pending_trade_row};
 ghost use Rattle.brk_audit_sums.specs.Conditions.{HasWellFormedRows, HasValidStatuses};
 ghost use Rattle.brk_audit_sums.specs.Settling.{RowsCannotMatchTrades, RowsMatchTradesIffOthersDo, request_row_of_trade};
-ghost use Rattle.brk_trade_rows.specs.Rows.{abstract_request_row, abstract_trade_row};
+ghost use Rattle.brk_ref.specs.Rows.{abstract_request_row, abstract_trade_row};
 ghost use Rattle.brk_trade_rows.specs.Sheets.{abstract_sheets};
 
 use brk_audit_sums::account_terms::{AccountTerms, account_broker_id, account_terms_by_id};
 use brk_money::{Fault, Status, TradeType};
-use brk_trade_rows::{RequestRow, Sheets, TradeRow};
+use brk_ref::{RequestRow, TradeRow};
+use brk_trade_rows::Sheets;
 use std::alloc::Global;
 use std::collections::BTreeMap;
 

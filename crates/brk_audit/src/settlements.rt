@@ -9,14 +9,15 @@ ghost use Rattle.brk_audit_sums.specs.Completed.{is_completed_trade_row};
 ghost use Rattle.brk_audit_sums.specs.Conditions.{HasWellFormedRows, HasValidStatuses};
 ghost use Rattle.brk_audit_sums.specs.Settling.{RowsCannotMatchTrades, RowsMatchTradesIffOthersDo, settlement_amount_at_tax_status};
 ghost use Rattle.brk_audit_sums.specs.Settling.{settlement_figures_of_row, settlement_figures_of_trade};
-ghost use Rattle.brk_trade_rows.specs.Rows.{abstract_settlement_row, abstract_trade_row};
+ghost use Rattle.brk_ref.specs.Rows.{abstract_settlement_row, abstract_trade_row};
 ghost use Rattle.brk_trade_rows.specs.Sheets.{abstract_sheets};
 
 use brk_audit_sums::account_terms::{AccountTerms, account_tax_status, account_terms_by_id};
 use brk_audit_sums::amounts::settlement_amount_of_row;
 use brk_audit_sums::completion::is_completed;
 use brk_money::{Day, Fault, Stamp, TaxStatus, day_of};
-use brk_trade_rows::{SettlementRow, Sheets, TradeRow, days_to_settlement};
+use brk_ref::{SettlementRow, TradeRow};
+use brk_trade_rows::{Sheets, days_to_settlement};
 use std::alloc::Global;
 use std::collections::BTreeMap;
 

@@ -11,12 +11,13 @@ ghost use Rattle.brk_model.specs.Schemas.{Schema};
 ghost use Rattle.brk_model.specs.Lists.{all_distinct};
 ghost use Rattle.brk_audit_sums.specs.Conditions.{HasWellFormedRows};
 ghost use Rattle.brk_audit.specs.Statuses as spec;
-ghost use Rattle.brk_trade_rows.specs.Rows.{abstract_history_row, abstract_move_row, abstract_trade_row};
+ghost use Rattle.brk_ref.specs.Rows.{abstract_history_row, abstract_cash_row, abstract_trade_row};
 ghost use Rattle.brk_trade_rows.specs.Sheets.{abstract_sheets};
 
 use brk_audit_sums::completion::is_completed;
 use brk_money::{Fault, Id, Stamp, Status};
-use brk_trade_rows::{HistoryRow, MoveRow, Sheets, TradeRow};
+use brk_ref::{CashRow, HistoryRow, TradeRow};
+use brk_trade_rows::Sheets;
 use std::alloc::Global;
 use std::collections::BTreeSet;
 
@@ -144,7 +145,7 @@ fn insert_completion_stamp(seen: &mut BTreeSet<u64>, row: &HistoryRow) -> Result
 
 // Inserts the stamp of the row into `seen` if the row is a deposit or a withdrawal. Returns false
 // if it is one and the set already contained the stamp, otherwise true. Fails with `Memory` only.
-fn insert_movement_stamp(seen: &mut BTreeSet<u64>, row: &MoveRow) -> Result<bool, Fault>
+fn insert_movement_stamp(seen: &mut BTreeSet<u64>, row: &CashRow) -> Result<bool, Fault>
     ensures new { IfOk result (λ new. new ≡ not (is_none row.now.trade && contains nat_cmp seen.old row.now.stamp)) }
     ensures seen { OnOk result ((q : ℕ) → contains nat_cmp seen.new q ≡ contains nat_cmp seen.old q || (is_none row.now.trade && (row.now.stamp == q))) }
     ensures fault { IfErr result (λ fault. fault ≡ Memory) }
@@ -161,11 +162,11 @@ fn insert_movement_stamp(seen: &mut BTreeSet<u64>, row: &MoveRow) -> Result<bool
 fn completion_and_movement_stamps_are_distinct(
     alloc: Global,
     history: &[HistoryRow],
-    moves: &[MoveRow],
+    moves: &[CashRow],
 ) -> Result<bool, Fault>
     ensures value { IfOk result (λ apart. apart
         ≡ all_distinct (spec.completion_stamps_of_history (map abstract_history_row history.now)
-        ++ spec.movement_stamps_of_cash_rows (map abstract_move_row moves.now))) }
+        ++ spec.movement_stamps_of_cash_rows (map abstract_cash_row moves.now))) }
     ensures fault { IfErr result (λ fault. fault ≡ Memory) }
 {
     let mut seen = BTreeSet::new(alloc);

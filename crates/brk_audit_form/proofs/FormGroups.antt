@@ -13,8 +13,8 @@ use Rattle.brk_model.specs.Form.{is_well_formed_customer_tax_row, is_well_formed
 use Rattle.brk_model.specs.Form.{is_well_formed_holding_row, is_well_formed_summary_row, is_well_formed_holding_history_row, is_well_formed_settlement_row}
 use Rattle.brk_ref.specs.Records.{kept_row_with_empty_texts, abstract_broker_row, abstract_customer, abstract_account_row, abstract_permission}
 use Rattle.brk_ref.specs.Records.{abstract_security_row, abstract_last_trade_row, abstract_charge, abstract_band, abstract_tax_rate, abstract_customer_tax}
-use Rattle.brk_trade_rows.specs.Rows.{abstract_trade_row, abstract_history_row, abstract_request_row, abstract_holding_row, abstract_summary_row}
-use Rattle.brk_trade_rows.specs.Rows.{abstract_lot_change_row, abstract_settlement_row, abstract_cash_row, abstract_move_row}
+use Rattle.brk_ref.specs.Rows.{abstract_trade_row, abstract_history_row, abstract_request_row, abstract_holding_row, abstract_summary_row}
+use Rattle.brk_ref.specs.Rows.{abstract_lot_change_row, abstract_settlement_row, abstract_old_cash_row, abstract_cash_row}
 use Rattle.brk_trade_rows.specs.Sheets.{abstract_sheets}
 use Rattle.brk_model.specs.Schemas.{Schema}
 use Rattle.brk_model.specs.Tables.{Tables}
@@ -43,8 +43,8 @@ keys_whole s =
     (is_sorted_by_unique_key (λ r. summary_key (abstract_summary_row r)) s.summaries.items)
     (is_sorted_by_unique_key (λ r. holding_history_key (abstract_lot_change_row r)) s.holding_history.items)
     (is_sorted_by_unique_key (λ r. settlement_key (abstract_settlement_row r)) s.settlements.items)
-    (is_sorted_by_unique_key (λ r. cash_transaction_key (abstract_cash_row r)) s.cash.items)
-    (is_sorted_by_unique_key (λ r. cash_move_key (abstract_move_row r)) s.moves.items)
+    (is_sorted_by_unique_key (λ r. cash_transaction_key (abstract_old_cash_row r)) s.cash.items)
+    (is_sorted_by_unique_key (λ r. cash_move_key (abstract_cash_row r)) s.moves.items)
     ∙ (λ i.
     rises-map kept_key kept_row_with_empty_texts s.kept.items i
     && rises-map broker_key abstract_broker_row s.brokers.items i
@@ -64,8 +64,8 @@ keys_whole s =
     && rises-map summary_key abstract_summary_row s.summaries.items i
     && rises-map holding_history_key abstract_lot_change_row s.holding_history.items i
     && rises-map settlement_key abstract_settlement_row s.settlements.items i
-    && rises-map cash_transaction_key abstract_cash_row s.cash.items i
-    && rises-map cash_move_key abstract_move_row s.moves.items i)
+    && rises-map cash_transaction_key abstract_old_cash_row s.cash.items i
+    && rises-map cash_move_key abstract_cash_row s.moves.items i)
 
 -- the parts of the forms of records
 pub record ReferenceForms (schema : Schema) (s : Sheets) : Type 0 where

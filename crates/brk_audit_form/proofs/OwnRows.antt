@@ -6,8 +6,8 @@ use Rattle.std.proofs.lemmas.Bool.{and_cases, and_from, and_left, and_right, cas
 use Rattle.std.proofs.lemmas.List.{append-nil, take-append-drop, take_more}
 use Rattle.brk_model.specs.Form.{trade_ids_of_cash_rows}
 use Rattle.brk_model.specs.Lists.{all_distinct, contains_number}
-use Rattle.brk_trade_rows.specs.Rows.{abstract_move_row}
-use Rattle.brk_trade_rows.specs.declared.move_row.MoveRow.{MoveRow}
+use Rattle.brk_ref.specs.Rows.{abstract_cash_row}
+use Rattle.brk_ref.specs.declared.cash_row.CashRow.{CashRow}
 
 false_true : {A : Type 0} → false ≡ true → A
 false_true e = absurd (cc)
@@ -58,19 +58,19 @@ not_distinct_front (m ∷ ms) ns e =
 
 -- ---- the trades of rows
 
-abbrev pub trades : List MoveRow → List ℕ
-trades rows = trade_ids_of_cash_rows (map abstract_move_row rows)
+abbrev pub trades : List CashRow → List ℕ
+trades rows = trade_ids_of_cash_rows (map abstract_cash_row rows)
 
-trades-append : (rs qs : List MoveRow) → trades (rs ++ qs) ≡ trades rs ++ trades qs
+trades-append : (rs qs : List CashRow) → trades (rs ++ qs) ≡ trades rs ++ trades qs
 trades-append [] qs = refl
 trades-append (r ∷ rs) qs = ap (λ ns. option_to_list r.trade ++ ns) (trades-append rs qs) ∙ sym (append_assoc (option_to_list r.trade) (trades rs) (trades qs))
 
-trades_more : (rs : List MoveRow) (i : ℕ) (r : MoveRow) → i < length rs → r ≡ get_or rs i r → trades (take (i + 1) rs) ≡ trades (take i rs) ++ option_to_list r.trade
+trades_more : (rs : List CashRow) (i : ℕ) (r : CashRow) → i < length rs → r ≡ get_or rs i r → trades (take (i + 1) rs) ≡ trades (take i rs) ++ option_to_list r.trade
 trades_more rs i r l e =
     ap trades (take_more rs i r l ∙ ap (λ k. take i rs ++ k ∷ []) (sym e)) ∙ trades-append (take i rs) (r ∷ []) ∙ ap (λ ns. trades (take i rs) ++ ns) (append-nil (option_to_list r.trade))
 
 -- what is seen after one more row
-pub seen_more : (rs : List MoveRow) (i : ℕ) (r : MoveRow) (q : ℕ) (was is : Bool) → i < length rs → r ≡ get_or rs i r
+pub seen_more : (rs : List CashRow) (i : ℕ) (r : CashRow) (q : ℕ) (was is : Bool) → i < length rs → r ≡ get_or rs i r
     → was ≡ contains_number q (trades (take i rs)) → is ≡ was || option_map_or (λ id. id == q) r.trade false → is ≡ contains_number q (trades (take (i + 1) rs))
 seen_more rs i r q was is l e f g =
     g ∙ ap (λ b. b || option_map_or (λ id. id == q) r.trade false) f ∙ by_trade r.trade (trades (take i rs)) ∙ sym (ap (contains_number q) (trades_more rs i r l e))
@@ -80,7 +80,7 @@ seen_more rs i r q was is l e f g =
     by_trade None ns = or_false (contains_number q ns) ∙ ap (contains_number q) (sym (append-nil ns))
 
 -- trades stay apart after a row of a new one
-pub own_more : (rs : List MoveRow) (i : ℕ) (r : MoveRow) (was : ℕ → Bool) → i < length rs → r ≡ get_or rs i r → ((q : ℕ) → was q ≡ contains_number q (trades (take i rs)))
+pub own_more : (rs : List CashRow) (i : ℕ) (r : CashRow) (was : ℕ → Bool) → i < length rs → r ≡ get_or rs i r → ((q : ℕ) → was q ≡ contains_number q (trades (take i rs)))
     → not (option_map_or was r.trade false) ≡ true → all_distinct (trades (take i rs)) ≡ true → all_distinct (trades (take (i + 1) rs)) ≡ true
 own_more rs i r was l e f g d = ap all_distinct (trades_more rs i r l e) ∙ by_trade r.trade (trades (take i rs)) f g d
   where
@@ -89,7 +89,7 @@ own_more rs i r was l e f g d = ap all_distinct (trades_more rs i r l e) ∙ by_
     by_trade None ns f n d = ap all_distinct (append-nil ns) ∙ d
 
 -- and they are not apart where a row is of one that was seen
-pub not_own : (rs : List MoveRow) (i : ℕ) (r : MoveRow) (was : ℕ → Bool) → i < length rs → r ≡ get_or rs i r → ((q : ℕ) → was q ≡ contains_number q (trades (take i rs)))
+pub not_own : (rs : List CashRow) (i : ℕ) (r : CashRow) (was : ℕ → Bool) → i < length rs → r ≡ get_or rs i r → ((q : ℕ) → was q ≡ contains_number q (trades (take i rs)))
     → not (option_map_or was r.trade false) ≡ false → all_distinct (trades rs) ≡ false
 not_own rs i r was l e f g =
     ap (λ qs. all_distinct (trades qs)) (sym (take-append-drop (i + 1) rs)) ∙ ap all_distinct (trades-append (take (i + 1) rs) (drop (i + 1) rs))

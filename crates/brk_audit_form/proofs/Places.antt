@@ -13,8 +13,8 @@ use Rattle.brk_money.specs.Kinds.{is_same_trade_status, trade_status_code}
 use Rattle.brk_money.specs.declared.status.Status.{Status}
 use Rattle.brk_money.specs.declared.status.Status.TheVariants.{Completed, Active, Submitted, Pending, Canceled}
 use Rattle.brk_model.specs.Keys.{number, word, is_key_less, history_key}
-use Rattle.brk_trade_rows.specs.Rows.{abstract_history_row}
-use Rattle.brk_trade_rows.specs.declared.history_row.HistoryRow.{HistoryRow}
+use Rattle.brk_ref.specs.Rows.{abstract_history_row}
+use Rattle.brk_ref.specs.declared.history_row.HistoryRow.{HistoryRow}
 use Rattle.brk_audit_theorems.proofs.Climbs.{Climbs}
 use Rattle.brk_audit_form.proofs.KeyOrders.{key_lt}
 use Rattle.brk_audit_form.proofs.Searches.{Climbing, climbing, rising_keys, any_searched, any_found, any_map, eq_number, number_less, word_less}

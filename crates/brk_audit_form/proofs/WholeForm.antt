@@ -13,7 +13,7 @@ use Rattle.brk_model.specs.Form.{satisfies_form_condition, has_tables_sorted_by_
 use Rattle.brk_model.specs.Form.{is_within_customer_limits, is_well_formed_cash_transaction_row, is_well_formed_cash_move_row, trade_ids_of_cash_rows}
 use Rattle.brk_model.specs.Form.{has_rows_only_in_tables_of_schema}
 use Rattle.brk_ref.specs.Records.{abstract_customer, abstract_band}
-use Rattle.brk_trade_rows.specs.Rows.{abstract_trade_row, abstract_cash_row, abstract_move_row}
+use Rattle.brk_ref.specs.Rows.{abstract_trade_row, abstract_old_cash_row, abstract_cash_row}
 use Rattle.brk_trade_rows.specs.Sheets.{abstract_sheets}
 use Rattle.brk_trade_rows.specs.declared.sheets.Sheets.{Sheets}
 use Rattle.brk_model_theorems.specs.FormParts.{SatisfiesFormParts}
@@ -37,17 +37,17 @@ numbers-mapped : (s : Sheets) → are_equal_number_lists (map (λ row. row.id) s
 numbers-mapped s = λ i. are_equal_number_lists (map-map (λ row. row.id) abstract_trade_row s.trades.items i) (range_with_len 1 (length-mapped abstract_trade_row s.trades.items i))
 
 moves-counted : (s : Sheets) → nat_le (length (filter (λ r. is_none r.trade) s.moves.items)) greatest_id
-    ≡ nat_le (length (filter (λ r. is_none r.trade) (map abstract_move_row s.moves.items))) greatest_id
-moves-counted s = ap (λ n. nat_le n greatest_id) (count-mapped (λ r. is_none r.trade) abstract_move_row s.moves.items)
+    ≡ nat_le (length (filter (λ r. is_none r.trade) (map abstract_cash_row s.moves.items))) greatest_id
+moves-counted s = ap (λ n. nat_le n greatest_id) (count-mapped (λ r. is_none r.trade) abstract_cash_row s.moves.items)
 
 -- the tests with memory, after the plain ones
 abbrev pub rests : Sheets → List Bool
 rests s =
     has_distinct_tax_ids (map abstract_customer s.customers.items) ∷
     list_all (is_within_customer_limits (abstract_sheets s)) (map abstract_customer s.customers.items) ∷
-    list_all (is_well_formed_cash_transaction_row (abstract_sheets s)) (map abstract_cash_row s.cash.items) ∷
-    list_all (is_well_formed_cash_move_row (abstract_sheets s)) (map abstract_move_row s.moves.items) ∷
-    all_distinct (trade_ids_of_cash_rows (map abstract_move_row s.moves.items)) ∷ []
+    list_all (is_well_formed_cash_transaction_row (abstract_sheets s)) (map abstract_old_cash_row s.cash.items) ∷
+    list_all (is_well_formed_cash_move_row (abstract_sheets s)) (map abstract_cash_row s.moves.items) ∷
+    all_distinct (trade_ids_of_cash_rows (map abstract_cash_row s.moves.items)) ∷ []
 
 -- the plain tests, after the keys
 abbrev plain_rests : Schema → Sheets → List Bool

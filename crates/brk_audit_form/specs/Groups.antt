@@ -16,8 +16,8 @@ use Rattle.brk_model.specs.Form.{is_last_stamp_in_calendar, is_one_day_settlemen
 use Rattle.brk_ref.specs.Records.{abstract_account_row, abstract_broker_row, abstract_customer}
 use Rattle.brk_ref.specs.Records.{abstract_permission, abstract_security_row, kept_row_with_empty_texts}
 use Rattle.brk_ref.specs.Records.{abstract_last_trade_row, abstract_charge, abstract_band, abstract_tax_rate, abstract_customer_tax}
-use Rattle.brk_trade_rows.specs.Rows.{abstract_trade_row, abstract_history_row, abstract_request_row, abstract_holding_row, abstract_summary_row}
-use Rattle.brk_trade_rows.specs.Rows.{abstract_lot_change_row, abstract_settlement_row, abstract_cash_row, abstract_move_row}
+use Rattle.brk_ref.specs.Rows.{abstract_trade_row, abstract_history_row, abstract_request_row, abstract_holding_row, abstract_summary_row}
+use Rattle.brk_ref.specs.Rows.{abstract_lot_change_row, abstract_settlement_row, abstract_old_cash_row, abstract_cash_row}
 use Rattle.brk_trade_rows.specs.Sheets.{abstract_sheets}
 use Rattle.brk_trade_rows.specs.declared.sheets.Sheets.{Sheets}
 
@@ -50,8 +50,8 @@ trading_tables_are_sorted s =
     && is_sorted_by_unique_key (λ r. summary_key (abstract_summary_row r)) s.summaries.items
     && is_sorted_by_unique_key (λ r. holding_history_key (abstract_lot_change_row r)) s.holding_history.items
     && is_sorted_by_unique_key (λ r. settlement_key (abstract_settlement_row r)) s.settlements.items
-    && is_sorted_by_unique_key (λ r. cash_transaction_key (abstract_cash_row r)) s.cash.items
-    && is_sorted_by_unique_key (λ r. cash_move_key (abstract_move_row r)) s.moves.items
+    && is_sorted_by_unique_key (λ r. cash_transaction_key (abstract_old_cash_row r)) s.cash.items
+    && is_sorted_by_unique_key (λ r. cash_move_key (abstract_cash_row r)) s.moves.items
 
 -- True if each of the typed rows `s` of KEPT, BROKER, CUSTOMER, CUSTOMER_ACCOUNT,
 -- ACCOUNT_PERMISSION, SECURITY, LAST_TRADE, CHARGE, COMMISSION_RATE, TAXRATE and CUSTOMER_TAXRATE

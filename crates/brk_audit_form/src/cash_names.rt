@@ -5,7 +5,7 @@ ghost use Rattle.brk_money.specs.declared.fault.Fault.TheVariants.{Memory};
 ghost use Rattle.brk_model.specs.Form as form;
 ghost use Rattle.brk_model.specs.Joins.{trade_row_with_id};
 ghost use Rattle.brk_model.specs.Results.{cash_row_name_from_parts};
-ghost use Rattle.brk_trade_rows.specs.Rows.{abstract_cash_row, abstract_move_row, abstract_trade_row};
+ghost use Rattle.brk_ref.specs.Rows.{abstract_old_cash_row, abstract_cash_row, abstract_trade_row};
 ghost use Rattle.brk_trade_rows.specs.Sheets.{abstract_sheets};
 ghost use Rattle.brk_audit_form.specs.Conditions.{HasSortedKeys};
 ghost use Rattle.brk_audit_form.specs.Names.{security_name_or_empty};
@@ -15,8 +15,8 @@ use crate::limits::{
 };
 use crate::references::{find_security, find_trade, has_account};
 use brk_money::{Cents, Fault, Id, Qty};
-use brk_ref::Symbol;
-use brk_trade_rows::{CashRow, MoveRow, Sheets, TradeRow};
+use brk_ref::{CashRow, OldCashRow, Symbol, TradeRow};
+use brk_trade_rows::Sheets;
 use std::alloc::{AllocError, Global};
 
 // Returns the name of the security with the symbol, or the empty text if there is no such security.
@@ -106,10 +106,10 @@ fn is_cash_text_of_trade_id(
 fn is_cash_transaction_well_formed(
     alloc: Global,
     sheets: &Sheets,
-    row: &CashRow,
+    row: &OldCashRow,
 ) -> Result<bool, Fault>
     requires { HasSortedKeys sheets.now }
-    ensures value { IfOk result (λ holds. holds ≡ form.is_well_formed_cash_transaction_row (abstract_sheets sheets.now) (abstract_cash_row row.now)) }
+    ensures value { IfOk result (λ holds. holds ≡ form.is_well_formed_cash_transaction_row (abstract_sheets sheets.now) (abstract_old_cash_row row.now)) }
     ensures fault { IfErr result (λ fault. fault ≡ Memory) }
 {
     let is_named = is_cash_text_of_trade_id(alloc, sheets, row.trade, row.name.as_str())?;
@@ -133,10 +133,10 @@ fn movement_name_matches_amount_sign(name: &str, amount: Cents) -> bool
 // returns true if its text is `Deposit` and its amount is above 0, or its text is `Withdrawal` and
 // its amount is below 0. The tables must be sorted by key without a repeated key. Fails with
 // `Memory` only.
-fn has_valid_cash_text(alloc: Global, sheets: &Sheets, row: &MoveRow) -> Result<bool, Fault>
+fn has_valid_cash_text(alloc: Global, sheets: &Sheets, row: &CashRow) -> Result<bool, Fault>
     requires { HasSortedKeys sheets.now }
     ensures value { IfOk result (λ holds. holds
-        ≡ option_map_or (form.has_cash_row_name_of_trade (abstract_sheets sheets.now) (abstract_move_row row.now)) row.now.trade
+        ≡ option_map_or (form.has_cash_row_name_of_trade (abstract_sheets sheets.now) (abstract_cash_row row.now)) row.now.trade
         (form.is_movement_name_and_amount (string_bytes row.now.name) row.now.amount)) }
     ensures fault { IfErr result (λ fault. fault ≡ Memory) }
 {
@@ -151,9 +151,13 @@ fn has_valid_cash_text(alloc: Global, sheets: &Sheets, row: &MoveRow) -> Result<
 // amount, its account exists, its text fits its trade or its amount (`has_valid_cash_text`), and
 // its stamp is at most the last stamp, which must exist. The tables must be sorted by key without a
 // repeated key. Fails with `Memory` only.
-fn is_move_row_well_formed(alloc: Global, sheets: &Sheets, row: &MoveRow) -> Result<bool, Fault>
+fn is_cash_move_row_well_formed(
+    alloc: Global,
+    sheets: &Sheets,
+    row: &CashRow,
+) -> Result<bool, Fault>
     requires { HasSortedKeys sheets.now }
-    ensures value { IfOk result (λ holds. holds ≡ form.is_well_formed_cash_move_row (abstract_sheets sheets.now) (abstract_move_row row.now)) }
+    ensures value { IfOk result (λ holds. holds ≡ form.is_well_formed_cash_move_row (abstract_sheets sheets.now) (abstract_cash_row row.now)) }
     ensures fault { IfErr result (λ fault. fault ≡ Memory) }
 {
     let is_called = has_valid_cash_text(alloc, sheets, row)?;
@@ -174,7 +178,7 @@ pub(crate) fn are_cash_transactions_well_formed(
 ) -> Result<bool, Fault>
     requires { HasSortedKeys sheets.now }
     ensures value { IfOk result (λ holds. holds
-        ≡ list_all (form.is_well_formed_cash_transaction_row (abstract_sheets sheets.now)) (map abstract_cash_row sheets.now.cash.items)) }
+        ≡ list_all (form.is_well_formed_cash_transaction_row (abstract_sheets sheets.now)) (map abstract_old_cash_row sheets.now.cash.items)) }
     ensures fault { IfErr result (λ fault. fault ≡ Memory) }
 {
     for row in &sheets.cash {
@@ -186,16 +190,16 @@ pub(crate) fn are_cash_transactions_well_formed(
     Ok(true)
 }
 
-/// Returns true if each row of CASH_MOVE is well-formed (`is_move_row_well_formed`). The tables
+/// Returns true if each row of CASH_MOVE is well-formed (`is_cash_move_row_well_formed`). The tables
 /// must be sorted by key without a repeated key. Fails with `Memory` only.
-pub(crate) fn are_move_rows_well_formed(alloc: Global, sheets: &Sheets) -> Result<bool, Fault>
+pub(crate) fn are_cash_move_rows_well_formed(alloc: Global, sheets: &Sheets) -> Result<bool, Fault>
     requires { HasSortedKeys sheets.now }
     ensures value { IfOk result (λ holds. holds
-        ≡ list_all (form.is_well_formed_cash_move_row (abstract_sheets sheets.now)) (map abstract_move_row sheets.now.moves.items)) }
+        ≡ list_all (form.is_well_formed_cash_move_row (abstract_sheets sheets.now)) (map abstract_cash_row sheets.now.moves.items)) }
     ensures fault { IfErr result (λ fault. fault ≡ Memory) }
 {
     for row in &sheets.moves {
-        let is_formed = is_move_row_well_formed(alloc, sheets, row)?;
+        let is_formed = is_cash_move_row_well_formed(alloc, sheets, row)?;
         if !is_formed {
             return Ok(false);
         }

@@ -8,7 +8,7 @@ ghost use Rattle.brk_trade_rows.specs.Sheets.{abstract_sheets};
 ghost use Rattle.brk_audit_form.specs.Groups.{passes_nonallocating_form_checks};
 
 use crate::bands::are_bands_disjoint;
-use crate::cash_names::{are_cash_transactions_well_formed, are_move_rows_well_formed};
+use crate::cash_names::{are_cash_move_rows_well_formed, are_cash_transactions_well_formed};
 use crate::customer_limits::customers_are_within_limits;
 use crate::numbers::{are_trades_numbered_from_one, is_movement_count_within_limit};
 use crate::own_rows::cash_rows_have_distinct_trades;
@@ -104,7 +104,7 @@ pub fn form_condition_holds(alloc: Global, schema: Schema, sheets: &Sheets) -> R
     if !has_cash {
         return Ok(false);
     }
-    let has_moves = are_move_rows_well_formed(alloc, sheets)?;
+    let has_moves = are_cash_move_rows_well_formed(alloc, sheets)?;
     if !has_moves {
         return Ok(false);
     }

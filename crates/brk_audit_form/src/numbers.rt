@@ -4,7 +4,7 @@ ghost use Rattle.brk_model.specs.Form as form;
 ghost use Rattle.brk_model.specs.Limits.{greatest_id};
 
 use brk_money::Id;
-use brk_trade_rows::{MoveRow, TradeRow};
+use brk_ref::{CashRow, TradeRow};
 
 /// Returns true if the ids of the trades are 1, 2, 3 and so on, in the order of the rows.
 pub(crate) fn are_trades_numbered_from_one(trades: &[TradeRow]) -> bool
@@ -20,7 +20,7 @@ pub(crate) fn are_trades_numbered_from_one(trades: &[TradeRow]) -> bool
 
 /// Returns true if at most `Id::GREATEST` rows of CASH_MOVE have no trade. These rows are the
 /// deposits and the withdrawals.
-pub(crate) fn is_movement_count_within_limit(moves: &[MoveRow]) -> bool
+pub(crate) fn is_movement_count_within_limit(moves: &[CashRow]) -> bool
     ensures { result ≡ nat_le (length (filter (λ r. is_none r.trade) moves.now)) greatest_id }
 {
     let mut count = 0u64;

@@ -5,10 +5,10 @@ ghost use Rattle.std.specs.Ordering.{nat_cmp};
 ghost use Rattle.brk_money.specs.declared.fault.Fault.TheVariants.{Memory};
 ghost use Rattle.brk_model.specs.Form.{trade_ids_of_cash_rows};
 ghost use Rattle.brk_model.specs.Lists.{all_distinct};
-ghost use Rattle.brk_trade_rows.specs.Rows.{abstract_move_row};
+ghost use Rattle.brk_ref.specs.Rows.{abstract_cash_row};
 
 use brk_money::{Fault, Id};
-use brk_trade_rows::MoveRow;
+use brk_ref::CashRow;
 use std::alloc::Global;
 use std::collections::BTreeSet;
 
@@ -30,9 +30,9 @@ fn insert_cash_row_trade(seen: &mut BTreeSet<u64>, trade: Option<Id>) -> Result<
 /// Fails with `Memory` only.
 pub(crate) fn cash_rows_have_distinct_trades(
     alloc: Global,
-    moves: &[MoveRow],
+    moves: &[CashRow],
 ) -> Result<bool, Fault>
-    ensures value { IfOk result (λ own. own ≡ all_distinct (trade_ids_of_cash_rows (map abstract_move_row moves.now))) }
+    ensures value { IfOk result (λ own. own ≡ all_distinct (trade_ids_of_cash_rows (map abstract_cash_row moves.now))) }
     ensures fault { IfErr result (λ fault. fault ≡ Memory) }
 {
     let mut seen = BTreeSet::new(alloc);

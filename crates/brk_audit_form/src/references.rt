@@ -5,15 +5,15 @@ ghost use Rattle.brk_money.specs.Kinds.{is_same_trade_status};
 ghost use Rattle.brk_money.specs.declared.status.Status.TheVariants.{Completed};
 ghost use Rattle.brk_model.specs.Form as form;
 ghost use Rattle.brk_model.specs.Joins as joins;
-ghost use Rattle.brk_trade_rows.specs.Rows.{abstract_trade_row};
+ghost use Rattle.brk_ref.specs.Rows.{abstract_trade_row};
 ghost use Rattle.brk_trade_rows.specs.Sheets.{abstract_sheets};
 ghost use Rattle.brk_ref.specs.Records.{abstract_security_row, abstract_tax_rate};
 ghost use Rattle.brk_audit_form.specs.Conditions.{HasSortedKeys};
 
 use crate::keys::{compare_ids, compare_texts};
 use brk_money::{Id, Status};
-use brk_ref::{Security, Symbol, Tax};
-use brk_trade_rows::{Sheets, TradeRow};
+use brk_ref::{Security, Symbol, Tax, TradeRow};
+use brk_trade_rows::Sheets;
 
 /// Returns true if the rows contain a broker with the id. The tables must be sorted by key without
 /// a repeated key.

@@ -1,6 +1,6 @@
 ghost use Rattle.std.specs.Prelude.{◌≡◌};
 ghost use Rattle.brk_model.specs.Form as form;
-ghost use Rattle.brk_trade_rows.specs.Rows as of;
+ghost use Rattle.brk_ref.specs.Rows as of;
 ghost use Rattle.brk_trade_rows.specs.Sheets.{abstract_sheets};
 ghost use Rattle.brk_audit_form.specs.Conditions.{HasSortedKeys};
 
@@ -13,10 +13,10 @@ use crate::references::{
 };
 use crate::rows::Formed;
 use brk_money::{Day, Stamp, Status};
-use brk_trade_rows::{
-    CashType, HistoryRow, HoldingRow, LotChange, RequestRow, Schema, SettlementRow, Sheets,
-    SummaryRow, TradeRow, due_day_after_completion,
+use brk_ref::{
+    CashType, HistoryRow, HoldingRow, LotChange, RequestRow, SettlementRow, SummaryRow, TradeRow,
 };
+use brk_trade_rows::{Schema, Sheets, due_day_after_completion};
 
 // Returns true if TRADE_HISTORY has a completion of the trade of the row and the row has a price
 // from 1 cent to the greatest price, both included, or if there is neither a completion nor a

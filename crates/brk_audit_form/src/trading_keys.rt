@@ -1,9 +1,9 @@
 ghost use Rattle.brk_model.specs.Keys as keys;
-ghost use Rattle.brk_trade_rows.specs.Rows as of;
+ghost use Rattle.brk_ref.specs.Rows as of;
 
 use crate::keys::{Keyed, compare_ids, compare_texts};
-use brk_trade_rows::{
-    CashRow, HistoryRow, HoldingRow, LotChange, MoveRow, RequestRow, SettlementRow, SummaryRow,
+use brk_ref::{
+    CashRow, HistoryRow, HoldingRow, LotChange, OldCashRow, RequestRow, SettlementRow, SummaryRow,
     TradeRow,
 };
 use std::cmp::Ordering;
@@ -71,20 +71,20 @@ impl Keyed for SettlementRow {
     }
 }
 
-impl Keyed for CashRow {
-    ghost key = { λ row. keys.cash_transaction_key (of.abstract_cash_row row) };
+impl Keyed for OldCashRow {
+    ghost key = { λ row. keys.cash_transaction_key (of.abstract_old_cash_row row) };
 
     // Returns the order of two rows by trade.
-    fn compare_keys(&self, other: &CashRow) -> Ordering {
+    fn compare_keys(&self, other: &OldCashRow) -> Ordering {
         compare_ids(self.trade, other.trade)
     }
 }
 
-impl Keyed for MoveRow {
-    ghost key = { λ row. keys.cash_move_key (of.abstract_move_row row) };
+impl Keyed for CashRow {
+    ghost key = { λ row. keys.cash_move_key (of.abstract_cash_row row) };
 
     // Returns the order of two rows by number (CM_ID).
-    fn compare_keys(&self, other: &MoveRow) -> Ordering {
+    fn compare_keys(&self, other: &CashRow) -> Ordering {
         self.id.get().cmp(&other.id.get())
     }
 }

@@ -7,11 +7,11 @@ use Rattle.std.specs.List.{AllByRecursion, filter_map}
 use Rattle.std.specs.Ordering.{is_eq, nat_cmp}
 use Rattle.brk_model.specs.Lists.{total_by}
 use Rattle.brk_model.specs.Tables.{TradeRow}
-use Rattle.brk_trade_rows.specs.Rows.{abstract_move_row, abstract_trade_row}
+use Rattle.brk_ref.specs.Rows.{abstract_cash_row, abstract_trade_row}
 use Rattle.brk_trade_rows.specs.Sheets.{abstract_sheets}
 use Rattle.brk_trade_rows.specs.declared.sheets.Sheets.{Sheets}
-use Rattle.brk_trade_rows.specs.declared.trade_row.TradeRow as trade
-use Rattle.brk_trade_rows.specs.declared.move_row.MoveRow as move
+use Rattle.brk_ref.specs.declared.trade_row.TradeRow as trade
+use Rattle.brk_ref.specs.declared.cash_row.CashRow as move
 use Rattle.brk_audit_sums.specs.AccountTerms.{account_broker_in_terms}
 use Rattle.brk_audit_sums.specs.Completed.{is_completed_trade_row}
 use Rattle.brk_audit_sums.specs.Settling.{account_broker_or_zero}
@@ -55,15 +55,15 @@ broker_sums s terms amount sums postings has summed posted q =
     s.trades.items q (λ r. same_brokers s terms has r.account) (λ r. refl)
 
 -- the sum of movements in types, as one over the rows that they are
-pub moved_sum : (rows : List move.MoveRow) (q : ℕ) → total_amount_at_key nat_cmp (filter_map (λ r. movement_posting_of_row (abstract_move_row r)) rows) q
-    ≡ total_by (λ r. r.amount) (filter (λ r. is_none r.trade && (r.account == q)) (map abstract_move_row rows))
+pub moved_sum : (rows : List move.CashRow) (q : ℕ) → total_amount_at_key nat_cmp (filter_map (λ r. movement_posting_of_row (abstract_cash_row r)) rows) q
+    ≡ total_by (λ r. r.amount) (filter (λ r. is_none r.trade && (r.account == q)) (map abstract_cash_row rows))
 moved_sum rows q =
-    total_posted nat_cmp (λ r. is_none (abstract_move_row r).trade) (λ r. (abstract_move_row r).account) (λ r. (abstract_move_row r).amount) rows q
-    ∙ ap (total_by (λ r. (abstract_move_row r).amount))
-    (filter-same (λ r. is_none (abstract_move_row r).trade && is_eq (nat_cmp (abstract_move_row r).account q))
-    (λ r. is_none (abstract_move_row r).trade && ((abstract_move_row r).account == q)) rows
-    (All-of rows (λ r i. is_none (abstract_move_row r).trade && sym (unsigned_ties (abstract_move_row r).account q) i)))
-    ∙ sym (total_mapped (λ r. r.amount) (λ r. is_none r.trade && (r.account == q)) abstract_move_row rows)
+    total_posted nat_cmp (λ r. is_none (abstract_cash_row r).trade) (λ r. (abstract_cash_row r).account) (λ r. (abstract_cash_row r).amount) rows q
+    ∙ ap (total_by (λ r. (abstract_cash_row r).amount))
+    (filter-same (λ r. is_none (abstract_cash_row r).trade && is_eq (nat_cmp (abstract_cash_row r).account q))
+    (λ r. is_none (abstract_cash_row r).trade && ((abstract_cash_row r).account == q)) rows
+    (All-of rows (λ r i. is_none (abstract_cash_row r).trade && sym (unsigned_ties (abstract_cash_row r).account q) i)))
+    ∙ sym (total_mapped (λ r. r.amount) (λ r. is_none r.trade && (r.account == q)) abstract_cash_row rows)
 
 -- the sums of two lists of postings
 pub total_both : (ps qs : List (KeyedAmount ℕ)) (q : ℕ) → total_amount_at_key nat_cmp (ps ++ qs) q ≡ total_amount_at_key nat_cmp ps q +ℤ total_amount_at_key nat_cmp qs q

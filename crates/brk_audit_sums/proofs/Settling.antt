@@ -12,7 +12,7 @@ use Rattle.brk_model.specs.Records.{Account}
 use Rattle.brk_model.specs.Base.{broker_id_in_accounts, completed_trades, account_with_id_in_list, is_withholding_status, tax_status_in_accounts}
 use Rattle.brk_model.specs.Derived.{settlement_amount, cash_trades, due_day_of_completion_stamp, postings_sorted_by_stamp, postings_of_base, signed_proceeds}
 use Rattle.brk_model.specs.Joins.{account_row_with_id}
-use Rattle.brk_model.specs.Tables.{Tables, numbered_move_rows, AccountRow, CashRow, RequestRow, SettlementRow, TradeRow, cash_transaction_row, request_row, settlement_row, tables_of_base_in_schema}
+use Rattle.brk_model.specs.Tables.{Tables, numbered_cash_move_rows, AccountRow, OldCashRow, RequestRow, SettlementRow, TradeRow, cash_transaction_row, request_row, settlement_row, tables_of_base_in_schema}
 use Rattle.brk_model.specs.Sheets.{tables_sorted_by_key}
 use Rattle.brk_model.specs.Keys.{number, rows_sorted_by_key, is_row_key_less, cash_transaction_key, cash_move_key, request_key, settlement_key, trade_key}
 use Rattle.brk_model.specs.Adopted.{account_of_row, base_of_tables, is_posting_of_trade, posting_of_cash_transaction_row, posting_of_cash_move_row, postings_of_tables, trade_of_row}
@@ -96,7 +96,7 @@ wanted_cash : (schema : Schema) (t : Tables) → schema.has_cash_move_table ≡ 
     → (expected_tables schema t).cash ≡ map (λ r. cash_transaction_row (accounts_in t) (trade_of_row t r)) (filter is_completed_cash_trade t.trades)
 unfolding base_of_tables tables_sorted_by_key tables_of_base_in_schema
 wanted_cash schema t n c s =
-    let f : TradeRow → CashRow = λ r. cash_transaction_row (accounts_in t) (trade_of_row t r) in
+    let f : TradeRow → OldCashRow = λ r. cash_transaction_row (accounts_in t) (trade_of_row t r) in
     let rows : List TradeRow = filter is_completed_cash_trade t.trades in
     ap (λ b. rows_sorted_by_key cash_transaction_key (cond b [] (map (cash_transaction_row (accounts_in t)) (cash_trades (completed_trades (base_of_tables t)))))) n
     ∙ ap (λ ts. rows_sorted_by_key cash_transaction_key (map (cash_transaction_row (accounts_in t)) ts)) (cash_rows t s)
@@ -110,7 +110,7 @@ no_rows before = refl
 wanted_no_moves : (schema : Schema) (t : Tables) → schema.has_cash_move_table ≡ false → (expected_tables schema t).moves ≡ []
 unfolding tables_sorted_by_key tables_of_base_in_schema
 wanted_no_moves schema t n =
-    ap (λ b. rows_sorted_by_key cash_move_key (cond b (numbered_move_rows 1 (postings_sorted_by_stamp (postings_of_base (base_of_tables t)))) [])) n
+    ap (λ b. rows_sorted_by_key cash_move_key (cond b (numbered_cash_move_rows 1 (postings_sorted_by_stamp (postings_of_base (base_of_tables t)))) [])) n
     ∙ no_rows (is_row_key_less cash_move_key)
 
 -- ---- requests
@@ -207,16 +207,16 @@ moved_right : (t : Tables) (r : TradeRow) → IsRight t r
     ≡ cash_transaction_figures_of_trade (account_tax_status_or_untaxed t) r
 moved_right t r e = λ i. record { trade = r.id; stamp = row_moment t r e i; amount = same_amount t r i }
 
-cash_found : (cs : List CashRow) → Climbs cash_transaction_key cs → AllByRecursion (λ c. find (λ x. x.trade == c.trade) cs ≡ Some c) cs
+cash_found : (cs : List OldCashRow) → Climbs cash_transaction_key cs → AllByRecursion (λ c. find (λ x. x.trade == c.trade) cs ≡ Some c) cs
 cash_found cs c = both cs (each_in cs) (find-each (λ c x. x.trade == c.trade) cs (λ c. eq-eqb c.trade c.trade refl))
   where
-    one : (r : CashRow) → In r cs → is_some (find (λ x. x.trade == r.trade) cs) ≡ true → find (λ x. x.trade == r.trade) cs ≡ Some r
+    one : (r : OldCashRow) → In r cs → is_some (find (λ x. x.trade == r.trade) cs) ≡ true → find (λ x. x.trade == r.trade) cs ≡ Some r
     one r m e =
-        let f : FoundIn CashRow (λ x. x.trade == r.trade) cs = found_in (λ x. x.trade == r.trade) cs e in
+        let f : FoundIn OldCashRow (λ x. x.trade == r.trade) cs = found_in (λ x. x.trade == r.trade) cs e in
         let k : f.item.trade ≡ r.trade = eqb-true f.item.trade r.trade f.passes in
         f.is ∙ ap Some (one_of_key cash_transaction_key cs f.item r c f.there m (λ i. number (k i) ∷ []))
 
-    both : (xs : List CashRow) → AllByRecursion (λ r. In r cs) xs → AllByRecursion (λ r. is_some (find (λ x. x.trade == r.trade) cs) ≡ true) xs
+    both : (xs : List OldCashRow) → AllByRecursion (λ r. In r cs) xs → AllByRecursion (λ r. is_some (find (λ x. x.trade == r.trade) cs) ≡ true) xs
         → AllByRecursion (λ r. find (λ x. x.trade == r.trade) cs ≡ Some r) xs
     both [] m e = tt
     both (r ∷ xs) m e = (one r m.0 e.0, both xs m.1 e.1)
@@ -228,7 +228,7 @@ posted_cash t e id =
     ∙ ap (find (is_posting_of_trade id)) (append_nil (map (posting_of_cash_transaction_row t) t.cash))
     ∙ find-map (is_posting_of_trade id) (posting_of_cash_transaction_row t) t.cash
 
-same_cash_row : (t : Tables) (c : CashRow) (r : TradeRow) → t.moves ≡ [] → find (λ x. x.trade == c.trade) t.cash ≡ Some c → IsRight t r
+same_cash_row : (t : Tables) (c : OldCashRow) (r : TradeRow) → t.moves ≡ [] → find (λ x. x.trade == c.trade) t.cash ≡ Some c → IsRight t r
     → cash_transaction_figures_of_row c ≡ cash_transaction_figures_of_trade (account_tax_status_or_untaxed t) r → c ≡ cash_transaction_row (accounts_in t) (trade_of_row t r)
 same_cash_row t c r n f e d =
     let g : cash_transaction_figures_of_row c ≡ cash_transaction_figures_of_row (cash_transaction_row (accounts_in t) (trade_of_row t r)) = d ∙ sym (moved_right t r e) in
@@ -239,7 +239,7 @@ same_cash_row t c r n f e d =
     ∙ ap (λ o. option_map_or (λ p. p.name) o []) (sym (posted_cash t n r.id)) in
     λ i. record { trade = (g i).trade; stamp = (g i).stamp; amount = (g i).amount; name = w i }
 
-same_cash : (t : Tables) (cs : List CashRow) (rs : List TradeRow) → t.moves ≡ [] → AllByRecursion (λ c. find (λ x. x.trade == c.trade) t.cash ≡ Some c) cs
+same_cash : (t : Tables) (cs : List OldCashRow) (rs : List TradeRow) → t.moves ≡ [] → AllByRecursion (λ c. find (λ x. x.trade == c.trade) t.cash ≡ Some c) cs
     → AllByRecursion (IsRight t) rs → map cash_transaction_figures_of_row cs ≡ map (cash_transaction_figures_of_trade (account_tax_status_or_untaxed t)) rs
     → cs ≡ map (λ r. cash_transaction_row (accounts_in t) (trade_of_row t r)) rs
 same_cash t [] [] n f e d = refl
@@ -257,7 +257,7 @@ pub cash_by_rows : (schema : Schema) (t : Tables) → schema.has_cash_move_table
     → (ConditionHolds schema condition.Cash t → HasCash t) × (HasCash t → ConditionHolds schema condition.Cash t)
 unfolding ConditionHolds
 cash_by_rows schema t n m c d s =
-    let f : TradeRow → CashRow = λ r. cash_transaction_row (accounts_in t) (trade_of_row t r) in
+    let f : TradeRow → OldCashRow = λ r. cash_transaction_row (accounts_in t) (trade_of_row t r) in
     let rows : List TradeRow = filter is_completed_cash_trade t.trades in
     let right : AllByRecursion (IsRight t) rows = right_done t is_completed_cash_trade s in
     let e = wanted_cash schema t n c s in (

@@ -21,7 +21,7 @@ use Rattle.brk_model.specs.Lists.{is_zero, total_by}
 use Rattle.brk_model.specs.Shares.{signed_by_side}
 use Rattle.brk_model.specs.Schemas.{Schema}
 use Rattle.brk_model.specs.Tables.{Tables, SummaryRow, TradeRow}
-use Rattle.brk_trade_rows.specs.Rows.{abstract_summary_row, abstract_trade_row}
+use Rattle.brk_ref.specs.Rows.{abstract_summary_row, abstract_trade_row}
 use Rattle.brk_trade_rows.specs.Sheets.{abstract_sheets}
 use Rattle.brk_trade_rows.specs.declared.sheets.Sheets.{Sheets}
 use Rattle.brk_trade_books.proofs.Same.{All-map, All-mapped, All-of, filter-none, filter-same, find-none}

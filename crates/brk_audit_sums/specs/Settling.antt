@@ -9,7 +9,7 @@ use Rattle.brk_model.specs.Base.{is_withholding_status}
 use Rattle.brk_model.specs.Derived.{due_day_of_completion_stamp, signed_proceeds}
 use Rattle.brk_model.specs.Records.{SettleRule}
 use Rattle.brk_model.specs.Joins.{account_row_with_id}
-use Rattle.brk_model.specs.Tables.{Tables, CashRow, MoveRow, RequestRow, SettlementRow, TradeRow}
+use Rattle.brk_model.specs.Tables.{Tables, OldCashRow, CashRow, RequestRow, SettlementRow, TradeRow}
 use Rattle.brk_audit_sums.specs.Completed.{is_completed_trade_row}
 
 -- The broker in the first row of CUSTOMER_ACCOUNT, in the sequence of the table, with the id
@@ -59,7 +59,7 @@ pub record CashTransactionFigures : Type 0 where
   pub amount : ℤ
 
 -- The trade, the stamp and the amount in the row of CASH_TRANSACTION.
-abbrev pub cash_transaction_figures_of_row : CashRow → CashTransactionFigures
+abbrev pub cash_transaction_figures_of_row : OldCashRow → CashTransactionFigures
 cash_transaction_figures_of_row c = record { trade = c.trade; stamp = c.stamp; amount = c.amount }
 
 -- The trade, the stamp and the amount of the row of CASH_TRANSACTION of the completed cash trade
@@ -69,7 +69,7 @@ cash_transaction_figures_of_trade statuses r = record { trade = r.id; stamp = r.
 
 -- The account, the trade, the stamp and the amount, in cents, of a row of CASH_MOVE that belongs to
 -- a trade.
-pub record MoveRowFigures : Type 0 where
+pub record CashRowFigures : Type 0 where
   pub account : ℕ
   pub trade : ℕ
   pub stamp : ℕ
@@ -77,18 +77,18 @@ pub record MoveRowFigures : Type 0 where
 
 -- The account, the trade, the stamp and the amount in the row of CASH_MOVE, or `None` if the row
 -- belongs to no trade.
-abbrev pub posted_figures_of_row : MoveRow → Option MoveRowFigures
+abbrev pub posted_figures_of_row : CashRow → Option CashRowFigures
 posted_figures_of_row r = option_map (λ id. record { account = r.account; trade = id; stamp = r.stamp; amount = r.amount }) r.trade
 
 -- The account, the trade, the stamp and the amount of the row of CASH_MOVE of the completed cash
 -- trade `r`, where `statuses` returns the tax status of an account.
-abbrev pub posted_figures_of_trade : (ℕ → TaxStatus) → TradeRow → MoveRowFigures
+abbrev pub posted_figures_of_trade : (ℕ → TaxStatus) → TradeRow → CashRowFigures
 posted_figures_of_trade statuses r =
     record { account = r.account; trade = r.id; stamp = r.stamp; amount = settlement_amount_at_tax_status (statuses r.account) r }
 
 -- True if the rows of CASH_MOVE, in the sequence of the list, are numbered `n`, `n` + 1 and so on,
 -- and their stamps are at least `stamp` and do not decrease. True for the empty list.
-abbrev pub is_numbered_by_stamp : ℕ → ℕ → List MoveRow → Bool
+abbrev pub is_numbered_by_stamp : ℕ → ℕ → List CashRow → Bool
 is_numbered_by_stamp n stamp [] = true
 is_numbered_by_stamp n stamp (r ∷ rs) = (r.id == n) && (nat_le stamp r.stamp && is_numbered_by_stamp (n + 1) r.stamp rs)
 

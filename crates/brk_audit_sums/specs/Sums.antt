@@ -2,7 +2,7 @@
 use Rattle.std.specs.Prelude.{ℕ, ◌==◌, ◌&&◌, Option, Some, None, if◌then◌else◌, is_none, filter, ℤ}
 use Rattle.brk_money.specs.declared.tax_status.TaxStatus.{TaxStatus}
 use Rattle.brk_model.specs.Lists.{total_by}
-use Rattle.brk_model.specs.Tables.{MoveRow, Tables, TradeRow}
+use Rattle.brk_model.specs.Tables.{CashRow, Tables, TradeRow}
 use Rattle.brk_audit_sums.specs.Completed.{is_completed_trade_row}
 use Rattle.brk_audit_sums.specs.Settling.{settlement_amount_at_tax_status, account_broker_or_zero, is_completed_cash_trade}
 use Rattle.brk_audit_sums.specs.declared.tally.KeyedAmount.{KeyedAmount}
@@ -34,5 +34,5 @@ movement_sum_of_account t account = total_by (λ r. r.amount) (filter (λ r. is_
 
 -- The amount of the row of CASH_MOVE, in cents, as a posting at its account, or `None` if the row
 -- belongs to a trade.
-abbrev pub movement_posting_of_row : MoveRow → Option (KeyedAmount ℕ)
+abbrev pub movement_posting_of_row : CashRow → Option (KeyedAmount ℕ)
 movement_posting_of_row r = if is_none r.trade then Some (record { key = r.account; amount = r.amount }) else None

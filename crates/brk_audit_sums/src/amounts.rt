@@ -4,11 +4,11 @@ ghost use Rattle.std.specs.Prelude.{◌≡◌, ◌*◌, ◌≤◌, pos, ◌-ℤ�
 ghost use Rattle.brk_model.specs.Base.{is_withholding_status};
 ghost use Rattle.brk_model.specs.Derived.{signed_proceeds};
 ghost use Rattle.brk_model.specs.Limits.{greatest_amount, greatest_price, greatest_qty};
-ghost use Rattle.brk_trade_rows.specs.Rows.{abstract_trade_row};
+ghost use Rattle.brk_ref.specs.Rows.{abstract_trade_row};
 ghost use Rattle.brk_audit_sums.specs.Settling.{settlement_amount_at_tax_status};
 
 use brk_money::{Amount, Price, Side, TaxStatus};
-use brk_trade_rows::TradeRow;
+use brk_ref::TradeRow;
 
 // Returns the part of the tax that is withheld from the settlement, in cents: the whole tax at the
 // tax status `Withheld`, otherwise 0. It is at most the greatest amount.

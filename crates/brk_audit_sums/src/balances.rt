@@ -5,7 +5,7 @@ ghost use Rattle.brk_money.specs.declared.fault.Condition.TheVariants.{Balance};
 ghost use Rattle.brk_money.specs.declared.fault.Fault.TheVariants.{Memory};
 ghost use Rattle.brk_model.specs.Audit.{ConditionHolds};
 ghost use Rattle.brk_model.specs.Schemas.{Schema};
-ghost use Rattle.brk_trade_rows.specs.Rows.{abstract_move_row};
+ghost use Rattle.brk_ref.specs.Rows.{abstract_cash_row};
 ghost use Rattle.brk_trade_rows.specs.Sheets.{abstract_sheets};
 ghost use Rattle.brk_audit_sums.specs.AccountTerms.{account_tax_status_in_terms};
 ghost use Rattle.brk_audit_sums.specs.Conditions.{HasWellFormedRows, HasValidStatuses};
@@ -18,15 +18,15 @@ use crate::completion::is_completed;
 use crate::keyed_sum::{KeyedSum, all_totals_match_sums, postings_of_trades};
 use crate::tally::{KeyedAmount, sum_amounts_by_key, sum_or_zero_at_key};
 use brk_money::Fault;
-use brk_ref::AccountRow;
-use brk_trade_rows::{MoveRow, Sheets, TradeRow};
+use brk_ref::{AccountRow, CashRow, TradeRow};
+use brk_trade_rows::Sheets;
 use std::alloc::Global;
 use std::collections::BTreeMap;
 
 // Returns the amount of a deposit or a withdrawal, in cents, as a posting at its account, or `None`
 // if the row of CASH_MOVE belongs to a trade.
-fn posting_of_movement_row(row: &MoveRow) -> Option<KeyedAmount<u64>>
-    ensures { result ≡ movement_posting_of_row (abstract_move_row row.now) }
+fn posting_of_movement_row(row: &CashRow) -> Option<KeyedAmount<u64>>
+    ensures { result ≡ movement_posting_of_row (abstract_cash_row row.now) }
 {
     if row.trade.is_some() {
         return None;
@@ -39,8 +39,8 @@ fn posting_of_movement_row(row: &MoveRow) -> Option<KeyedAmount<u64>>
 // Appends to `all` the amounts, in cents, of the deposits and withdrawals of `moves` as postings at
 // their accounts, in the order of the rows. Fails with `Memory` only; it may then have appended the
 // postings of some of the first rows.
-fn append_movement_postings(all: &mut Vec<KeyedAmount<u64>>, moves: &[MoveRow]) -> Result<(), Fault>
-    ensures all { OnOk result (all.new.items ≡ all.old.items ++ filter_map (λ r. movement_posting_of_row (abstract_move_row r)) moves.now) }
+fn append_movement_postings(all: &mut Vec<KeyedAmount<u64>>, moves: &[CashRow]) -> Result<(), Fault>
+    ensures all { OnOk result (all.new.items ≡ all.old.items ++ filter_map (λ r. movement_posting_of_row (abstract_cash_row r)) moves.now) }
     ensures fault { OnErr result (result ≡ Err Memory) }
 {
     for row in moves {

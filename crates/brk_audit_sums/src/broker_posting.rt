@@ -1,12 +1,12 @@
 ghost use Rattle.std.specs.Prelude.{◌≡◌};
-ghost use Rattle.brk_trade_rows.specs.Rows.{abstract_trade_row};
+ghost use Rattle.brk_ref.specs.Rows.{abstract_trade_row};
 ghost use Rattle.brk_audit_sums.specs.AccountTerms.{account_broker_in_terms};
 ghost use Rattle.brk_audit_sums.specs.Sums.{broker_posting_of_trade_row};
 
 use crate::account_terms::{AccountTerms, account_broker_id};
 use crate::completion::is_completed;
 use crate::tally::KeyedAmount;
-use brk_trade_rows::TradeRow;
+use brk_ref::TradeRow;
 use std::collections::BTreeMap;
 
 /// Returns the amount as a posting at the broker of the trade's account, or `None` if the trade is

@@ -15,8 +15,8 @@ use crate::broker_posting::posting_at_broker;
 use crate::keyed_sum::{KeyedSum, all_totals_match_sums, postings_of_trades};
 use crate::tally::{KeyedAmount, sum_amounts_by_key, sum_or_zero_at_key};
 use brk_money::Fault;
-use brk_ref::BrokerRow;
-use brk_trade_rows::{Sheets, TradeRow};
+use brk_ref::{BrokerRow, TradeRow};
+use brk_trade_rows::Sheets;
 use std::alloc::Global;
 use std::collections::BTreeMap;
 

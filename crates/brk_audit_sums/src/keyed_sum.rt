@@ -5,14 +5,14 @@ ghost use Rattle.std.specs.BTreeMap.{BTreeMap};
 ghost use Rattle.std.specs.List.{AllByRecursion, filter_map};
 ghost use Rattle.brk_money.specs.declared.fault.Fault.TheVariants.{Memory};
 ghost use Rattle.brk_model.specs.Tables as tables;
-ghost use Rattle.brk_trade_rows.specs.Rows.{abstract_trade_row};
+ghost use Rattle.brk_ref.specs.Rows.{abstract_trade_row};
 ghost use Rattle.brk_audit_sums.specs.declared.account_terms.AccountTerms as terms;
 ghost use Rattle.brk_audit_sums.specs.declared.tally.KeyedAmount as posting;
 
 use crate::account_terms::AccountTerms;
 use crate::tally::KeyedAmount;
 use brk_money::Fault;
-use brk_trade_rows::TradeRow;
+use brk_ref::TradeRow;
 use std::alloc::Global;
 use std::collections::BTreeMap;
 

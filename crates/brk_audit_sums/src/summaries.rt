@@ -6,7 +6,7 @@ ghost use Rattle.brk_model.specs.Audit.{ConditionHolds};
 ghost use Rattle.brk_model.specs.Schemas.{Schema};
 ghost use Rattle.brk_model.specs.Lists.{is_zero};
 ghost use Rattle.brk_model.specs.Shares.{signed_by_side};
-ghost use Rattle.brk_trade_rows.specs.Rows.{abstract_summary_row, abstract_trade_row};
+ghost use Rattle.brk_ref.specs.Rows.{abstract_summary_row, abstract_trade_row};
 ghost use Rattle.brk_trade_rows.specs.Sheets.{abstract_sheets};
 ghost use Rattle.brk_audit_sums.specs.Conditions.{HasWellFormedRows, HasValidStatuses};
 ghost use Rattle.brk_audit_sums.specs.PositionSums.{HasNonzeroQuantity, posting_with_owned_symbol, share_posting_of_trade, share_posting_of_summary};
@@ -15,7 +15,8 @@ ghost use Rattle.brk_audit_sums.specs.Tally.{sum_at_key};
 use crate::completion::is_completed;
 use crate::tally::{KeyedAmount, sum_amounts_by_key, sum_or_zero_at_key};
 use brk_money::{Fault, Side};
-use brk_trade_rows::{Sheets, SummaryRow, TradeRow};
+use brk_ref::{SummaryRow, TradeRow};
+use brk_trade_rows::Sheets;
 use std::alloc::Global;
 use std::collections::BTreeMap;
 

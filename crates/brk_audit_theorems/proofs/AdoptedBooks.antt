@@ -15,7 +15,7 @@ use Rattle.brk_model.specs.Lists.{all_distinct, contains_number}
 use Rattle.brk_model.specs.Records.{Band, Movement, Permission, Trade}
 use Rattle.brk_model.specs.Base.{is_completed, last_status_stamp_of_trade}
 use Rattle.brk_model.specs.Schemas.{Schema}
-use Rattle.brk_model.specs.Tables.{Tables, AccountRow, MoveRow, SecurityRow, LastTradeRow, TradeRow, HistoryRow}
+use Rattle.brk_model.specs.Tables.{Tables, AccountRow, CashRow, SecurityRow, LastTradeRow, TradeRow, HistoryRow}
 use Rattle.brk_model.specs.Derived.{due_day_of_completion_stamp}
 use Rattle.brk_model.specs.Keys.{number, word, is_key_less, account_key, permission_key, security_key, trade_key}
 use Rattle.brk_model.specs.Tests.{bands_overlap}
@@ -274,11 +274,11 @@ both_false : (a b : Bool) → a || b ≡ false → (a ≡ false) × (b ≡ false
 both_false true b e = absurd (cc)
 both_false false b e = (refl, e)
 
-no_number : (n : ℕ) (rows : List MoveRow) → contains_number n (map (λ r. r.stamp) rows) ≡ false → AllByRecursion (λ r. (r.stamp == n) ≡ false) rows
+no_number : (n : ℕ) (rows : List CashRow) → contains_number n (map (λ r. r.stamp) rows) ≡ false → AllByRecursion (λ r. (r.stamp == n) ≡ false) rows
 no_number n [] e = tt
 no_number n (r ∷ rows) e = let k = both_false (r.stamp == n) (contains_number n (map (λ r. r.stamp) rows)) e in (k.0, no_number n rows k.1)
 
-movements_apart : (t : Tables) (ds : List TradeRow) (rows : List MoveRow) → AllByRecursion (λ d. contains_number (last_status_stamp_of_trade (trade_of_row t d)) (map (λ r. r.stamp) rows) ≡ false) ds
+movements_apart : (t : Tables) (ds : List TradeRow) (rows : List CashRow) → AllByRecursion (λ d. contains_number (last_status_stamp_of_trade (trade_of_row t d)) (map (λ r. r.stamp) rows) ≡ false) ds
     → all_distinct (map (λ r. r.stamp) rows) ≡ true → HasDistinctMovementStamps (map (trade_of_row t) ds) (map movement_of_row rows)
 movements_apart t ds [] h d = tt
 movements_apart t ds (r ∷ rows) h d =
@@ -332,7 +332,7 @@ made_at : (o : Option ℕ) (n : ℕ) (m : Movement) → n ≡ m.stamp → option
 made_at None n m e h = false_true h
 made_at (Some last) n m e h = let k : n ≤ last = leb-true n last h in omega arith
 
-pub move_parts : (t : Tables) (r : MoveRow) → is_well_formed_cash_move_row t r ≡ true → (has_account t r.account ≡ true) × (is_at_most_last_stamp t r.stamp ≡ true)
+pub move_parts : (t : Tables) (r : CashRow) → is_well_formed_cash_move_row t r ≡ true → (has_account t r.account ≡ true) × (is_at_most_last_stamp t r.stamp ≡ true)
 move_parts t r e =
     let k = parts5 (is_cash_row_number r.id) (has_account t r.account)
     (option_map_or (has_cash_row_name_of_trade t r) r.trade (is_movement_name_and_amount r.name r.amount)) (is_at_most_last_stamp t r.stamp)
@@ -342,7 +342,7 @@ adopted_movements : (t : Tables) (ds : List TradeRow) → AllByRecursion (λ r. 
     → AllByRecursion (λ d. contains_number (last_status_stamp_of_trade (trade_of_row t d)) (movement_stamps t) ≡ false) ds → all_distinct (movement_stamps t) ≡ true
     → MovementBooksInvariant (map account_of_row t.accounts) t.last (map (trade_of_row t) ds) (map movement_of_row (filter (λ r. is_none r.trade) t.moves))
 adopted_movements t ds f h d =
-    let rows : List MoveRow = filter (λ r. is_none r.trade) t.moves in
+    let rows : List CashRow = filter (λ r. is_none r.trade) t.moves in
     let formed : AllByRecursion (λ r. is_well_formed_cash_move_row t r ≡ true) rows = filtered_form f in
     record {
       holders = All-mapped (MovementAccountExists (map account_of_row t.accounts)) movement_of_row rows

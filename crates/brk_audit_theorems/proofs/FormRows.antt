@@ -23,7 +23,7 @@ use Rattle.brk_model.specs.Derived.{settlement_amount, balance_of_account, cash_
 use Rattle.brk_model.specs.Derived.{trades_of_position, pending_trades, holding_summary_quantity, postings_sorted_by_stamp, posting_of_movement}
 use Rattle.brk_model.specs.Derived.{posting_of_trade, postings_of_base, due_day_of_completion_stamp}
 use Rattle.brk_model.specs.Tables.{HistoryRow, HoldingHistoryRow, Tables, account_row, broker_row, history_rows, holding_row, last_trade_row, request_row}
-use Rattle.brk_model.specs.Tables.{security_row, settlement_row, summary_rows, tables_of_base_in_schema, trade_row, numbered_move_rows}
+use Rattle.brk_model.specs.Tables.{security_row, settlement_row, summary_rows, tables_of_base_in_schema, trade_row, numbered_cash_move_rows}
 use Rattle.brk_lots.proofs.HistoryRows.{rows_of_lots_are}
 use Rattle.brk_lots.specs.HistoryRows.{lot_rows_with_quantity_change}
 use Rattle.brk_model.specs.Sheets.{sheets, tables_sorted_by_key}
@@ -278,7 +278,7 @@ ids_low base k = All-map base.trades (λ t h.
     leb-true t.id greatest_id (and_parts (nat_le 1 t.id) (nat_le t.id greatest_id) f.0).1) k.trades
 
 moves_whole : (base : Base) → BooksInvariant base → AuditInvariant base → HasValidHistories base → AllByRecursion (Done base) (completed_trades base)
-    → AllByRecursion (λ r. is_well_formed_cash_move_row (sheets base) r ≡ true) (numbered_move_rows 1 (postings_sorted_by_stamp (postings_of_base base)))
+    → AllByRecursion (λ r. is_well_formed_cash_move_row (sheets base) r ≡ true) (numbered_cash_move_rows 1 (postings_sorted_by_stamp (postings_of_base base)))
 moves_whole base books k told dones =
     numbered_form (sheets base) 1 (postings_sorted_by_stamp (postings_of_base base)) (omega arith) (few_postings base books.numbered (ids_low base k) k.cash.few)
     (All-sort (HasForm (sheets base)) (λ a b. nat_lt a.stamp b.stamp) (postings_of_base base) (all_posted base books k told dones))
@@ -430,7 +430,7 @@ form_of base books k =
           (All-map done (λ u g. and_from (has_trade T t.id) (has_trade T u.id) (there base t h.0) (there base u g.0)) dones)))))) dones)));
       settlements = mapped_form (is_well_formed_settlement_row T) settlement_key (settlement_row base.accounts base.rule) done (All-map done (λ t h. settlement_whole base t h) dones);
       cash = rows_form (is_well_formed_cash_transaction_row T) cash_transaction_key [] tt;
-      moves = rows_form (is_well_formed_cash_move_row T) cash_move_key (numbered_move_rows 1 (postings_sorted_by_stamp (postings_of_base base))) (moves_whole base books k told dones);
+      moves = rows_form (is_well_formed_cash_move_row T) cash_move_key (numbered_cash_move_rows 1 (postings_sorted_by_stamp (postings_of_base base))) (moves_whole base books k told dones);
       own_moves = ap (λ rows. all_distinct (trade_ids_of_cash_rows rows)) (numbered_stay 1 (postings_sorted_by_stamp (postings_of_base base))) ∙ moves_own base books;
       counted = ap (λ n. nat_le n greatest_id) (moves_counted base) ∙ le-leb (length base.movements) greatest_id k.cash.few;
       rule = k.cash.day;

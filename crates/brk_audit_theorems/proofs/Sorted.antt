@@ -14,7 +14,7 @@ use Rattle.brk_model.specs.Base.{Base, completed_trades, account_with_id_in_list
 use Rattle.brk_model.specs.Derived.{settlement_amount, balance_of_account, cash_trades, commission_total_of_broker, postings_sorted_by_stamp, pending_trades}
 use Rattle.brk_model.specs.Derived.{postings_to_account, posting_of_movement, posting_of_trade, postings, signed_proceeds, holding_summary_quantity}
 use Rattle.brk_model.specs.Derived.{trade_count_of_broker}
-use Rattle.brk_model.specs.Tables.{SummaryRow, account_row, broker_row, rows_by_position, last_trade_row, numbered_move_rows, security_row, settlement_row, summary_rows, tables_of_base_in_schema}
+use Rattle.brk_model.specs.Tables.{SummaryRow, account_row, broker_row, rows_by_position, last_trade_row, numbered_cash_move_rows, security_row, settlement_row, summary_rows, tables_of_base_in_schema}
 use Rattle.brk_model.specs.Sheets.{sheets, tables_sorted_by_key}
 use Rattle.brk_model.specs.Keys.{KeyPart, number, word, is_row_key_less, rows_sorted_by_key, insert_row_by_key, account_key, band_key, broker_key, charge_key}
 use Rattle.brk_model.specs.Keys.{customer_key, customer_tax_key, kept_key, last_trade_key, cash_move_key, permission_key, request_key, security_key}
@@ -217,5 +217,5 @@ sorted_tables base books =
           }) (pending_trades base.trades));
       summaries = summaries i;
       settlements = rows_sorted_by_key settlement_key (map (λ t. record (settlement_row accounts base.rule t) { amount = same_amount accounts t i }) done);
-      moves = rows_sorted_by_key cash_move_key (numbered_move_rows 1 (postings_sorted_by_stamp (same_postings accounts done base.movements i)));
+      moves = rows_sorted_by_key cash_move_key (numbered_cash_move_rows 1 (postings_sorted_by_stamp (same_postings accounts done base.movements i)));
     }

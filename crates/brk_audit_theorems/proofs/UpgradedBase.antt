@@ -9,7 +9,7 @@ use Rattle.brk_model.specs.Records.{Account, Movement, Trade}
 use Rattle.brk_model.specs.Base.{Base, completed_trades, is_completed, trade_with_id}
 use Rattle.brk_model.specs.Derived.{Posting, cash_trades, postings_sorted_by_stamp, posting_of_movement, posting_of_trade, postings_of_base}
 use Rattle.brk_model.specs.Schemas.{Schema, third_schema}
-use Rattle.brk_model.specs.Tables.{MoveRow, Tables, TradeRow, cash_transaction_row, numbered_move_rows, tables_of_base_in_schema, trade_row}
+use Rattle.brk_model.specs.Tables.{CashRow, Tables, TradeRow, cash_transaction_row, numbered_cash_move_rows, tables_of_base_in_schema, trade_row}
 use Rattle.brk_model.specs.Sheets.{sheets, sheets_in_schema, tables_sorted_by_key}
 use Rattle.brk_model.specs.Keys.{number, rows_sorted_by_key, cash_transaction_key, cash_move_key, is_row_key_less}
 use Rattle.brk_model.specs.Adopted.{base_of_tables, is_posting_of_trade, movement_of_row, posting_of_cash_transaction_row, posting_of_cash_move_row, postings_of_tables, trade_of_row}
@@ -41,9 +41,9 @@ cash_at schema base b e = ap (λ c. rows_sorted_by_key cash_transaction_key (con
 
 moves_at : (schema : Schema) (base : Base) (b : Bool) → schema.has_cash_move_table ≡ b
     → (sheets_in_schema schema base).moves
-    ≡ rows_sorted_by_key cash_move_key (cond b (numbered_move_rows 1 (postings_sorted_by_stamp (postings_of_base base))) [])
+    ≡ rows_sorted_by_key cash_move_key (cond b (numbered_cash_move_rows 1 (postings_sorted_by_stamp (postings_of_base base))) [])
 unfolding tables_sorted_by_key tables_of_base_in_schema
-moves_at schema base b e = ap (λ c. rows_sorted_by_key cash_move_key (cond c (numbered_move_rows 1 (postings_sorted_by_stamp (postings_of_base base))) [])) e
+moves_at schema base b e = ap (λ c. rows_sorted_by_key cash_move_key (cond c (numbered_cash_move_rows 1 (postings_sorted_by_stamp (postings_of_base base))) [])) e
 
 trades_at : (schema : Schema) (base : Base) → (sheets_in_schema schema base).trades ≡ (sheets base).trades
 unfolding tables_sorted_by_key tables_of_base_in_schema
@@ -169,17 +169,17 @@ posted_once base id books =
         ∙ ap (λ ps. own ++ ps) (no_trade base.movements) ∙ append_nil own
 
 -- rows of a trade are as many as what it posts
-pub short_rows : (id n : ℕ) (ps : List Posting) → IsShort (filter (is_posting_of_trade id) ps) → IsShort (filter (is_cash_row_of_trade id) (numbered_move_rows n ps))
+pub short_rows : (id n : ℕ) (ps : List Posting) → IsShort (filter (is_posting_of_trade id) ps) → IsShort (filter (is_cash_row_of_trade id) (numbered_cash_move_rows n ps))
 short_rows id n ps h =
-    of_postings (filter (is_cash_row_of_trade id) (numbered_move_rows n ps))
-    (subst IsShort (sym (as_postings (numbered_move_rows n ps) ∙ ap (filter (is_posting_of_trade id)) (postings_back n ps))) h)
+    of_postings (filter (is_cash_row_of_trade id) (numbered_cash_move_rows n ps))
+    (subst IsShort (sym (as_postings (numbered_cash_move_rows n ps) ∙ ap (filter (is_posting_of_trade id)) (postings_back n ps))) h)
   where
-    of_postings : (rows : List MoveRow) → IsShort (map posting_of_cash_move_row rows) → IsShort rows
+    of_postings : (rows : List CashRow) → IsShort (map posting_of_cash_move_row rows) → IsShort rows
     of_postings [] h = tt
     of_postings (r ∷ []) h = tt
     of_postings (r ∷ q ∷ rows) h = absurd h
 
-    as_postings : (rows : List MoveRow) → map posting_of_cash_move_row (filter (is_cash_row_of_trade id) rows) ≡ filter (is_posting_of_trade id) (map posting_of_cash_move_row rows)
+    as_postings : (rows : List CashRow) → map posting_of_cash_move_row (filter (is_cash_row_of_trade id) rows) ≡ filter (is_posting_of_trade id) (map posting_of_cash_move_row rows)
     as_postings [] = refl
     as_postings (r ∷ rows) = put (is_cash_row_of_trade id r) (as_postings rows)
       where
@@ -189,7 +189,7 @@ short_rows id n ps h =
         put true ih = ap (λ ps. posting_of_cash_move_row r ∷ ps) ih
         put false ih = ih
 
-unseen : (r : MoveRow) (id : ℕ) (qs : List MoveRow) → IsShort (r ∷ filter (is_cash_row_of_trade id) qs) → contains_number id (trade_ids_of_cash_rows qs) ≡ false
+unseen : (r : CashRow) (id : ℕ) (qs : List CashRow) → IsShort (r ∷ filter (is_cash_row_of_trade id) qs) → contains_number id (trade_ids_of_cash_rows qs) ≡ false
 unseen r id [] k = refl
 unseen r id (q ∷ qs) k = by_own (is_cash_row_of_trade id q) refl k (unseen r id qs)
   where
@@ -205,11 +205,11 @@ unseen r id (q ∷ qs) k = by_own (is_cash_row_of_trade id q) refl k (unseen r i
     by_own false f k ih = by_other q.trade f (ih k)
 
 -- where each trade has at most one of some rows, none stands twice among their trades
-rows_own : (rows : List MoveRow) → ((id : ℕ) → IsShort (filter (is_cash_row_of_trade id) rows)) → all_distinct (trade_ids_of_cash_rows rows) ≡ true
+rows_own : (rows : List CashRow) → ((id : ℕ) → IsShort (filter (is_cash_row_of_trade id) rows)) → all_distinct (trade_ids_of_cash_rows rows) ≡ true
 rows_own [] h = refl
 rows_own (r ∷ rows) h = by_trade r.trade refl (rows_own rows (λ id. shorter (is_cash_row_of_trade id r) (filter (is_cash_row_of_trade id) rows) (h id)))
   where
-    shorter : (b : Bool) (qs : List MoveRow) → IsShort (cond b (r ∷ qs) qs) → IsShort qs
+    shorter : (b : Bool) (qs : List CashRow) → IsShort (cond b (r ∷ qs) qs) → IsShort qs
     shorter false qs h = h
     shorter true [] h = tt
     shorter true (q ∷ qs) h = absurd h
@@ -221,9 +221,9 @@ rows_own (r ∷ rows) h = by_trade r.trade refl (rows_own rows (λ id. shorter (
         λ i. not (unseen r id rows (subst (λ b. IsShort (cond b (r ∷ filter (is_cash_row_of_trade id) rows) (filter (is_cash_row_of_trade id) rows))) own (h id)) i) && ih i
 
 -- so it is of the cash rows of a base
-pub moves_own : (base : Base) → BooksInvariant base → all_distinct (trade_ids_of_cash_rows (numbered_move_rows 1 (postings_sorted_by_stamp (postings_of_base base)))) ≡ true
+pub moves_own : (base : Base) → BooksInvariant base → all_distinct (trade_ids_of_cash_rows (numbered_cash_move_rows 1 (postings_sorted_by_stamp (postings_of_base base)))) ≡ true
 moves_own base books =
-    rows_own (numbered_move_rows 1 (postings_sorted_by_stamp (postings_of_base base)))
+    rows_own (numbered_cash_move_rows 1 (postings_sorted_by_stamp (postings_of_base base)))
     (λ id. short_rows id 1 (postings_sorted_by_stamp (postings_of_base base)) (posted_once base id books))
 
 -- ---- upgraded rows
@@ -273,7 +273,7 @@ moved_cash base = cash_at third_schema base true refl ∙ no_rows (is_row_key_le
 pub upgraded_tables : (schema : Schema) (t : Tables) → sheets_in_schema schema (base_of_tables t) ≡ t → IsPosted t → tables_with_merged_cash_rows t ≡ sheets (base_of_tables t)
 unfolding tables_with_merged_cash_rows tables_sorted_by_key tables_of_base_in_schema
 upgraded_tables schema t e p =
-    (λ i. record (sym e i) { cash = sym (moved_cash (base_of_tables t)) i; moves = numbered_move_rows 1 (p.turned i) })
+    (λ i. record (sym e i) { cash = sym (moved_cash (base_of_tables t)) i; moves = numbered_cash_move_rows 1 (p.turned i) })
     ∙ (λ i. record (sheets (base_of_tables t)) { moves = sym (numbered_stay 1 (postings_sorted_by_stamp (postings_of_base (base_of_tables t)))) i })
 
 -- in a schema that numbers its cash rows a base has the tables that it has in the third
@@ -308,7 +308,7 @@ base_upgraded schema t e p = λ i. record (base_of_tables t) {
   movements = movements i;
 }
   where
-    movements : map movement_of_row (filter (λ r. is_none r.trade) (numbered_move_rows 1 (postings_sorted_by_stamp (postings_of_tables t))))
+    movements : map movement_of_row (filter (λ r. is_none r.trade) (numbered_cash_move_rows 1 (postings_sorted_by_stamp (postings_of_tables t))))
         ≡ map movement_of_row (filter (λ r. is_none r.trade) t.moves)
     movements =
         ap (λ u. map movement_of_row (filter (λ r. is_none r.trade) u.moves)) (upgraded_tables schema t e p) ∙ movements_back (base_of_tables t) ∙ p.risen

@@ -11,7 +11,7 @@ use Rattle.brk_model.specs.Records.{Band, Trade}
 use Rattle.brk_model.specs.Base.{Base, completed_trades, is_completed}
 use Rattle.brk_model.specs.Derived.{Posting, cash_trades, postings_sorted_by_stamp, posting_of_movement, posting_of_trade, postings_of_base}
 use Rattle.brk_model.specs.Schemas.{Schema, third_schema}
-use Rattle.brk_model.specs.Tables.{CashRow, MoveRow, RequestRow, SummaryRow, Tables, TradeRow, numbered_move_rows}
+use Rattle.brk_model.specs.Tables.{OldCashRow, CashRow, RequestRow, SummaryRow, Tables, TradeRow, numbered_cash_move_rows}
 use Rattle.brk_model.specs.Sheets.{sheets}
 use Rattle.brk_model.specs.Joins.{trade_row_with_id}
 use Rattle.brk_model.specs.Keys.{number, is_key_less, cash_transaction_key, cash_move_key}
@@ -85,14 +85,14 @@ pub record HasForm (t : Tables) (p : Posting) : Type 0 where
   pub stamp : is_at_most_last_stamp t p.stamp ≡ true
   pub amount : is_within_amount_limit p.amount ≡ true
 
-pub move_posted : (t : Tables) (r : MoveRow) → is_well_formed_cash_move_row t r ≡ true → HasForm t (posting_of_cash_move_row r)
+pub move_posted : (t : Tables) (r : CashRow) → is_well_formed_cash_move_row t r ≡ true → HasForm t (posting_of_cash_move_row r)
 move_posted t r e =
     let k = parts5 (is_cash_row_number r.id) (has_account t r.account)
     (option_map_or (has_cash_row_name_of_trade t r) r.trade (is_movement_name_and_amount r.name r.amount)) (is_at_most_last_stamp t r.stamp)
     (is_within_amount_limit r.amount) e in
     record { account = k.1; name = k.2; stamp = k.3; amount = k.4 }
 
-cash_posted : (schema : Schema) (t : Tables) → AllByRecursion (λ r. is_well_formed_trade_row schema t r ≡ true) t.trades → (c : CashRow)
+cash_posted : (schema : Schema) (t : Tables) → AllByRecursion (λ r. is_well_formed_trade_row schema t r ≡ true) t.trades → (c : OldCashRow)
     → is_well_formed_cash_transaction_row t c ≡ true → HasForm t (posting_of_cash_transaction_row t c)
 cash_posted schema t h c e =
     let k = parts3 (option_map_or (is_cash_row_name_of_trade t c.name) (trade_row_with_id t c.trade) false) (is_at_most_last_stamp t c.stamp) (is_within_amount_limit c.amount) e in
@@ -117,7 +117,7 @@ all_posted schema t p =
     (All-mapped (HasForm t) posting_of_cash_move_row t.moves (All-map t.moves (move_posted t) (list_all_true (is_well_formed_cash_move_row t) t.moves p.moves)))
 
 pub numbered_form : (t : Tables) (n : ℕ) (ps : List Posting) → 1 ≤ n → n + length ps ≤ greatest_cash_row_number + 1 → AllByRecursion (HasForm t) ps
-    → AllByRecursion (λ r. is_well_formed_cash_move_row t r ≡ true) (numbered_move_rows n ps)
+    → AllByRecursion (λ r. is_well_formed_cash_move_row t r ≡ true) (numbered_cash_move_rows n ps)
 numbered_form t n [] l h f = tt
 numbered_form t n (p ∷ ps) l h f = (
   and_from _ _ (and_from _ _ (and_from _ _ (and_from _ _ (and_from _ _ (le-leb 1 n l) (le-leb n greatest_cash_row_number (omega (arith, h)))) f.0.account) f.0.name) f.0.stamp) f.0.amount,
@@ -188,18 +188,18 @@ few_rows schema t p books posted =
 next_number : (n : ℕ) → is_key_less (number n ∷ []) (number (n + 1) ∷ []) ≡ true
 next_number n = grind (arith, nat_tests)
 
-pub numbered_rises : (n : ℕ) (ps : List Posting) → is_sorted_by_unique_key cash_move_key (numbered_move_rows n ps) ≡ true
+pub numbered_rises : (n : ℕ) (ps : List Posting) → is_sorted_by_unique_key cash_move_key (numbered_cash_move_rows n ps) ≡ true
 numbered_rises n [] = refl
 numbered_rises n (p ∷ []) = refl
 numbered_rises n (p ∷ q ∷ ps) =
-    and_from (is_key_less (number n ∷ []) (number (n + 1) ∷ [])) (is_sorted_by_unique_key cash_move_key (numbered_move_rows (n + 1) (q ∷ ps))) (next_number n) (numbered_rises (n + 1) (q ∷ ps))
+    and_from (is_key_less (number n ∷ []) (number (n + 1) ∷ [])) (is_sorted_by_unique_key cash_move_key (numbered_cash_move_rows (n + 1) (q ∷ ps))) (next_number n) (numbered_rises (n + 1) (q ∷ ps))
 
 keys_upgraded : (t : Tables) → has_tables_sorted_by_unique_key t ≡ true → has_tables_sorted_by_unique_key (tables_with_merged_cash_rows t) ≡ true
 unfolding has_tables_sorted_by_unique_key tables_with_merged_cash_rows
 keys_upgraded t h =
     let both = and_parts _ (is_sorted_by_unique_key cash_move_key t.moves) h in
     let rest = and_parts _ (is_sorted_by_unique_key cash_transaction_key t.cash) both.0 in
-    and_from _ (is_sorted_by_unique_key cash_move_key (numbered_move_rows 1 (postings_sorted_by_stamp (postings_of_tables t))))
+    and_from _ (is_sorted_by_unique_key cash_move_key (numbered_cash_move_rows 1 (postings_sorted_by_stamp (postings_of_tables t))))
     (and_from _ (is_sorted_by_unique_key cash_transaction_key []) rest.0 refl) (numbered_rises 1 (postings_sorted_by_stamp (postings_of_tables t)))
 
 -- ---- all of it
@@ -211,8 +211,8 @@ counted_upgraded t e h =
 
 -- each part, of the same tables but for those of cash
 joined : (schema : Schema) (t : Tables) → HasLimitsWithinThirdSchema schema → SatisfiesFormParts schema t
-    → list_all (is_well_formed_cash_move_row t) (numbered_move_rows 1 (postings_sorted_by_stamp (postings_of_tables t))) ≡ true
-    → all_distinct (trade_ids_of_cash_rows (numbered_move_rows 1 (postings_sorted_by_stamp (postings_of_tables t)))) ≡ true
+    → list_all (is_well_formed_cash_move_row t) (numbered_cash_move_rows 1 (postings_sorted_by_stamp (postings_of_tables t))) ≡ true
+    → all_distinct (trade_ids_of_cash_rows (numbered_cash_move_rows 1 (postings_sorted_by_stamp (postings_of_tables t)))) ≡ true
     → nat_le (length (filter (λ r. is_none r.trade) (tables_with_merged_cash_rows t).moves)) greatest_id ≡ true → SatisfiesFormParts third_schema (tables_with_merged_cash_rows t)
 unfolding tables_with_merged_cash_rows base_of_tables
 joined schema t w p rows own counted = record {
@@ -254,7 +254,7 @@ pub upgraded_form : (schema : Schema) (t : Tables) → HasLimitsWithinThirdSchem
 upgraded_form schema t w f books posted e =
     let p : SatisfiesFormParts schema t = form_parts schema t f in
     let all : List Posting = postings_sorted_by_stamp (postings_of_tables t) in
-    let rows = all_list (is_well_formed_cash_move_row t) (numbered_move_rows 1 all) (numbered_form t 1 all (omega arith) (few_rows schema t p books posted)
+    let rows = all_list (is_well_formed_cash_move_row t) (numbered_cash_move_rows 1 all) (numbered_form t 1 all (omega arith) (few_rows schema t p books posted)
     (All-sort (HasForm t) (λ a b. nat_lt a.stamp b.stamp) (postings_of_tables t) (all_posted schema t p))) in
-    let own = ap (λ ps. all_distinct (trade_ids_of_cash_rows (numbered_move_rows 1 ps))) posted.turned ∙ moves_own (base_of_tables t) books in
+    let own = ap (λ ps. all_distinct (trade_ids_of_cash_rows (numbered_cash_move_rows 1 ps))) posted.turned ∙ moves_own (base_of_tables t) books in
     form_whole third_schema (tables_with_merged_cash_rows t) (joined schema t w p rows own (counted_upgraded t e p.counted))

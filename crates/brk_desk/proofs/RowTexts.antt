@@ -8,9 +8,9 @@ use Rattle.std.proofs.lemmas.Bool.{and_from, and_parts}
 use Rattle.brk_model.specs.Keys.{kept_key, cash_move_key, is_row_key_less, trade_key}
 use Rattle.brk_model.specs.Records.{Kept}
 use Rattle.brk_model.specs.LookupView.{is_cash_row_of_trade}
-use Rattle.brk_model.specs.Tables.{CashRow, MoveRow, Tables, TradeRow, tables_without_rows}
+use Rattle.brk_model.specs.Tables.{OldCashRow, CashRow, Tables, TradeRow, tables_without_rows}
 use Rattle.brk_trade_rows.specs.Changes.{tables_after_change, tables_after_changes}
-use Rattle.brk_trade_rows.specs.Rows.{abstract_move_row, abstract_trade_row}
+use Rattle.brk_ref.specs.Rows.{abstract_cash_row, abstract_trade_row}
 use Rattle.brk_trade_rows.specs.declared.change.Change.{Change}
 use Rattle.brk_trade_rows.specs.declared.change.Change.TheVariants.{AddBroker, AddCustomer, AddAccount, AddPermission, AddSecurity, AddLastTrade, AddCharge}
 use Rattle.brk_trade_rows.specs.declared.change.Change.TheVariants.{AddBand, AddTaxRate, AddCustomerTax, AddTrade, SetStatus, AddHistory, AddRequest}
@@ -38,11 +38,11 @@ abbrev HasUtf8Executor : TradeRow → Type 0
 HasUtf8Executor r = is_utf8 r.executor ≡ true
 
 -- The name in the row of a cash transaction is UTF-8.
-abbrev HasUtf8CashName : CashRow → Type 0
+abbrev HasUtf8CashName : OldCashRow → Type 0
 HasUtf8CashName r = is_utf8 r.name ≡ true
 
 -- The name in a row of CASH_MOVE is UTF-8.
-abbrev HasUtf8MoveName : MoveRow → Type 0
+abbrev HasUtf8MoveName : CashRow → Type 0
 HasUtf8MoveName r = is_utf8 r.name ≡ true
 
 -- All texts of the tables that can be other than UTF-8 are UTF-8: stored requests and replies,
@@ -100,7 +100,7 @@ changed t (SetSummary row) h = record { kept = h.kept; names = h.names; cash = h
 changed t (RemoveSummary account symbol) h = record { kept = h.kept; names = h.names; cash = h.cash; moves = h.moves }
 changed t (AddSettlement row) h = record { kept = h.kept; names = h.names; cash = h.cash; moves = h.moves }
 changed t (AddMove row) h =
-    record { kept = h.kept; names = h.names; cash = h.cash; moves = All-insert HasUtf8MoveName (is_row_key_less cash_move_key) (abstract_move_row row) t.moves (text_is_utf8 row.name) h.moves }
+    record { kept = h.kept; names = h.names; cash = h.cash; moves = All-insert HasUtf8MoveName (is_row_key_less cash_move_key) (abstract_cash_row row) t.moves (text_is_utf8 row.name) h.moves }
 changed t (SetBalance account balance) h = record { kept = h.kept; names = h.names; cash = h.cash; moves = h.moves }
 changed t (SetBrokerTotals broker trades commissions) h = record { kept = h.kept; names = h.names; cash = h.cash; moves = h.moves }
 changed t (SetExecutor trade executor) h = record {
@@ -136,16 +136,16 @@ in_text : (t : Tables) → has_utf8_texts t ≡ true → HaveUtf8Texts t
 in_text t e =
     let kept : Bool = list_all has_utf8_request_and_reply t.kept in
     let names : Bool = list_all (λ (r : TradeRow). is_utf8 r.executor) t.trades in
-    let cash : Bool = list_all (λ (r : CashRow). is_utf8 r.name) t.cash in
-    let moves : Bool = list_all (λ (r : MoveRow). is_utf8 r.name) t.moves in
+    let cash : Bool = list_all (λ (r : OldCashRow). is_utf8 r.name) t.cash in
+    let moves : Bool = list_all (λ (r : CashRow). is_utf8 r.name) t.moves in
     let all = and_parts (kept && names && cash) moves e in
     let three = and_parts (kept && names) cash all.0 in
     let two = and_parts kept names three.0 in
     record {
       kept = list_all_true has_utf8_request_and_reply t.kept two.0;
       names = list_all_true (λ (r : TradeRow). is_utf8 r.executor) t.trades two.1;
-      cash = list_all_true (λ (r : CashRow). is_utf8 r.name) t.cash three.1;
-      moves = list_all_true (λ (r : MoveRow). is_utf8 r.name) t.moves all.1;
+      cash = list_all_true (λ (r : OldCashRow). is_utf8 r.name) t.cash three.1;
+      moves = list_all_true (λ (r : CashRow). is_utf8 r.name) t.moves all.1;
     }
 
 pub changes_keep_texts : (t : Tables) (changes : List Change) → has_utf8_texts t ≡ true → has_utf8_texts (tables_after_changes changes t) ≡ true
@@ -154,13 +154,13 @@ changes_keep_texts t changes e =
     let after = tables_after_changes changes t in
     let kept : Bool = list_all has_utf8_request_and_reply after.kept in
     let names : Bool = list_all (λ (r : TradeRow). is_utf8 r.executor) after.trades in
-    let cash : Bool = list_all (λ (r : CashRow). is_utf8 r.name) after.cash in
-    let moves : Bool = list_all (λ (r : MoveRow). is_utf8 r.name) after.moves in
+    let cash : Bool = list_all (λ (r : OldCashRow). is_utf8 r.name) after.cash in
+    let moves : Bool = list_all (λ (r : CashRow). is_utf8 r.name) after.moves in
     and_from (kept && names && cash) moves
     (and_from (kept && names) cash
     (and_from kept names (all_list has_utf8_request_and_reply after.kept h.kept) (all_list (λ (r : TradeRow). is_utf8 r.executor) after.trades h.names))
-    (all_list (λ (r : CashRow). is_utf8 r.name) after.cash h.cash))
-    (all_list (λ (r : MoveRow). is_utf8 r.name) after.moves h.moves)
+    (all_list (λ (r : OldCashRow). is_utf8 r.name) after.cash h.cash))
+    (all_list (λ (r : CashRow). is_utf8 r.name) after.moves h.moves)
 
 pub no_rows_have_texts : has_utf8_texts tables_without_rows ≡ true
 no_rows_have_texts = refl

@@ -11,7 +11,7 @@ use Rattle.brk_model.specs.Form.{has_utf8_texts}
 use Rattle.brk_model.specs.Upgraded.{tables_with_merged_cash_rows, tables_upgraded_from_schema}
 use Rattle.brk_model.specs.Schemas.{Schema}
 use Rattle.brk_model.specs.Sheets.{sheets}
-use Rattle.brk_model.specs.Tables.{MoveRow, Tables, numbered_move_rows}
+use Rattle.brk_model.specs.Tables.{CashRow, Tables, numbered_cash_move_rows}
 use Rattle.brk_trade_rows.specs.Schemas.{abstract_schema}
 use Rattle.brk_trade_rows.specs.declared.schema.Schema as known
 use Rattle.brk_trade_rows.specs.declared.schema.Schema.TheVariants.{First, Second, Third}
@@ -31,7 +31,7 @@ use Rattle.brk_audit_theorems.proofs.Adopted.{passing_sound}
 abbrev HasUtf8Name : Posting → Type 0
 HasUtf8Name p = is_utf8 p.name ≡ true
 
-numbered_read : (n : ℕ) (ps : List Posting) → AllByRecursion HasUtf8Name ps → AllByRecursion (λ (r : MoveRow). is_utf8 r.name ≡ true) (numbered_move_rows n ps)
+numbered_read : (n : ℕ) (ps : List Posting) → AllByRecursion HasUtf8Name ps → AllByRecursion (λ (r : CashRow). is_utf8 r.name ≡ true) (numbered_cash_move_rows n ps)
 numbered_read n [] h = tt
 numbered_read n (p ∷ ps) h = (h.0, numbered_read (n + 1) ps h.1)
 
@@ -45,7 +45,7 @@ upgraded_read t e =
     (All-mapped HasUtf8Name (posting_of_cash_transaction_row t) t.cash (list_all_true (λ r. is_utf8 r.name) t.cash three.1))
     (All-mapped HasUtf8Name posting_of_cash_move_row t.moves (list_all_true (λ r. is_utf8 r.name) t.moves all.1)) in
     and_from _ _ (and_from _ _ three.0 refl)
-    (all_list (λ (r : MoveRow). is_utf8 r.name) (numbered_move_rows 1 (postings_sorted_by_stamp (postings_of_tables t)))
+    (all_list (λ (r : CashRow). is_utf8 r.name) (numbered_cash_move_rows 1 (postings_sorted_by_stamp (postings_of_tables t)))
     (numbered_read 1 (postings_sorted_by_stamp (postings_of_tables t)) (All-sort HasUtf8Name _ (postings_of_tables t) posted)))
   where
     kept : Bool

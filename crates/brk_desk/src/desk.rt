@@ -10,9 +10,8 @@ use brk_explain_reads::{
 use brk_explain_rows::{AccountDetails, BrokerDetails, HoldingDetails, TradeDetails};
 use brk_lots::Lot;
 use brk_money::{Fault, Id, Planned, Stamp};
-use brk_ref::{Key, Symbol};
+use brk_ref::{CashRow, HoldingRow, Key, Symbol, TradeRow};
 use brk_store::{Store, Visitor, WalkError};
-use brk_trade_rows::{HoldingRow, MoveRow, TradeRow};
 use brk_view_rows::{Query, View};
 use sqlite::Alter;
 use std::alloc::Global;
@@ -74,7 +73,7 @@ impl<S: Alter> Desk<S> {
     ghost use Rattle.brk_money.specs.declared.fault.Fault.TheVariants.{Damaged, Memory};
     ghost use Rattle.brk_view_rows.specs.Queries.{abstract_query};
     ghost use Rattle.std.specs.Fn.{CalledAt};
-    ghost use Rattle.brk_trade_rows.specs.Rows.{abstract_holding_row, abstract_move_row, abstract_trade_row};
+    ghost use Rattle.brk_ref.specs.Rows.{abstract_holding_row, abstract_cash_row, abstract_trade_row};
     ghost use Rattle.brk_desk_queries.specs.Heads.{IsStatementHeadOfAccount};
     ghost use Rattle.brk_model_explain.specs.BrokerLines.{completed_trades_of_broker};
     ghost use Rattle.brk_explain_rows.specs.Details.{AreDetailsOfAccount, AreDetailsOfBroker, AreDetailsOfHolding, AreDetailsOfTrade};
@@ -345,7 +344,7 @@ impl<S: Alter> Desk<S> {
     /// visitor after the walk is one that calls may lead to (`Visitor::leads`).
     ///
     /// A crash after the call exposes only states that a crash before the call could expose.
-    pub fn visit_cash_rows<E, V: Visitor<MoveRow, E>>(
+    pub fn visit_cash_rows<E, V: Visitor<CashRow, E>>(
         &mut self,
         account: Id,
         from: Stamp,
@@ -355,7 +354,7 @@ impl<S: Alter> Desk<S> {
         requires ready { V.ready visitor.old }
         ensures ready { V.ready visitor.new }
         ensures leads { V.leads visitor.old visitor.new }
-        ensures walked { WalkPost S.Store self.old self.new abstract_move_row
+        ensures walked { WalkPost S.Store self.old self.new abstract_cash_row
             (cash_rows_in_span account from to) V.takes V.stops visitor.old visitor.new result }
     {
         self.store
@@ -401,7 +400,7 @@ impl<S: Alter> Desk<S> {
     /// error or a fault.
     ///
     /// A crash after the call exposes only states that a crash before the call could expose.
-    pub fn walk_cash<E: From<Fault>, F: FnMut(&MoveRow) -> Result<(), E> + Drop>(
+    pub fn walk_cash<E: From<Fault>, F: FnMut(&CashRow) -> Result<(), E> + Drop>(
         &mut self,
         account: Id,
         from: Stamp,
@@ -409,7 +408,7 @@ impl<S: Alter> Desk<S> {
         call: F,
     ) -> Result<(), E>
         requires callable { F.IsAlwaysCallable call }
-        ensures called { CallsClosureWithEachRecord S.Store self.old self.new abstract_move_row
+        ensures called { CallsClosureWithEachRecord S.Store self.old self.new abstract_cash_row
             (cash_rows_in_span account from to) (CalledAt F.FnMut) E.from_gives call result }
     {
         self.store.walk_cash::<E, F>(account, from, to, call)

@@ -19,8 +19,8 @@ use Rattle.brk_ref.specs.Records.{abstract_last_trade_row}
 use Rattle.brk_ref.specs.declared.last_trade.LastTrade.{LastTrade}
 use Rattle.brk_trade_plans.specs.Feed.{SymbolState, IsFeedPlan, feed_checks, states_of_quotes, state_of_quote, is_state_of_symbol, has_no_state_of_symbol, price_span_of_first_symbol}
 use Rattle.brk_trade_plans.specs.Reference.{later_stamp_check}
-use Rattle.brk_trade_rows.specs.Rows.{abstract_request_row}
-use Rattle.brk_trade_rows.specs.declared.request_row.RequestRow as request
+use Rattle.brk_ref.specs.Rows.{abstract_request_row}
+use Rattle.brk_ref.specs.declared.request_row.RequestRow as request
 use Rattle.brk_trade_plans.specs.declared.plan.Plan.{Plan}
 use Rattle.brk_trade_plans.specs.declared.quote.Quote.{Quote}
 use Rattle.brk_trade_plans.specs.declared.span.PriceSpan.{PriceSpan}

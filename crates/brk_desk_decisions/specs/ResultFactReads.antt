@@ -5,9 +5,9 @@ use Rattle.brk_lots.specs.Sources.{EqualsLots}
 use Rattle.brk_lots.specs.declared.lot.Lot.{Lot}
 use Rattle.brk_model.specs.Joins.{trade_row_with_id}
 use Rattle.brk_model.specs.Tables.{AccountRow, SecurityRow, Tables}
-use Rattle.brk_trade_rows.specs.Rows.{abstract_trade_row}
+use Rattle.brk_ref.specs.Rows.{abstract_trade_row}
 use Rattle.brk_trade.specs.declared.result_found.ResultPlanFacts.{ResultPlanFacts}
-use Rattle.brk_trade_rows.specs.declared.trade_row.TradeRow.{TradeRow}
+use Rattle.brk_ref.specs.declared.trade_row.TradeRow.{TradeRow}
 use Rattle.brk_trade_books.specs.Reads.{customer_tax_rate_sum}
 use Rattle.brk_trade_theorems.specs.ResultPlans.{ResultFactsMatchTables, result_account_of_row}
 use Rattle.brk_trade_books.specs.TradeReads.{commission_band_of_quantity, last_cash_row_number_or_zero, lots_of_position}

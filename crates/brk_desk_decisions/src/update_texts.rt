@@ -2,7 +2,7 @@
 //! row does not exist.
 
 ghost use Rattle.std.specs.Prelude.{◌≡◌, IfErr, Some, option_map, string_bytes};
-ghost use Rattle.brk_trade_rows.specs.Rows.{cash_type_text};
+ghost use Rattle.brk_ref.specs.Rows.{cash_type_text};
 ghost use Rattle.brk_model.specs.Run.{IsCallFault};
 ghost use Rattle.brk_store_transactions.specs.Holds.{ReadPost};
 ghost use Rattle.brk_trade_theorems.specs.Corrections.{cash_row_of_trade, settlement_row_of_trade};

@@ -6,11 +6,11 @@ use Rattle.std.specs.List.{list_any}
 use Rattle.std.specs.Prelude.{◌&&◌, ◌||◌, bytes_eq, flat_map, is_none, option_map, option_to_list}
 use Rattle.brk_money.specs.Spelling.{Text}
 use Rattle.brk_money.specs.declared.refusal.Refusal.TheVariants.{NoAccount, NoSecurity, NoTrade}
-use Rattle.brk_trade_rows.specs.Rows.{abstract_history_row, abstract_move_row, abstract_settlement_row, abstract_trade_row}
-use Rattle.brk_trade_rows.specs.declared.history_row.HistoryRow as history
-use Rattle.brk_trade_rows.specs.declared.move_row.MoveRow as cash
-use Rattle.brk_trade_rows.specs.declared.settlement_row.SettlementRow as settlement
-use Rattle.brk_trade_rows.specs.declared.trade_row.TradeRow as trade
+use Rattle.brk_ref.specs.Rows.{abstract_history_row, abstract_cash_row, abstract_settlement_row, abstract_trade_row}
+use Rattle.brk_ref.specs.declared.history_row.HistoryRow as history
+use Rattle.brk_ref.specs.declared.cash_row.CashRow as cash
+use Rattle.brk_ref.specs.declared.settlement_row.SettlementRow as settlement
+use Rattle.brk_ref.specs.declared.trade_row.TradeRow as trade
 use Rattle.brk_model.specs.Ask.{view_of_base, ask, checks_of_query}
 use Rattle.brk_model.specs.Base.{Base, account_with_id, security_with_symbol, trade_with_id}
 use Rattle.brk_model.specs.Joins.{trade_rows_oldest_first, trade_row_with_id}
@@ -44,13 +44,13 @@ use Rattle.brk_desk_queries.proofs.RecentViews.{account_missing, account_there}
 
 -- `settled`, `moved` and `came` are the settlement, the cash row and the history of the trade with
 -- the id `trade`.
-abbrev pub AreRelatedRowsOfTrade : ℕ → Option settlement.SettlementRow → Option cash.MoveRow → List history.HistoryRow → Tables → Type 0
+abbrev pub AreRelatedRowsOfTrade : ℕ → Option settlement.SettlementRow → Option cash.CashRow → List history.HistoryRow → Tables → Type 0
 AreRelatedRowsOfTrade trade settled moved came t =
-    (option_map abstract_settlement_row settled ≡ find (λ (s : SettlementRow). s.trade == trade) t.settlements) × (option_map abstract_move_row moved ≡ find (is_cash_row_of_trade trade) t.moves)
+    (option_map abstract_settlement_row settled ≡ find (λ (s : SettlementRow). s.trade == trade) t.settlements) × (option_map abstract_cash_row moved ≡ find (is_cash_row_of_trade trade) t.moves)
     × (map abstract_history_row came ≡ filter (λ (h : HistoryRow). h.trade == trade) t.history)
 
 -- is what became of it
-pub follows : (trade : trade.TradeRow) (settled : Option settlement.SettlementRow) (moved : Option cash.MoveRow) (came : List history.HistoryRow) (t : Tables)
+pub follows : (trade : trade.TradeRow) (settled : Option settlement.SettlementRow) (moved : Option cash.CashRow) (came : List history.HistoryRow) (t : Tables)
     → AreRelatedRowsOfTrade trade.id settled moved came t → (base : Base) → BooksInvariant base → AuditInvariant base → t ≡ sheets base → AreRowsOfTrade t trade settled moved came
 follows trade settled moved came t f base books sound s = record {
   settlement_rows = ap option_to_list (f.0 ∙ ap (λ (x : Tables). find (λ r. r.trade == trade.id) x.settlements) s) ∙ settlement_alone base trade.id books sound

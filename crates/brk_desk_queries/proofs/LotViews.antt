@@ -3,9 +3,9 @@ use Rattle.std.proofs.Common.{◌≡◌, ◌==◌, ℕ, List, [], ◌∷◌, ◌
 use Rattle.std.proofs.lemmas.List.{map-append}
 use Rattle.std.specs.Prelude.{flat_map, is_none, nat_le, option_map, option_to_list}
 use Rattle.brk_money.specs.declared.refusal.Refusal.TheVariants.{NoAccount}
-use Rattle.brk_trade_rows.specs.Rows.{abstract_lot_change_row, abstract_trade_row}
-use Rattle.brk_trade_rows.specs.declared.lot_change.LotChange.{LotChange}
-use Rattle.brk_trade_rows.specs.declared.trade_row.TradeRow as trade
+use Rattle.brk_ref.specs.Rows.{abstract_lot_change_row, abstract_trade_row}
+use Rattle.brk_ref.specs.declared.lot_change.LotChange.{LotChange}
+use Rattle.brk_ref.specs.declared.trade_row.TradeRow as trade
 use Rattle.brk_model.specs.Ask.{view_of_base, ask, checks_of_query}
 use Rattle.brk_model.specs.Base.{Base, account_with_id}
 use Rattle.brk_model.specs.Joins.{trade_rows_oldest_first, trade_rows_of_account}

@@ -9,8 +9,8 @@ use Rattle.brk_model.specs.Sheets.{tables_sorted_by_key}
 use Rattle.brk_model.specs.StatusView.{submitted_trades_view}
 use Rattle.brk_model.specs.Tables.{Tables, tables_of_base}
 use Rattle.brk_model.specs.Views.{view_of_tables}
-use Rattle.brk_trade_rows.specs.Rows.{abstract_trade_row}
-use Rattle.brk_trade_rows.specs.declared.trade_row.TradeRow.{TradeRow}
+use Rattle.brk_ref.specs.Rows.{abstract_trade_row}
+use Rattle.brk_ref.specs.declared.trade_row.TradeRow.{TradeRow}
 use Rattle.brk_view_rows.specs.Views.{records_of_view, has_submitted_status}
 use Rattle.brk_view_rows.specs.declared.view.SubmittedTrade.{SubmittedTrade}
 use Rattle.brk_view_rows.specs.declared.view.View.{View}

@@ -3,9 +3,9 @@ use Rattle.std.proofs.Common.{◌≡◌, ℕ, ◌==◌, List, true, false, Some,
 use Rattle.std.specs.Global.{Vec}
 use Rattle.std.specs.Prelude.{flat_map, is_none, option_map}
 use Rattle.brk_money.specs.declared.refusal.Refusal.TheVariants.{NoAccount}
-use Rattle.brk_trade_rows.specs.Rows.{abstract_history_row, abstract_trade_row}
-use Rattle.brk_trade_rows.specs.declared.history_row.HistoryRow as read
-use Rattle.brk_trade_rows.specs.declared.trade_row.TradeRow as read_trade
+use Rattle.brk_ref.specs.Rows.{abstract_history_row, abstract_trade_row}
+use Rattle.brk_ref.specs.declared.history_row.HistoryRow as read
+use Rattle.brk_ref.specs.declared.trade_row.TradeRow as read_trade
 use Rattle.brk_model.specs.Ask.{view_of_base, ask, checks_of_query}
 use Rattle.brk_model.specs.Base.{Base, account_with_id}
 use Rattle.brk_model.specs.Derived.{postings_of_base}

@@ -5,8 +5,8 @@ use Rattle.std.proofs.lemmas.Bool.Decides.{nat_tests}
 use Rattle.std.specs.Global.{Vec}
 use Rattle.std.specs.Prelude.{bytes_eq, flat_map, nat_lt, sum_by}
 use Rattle.brk_money.specs.Spelling.{Text}
-use Rattle.brk_trade_rows.specs.Rows.{abstract_request_row}
-use Rattle.brk_trade_rows.specs.declared.request_row.RequestRow as read
+use Rattle.brk_ref.specs.Rows.{abstract_request_row}
+use Rattle.brk_ref.specs.declared.request_row.RequestRow as read
 use Rattle.brk_model.specs.Ask.{view_of_base, ask, checks_of_query}
 use Rattle.brk_model.specs.Lists.{distinct_texts, sort_by}
 use Rattle.brk_model.specs.Queries.{VolumeOf}

@@ -1,8 +1,8 @@
 -- The volumes of brokers in a sector, as they were read.
 use Rattle.std.specs.Prelude.{ℕ, ◌==◌, ◌&&◌, Bool, false, if◌then◌else◌, List, [], ◌∷◌, ◌++◌, bytes_eq, filter, length, map, nat_lt}
 use Rattle.std.specs.Option.{option_map_or}
-use Rattle.brk_trade_rows.specs.Rows.{abstract_request_row}
-use Rattle.brk_trade_rows.specs.declared.request_row.RequestRow as read
+use Rattle.brk_ref.specs.Rows.{abstract_request_row}
+use Rattle.brk_ref.specs.declared.request_row.RequestRow as read
 use Rattle.brk_model.specs.Joins.{security_row_with_symbol}
 use Rattle.brk_model.specs.Tables.{BrokerRow, RequestRow, Tables}
 use Rattle.brk_model.specs.VolumeView.{sector_requests_of_broker}

@@ -1,7 +1,7 @@
 //! Views of selected trades with their settlements, cash rows and histories.
 
 ghost use Rattle.std.specs.Prelude.{IfErr, map};
-ghost use Rattle.brk_trade_rows.specs.Rows.{abstract_trade_row};
+ghost use Rattle.brk_ref.specs.Rows.{abstract_trade_row};
 ghost use Rattle.brk_desk_queries.specs.LookedUp.{HaveAllRowsOfTrades, HasAllRowsOfTrade};
 ghost use Rattle.brk_desk_queries.specs.QueryResults.{AnswersQueryAsModel};
 ghost use Rattle.brk_model.specs.Queries.{TradesOfAccount, TradesOfSymbol, TradesWith};
@@ -10,9 +10,8 @@ ghost use Rattle.brk_store_transactions.specs.Holds.{ReadPost};
 ghost use Rattle.brk_store.specs.ReadSequences.{ReadSequencePost};
 
 use brk_money::{Fault, Id, Planned, Refusal};
-use brk_ref::{Span, Symbol};
+use brk_ref::{Span, Symbol, TradeRow};
 use brk_store::{Store, read_trades_by_ids};
-use brk_trade_rows::TradeRow;
 use brk_view_rows::{
     LookedUp, NamedTrades, View, create_looked_up_trade, lookup_account, lookup_ids, lookup_symbol,
     sort_trades_oldest_first,

@@ -1,7 +1,7 @@
 //! The view of an account's last trades and their statuses.
 
 ghost use Rattle.std.specs.Prelude.{◌≡◌, ◌++◌, IfErr, OnOk, flat_map, map};
-ghost use Rattle.brk_trade_rows.specs.Rows.{abstract_history_row, abstract_trade_row};
+ghost use Rattle.brk_ref.specs.Rows.{abstract_history_row, abstract_trade_row};
 ghost use Rattle.brk_desk_queries.specs.QueryResults.{AnswersQueryAsModel};
 ghost use Rattle.brk_model.specs.Joins.{history_rows_with_trade_id};
 ghost use Rattle.brk_model.specs.PositionView.{last_ten_trade_rows};
@@ -10,8 +10,8 @@ ghost use Rattle.brk_model.specs.Run.{IsCallFault};
 ghost use Rattle.brk_store_transactions.specs.Holds.{ReadPost};
 
 use brk_money::{Fault, Id, Planned, Refusal};
+use brk_ref::{HistoryRow, TradeRow};
 use brk_store::Store;
-use brk_trade_rows::{HistoryRow, TradeRow};
 use brk_view_rows::{View, recent};
 use sqlite::Alter;
 use std::alloc::Global;

@@ -1,7 +1,7 @@
 //! The view of an account's parties and its last trades.
 
 ghost use Rattle.std.specs.Prelude.{◌≡◌, Err, IfErr, IfOk, OnErr, bytes_eq, find, map, option_map, take};
-ghost use Rattle.brk_trade_rows.specs.Rows.{abstract_trade_row};
+ghost use Rattle.brk_ref.specs.Rows.{abstract_trade_row};
 ghost use Rattle.brk_desk_queries.specs.QueryResults.{AnswersQueryAsModel};
 ghost use Rattle.brk_model.specs.Joins.{trade_rows_recent_first, trade_rows_of_account};
 ghost use Rattle.brk_model.specs.Queries.{StatusOf};
@@ -12,9 +12,8 @@ ghost use Rattle.brk_view_rows.specs.Status.{rows_of_trade_status, trade_row_wit
 
 use crate::parties::read_account_status;
 use brk_money::{Fault, Id, Planned, Refusal};
-use brk_ref::{Security, Symbol};
+use brk_ref::{Security, Symbol, TradeRow};
 use brk_store::Store;
-use brk_trade_rows::TradeRow;
 use brk_view_rows::{TradeStatus, View, status};
 use sqlite::Alter;
 use std::alloc::Global;

@@ -1,7 +1,7 @@
 //! The view of the brokers' volumes in a sector.
 
 ghost use Rattle.std.specs.Prelude.{◌≡◌, ◌++◌, ◌∷◌, [], IfErr, bytes_eq, filter, flat_map, map};
-ghost use Rattle.brk_trade_rows.specs.Rows.{abstract_request_row};
+ghost use Rattle.brk_ref.specs.Rows.{abstract_request_row};
 ghost use Rattle.brk_desk_queries.specs.QueryResults.{AnswersQueryAsModel};
 ghost use Rattle.brk_desk_queries.specs.Volumes.{is_sector_request_of_broker, is_symbol_in_sector, brokers_of_name_in_sector};
 ghost use Rattle.brk_desk_queries.specs.Volumes.{requests_with_row_if_of_broker_in_sector, volumes_of_brokers_in_sector};
@@ -13,9 +13,8 @@ ghost use Rattle.brk_store.specs.ReadSequences.{ReadSequencePost};
 ghost use Rattle.brk_view_rows.specs.Volume as volume;
 
 use brk_money::{Fault, Id, Planned};
-use brk_ref::{BrokerRow, Name, Symbol};
+use brk_ref::{BrokerRow, Name, RequestRow, Symbol};
 use brk_store::Store;
-use brk_trade_rows::RequestRow;
 use brk_view_rows::{BrokerNames, BrokerVolume, View, broker_volume, total_bid_value_of_requests};
 use sqlite::Alter;
 use std::alloc::Global;

@@ -4,9 +4,9 @@ use brk_desk::Visitor;
 use brk_explain_lines::{cash_posting_text, open_lot_text};
 use brk_explain_sums::trade_commission_line_text;
 use brk_money::{Fault, Wide};
+use brk_ref::{CashRow, HoldingRow, TradeRow};
 use brk_report::totals::{total_plus_amount, total_plus_commission};
 use brk_report_lines::{LinesFault, write_line};
-use brk_trade_rows::{HoldingRow, MoveRow, TradeRow};
 use std::alloc::Global;
 use std::io::Write;
 
@@ -19,11 +19,11 @@ pub struct CashPostingWriter<'a, W> {
     pub count: u64,
 }
 
-impl<W: Write> Visitor<MoveRow, LinesFault> for CashPostingWriter<'_, W> {
+impl<W: Write> Visitor<CashRow, LinesFault> for CashPostingWriter<'_, W> {
     ghost use Rattle.std.specs.Prelude.{◌≡◌, ◌+◌, ◌+ℤ◌, [], ◌∷◌, refl};
     ghost use Rattle.std.proofs.Common.{◌∙◌};
     ghost use Rattle.std.specs.Io.KnownBytes.{Appends};
-    ghost use Rattle.brk_trade_rows.specs.Rows.{abstract_move_row};
+    ghost use Rattle.brk_ref.specs.Rows.{abstract_cash_row};
     ghost use Rattle.brk_model_explain.specs.AccountLines.{cash_posting_line};
     ghost use Rattle.brk_report_lines.specs.Written.{FailsWithinLines, line_with_line_feed};
 
@@ -32,9 +32,9 @@ impl<W: Write> Visitor<MoveRow, LinesFault> for CashPostingWriter<'_, W> {
     ghost leads = { λ p q. q.writer.ghost_name ≡ p.writer.ghost_name };
 
     ghost takes = { λ p r q. (q.balance ≡ p.balance +ℤ r.amount) × (q.count ≡ p.count + 1)
-        × Appends (W.contents p.writer.now) (W.contents q.writer.now) (line_with_line_feed (cash_posting_line (abstract_move_row r) (p.balance +ℤ r.amount))) };
+        × Appends (W.contents p.writer.now) (W.contents q.writer.now) (line_with_line_feed (cash_posting_line (abstract_cash_row r) (p.balance +ℤ r.amount))) };
 
-    ghost stops = { λ p r e q. FailsWithinLines (cash_posting_line (abstract_move_row r) (p.balance +ℤ r.amount)
+    ghost stops = { λ p r e q. FailsWithinLines (cash_posting_line (abstract_cash_row r) (p.balance +ℤ r.amount)
         ∷ []) (W.contents p.writer.now) (W.contents q.writer.now) e };
 
     /// Adds the amount of the cash row to the balance, in cents, writes the line of the row with
@@ -42,7 +42,7 @@ impl<W: Write> Visitor<MoveRow, LinesFault> for CashPostingWriter<'_, W> {
     /// the balance or the count overflows; nothing is then written. Fails with `Write` after a
     /// prefix of the line, perhaps all of it. The balance and the count are unchanged after an
     /// error (no clause states this).
-    fn visit(&mut self, item: &MoveRow) -> Result<(), LinesFault> {
+    fn visit(&mut self, item: &CashRow) -> Result<(), LinesFault> {
         let balance = total_plus_amount(self.balance, item.amount)?;
         let Some(count) = self.count.checked_add(1) else {
             return Err(LinesFault::Desk(Fault::Store));
@@ -70,7 +70,7 @@ impl<W: Write> Visitor<HoldingRow, LinesFault> for OpenLotWriter<'_, W> {
     ghost use Rattle.std.specs.Prelude.{◌≡◌, ◌+◌, [], ◌∷◌, refl};
     ghost use Rattle.std.proofs.Common.{◌∙◌};
     ghost use Rattle.std.specs.Io.KnownBytes.{Appends};
-    ghost use Rattle.brk_trade_rows.specs.Rows.{abstract_holding_row};
+    ghost use Rattle.brk_ref.specs.Rows.{abstract_holding_row};
     ghost use Rattle.brk_model_explain.specs.AccountLines.{open_lot_line};
     ghost use Rattle.brk_report_lines.specs.Written.{FailsWithinLines, line_with_line_feed};
 
@@ -115,7 +115,7 @@ impl<W: Write> Visitor<TradeRow, LinesFault> for TradeCommissionWriter<'_, W> {
     ghost use Rattle.std.specs.Prelude.{◌≡◌, ◌+◌, ◌+ℤ◌, [], ◌∷◌, pos, refl};
     ghost use Rattle.std.proofs.Common.{◌∙◌};
     ghost use Rattle.std.specs.Io.KnownBytes.{Appends};
-    ghost use Rattle.brk_trade_rows.specs.Rows.{abstract_trade_row};
+    ghost use Rattle.brk_ref.specs.Rows.{abstract_trade_row};
     ghost use Rattle.brk_model_explain.specs.BrokerLines.{trade_commission_line};
     ghost use Rattle.brk_report_lines.specs.Written.{FailsWithinLines, line_with_line_feed};
 

@@ -1,7 +1,7 @@
 //! The lines of the explanation of an account.
 
 ghost use Rattle.std.specs.Prelude.{◌≡◌, ◌++◌, ◌∷◌, Err, IfErr, IfOk, OnErr, OnOk, codes, map};
-ghost use Rattle.brk_trade_rows.specs.Rows.{abstract_holding_row, abstract_move_row};
+ghost use Rattle.brk_ref.specs.Rows.{abstract_holding_row, abstract_cash_row};
 ghost use Rattle.brk_model_explain.specs.AccountLines as lines;
 ghost use Rattle.brk_explain_rows.specs.Details.{abstract_priced_holding};
 ghost use Rattle.brk_model.specs.Run.{IsCallFault};
@@ -18,9 +18,8 @@ use brk_explain_columns::{
 };
 use brk_explain_rows::PricedHolding;
 use brk_money::{Cents, Fault, Id, Price, Wide};
-use brk_ref::AccountRow;
+use brk_ref::{AccountRow, CashRow, HoldingRow};
 use brk_report_lines::{append_left_aligned, lot_line};
-use brk_trade_rows::{HoldingRow, MoveRow};
 use std::alloc::Global;
 
 // Appends to `out` the first lines of the explanation of an account: the title, the name, the
@@ -75,10 +74,10 @@ fn put_trade_id_or_hyphen(out: &mut Vec<u8>, trade: Option<Id>) -> Result<(), Fa
 fn put_cash_posting(
     alloc: Global,
     out: &mut Vec<u8>,
-    row: &MoveRow,
+    row: &CashRow,
     balance: Wide,
 ) -> Result<(), Fault>
-    ensures ok { OnOk result (out.new.items ≡ out.old.items ++ line_with_line_feed (lines.cash_posting_line (abstract_move_row row.now) balance)) }
+    ensures ok { OnOk result (out.new.items ≡ out.old.items ++ line_with_line_feed (lines.cash_posting_line (abstract_cash_row row.now) balance)) }
     ensures fault { OnErr result (result ≡ Err Memory) }
 {
     put_word_and_timestamp(out, "Posted", row.stamp)?;
@@ -92,8 +91,8 @@ fn put_cash_posting(
 /// Returns the line of a cash row, with a line feed: the word `Posted`, its timestamp, its id, the
 /// id of its trade or a hyphen, its amount, `balance`, which is the balance after it in cents, and
 /// its name. Fails with `Memory` only.
-pub fn cash_posting_text(alloc: Global, row: &MoveRow, balance: Wide) -> Result<Vec<u8>, Fault>
-    ensures line { IfOk result (λ line. line.items ≡ line_with_line_feed (lines.cash_posting_line (abstract_move_row row.now) balance)) }
+pub fn cash_posting_text(alloc: Global, row: &CashRow, balance: Wide) -> Result<Vec<u8>, Fault>
+    ensures line { IfOk result (λ line. line.items ≡ line_with_line_feed (lines.cash_posting_line (abstract_cash_row row.now) balance)) }
     ensures fault { OnErr result (result ≡ Err Memory) }
 {
     let mut line = Vec::new(alloc);

@@ -1,7 +1,7 @@
 //! The lines of the balance before and after a completed trade, and its last line.
 
 ghost use Rattle.std.specs.Prelude.{◌≡◌, ◌++◌, Err, IfErr, OnErr, OnOk, option_map};
-ghost use Rattle.brk_trade_rows.specs.Rows.{abstract_move_row};
+ghost use Rattle.brk_ref.specs.Rows.{abstract_cash_row};
 ghost use Rattle.brk_model_explain.specs.TradeLines as lines;
 ghost use Rattle.brk_explain_rows.specs.Details.{abstract_order_details, abstract_result_details};
 ghost use Rattle.brk_model.specs.Run.{IsCallFault};
@@ -16,14 +16,14 @@ use brk_explain_columns::{
 };
 use brk_explain_rows::{OrderDetails, ResultDetails};
 use brk_money::{Fault, Wide};
-use brk_trade_rows::MoveRow;
+use brk_ref::CashRow;
 use std::alloc::Global;
 
 // Appends to `out` the line of the cash row of a trade: its id and its name, or `none` if the trade
 // has no cash row. Fails with `Memory` only; a part of the line may then be appended.
 #[tactic(auto, unfolding(brk_model_explain::specs::TradeLines::trade_cash_row_line))]
-fn put_cash_row_line(out: &mut Vec<u8>, row: &Option<MoveRow>) -> Result<(), Fault>
-    ensures ok { OnOk result (out.new.items ≡ out.old.items ++ line_with_line_feed (lines.trade_cash_row_line (option_map abstract_move_row row.now))) }
+fn put_cash_row_line(out: &mut Vec<u8>, row: &Option<CashRow>) -> Result<(), Fault>
+    ensures ok { OnOk result (out.new.items ≡ out.old.items ++ line_with_line_feed (lines.trade_cash_row_line (option_map abstract_cash_row row.now))) }
     ensures fault { OnErr result (result ≡ Err Memory) }
 {
     let Some(row) = row else {

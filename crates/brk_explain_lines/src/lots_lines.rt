@@ -1,7 +1,7 @@
 //! The lines of the lots that a completed trade closed and opened, and of its gain.
 
 ghost use Rattle.std.specs.Prelude.{◌≡◌, ◌++◌, Err, IfErr, OnErr, OnOk, map, nat_abs, option_map};
-ghost use Rattle.brk_trade_rows.specs.Rows.{abstract_lot_change_row, abstract_trade_row};
+ghost use Rattle.brk_ref.specs.Rows.{abstract_lot_change_row, abstract_trade_row};
 ghost use Rattle.brk_model_explain.specs.TradeLines as lines;
 ghost use Rattle.brk_model_explain.specs.Trades as trades;
 ghost use Rattle.brk_explain_rows.specs.Details.{abstract_closing, abstract_order_details, abstract_result_details};
@@ -20,7 +20,7 @@ use brk_explain_columns::{
 };
 use brk_explain_rows::{Closing, OrderDetails, ResultDetails};
 use brk_money::{Fault, Price, Side, Wide};
-use brk_trade_rows::{LotChange, TradeRow};
+use brk_ref::{LotChange, TradeRow};
 use std::alloc::Global;
 
 // Appends to `out` the line of the price of a completed trade, and the line of the column headings

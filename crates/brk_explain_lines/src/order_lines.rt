@@ -1,7 +1,7 @@
 //! The lines of a trade as ordered. The functions fail with `Memory` only.
 
 ghost use Rattle.std.specs.Prelude.{◌≡◌, ◌++◌, Err, OnErr, OnOk, map};
-ghost use Rattle.brk_trade_rows.specs.Rows.{abstract_history_row};
+ghost use Rattle.brk_ref.specs.Rows.{abstract_history_row};
 ghost use Rattle.brk_model_explain.specs.TradeLines as lines;
 ghost use Rattle.brk_explain_rows.specs.Details.{abstract_order_details};
 ghost use Rattle.brk_model.specs.Statement.{text_of_lines};
@@ -15,9 +15,8 @@ use brk_explain_columns::{
 };
 use brk_explain_rows::OrderDetails;
 use brk_money::{Fault, Wide};
-use brk_ref::cash_or_margin_word;
+use brk_ref::{HistoryRow, cash_or_margin_word};
 use brk_report_lines::append_left_aligned;
-use brk_trade_rows::HistoryRow;
 use std::alloc::Global;
 
 // Appends to `out` the line of a status change: the word `Status`, its timestamp, and the code and

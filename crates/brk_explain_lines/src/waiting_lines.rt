@@ -15,7 +15,7 @@ use brk_explain_columns::{
 };
 use brk_explain_rows::OrderDetails;
 use brk_money::{Fault, Price, Status, TradeType, Wide, write_cents};
-use brk_trade_rows::TradeRow;
+use brk_ref::TradeRow;
 use std::alloc::Global;
 
 // Returns the remark after the charge of a trade that is not completed: `never charged` if it is

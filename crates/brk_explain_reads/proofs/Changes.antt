@@ -3,10 +3,10 @@ use Rattle.std.proofs.Common.{◌≡◌, ◌∙◌, ◌==◌, ◌&&◌, ℕ, Boo
 use Rattle.std.specs.Prelude.{unwrap_or}
 use Rattle.std.specs.Option.{option_map_or}
 use Rattle.std.proofs.lemmas.Bool.Decides.{nat_tests}
-use Rattle.brk_trade_rows.specs.Rows.{abstract_trade_row}
-use Rattle.brk_trade_rows.specs.Rows as rows
-use Rattle.brk_trade_rows.specs.declared.lot_change.LotChange.{LotChange}
-use Rattle.brk_trade_rows.specs.declared.trade_row.TradeRow as code
+use Rattle.brk_ref.specs.Rows.{abstract_trade_row}
+use Rattle.brk_ref.specs.Rows as rows
+use Rattle.brk_ref.specs.declared.lot_change.LotChange.{LotChange}
+use Rattle.brk_ref.specs.declared.trade_row.TradeRow as code
 use Rattle.brk_model.specs.Joins.{trade_row_with_id}
 use Rattle.brk_model.specs.Lists.{sort_by_key}
 use Rattle.brk_model.specs.Tables.{HoldingHistoryRow, Tables, TradeRow}

@@ -1,12 +1,12 @@
 -- A visitor that adds up the cash rows before a stamp.
 use Rattle.std.specs.Prelude.{◌≡◌, ◌+◌, ◌+ℤ◌, if◌then◌else◌, nat_lt}
-use Rattle.brk_trade_rows.specs.declared.move_row.MoveRow.{MoveRow}
+use Rattle.brk_ref.specs.declared.cash_row.CashRow.{CashRow}
 use Rattle.brk_explain_reads.specs.declared.cash.EarlierCashSum.{EarlierCashSum}
 
 -- The visitor is `p` before it takes `row`, and `q` after it. If the stamp of `row` is before
 -- `until`, the count of `q` is greater by 1 and its total is greater by the amount of `row`, in
 -- cents; otherwise both are unchanged. `until` is unchanged.
-abbrev pub AddsEarlierCashRow : EarlierCashSum → MoveRow → EarlierCashSum → Type 0
+abbrev pub AddsEarlierCashRow : EarlierCashSum → CashRow → EarlierCashSum → Type 0
 AddsEarlierCashRow p row q =
     (q.until ≡ p.until) × (q.sum.rows ≡ (if nat_lt row.stamp p.until then p.sum.rows + 1 else p.sum.rows))
     × (q.sum.total ≡ (if nat_lt row.stamp p.until then p.sum.total +ℤ row.amount else p.sum.total))

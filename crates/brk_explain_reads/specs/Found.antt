@@ -1,7 +1,7 @@
 -- The parts of the facts that the explanation of a trade reads.
 use Rattle.std.specs.Prelude.{◌≡◌, ℕ, ◌==◌, List, filter, find, length, map, nat_lt, Some, option_map}
-use Rattle.brk_trade_rows.specs.Rows.{abstract_history_row, abstract_lot_change_row, abstract_move_row, abstract_settlement_row, abstract_trade_row}
-use Rattle.brk_trade_rows.specs.declared.trade_row.TradeRow as trade
+use Rattle.brk_ref.specs.Rows.{abstract_history_row, abstract_lot_change_row, abstract_cash_row, abstract_settlement_row, abstract_trade_row}
+use Rattle.brk_ref.specs.declared.trade_row.TradeRow as trade
 use Rattle.brk_model_explain.specs.Trades.{band_for_customer_and_security, recorded_closing, closings_of_trade, is_closing_by_trade, opened_lot_row}
 use Rattle.brk_model_explain.specs.Trades.{tax_rates_of_customer, result_details_of_trade, settlement_of_trade_or_zeros, sorted_statuses_of_trade}
 use Rattle.brk_explain_rows.specs.Details.{abstract_closing, abstract_result_details}
@@ -10,7 +10,7 @@ use Rattle.brk_explain_rows.specs.declared.details.ResultDetails.{ResultDetails}
 use Rattle.brk_model.specs.Joins.{account_row_with_id, security_row_with_symbol}
 use Rattle.brk_model.specs.LookupView.{is_cash_row_of_trade}
 use Rattle.brk_model.specs.Statement.{sorted_cash_rows_of_account, cash_row_total}
-use Rattle.brk_model.specs.Tables.{MoveRow, Tables, TradeRow}
+use Rattle.brk_model.specs.Tables.{CashRow, Tables, TradeRow}
 use Rattle.brk_ref.specs.Records.{abstract_account_row, abstract_band, abstract_security_row, abstract_tax_rate}
 use Rattle.brk_explain_reads.specs.declared.cash.CashSum.{CashSum}
 use Rattle.brk_explain_reads.specs.declared.trade_lots.TradeLots.{TradeLots}
@@ -19,7 +19,7 @@ use Rattle.brk_explain_reads.specs.declared.terms.TaxRatesAndBand.{TaxRatesAndBa
 
 -- The cash rows of `account` in the tables `t` with stamps before `until`, sorted by stamp,
 -- ascending. Rows with equal stamps are in the order of the table CASH_MOVE.
-abbrev pub cash_rows_before_stamp : Tables → ℕ → ℕ → List MoveRow
+abbrev pub cash_rows_before_stamp : Tables → ℕ → ℕ → List CashRow
 cash_rows_before_stamp t account until = filter (λ r. nat_lt r.stamp until) (sorted_cash_rows_of_account t account)
 
 -- `sum` has the number of the cash rows of `account` in the tables `t` with stamps before `until`,
@@ -70,7 +70,7 @@ AreTaxRatesAndBand t order terms =
 abbrev pub IsSettlementAndCashOfTrade : Tables → ℕ → SettlementAndCash → Type 0
 IsSettlementAndCashOfTrade t trade settled =
     (abstract_settlement_row settled.settlement ≡ settlement_of_trade_or_zeros t trade)
-    × (option_map abstract_move_row settled.cash ≡ find (is_cash_row_of_trade trade) t.moves) × (settled.rule ≡ t.rule)
+    × (option_map abstract_cash_row settled.cash ≡ find (is_cash_row_of_trade trade) t.moves) × (settled.rule ≡ t.rule)
 
 -- `details` has the results of the trade of `order` in the tables `t` (`result_details_of_trade`):
 -- the trade's completion price in cents (0 if it has none), closings, opened lot, settlement

@@ -1,8 +1,8 @@
 -- The parts of the facts that the explanation of a holding reads.
 use Rattle.std.specs.Prelude.{◌≡◌, ℕ, ◌==◌, not, Option, Some, None, filter, map, option_map}
 use Rattle.brk_money.specs.Spelling.{Text}
-use Rattle.brk_trade_rows.specs.Rows.{abstract_trade_row}
-use Rattle.brk_trade_rows.specs.Rows as rows
+use Rattle.brk_ref.specs.Rows.{abstract_trade_row}
+use Rattle.brk_ref.specs.Rows as rows
 use Rattle.brk_model.specs.Joins.{last_price_in_tables, trade_row_with_id}
 use Rattle.brk_model.specs.Tables.{HoldingHistoryRow, Tables}
 use Rattle.brk_model_explain.specs.Holdings.{LotDetails, completed_trades_in_symbol, recorded_lot_change, changes_of_lot_by_other_trades}

@@ -1,7 +1,7 @@
 //! The facts that the explanation of an account reads, except for the rows that it walks.
 
 ghost use Rattle.std.specs.Prelude.{◌≡◌, IfErr, map};
-ghost use Rattle.brk_trade_rows.specs.Rows.{abstract_summary_row};
+ghost use Rattle.brk_ref.specs.Rows.{abstract_summary_row};
 ghost use Rattle.brk_model_explain.specs.AccountLines.{priced_holding, priced_holdings_of_account};
 ghost use Rattle.brk_explain_rows.specs.Details.{AreDetailsOfAccount, abstract_priced_holding};
 ghost use Rattle.brk_model.specs.Run.{IsCallFault};
@@ -9,9 +9,9 @@ ghost use Rattle.brk_store_transactions.specs.Holds.{ReadPost};
 
 use brk_explain_rows::{AccountDetails, PricedHolding};
 use brk_money::{Fault, Id};
+use brk_ref::SummaryRow;
 use brk_store::Store;
 use brk_store_required::require_last_price;
-use brk_trade_rows::SummaryRow;
 use sqlite::Alter;
 use std::alloc::Global;
 

@@ -2,7 +2,7 @@
 
 ghost use Rattle.std.specs.Prelude.{◌≡◌, ◌==◌, IfErr};
 ghost use Rattle.std.specs.List.{list_any};
-ghost use Rattle.brk_trade_rows.specs.Rows.{abstract_trade_row};
+ghost use Rattle.brk_ref.specs.Rows.{abstract_trade_row};
 ghost use Rattle.brk_model_explain.specs.BrokerLines.{completed_trades_of_broker};
 ghost use Rattle.brk_explain_rows.specs.Details.{AreDetailsOfBroker};
 ghost use Rattle.brk_model.specs.Run.{IsCallFault};
@@ -11,8 +11,8 @@ ghost use Rattle.brk_store.specs.Walked.{WalkPost};
 
 use brk_explain_rows::BrokerDetails;
 use brk_money::{Fault, Id};
+use brk_ref::TradeRow;
 use brk_store::{Store, Visitor, WalkError};
-use brk_trade_rows::TradeRow;
 use sqlite::Alter;
 use std::alloc::Global;
 

@@ -7,8 +7,8 @@ ghost use Rattle.brk_money.specs.declared.fault.Fault.TheVariants as fault;
 ghost use Rattle.brk_store_transactions.specs.Holds.{ReadPost};
 
 use brk_money::{Cents, Fault, Id, Stamp, Wide};
+use brk_ref::CashRow;
 use brk_store::{Store, Visitor, WalkError};
-use brk_trade_rows::MoveRow;
 use sqlite::Alter;
 
 /// The number of some cash rows, and the sum of their amounts, in cents.
@@ -43,7 +43,7 @@ pub struct EarlierCashSum {
     pub sum: CashSum,
 }
 
-impl Visitor<MoveRow, Fault> for EarlierCashSum {
+impl Visitor<CashRow, Fault> for EarlierCashSum {
     ghost use Rattle.std.specs.Prelude.{◌≡◌};
     ghost use Rattle.brk_explain_reads.specs.Earlier.{AddsEarlierCashRow};
     ghost use Rattle.brk_money.specs.declared.fault.Fault.TheVariants.{Store};
@@ -59,7 +59,7 @@ impl Visitor<MoveRow, Fault> for EarlierCashSum {
     /// If the stamp of the cash row is before `until`, counts the row and adds its amount to the
     /// total; otherwise does nothing. Fails with `Store`, and changes nothing (no clause states
     /// this), if the number or the total overflows.
-    fn visit(&mut self, item: &MoveRow) -> Result<(), Fault> {
+    fn visit(&mut self, item: &CashRow) -> Result<(), Fault> {
         if item.stamp.get() < self.until.get() {
             self.sum = cash_sum_with_row(&self.sum, item.amount)?;
         }

@@ -10,10 +10,9 @@ ghost use Rattle.brk_store_transactions.specs.Holds.{ReadPost};
 use crate::lot_changes::{OpeningAndLaterChanges, read_lot_changes_sorted_by_completion};
 use brk_explain_rows::{LotDetails, PricedLotChange};
 use brk_money::{Fault, Id};
-use brk_ref::Symbol;
+use brk_ref::{LotChange, Symbol, TradeRow};
 use brk_store::Store;
 use brk_store_required::require_trade;
-use brk_trade_rows::{LotChange, TradeRow};
 use sqlite::Alter;
 use std::alloc::Global;
 

@@ -2,7 +2,7 @@
 
 ghost use Rattle.std.specs.Prelude.{◌≡◌, IfErr, option_map, pos};
 ghost use Rattle.std.specs.Option.{option_map_or};
-ghost use Rattle.brk_trade_rows.specs.Rows.{abstract_summary_row};
+ghost use Rattle.brk_ref.specs.Rows.{abstract_summary_row};
 ghost use Rattle.brk_explain_reads.specs.HoldingParts.{AreQuantityAndPrice};
 ghost use Rattle.brk_explain_rows.specs.Details.{AreDetailsOfHolding};
 ghost use Rattle.brk_model.specs.Run.{IsCallFault};
@@ -11,10 +11,9 @@ ghost use Rattle.brk_store_transactions.specs.Holds.{ReadPost};
 use crate::holding_trades::{TradesAndLots, read_trades_and_lots_of_holding};
 use brk_explain_rows::HoldingDetails;
 use brk_money::{Fault, Id, Planned, Price, Refusal};
-use brk_ref::{AccountRow, Security, Symbol};
+use brk_ref::{AccountRow, Security, SummaryRow, Symbol};
 use brk_store::Store;
 use brk_store_required::require_last_price;
-use brk_trade_rows::SummaryRow;
 use sqlite::Alter;
 use std::alloc::Global;
 

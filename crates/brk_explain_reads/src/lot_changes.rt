@@ -2,7 +2,7 @@
 //! that opened it.
 
 ghost use Rattle.std.specs.Prelude.{◌≡◌, ◌==◌, ◌++◌, ◌∷◌, [], Err, IfErr, IfOk, OnErr, OnOk, filter, find, map, not, option_map};
-ghost use Rattle.brk_trade_rows.specs.Rows.{abstract_lot_change_row};
+ghost use Rattle.brk_ref.specs.Rows.{abstract_lot_change_row};
 ghost use Rattle.brk_model_explain.specs.Holdings as model;
 ghost use Rattle.brk_explain_reads.specs.HoldingParts.{AreLotChangesByCompletion, AreLotChangesByTradeId};
 ghost use Rattle.brk_explain_rows.specs.Details.{abstract_priced_lot_change};
@@ -14,9 +14,9 @@ ghost use Rattle.brk_store_transactions.specs.Holds.{ReadPost};
 use crate::ordering::sort_by_age;
 use brk_explain_rows::PricedLotChange;
 use brk_money::{Fault, Id, Price, Stamp};
+use brk_ref::LotChange;
 use brk_store::Store;
 use brk_store_required::require_trade;
-use brk_trade_rows::LotChange;
 use sqlite::Alter;
 use std::alloc::Global;
 

@@ -1,7 +1,7 @@
 //! A trade as ordered, with the rows that it names.
 
 ghost use Rattle.std.specs.Prelude.{◌≡◌, IfErr, map};
-ghost use Rattle.brk_trade_rows.specs.Rows.{abstract_history_row};
+ghost use Rattle.brk_ref.specs.Rows.{abstract_history_row};
 ghost use Rattle.brk_model_explain.specs.Trades.{sorted_statuses_of_trade};
 ghost use Rattle.brk_explain_reads.specs.Found.{IsOrderOfTrade};
 ghost use Rattle.brk_model.specs.Run.{IsCallFault};
@@ -10,9 +10,9 @@ ghost use Rattle.brk_store_transactions.specs.Holds.{ReadPost};
 use crate::ordering::sort_by_age;
 use brk_explain_rows::OrderDetails;
 use brk_money::{Fault, Id};
+use brk_ref::{HistoryRow, TradeRow};
 use brk_store::Store;
 use brk_store_required::{require_account, require_security};
-use brk_trade_rows::{HistoryRow, TradeRow};
 use sqlite::Alter;
 use std::alloc::Global;
 

@@ -6,9 +6,9 @@ ghost use Rattle.brk_model.specs.Run.{IsCallFault};
 ghost use Rattle.brk_store_transactions.specs.Holds.{ReadPost};
 
 use brk_money::{Day, Fault, Id};
+use brk_ref::{CashRow, SettlementRow};
 use brk_store::Store;
 use brk_store_required::require_settlement;
-use brk_trade_rows::{MoveRow, SettlementRow};
 use sqlite::Alter;
 
 /// The settlement and the cash row of a trade, and the first day of one-day settlement.
@@ -16,7 +16,7 @@ use sqlite::Alter;
 pub struct SettlementAndCash {
     pub settlement: SettlementRow,
     /// The cash row of the trade, or `None` if it has none.
-    pub cash: Option<MoveRow>,
+    pub cash: Option<CashRow>,
     /// The first day whose completions settle after one day, if it is set (SR_DAY).
     pub rule: Option<Day>,
 }

@@ -1,7 +1,7 @@
 //! The tax rates and the commission band of a trade, as the tables have them now.
 
 ghost use Rattle.std.specs.Prelude.{◌≡◌, ◌&&◌, IfErr, Some, find, if◌then◌else◌, map, nat_le, option_map};
-ghost use Rattle.brk_trade_rows.specs.Rows.{abstract_trade_row};
+ghost use Rattle.brk_ref.specs.Rows.{abstract_trade_row};
 ghost use Rattle.brk_model_explain.specs.Trades.{band_for_tier_and_exchange, tax_rates_of_customer};
 ghost use Rattle.brk_explain_reads.specs.Found.{AreTaxRatesAndBand};
 ghost use Rattle.brk_model.specs.Run.{IsCallFault};

@@ -11,8 +11,8 @@ use crate::orders::read_order_of_trade;
 use crate::results::read_result_of_trade;
 use brk_explain_rows::TradeDetails;
 use brk_money::{Fault, Id, Status};
+use brk_ref::TradeRow;
 use brk_store::Store;
-use brk_trade_rows::TradeRow;
 use sqlite::Alter;
 use std::alloc::Global;
 

@@ -1,7 +1,7 @@
 -- The abstract value of each typed row of an explanation.
 use Rattle.std.specs.Prelude.{◌≡◌, ◌⊎◌, ◌==◌, ℕ, find, length, map, option_map, Option, Some, None, Result, Ok, Err}
-use Rattle.brk_trade_rows.specs.Rows.{abstract_history_row, abstract_lot_change_row, abstract_move_row, abstract_settlement_row}
-use Rattle.brk_trade_rows.specs.Rows.{abstract_summary_row, abstract_trade_row}
+use Rattle.brk_ref.specs.Rows.{abstract_history_row, abstract_lot_change_row, abstract_cash_row, abstract_settlement_row}
+use Rattle.brk_ref.specs.Rows.{abstract_summary_row, abstract_trade_row}
 use Rattle.brk_ref.specs.Records.{abstract_account_row, abstract_band, abstract_broker_row, abstract_security_row, abstract_tax_rate}
 use Rattle.brk_money.specs.Spelling.{Text}
 use Rattle.brk_money.specs.declared.refusal.Refusal.{Refusal}
@@ -50,7 +50,7 @@ abstract_result_details r = record {
   rates = map abstract_tax_rate r.rates.items;
   band = option_map abstract_band r.band;
   settlement = abstract_settlement_row r.settlement;
-  cash = option_map abstract_move_row r.cash;
+  cash = option_map abstract_cash_row r.cash;
   cash_before = r.cash_before;
   cash_rows = r.cash_rows;
   rule = r.rule;

@@ -1,6 +1,5 @@
 use brk_money::Price;
-use brk_ref::AccountRow;
-use brk_trade_rows::SummaryRow;
+use brk_ref::{AccountRow, SummaryRow};
 
 /// A holding summary, with the last price of its symbol.
 #[derive(Drop)]

@@ -1,7 +1,8 @@
 use crate::closing::Closing;
 use brk_money::{Day, Price, Wide};
-use brk_ref::{AccountRow, Band, Security, Tax};
-use brk_trade_rows::{HistoryRow, LotChange, MoveRow, SettlementRow, TradeRow};
+use brk_ref::{
+    AccountRow, Band, CashRow, HistoryRow, LotChange, Security, SettlementRow, Tax, TradeRow,
+};
 
 /// A trade as ordered, with the rows of its account and its security, and its status changes.
 #[derive(Drop)]
@@ -27,7 +28,7 @@ pub struct ResultDetails {
     pub band: Option<Band>,
     pub settlement: SettlementRow,
     /// The cash row of the trade, if it has one.
-    pub cash: Option<MoveRow>,
+    pub cash: Option<CashRow>,
     /// The sum of the account's cash rows before the completion of the trade, in cents.
     pub cash_before: Wide,
     /// The number of the account's cash rows before the completion of the trade.

@@ -1,6 +1,5 @@
 use brk_money::{Id, Price, Stamp};
-use brk_ref::{AccountRow, Security};
-use brk_trade_rows::TradeRow;
+use brk_ref::{AccountRow, Security, TradeRow};
 
 /// A change of a lot by a trade after the one that opened the lot. The quantities are below 0 if
 /// the lot was sold short.

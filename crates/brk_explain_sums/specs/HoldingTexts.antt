@@ -2,7 +2,7 @@
 use Rattle.std.specs.Prelude.{List, map, None, unwrap_or, ℤ}
 use Rattle.std.specs.List.{last_or}
 use Rattle.brk_money.specs.Spelling.{Text}
-use Rattle.brk_trade_rows.specs.Rows.{abstract_trade_row}
+use Rattle.brk_ref.specs.Rows.{abstract_trade_row}
 use Rattle.brk_ref.specs.Records.{abstract_account_row, abstract_security_row}
 use Rattle.brk_model_explain.specs.HoldingLines.{holding_lines_from_trades_and_lots}
 use Rattle.brk_model_explain.specs.Holdings.{LotChange}

@@ -1,7 +1,7 @@
 //! The parts of the explanation of a broker. The functions fail with `Memory` only.
 
 ghost use Rattle.std.specs.Prelude.{◌≡◌, ◌++◌, Err, IfOk, OnErr, OnOk};
-ghost use Rattle.brk_trade_rows.specs.Rows.{abstract_trade_row};
+ghost use Rattle.brk_ref.specs.Rows.{abstract_trade_row};
 ghost use Rattle.brk_model_explain.specs.BrokerLines as lines;
 ghost use Rattle.brk_model.specs.Statement.{text_of_lines};
 ghost use Rattle.brk_money.specs.declared.fault.Fault.TheVariants.{Memory};
@@ -14,8 +14,7 @@ use brk_explain_columns::{
     put_word_and_timestamp,
 };
 use brk_money::{Fault, Wide};
-use brk_ref::BrokerRow;
-use brk_trade_rows::TradeRow;
+use brk_ref::{BrokerRow, TradeRow};
 use std::alloc::Global;
 
 // Appends to `out` the first lines of the explanation of a broker: the title, the name, and the

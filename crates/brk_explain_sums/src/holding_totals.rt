@@ -1,7 +1,7 @@
 //! The totals of a holding, and the last line of its explanation.
 
 ghost use Rattle.std.specs.Prelude.{◌≡◌, ◌++◌, Err, IfErr, OnErr, OnOk, map};
-ghost use Rattle.brk_trade_rows.specs.Rows.{abstract_trade_row};
+ghost use Rattle.brk_ref.specs.Rows.{abstract_trade_row};
 ghost use Rattle.brk_model_explain.specs.HoldingLines as lines;
 ghost use Rattle.brk_explain_rows.specs.Details.{abstract_lot_details};
 ghost use Rattle.brk_model.specs.Run.{IsCallFault};
@@ -19,7 +19,7 @@ use brk_explain_columns::{
 };
 use brk_explain_rows::LotDetails;
 use brk_money::{Fault, Price, Wide};
-use brk_trade_rows::TradeRow;
+use brk_ref::TradeRow;
 use std::alloc::Global;
 
 // Appends to `out` the lines of the total purchases `bought`, the negated total sales `sold`, the

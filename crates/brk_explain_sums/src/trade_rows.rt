@@ -1,7 +1,7 @@
 //! The lines of the trades of a holding. The functions fail with `Memory` or `Store`.
 
 ghost use Rattle.std.specs.Prelude.{◌≡◌, ◌++◌, IfErr, OnOk, map};
-ghost use Rattle.brk_trade_rows.specs.Rows.{abstract_trade_row};
+ghost use Rattle.brk_ref.specs.Rows.{abstract_trade_row};
 ghost use Rattle.brk_model_explain.specs.HoldingLines as lines;
 ghost use Rattle.brk_model.specs.Run.{IsCallFault};
 ghost use Rattle.brk_model.specs.Statement.{text_of_lines};
@@ -15,7 +15,7 @@ use brk_explain_columns::{
     put_leading_row_columns, put_shares_column, put_space_and_text_line, put_value_column,
 };
 use brk_money::Fault;
-use brk_trade_rows::TradeRow;
+use brk_ref::TradeRow;
 use std::alloc::Global;
 
 // Appends to `out` the line of a completed trade: the word `Trade`, its stamp, its id, its

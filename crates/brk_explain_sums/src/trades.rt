@@ -2,14 +2,14 @@
 //! product or a sum that overflows, are the fault `Store`.
 
 ghost use Rattle.std.specs.Prelude.{◌≡◌, ◌+ℤ◌, IfErr, IfOk, if◌then◌else◌, int_lt, map, pos};
-ghost use Rattle.brk_trade_rows.specs.Rows.{abstract_trade_row};
+ghost use Rattle.brk_ref.specs.Rows.{abstract_trade_row};
 ghost use Rattle.brk_model_explain.specs.Holdings as holdings;
 ghost use Rattle.brk_model_explain.specs.Trades as details;
 ghost use Rattle.brk_model.specs.Run.{IsCallFault};
 
 use brk_explain_columns::{add_amounts, value_of_shares_at_price};
 use brk_money::{Fault, Price, Side, Wide};
-use brk_trade_rows::TradeRow;
+use brk_ref::TradeRow;
 
 /// Returns the price at which a trade was completed. Fails with `Store` if its row has no price.
 pub(crate) fn completion_price_of_trade(row: &TradeRow) -> Result<Price, Fault>

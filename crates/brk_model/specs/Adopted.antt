@@ -6,7 +6,7 @@ use Rattle.brk_model.specs.Lists.{sort_by_key}
 use Rattle.brk_model.specs.Records.{Account, Security, StatusChange, Trade, Movement}
 use Rattle.brk_model.specs.Base.{Base}
 use Rattle.brk_model.specs.Derived.{Posting}
-use Rattle.brk_model.specs.Tables.{Tables, AccountRow, SecurityRow, LastTradeRow, TradeRow, CashRow, MoveRow}
+use Rattle.brk_model.specs.Tables.{Tables, AccountRow, SecurityRow, LastTradeRow, TradeRow, OldCashRow, CashRow}
 use Rattle.brk_model.specs.Joins.{history_rows_with_trade_id, trade_row_with_id, is_id_of_trade}
 
 -- The account that a CUSTOMER_ACCOUNT row describes; the balance of the row is not used.
@@ -21,7 +21,7 @@ status_changes_of_trade tables trade =
 
 -- The posting that a CASH_TRANSACTION row describes: its trade, stamp, amount and name, and the
 -- account of its trade, which is 0 if the trade does not exist.
-abbrev pub posting_of_cash_transaction_row : Tables → CashRow → Posting
+abbrev pub posting_of_cash_transaction_row : Tables → OldCashRow → Posting
 posting_of_cash_transaction_row tables c = record {
   account = option_map_or (λ t. t.account) (trade_row_with_id tables c.trade) 0;
   trade = Some c.trade;
@@ -31,7 +31,7 @@ posting_of_cash_transaction_row tables c = record {
 }
 
 -- The posting that a CASH_MOVE row describes: its account, trade, stamp, amount and name.
-abbrev pub posting_of_cash_move_row : MoveRow → Posting
+abbrev pub posting_of_cash_move_row : CashRow → Posting
 posting_of_cash_move_row r = record { account = r.account; trade = r.trade; stamp = r.stamp; amount = r.amount; name = r.name }
 
 -- The postings of all cash rows of the tables: of the rows of CASH_TRANSACTION, followed by the
@@ -44,7 +44,7 @@ abbrev pub is_posting_of_trade : ℕ → Posting → Bool
 is_posting_of_trade trade p = is_id_of_trade trade p.trade
 
 -- The movement that a CASH_MOVE row without a trade describes: its account, stamp, amount and name.
-abbrev pub movement_of_row : MoveRow → Movement
+abbrev pub movement_of_row : CashRow → Movement
 movement_of_row r = record { account = r.account; stamp = r.stamp; amount = r.amount; name = r.name }
 
 -- The trade that a TRADE row describes, with its status changes of TRADE_HISTORY, the cash type of

@@ -16,7 +16,7 @@ use Rattle.brk_model.specs.Schemas.{Schema}
 use Rattle.brk_model.specs.Records.{Customer, Permission, Charge, Band, TaxRate, CustomerTax, Key, Kept, SettleRule}
 use Rattle.brk_model.specs.Base.{tax_rate_sum_of_customer, customer_with_id_in_list}
 use Rattle.brk_model.specs.Tables.{Tables, BrokerRow, AccountRow, SecurityRow, LastTradeRow, TradeRow, HistoryRow, RequestRow, HoldingRow, SummaryRow}
-use Rattle.brk_model.specs.Tables.{HoldingHistoryRow, SettlementRow, CashRow, MoveRow}
+use Rattle.brk_model.specs.Tables.{HoldingHistoryRow, SettlementRow, OldCashRow, CashRow}
 use Rattle.brk_model.specs.Derived.{due_day_of_completion_stamp}
 use Rattle.brk_model.specs.Results.{cash_row_name}
 use Rattle.brk_model.specs.Tests.{bands_overlap}
@@ -304,7 +304,7 @@ is_cash_row_name_of_trade t name row =
 -- a cash row of this trade may have (`is_cash_row_name_of_trade`), the stamp is not after the last
 -- stamp, which must exist, and the absolute value of the amount, in cents, is at most
 -- `greatest_amount`.
-abbrev pub is_well_formed_cash_transaction_row : Tables → CashRow → Bool
+abbrev pub is_well_formed_cash_transaction_row : Tables → OldCashRow → Bool
 is_well_formed_cash_transaction_row t c =
     option_map_or (is_cash_row_name_of_trade t c.name) (trade_row_with_id t c.trade) false
     && is_at_most_last_stamp t c.stamp
@@ -318,7 +318,7 @@ is_movement_name_and_amount name amount =
 
 -- True if the trade with the id `trade` exists, and the name of the CASH_MOVE row is one of the two
 -- that a cash row of that trade may have.
-abbrev pub has_cash_row_name_of_trade : Tables → MoveRow → ℕ → Bool
+abbrev pub has_cash_row_name_of_trade : Tables → CashRow → ℕ → Bool
 has_cash_row_name_of_trade t r trade = option_map_or (is_cash_row_name_of_trade t r.name) (trade_row_with_id t trade) false
 
 -- True if the number of a row of CASH_MOVE is within its limits (`is_cash_row_number`), the
@@ -326,7 +326,7 @@ has_cash_row_name_of_trade t r trade = option_map_or (is_cash_row_name_of_trade 
 -- stamp is not after the last stamp, which must exist. If the row has a trade, this trade exists
 -- and the name of the row is one of the two that a cash row of this trade may have; otherwise a
 -- movement may have the name and the amount (`is_movement_name_and_amount`).
-abbrev pub is_well_formed_cash_move_row : Tables → MoveRow → Bool
+abbrev pub is_well_formed_cash_move_row : Tables → CashRow → Bool
 is_well_formed_cash_move_row t r =
     is_cash_row_number r.id
     && has_account t r.account
@@ -335,7 +335,7 @@ is_well_formed_cash_move_row t r =
     && is_within_amount_limit r.amount
 
 -- The ids of the trades of the CASH_MOVE rows, in their sequence; a row without a trade adds none.
-abbrev pub trade_ids_of_cash_rows : List MoveRow → List ℕ
+abbrev pub trade_ids_of_cash_rows : List CashRow → List ℕ
 trade_ids_of_cash_rows rows = flat_map (λ r. option_to_list r.trade) rows
 
 -- True if, of the tables CASH_MOVE and SETTLE_RULE, those that the schema `schema` lacks have no

@@ -3,7 +3,7 @@ use Rattle.std.specs.Prelude.{ℕ, Bool, false, ◌==◌, List, filter, find, Op
 use Rattle.std.specs.Option.{option_map_or}
 use Rattle.brk_money.specs.Spelling.{Text}
 use Rattle.brk_model.specs.Lists.{sort_by, is_pair_less}
-use Rattle.brk_model.specs.Tables.{Tables, AccountRow, SecurityRow, TradeRow, HistoryRow, MoveRow}
+use Rattle.brk_model.specs.Tables.{Tables, AccountRow, SecurityRow, TradeRow, HistoryRow, CashRow}
 
 -- The price, in cents, of the first LAST_TRADE row, in the sequence of the table, with the symbol
 -- `symbol`; 0 if there is no such row.
@@ -34,7 +34,7 @@ abbrev pub trade_rows_of_account : Tables → ℕ → List TradeRow
 trade_rows_of_account tables account = filter (λ row. row.account == account) tables.trades
 
 -- The CASH_MOVE rows of the account `account`, in the sequence of the table.
-abbrev pub cash_move_rows_of_account : Tables → ℕ → List MoveRow
+abbrev pub cash_move_rows_of_account : Tables → ℕ → List CashRow
 cash_move_rows_of_account tables account = filter (λ row. row.account == account) tables.moves
 
 -- The TRADE_HISTORY rows of the trade with the id `trade`, in the sequence of the table.

@@ -6,7 +6,7 @@ use Rattle.brk_money.specs.Kinds.{trade_type_code, trade_status_code}
 use Rattle.brk_model.specs.Lists.{insert_by, sort_by, is_text_less}
 use Rattle.brk_model.specs.Records.{Customer, Permission, Charge, Band, TaxRate, CustomerTax, Kept}
 use Rattle.brk_model.specs.Tables.{BrokerRow, AccountRow, SecurityRow, LastTradeRow, TradeRow, HistoryRow, RequestRow, HoldingRow, SummaryRow}
-use Rattle.brk_model.specs.Tables.{HoldingHistoryRow, SettlementRow, CashRow, MoveRow}
+use Rattle.brk_model.specs.Tables.{HoldingHistoryRow, SettlementRow, OldCashRow, CashRow}
 
 -- A part of a key: a number or a text.
 pub data KeyPart : Type 0 where
@@ -118,9 +118,9 @@ abbrev pub settlement_key : SettlementRow → List KeyPart
 settlement_key r = number r.trade ∷ []
 
 -- The primary key of a row of CASH_TRANSACTION: the trade.
-abbrev pub cash_transaction_key : CashRow → List KeyPart
+abbrev pub cash_transaction_key : OldCashRow → List KeyPart
 cash_transaction_key r = number r.trade ∷ []
 
 -- The primary key of a row of CASH_MOVE: the number.
-abbrev pub cash_move_key : MoveRow → List KeyPart
+abbrev pub cash_move_key : CashRow → List KeyPart
 cash_move_key r = number r.id ∷ []

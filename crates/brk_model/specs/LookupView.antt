@@ -7,7 +7,7 @@ use Rattle.brk_money.specs.Spelling.{Text, cents_text, day_text}
 use Rattle.brk_money.specs.Kinds.{trade_type_code, trade_status_code}
 use Rattle.brk_model.specs.Limits.{is_in_range}
 use Rattle.brk_model.specs.Lists.{sort_by, is_pair_less}
-use Rattle.brk_model.specs.Tables.{Tables, TradeRow, HoldingHistoryRow, SettlementRow, MoveRow}
+use Rattle.brk_model.specs.Tables.{Tables, TradeRow, HoldingHistoryRow, SettlementRow, CashRow}
 use Rattle.brk_model.specs.Rows.{nonnegative_cents_text, cash_or_margin_word, lifo_or_fifo_word}
 use Rattle.brk_model.specs.Queries.{View}
 use Rattle.brk_model.specs.Joins.{trade_row_with_id, trade_rows_of_account, history_rows_with_trade_id, trade_rows_oldest_first, is_id_of_trade}
@@ -17,7 +17,7 @@ abbrev pub settlement_record : SettlementRow → List Text
 settlement_record s = codes "settlement" ∷ s.cash_type ∷ day_text s.due_day ∷ cents_text s.amount ∷ []
 
 -- The lookup record of a cash row: the word `cash`, stamp, amount and name.
-abbrev pub cash_record : MoveRow → List Text
+abbrev pub cash_record : CashRow → List Text
 cash_record c = codes "cash" ∷ decimal c.stamp ∷ cents_text c.amount ∷ c.name ∷ []
 
 -- The lookup record of a trade, with 15 fields: the word `trade`, id, stamp, status code, type
@@ -31,7 +31,7 @@ trade_record t =
     ∷ cash_or_margin_word t.is_cash ∷ lifo_or_fifo_word t.is_lifo ∷ []
 
 -- True if the CASH_MOVE row belongs to the trade with the id `trade`.
-abbrev pub is_cash_row_of_trade : ℕ → MoveRow → Bool
+abbrev pub is_cash_row_of_trade : ℕ → CashRow → Bool
 is_cash_row_of_trade trade row = is_id_of_trade trade row.trade
 
 -- The records of the TRADE row `t`: the trade, one for each SETTLEMENT row and each CASH_MOVE row

@@ -8,7 +8,7 @@ use Rattle.brk_money.specs.declared.refusal.Refusal.{Refusal}
 use Rattle.brk_money.specs.declared.refusal.Refusal.TheVariants.{BadText, NoAccount}
 use Rattle.brk_model.specs.Limits.{is_in_range}
 use Rattle.brk_model.specs.Lists.{sort_by, sort_by_key, total_by, is_text_less}
-use Rattle.brk_model.specs.Tables.{Tables, AccountRow, HoldingRow, MoveRow}
+use Rattle.brk_model.specs.Tables.{Tables, AccountRow, HoldingRow, CashRow}
 use Rattle.brk_model.specs.Rows.{nonnegative_cents_text}
 use Rattle.brk_model.specs.Joins.{account_row_with_id, cash_move_rows_of_account}
 use Rattle.brk_model.specs.PositionView.{market_value_of_account_row}
@@ -27,21 +27,21 @@ abbrev pub amount_line : Text → ℤ → Text
 amount_line word amount = left_aligned_text 10 word ++ 32 ∷ right_aligned_text 22 (cents_text amount)
 
 -- The CASH_MOVE rows of the account `account`, sorted by stamp, ascending; the sort is stable.
-abbrev pub sorted_cash_rows_of_account : Tables → ℕ → List MoveRow
+abbrev pub sorted_cash_rows_of_account : Tables → ℕ → List CashRow
 sorted_cash_rows_of_account tables account = sort_by_key (λ row. row.stamp) (cash_move_rows_of_account tables account)
 
 -- The CASH_MOVE rows of the list whose stamps are before the UTC day `from`, which is in days since
 -- 1970-01-01.
-abbrev pub cash_move_rows_before_day : ℕ → List MoveRow → List MoveRow
+abbrev pub cash_move_rows_before_day : ℕ → List CashRow → List CashRow
 cash_move_rows_before_day from rows = filter (λ row. nat_lt (day_of row.stamp) from) rows
 
 -- The CASH_MOVE rows of the list whose stamps are on the UTC days `from` to `to`, both included,
 -- which are in days since 1970-01-01.
-abbrev pub cash_move_rows_within_days : ℕ → ℕ → List MoveRow → List MoveRow
+abbrev pub cash_move_rows_within_days : ℕ → ℕ → List CashRow → List CashRow
 cash_move_rows_within_days from to rows = filter (λ row. is_in_range from to (day_of row.stamp)) rows
 
 -- The sum of the amounts of the CASH_MOVE rows, in cents.
-abbrev pub cash_row_total : List MoveRow → ℤ
+abbrev pub cash_row_total : List CashRow → ℤ
 cash_row_total rows = total_by (λ row. row.amount) rows
 
 -- The HOLDING rows of the account `account`, sorted by symbol, then by stamp, both ascending; the
@@ -53,7 +53,7 @@ holding_rows_of_account tables account =
 
 -- The statement line of a cash row: the UTC day of its stamp, its amount, padded on its left to 22
 -- bytes, and its name, separated by spaces.
-abbrev pub cash_row_line : MoveRow → Text
+abbrev pub cash_row_line : CashRow → Text
 cash_row_line row = day_text (day_of row.stamp) ++ 32 ∷ right_aligned_text 22 (cents_text row.amount) ++ 32 ∷ row.name
 
 -- The statement line of a lot: its symbol, padded on its right to 15 bytes, and the id of the trade
@@ -70,7 +70,7 @@ lot_line row =
 -- rows of the account; both balances are its opening balance plus the amounts of the `rows` before
 -- the period, the second one also plus those of the period. The lots and the market value are read
 -- from `tables`, whatever the period. Days are counted from 1970-01-01.
-abbrev pub statement_lines : Tables → AccountRow → ℕ → ℕ → List MoveRow → List Text
+abbrev pub statement_lines : Tables → AccountRow → ℕ → ℕ → List CashRow → List Text
 statement_lines tables a from to rows =
     (codes "Statement of account " ++ decimal a.id)
     ∷ a.name

@@ -125,7 +125,7 @@ pub record SettlementRow : Type 0 where
 
 -- A row of CASH_TRANSACTION, the cash row of a trade in the first schema: trade (CT_T_ID), stamp
 -- (CT_DTS), amount in cents, below 0 if it reduces the balance (CT_AMT), and name (CT_NAME).
-pub record CashRow : Type 0 where
+pub record OldCashRow : Type 0 where
   pub trade : ℕ
   pub stamp : ℕ
   pub amount : ℤ
@@ -134,7 +134,7 @@ pub record CashRow : Type 0 where
 -- A row of CASH_MOVE, a cash row: number (CM_ID), account (CM_CA_ID), trade, or none for a movement
 -- (CM_T_ID), stamp (CM_DTS), amount in cents, below 0 if it reduces the balance (CM_AMT), and name
 -- (CM_NAME).
-pub record MoveRow : Type 0 where
+pub record CashRow : Type 0 where
   pub id : ℕ
   pub account : ℕ
   pub trade : Option ℕ
@@ -167,8 +167,8 @@ pub record Tables : Type 0 where
   pub summaries : List SummaryRow
   pub holding_history : List HoldingHistoryRow
   pub settlements : List SettlementRow
-  pub cash : List CashRow
-  pub moves : List MoveRow
+  pub cash : List OldCashRow
+  pub moves : List CashRow
   pub rule : SettleRule
 
 -- The BROKER row of the broker `b`: its id and name, and the number and the commission total of the
@@ -289,26 +289,26 @@ settlement_row accounts rule t = record { trade = t.id; cash_type = t.cash_type;
 
 -- The CASH_TRANSACTION row of the completed cash trade `t`: its id, completion stamp, settlement
 -- amount and cash row name.
-abbrev pub cash_transaction_row : List Account → Trade → CashRow
+abbrev pub cash_transaction_row : List Account → Trade → OldCashRow
 cash_transaction_row accounts t = record { trade = t.id; stamp = last_status_stamp_of_trade t; amount = settlement_amount accounts t; name = t.cash_name }
 
 -- The CASH_MOVE row of the posting `p`, with the number `id`.
-abbrev pub cash_move_row : ℕ → Posting → MoveRow
+abbrev pub cash_move_row : ℕ → Posting → CashRow
 cash_move_row id p = record { id = id; account = p.account; trade = p.trade; stamp = p.stamp; amount = p.amount; name = p.name }
 
 -- The CASH_MOVE rows of the postings, numbered `n`, `n + 1` and so on in the sequence of the list.
-abbrev pub numbered_move_rows : ℕ → List Posting → List MoveRow
-numbered_move_rows n [] = []
-numbered_move_rows n (p ∷ posted) = cash_move_row n p ∷ numbered_move_rows (n + 1) posted
+abbrev pub numbered_cash_move_rows : ℕ → List Posting → List CashRow
+numbered_cash_move_rows n [] = []
+numbered_cash_move_rows n (p ∷ posted) = cash_move_row n p ∷ numbered_cash_move_rows (n + 1) posted
 
 -- The CASH_MOVE rows of the postings `posted`, sorted by stamp, ascending (the sort is stable), and
 -- numbered from 1; none if `schema` lacks this table.
-abbrev pub cash_move_rows : Schema → List Posting → List MoveRow
-cash_move_rows schema posted = if schema.has_cash_move_table then numbered_move_rows 1 (postings_sorted_by_stamp posted) else []
+abbrev pub cash_move_rows : Schema → List Posting → List CashRow
+cash_move_rows schema posted = if schema.has_cash_move_table then numbered_cash_move_rows 1 (postings_sorted_by_stamp posted) else []
 
 -- The CASH_TRANSACTION rows of the cash trades of `done`, in the sequence of this list; none if
 -- `schema` has the table CASH_MOVE.
-abbrev pub cash_transaction_rows : Schema → List Account → List Trade → List CashRow
+abbrev pub cash_transaction_rows : Schema → List Account → List Trade → List OldCashRow
 cash_transaction_rows schema accounts done = if schema.has_cash_move_table then [] else map (cash_transaction_row accounts) (cash_trades done)
 
 -- The tables without rows, without a last stamp and without a first day of one-day settlement.

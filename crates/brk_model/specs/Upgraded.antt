@@ -2,7 +2,7 @@
 use Rattle.std.specs.Prelude.{[], if◌then◌else◌}
 use Rattle.brk_model.specs.Derived.{postings_sorted_by_stamp}
 use Rattle.brk_model.specs.Schemas.{Schema}
-use Rattle.brk_model.specs.Tables.{Tables, numbered_move_rows}
+use Rattle.brk_model.specs.Tables.{Tables, numbered_cash_move_rows}
 use Rattle.brk_model.specs.Adopted.{postings_of_tables}
 
 -- The tables `t` with all cash rows in CASH_MOVE, sorted by stamp, ascending, and numbered from 1,
@@ -10,7 +10,7 @@ use Rattle.brk_model.specs.Adopted.{postings_of_tables}
 -- sequence, those of CASH_TRANSACTION first. A row of CASH_TRANSACTION gets the account of its
 -- trade, or 0 if the trade does not exist.
 unfoldable pub tables_with_merged_cash_rows : Tables → Tables
-tables_with_merged_cash_rows t = record t { cash = []; moves = numbered_move_rows 1 (postings_sorted_by_stamp (postings_of_tables t)) }
+tables_with_merged_cash_rows t = record t { cash = []; moves = numbered_cash_move_rows 1 (postings_sorted_by_stamp (postings_of_tables t)) }
 
 -- The tables `t` of the schema `schema` as tables of the third schema: unchanged if `schema` has
 -- the table CASH_MOVE, otherwise with all cash rows in CASH_MOVE (`tables_with_merged_cash_rows`).

@@ -4,7 +4,7 @@ use Rattle.brk_money.specs.Spelling.{Text}
 use Rattle.brk_money.specs.declared.trade_type.TradeType.TheVariants.{MarketBuy, MarketSell, StopLoss, LimitSell, LimitBuy}
 use Rattle.brk_money.specs.declared.status.Status.TheVariants.{Completed, Submitted}
 use Rattle.brk_money.specs.declared.tax_status.TaxStatus.TheVariants.{Withheld}
-use Rattle.brk_model.specs.Tables.{Tables, AccountRow, TradeRow, HoldingRow, SettlementRow, MoveRow}
+use Rattle.brk_model.specs.Tables.{Tables, AccountRow, TradeRow, HoldingRow, SettlementRow, CashRow}
 use Rattle.brk_model_examples.specs.Setting.{setting_base}
 
 -- The tables of the base `base_after_first_purchase` in the third schema, each sorted by key,
@@ -149,19 +149,19 @@ tables_with_changed_settlement =
 -- -1025.10.
 unfoldable pub tables_with_changed_cash_amount : Tables
 tables_with_changed_cash_amount =
-    record tables_after_first_purchase { moves = map {B = MoveRow} (λ r. record r { amount = negsuc 102508 }) tables_after_first_purchase.moves }
+    record tables_after_first_purchase { moves = map {B = CashRow} (λ r. record r { amount = negsuc 102508 }) tables_after_first_purchase.moves }
 
 -- The tables after the first purchase, in which the cash row has the number 2 instead of 1.
 unfoldable pub tables_with_changed_cash_row_number : Tables
 tables_with_changed_cash_row_number =
-    record tables_after_first_purchase { moves = map {B = MoveRow} (λ r. record r { id = 2 }) tables_after_first_purchase.moves }
+    record tables_after_first_purchase { moves = map {B = CashRow} (λ r. record r { id = 2 }) tables_after_first_purchase.moves }
 
 -- The tables after the first purchase, in which the trade has a second cash row, with the number 2.
 unfoldable pub tables_with_second_cash_row_of_trade : Tables
 tables_with_second_cash_row_of_trade =
     record tables_after_first_purchase {
       moves = tables_after_first_purchase.moves
-          ++ map {B = MoveRow} (λ r. record r { id = 2 }) tables_after_first_purchase.moves;
+          ++ map {B = CashRow} (λ r. record r { id = 2 }) tables_after_first_purchase.moves;
     }
 
 -- The tables after the first purchase, in which CASH_TRANSACTION, the cash table of the first

@@ -7,7 +7,7 @@ use Rattle.brk_money.specs.Kinds.{tax_status_number}
 use Rattle.brk_money.specs.Moments.{greatest_day}
 use Rattle.brk_model.specs.Lists.{total_by}
 use Rattle.brk_model.specs.Rows.{nonnegative_cents_text}
-use Rattle.brk_model.specs.Tables.{Tables, AccountRow, HoldingRow, MoveRow, SummaryRow}
+use Rattle.brk_model.specs.Tables.{Tables, AccountRow, HoldingRow, CashRow, SummaryRow}
 use Rattle.brk_model.specs.Joins.{last_price_in_tables}
 use Rattle.brk_model.specs.Statement.{left_aligned_text, right_aligned_text, sorted_cash_rows_of_account, cash_move_rows_within_days, lot_line}
 use Rattle.brk_model.specs.Statement.{holding_rows_of_account}
@@ -29,7 +29,7 @@ account_header_lines a =
 
 -- The cash rows of `account` with stamps from 1970-01-01 to 9999-12-31, both included, sorted by
 -- stamp, ascending.
-abbrev pub account_cash_rows_by_stamp : Tables → ℕ → List MoveRow
+abbrev pub account_cash_rows_by_stamp : Tables → ℕ → List CashRow
 account_cash_rows_by_stamp tables account = cash_move_rows_within_days 0 greatest_day (sorted_cash_rows_of_account tables account)
 
 -- The optional id `trade` in decimal digits, or a hyphen if there is none.
@@ -39,7 +39,7 @@ trade_id_or_hyphen trade = option_map_or decimal trade (codes "-")
 -- The line of the cash row `row`, with columns separated by spaces: the word `Posted`, its
 -- timestamp, its id, the id of its trade or a hyphen, its amount, the balance `balance`, which is
 -- given in cents, and its name.
-unfoldable pub cash_posting_line : MoveRow → ℤ → Text
+unfoldable pub cash_posting_line : CashRow → ℤ → Text
 cash_posting_line row balance =
     left_aligned_text 6 (codes "Posted") ++ 32 ∷ timestamp_text row.stamp ++ 32 ∷ right_aligned_text 13 (decimal row.id) ++ 32
     ∷ right_aligned_text 13 (trade_id_or_hyphen row.trade)
@@ -47,7 +47,7 @@ cash_posting_line row balance =
 
 -- One line for each of `rows`, with the balance after it: `opening`, in cents, plus the amounts of
 -- the rows up to and including this one.
-abbrev pub cash_posting_lines : ℤ → List MoveRow → List Text
+abbrev pub cash_posting_lines : ℤ → List CashRow → List Text
 cash_posting_lines opening rows = lines_with_running_total (λ row. row.amount) cash_posting_line opening rows
 
 -- The line of the balance of the account `a`, and the column headings of its lots and holdings.

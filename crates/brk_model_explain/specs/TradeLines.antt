@@ -11,7 +11,7 @@ use Rattle.brk_money.specs.declared.trade_type.TradeType.{TradeType}
 use Rattle.brk_money.specs.declared.trade_type.TradeType.TheVariants.{MarketBuy, MarketSell, StopLoss, LimitSell, LimitBuy}
 use Rattle.brk_model.specs.Records.{Band, TaxRate}
 use Rattle.brk_model.specs.Rows.{cash_or_margin_word, nonnegative_cents_text}
-use Rattle.brk_model.specs.Tables.{HistoryRow, HoldingHistoryRow, MoveRow, TradeRow}
+use Rattle.brk_model.specs.Tables.{HistoryRow, HoldingHistoryRow, CashRow, TradeRow}
 use Rattle.brk_model.specs.Statement.{left_aligned_text, right_aligned_text}
 use Rattle.brk_model_explain.specs.Texts.{labeled_number, labeled_value, timestamp_text, labeled_amount, leading_row_columns, shares_column, value_column}
 use Rattle.brk_model_explain.specs.Texts.{labeled_text}
@@ -250,7 +250,7 @@ due_day_lines o r =
 
 -- The line of the cash row of the trade: its id and its name, or `none` if the trade has no cash
 -- row.
-unfoldable pub trade_cash_row_line : Option MoveRow → Text
+unfoldable pub trade_cash_row_line : Option CashRow → Text
 trade_cash_row_line None = labeled_value (codes "Cash row") (codes "none")
 trade_cash_row_line (Some row) = labeled_number (codes "Cash row") row.id ++ 32 ∷ row.name
 

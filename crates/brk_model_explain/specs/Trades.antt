@@ -16,7 +16,7 @@ use Rattle.brk_model.specs.Lists.{sort_by, sort_by_key}
 use Rattle.brk_model.specs.Records.{Customer, Band, TaxRate, SettleRule}
 use Rattle.brk_model.specs.Base.{is_taxable_status, is_withholding_status}
 use Rattle.brk_model.specs.Derived.{signed_proceeds, days_to_settlement}
-use Rattle.brk_model.specs.Tables.{Tables, SecurityRow, TradeRow, HistoryRow, HoldingHistoryRow, SettlementRow, MoveRow}
+use Rattle.brk_model.specs.Tables.{Tables, SecurityRow, TradeRow, HistoryRow, HoldingHistoryRow, SettlementRow, CashRow}
 use Rattle.brk_model.specs.Joins.{account_row_with_id, history_rows_with_trade_id, security_row_with_symbol, trade_row_with_id}
 use Rattle.brk_model.specs.LookupView.{is_cash_row_of_trade}
 use Rattle.brk_model.specs.Statement.{sorted_cash_rows_of_account, cash_row_total}
@@ -58,7 +58,7 @@ pub record ResultDetails : Type 0 where
   pub rates : List TaxRate
   pub band : Option Band
   pub settlement : SettlementRow
-  pub cash : Option MoveRow
+  pub cash : Option CashRow
   pub cash_before : ℤ
   pub cash_rows : ℕ
   pub rule : SettleRule
@@ -171,7 +171,7 @@ settlement_of_trade_or_zeros tables trade = unwrap_or (find (λ s. s.trade == tr
 
 -- The cash rows of the account of the completed trade `u` with stamps before its completion
 -- (T_DTS), sorted by stamp, ascending.
-abbrev pub cash_rows_before_completion : Tables → TradeRow → List MoveRow
+abbrev pub cash_rows_before_completion : Tables → TradeRow → List CashRow
 cash_rows_before_completion tables u = filter (λ row. nat_lt row.stamp u.stamp) (sorted_cash_rows_of_account tables u.account)
 
 -- The results of the completed trade `u`, read from `tables`. The price is 0 if the trade has none,

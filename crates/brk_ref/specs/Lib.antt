@@ -1,4 +1,5 @@
 pub mod Answers
-pub mod Records
 pub mod Fields
+pub mod Records
+pub mod Rows
 pub mod Utf8

@@ -7,13 +7,13 @@ use Rattle.std.proofs.lemmas.List.{append_assoc}
 use Rattle.brk_money.specs.Spelling.{Text}
 use Rattle.brk_model.specs.Lists.{total_by}
 use Rattle.brk_model.specs.Statement.{amount_line, cash_row_line, cash_row_total}
-use Rattle.brk_model.specs.Tables.{MoveRow}
+use Rattle.brk_model.specs.Tables.{CashRow}
 use Rattle.brk_report.specs.CashWalk.{lines_of_cash_row, lines_of_cash_rows, opening_line_unless_written, progress_after_cash_row, progress_after_cash_rows, progress_before_cash_rows}
 use Rattle.brk_report.specs.declared.statements.visitors.CashProgress.{CashProgress}
 use lib.IntN.{+ℤ_assoc, +ℤ_idr}
 
 -- The lines of rows and of further rows are those of all.
-pub lines_of_cash_rows-append : (first : ℕ) (p : CashProgress) (xs ys : List MoveRow)
+pub lines_of_cash_rows-append : (first : ℕ) (p : CashProgress) (xs ys : List CashRow)
     → lines_of_cash_rows first p (xs ++ ys) ≡ lines_of_cash_rows first p xs ++ lines_of_cash_rows first (progress_after_cash_rows first p xs) ys
 lines_of_cash_rows-append first p [] ys = refl
 lines_of_cash_rows-append first p (x ∷ xs) ys =
@@ -21,7 +21,7 @@ lines_of_cash_rows-append first p (x ∷ xs) ys =
     ap (λ (l : List Text). lines_of_cash_row (nat_lt x.stamp first) p x ++ l) (lines_of_cash_rows-append first q xs ys)
     ∙ sym (append_assoc (lines_of_cash_row (nat_lt x.stamp first) p x) (lines_of_cash_rows first q xs) (lines_of_cash_rows first (progress_after_cash_rows first q xs) ys))
 
-progress_after_cash_rows-append : (first : ℕ) (p : CashProgress) (xs ys : List MoveRow)
+progress_after_cash_rows-append : (first : ℕ) (p : CashProgress) (xs ys : List CashRow)
     → progress_after_cash_rows first p (xs ++ ys) ≡ progress_after_cash_rows first (progress_after_cash_rows first p xs) ys
 progress_after_cash_rows-append first p [] ys = refl
 progress_after_cash_rows-append first p (x ∷ xs) ys = progress_after_cash_rows-append first (progress_after_cash_row (nat_lt x.stamp first) p x) xs ys
@@ -31,20 +31,20 @@ abbrev opened : ℕ → ℤ → CashProgress
 opened n total = record { is_opened = true; count = n; total = total }
 
 -- Each row is before the stamp `first`, or none is.
-abbrev pub AreBefore : ℕ → List MoveRow → Type 0
+abbrev pub AreBefore : ℕ → List CashRow → Type 0
 AreBefore first rows = AllByRecursion (λ r. nat_lt r.stamp first ≡ true) rows
 
-abbrev pub AreNotBefore : ℕ → List MoveRow → Type 0
+abbrev pub AreNotBefore : ℕ → List CashRow → Type 0
 AreNotBefore first rows = AllByRecursion (λ r. nat_lt r.stamp first ≡ false) rows
 
 -- ---- rows before the first stamp
 
-early_lines : (first : ℕ) (p : CashProgress) (rows : List MoveRow) → AreBefore first rows → lines_of_cash_rows first p rows ≡ []
+early_lines : (first : ℕ) (p : CashProgress) (rows : List CashRow) → AreBefore first rows → lines_of_cash_rows first p rows ≡ []
 early_lines first p [] h = refl
 early_lines first p (x ∷ rows) h =
     (λ i. lines_of_cash_row (h.0 i) p x ++ lines_of_cash_rows first (progress_after_cash_row (h.0 i) p x) rows) ∙ early_lines first (progress_after_cash_row true p x) rows h.1
 
-early_progress : (first : ℕ) (z : ℤ) (rows : List MoveRow) → AreBefore first rows
+early_progress : (first : ℕ) (z : ℤ) (rows : List CashRow) → AreBefore first rows
     → progress_after_cash_rows first (progress_before_cash_rows z) rows ≡ progress_before_cash_rows (z +ℤ cash_row_total rows)
 unfolding total_by
 early_progress first z [] h = ap progress_before_cash_rows (sym (+ℤ_idr z))
@@ -55,13 +55,13 @@ early_progress first z (x ∷ rows) h =
 
 -- ---- rows from the first stamp on
 
-late_lines : (first n : ℕ) (z : ℤ) (rows : List MoveRow) → AreNotBefore first rows → lines_of_cash_rows first (opened n z) rows ≡ map cash_row_line rows
+late_lines : (first n : ℕ) (z : ℤ) (rows : List CashRow) → AreNotBefore first rows → lines_of_cash_rows first (opened n z) rows ≡ map cash_row_line rows
 late_lines first n z [] h = refl
 late_lines first n z (x ∷ rows) h =
     (λ i. lines_of_cash_row (h.0 i) (opened n z) x ++ lines_of_cash_rows first (progress_after_cash_row (h.0 i) (opened n z) x) rows)
     ∙ ap (λ (l : List Text). cash_row_line x ∷ l) (late_lines first (n + 1) (z +ℤ x.amount) rows h.1)
 
-late_progress : (first n : ℕ) (z : ℤ) (rows : List MoveRow) → AreNotBefore first rows → progress_after_cash_rows first (opened n z) rows ≡ opened (n + length rows) (z +ℤ cash_row_total rows)
+late_progress : (first n : ℕ) (z : ℤ) (rows : List CashRow) → AreNotBefore first rows → progress_after_cash_rows first (opened n z) rows ≡ opened (n + length rows) (z +ℤ cash_row_total rows)
 unfolding total_by
 late_progress first n z [] h =
     let none : n ≡ n + 0 = omega arith in
@@ -76,11 +76,11 @@ late_progress first n z (x ∷ rows) h =
 
 module _ (first : ℕ) (z : ℤ) where
   -- The lines of the rows, and the line of the opening amount if they have none.
-  abbrev pub lines_with_opening : CashProgress → List MoveRow → List Text
+  abbrev pub lines_with_opening : CashProgress → List CashRow → List Text
   lines_with_opening p rows =
       lines_of_cash_rows first p rows ++ opening_line_unless_written (progress_after_cash_rows first p rows).is_opened (progress_after_cash_rows first p rows).total
 
-  opening_and_late : (start : ℤ) (late : List MoveRow) → AreNotBefore first late
+  opening_and_late : (start : ℤ) (late : List CashRow) → AreNotBefore first late
       → lines_with_opening (progress_before_cash_rows start) late ≡ amount_line (codes "Opening") start ∷ map cash_row_line late
   opening_and_late start [] h = refl
   opening_and_late start (x ∷ late) h =
@@ -92,7 +92,7 @@ module _ (first : ℕ) (z : ℤ) where
       ++ opening_line_unless_written (late_progress first 1 (start +ℤ x.amount) late h.1 i).is_opened (late_progress first 1 (start +ℤ x.amount) late h.1 i).total)
       ∙ append-nil (amount_line (codes "Opening") start ∷ cash_row_line x ∷ map cash_row_line late)
 
-  late_end : (start : ℤ) (late : List MoveRow) → AreNotBefore first late
+  late_end : (start : ℤ) (late : List CashRow) → AreNotBefore first late
       → ((progress_after_cash_rows first (progress_before_cash_rows start) late).count ≡ length late)
       × ((progress_after_cash_rows first (progress_before_cash_rows start) late).total ≡ start +ℤ cash_row_total late)
   unfolding total_by
@@ -103,7 +103,7 @@ module _ (first : ℕ) (z : ℤ) where
       let more : 1 + length late ≡ length (x ∷ late) = omega arith in
       (ap (λ (p : CashProgress). p.count) end ∙ more, ap (λ (p : CashProgress). p.total) end ∙ +ℤ_assoc start x.amount (cash_row_total late))
 
-  module _ (early late : List MoveRow) (before : AreBefore first early) (after : AreNotBefore first late) where
+  module _ (early late : List CashRow) (before : AreBefore first early) (after : AreNotBefore first late) where
     -- The progress after the rows that are before the first stamp.
     risen : progress_after_cash_rows first (progress_before_cash_rows z) (early ++ late) ≡ progress_after_cash_rows first (progress_before_cash_rows (z +ℤ cash_row_total early)) late
     risen = progress_after_cash_rows-append first (progress_before_cash_rows z) early late ∙ ap (λ p. progress_after_cash_rows first p late) (early_progress first z early before)

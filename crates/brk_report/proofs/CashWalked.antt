@@ -10,10 +10,10 @@ use Rattle.sqlite.specs.Held.{Held, state}
 use Rattle.sqlite.specs.State.{HasCleanDisk}
 use Rattle.brk_money.specs.Spelling.{Text}
 use Rattle.brk_money.specs.declared.fault.Fault.TheVariants as fault
-use Rattle.brk_trade_rows.specs.Rows.{abstract_move_row}
-use Rattle.brk_trade_rows.specs.declared.move_row.MoveRow as typed
+use Rattle.brk_ref.specs.Rows.{abstract_cash_row}
+use Rattle.brk_ref.specs.declared.cash_row.CashRow as typed
 use Rattle.brk_model.specs.Statement.{text_of_lines}
-use Rattle.brk_model.specs.Tables.{MoveRow, Tables}
+use Rattle.brk_model.specs.Tables.{CashRow, Tables}
 use Rattle.brk_store_transactions.specs.Holds.{HoldsRows}
 use Rattle.brk_store.specs.Walked.{WalkPost}
 use Rattle.brk_tables_views.specs.declared.walking.WalkError.{WalkError}
@@ -60,24 +60,24 @@ first_before xs ys a b Write h = (h.0, h.1, h.2 ++ ys, h.3, sym (append_assoc h.
 
 -- ---- the walk
 
-module _ {S V : Type 0} (g : Ghosts S) (old new : Held S) (list : Tables → List MoveRow) (takes : V → typed.MoveRow → V → Type 0)
-    (stops : V → typed.MoveRow → LinesFault → V → Type 0) (before after : V)
+module _ {S V : Type 0} (g : Ghosts S) (old new : Held S) (list : Tables → List CashRow) (takes : V → typed.CashRow → V → Type 0)
+    (stops : V → typed.CashRow → LinesFault → V → Type 0) (before after : V)
     (t : Tables) (clean : HasCleanDisk (state g new)) (holds : HoldsRows g old t) (result : Result (Unit {0}) (WalkError LinesFault))
-    (walked : WalkPost g old new abstract_move_row list takes stops before after result)
+    (walked : WalkPost g old new abstract_cash_row list takes stops before after result)
     (first : V → ℕ) (moved : V → CashProgress) (contents : V → Option Text)
-    (writes : (p : V) (x : typed.MoveRow) (q : V) → takes p x q → (first q ≡ first p) × (moved q ≡ progress_after_cash_row (nat_lt x.stamp (first p)) (moved p) (abstract_move_row x))
-    × Appends (contents p) (contents q) (text_of_lines (lines_of_cash_row (nat_lt x.stamp (first p)) (moved p) (abstract_move_row x))))
-    (breaks : (p : V) (x : typed.MoveRow) (e : LinesFault) (q : V) → stops p x e q
-    → FailsWithinFirstLines (lines_of_cash_row (nat_lt x.stamp (first p)) (moved p) (abstract_move_row x)) (contents p) (contents q) e) where
-  taken : (p : V) (xs : List typed.MoveRow) (q : V) → FoldsTo takes p xs q
-      → Appends (contents p) (contents q) (text_of_lines (lines_of_cash_rows (first p) (moved p) (map abstract_move_row xs)))
-      × (moved q ≡ progress_after_cash_rows (first p) (moved p) (map abstract_move_row xs)) × (first q ≡ first p)
+    (writes : (p : V) (x : typed.CashRow) (q : V) → takes p x q → (first q ≡ first p) × (moved q ≡ progress_after_cash_row (nat_lt x.stamp (first p)) (moved p) (abstract_cash_row x))
+    × Appends (contents p) (contents q) (text_of_lines (lines_of_cash_row (nat_lt x.stamp (first p)) (moved p) (abstract_cash_row x))))
+    (breaks : (p : V) (x : typed.CashRow) (e : LinesFault) (q : V) → stops p x e q
+    → FailsWithinFirstLines (lines_of_cash_row (nat_lt x.stamp (first p)) (moved p) (abstract_cash_row x)) (contents p) (contents q) e) where
+  taken : (p : V) (xs : List typed.CashRow) (q : V) → FoldsTo takes p xs q
+      → Appends (contents p) (contents q) (text_of_lines (lines_of_cash_rows (first p) (moved p) (map abstract_cash_row xs)))
+      × (moved q ≡ progress_after_cash_rows (first p) (moved p) (map abstract_cash_row xs)) × (first q ≡ first p)
   taken p [] q h = (subst (λ v. Appends (contents p) (contents v) []) h (appends_none (contents p)), sym (ap moved h), sym (ap first h))
   taken p (x ∷ xs) q h =
       let one = writes p x h.0 h.1 in
       let more = taken h.0 xs q h.2 in
-      let rows = map abstract_move_row xs in
-      let row = abstract_move_row x in
+      let rows = map abstract_cash_row xs in
+      let row = abstract_cash_row x in
       let step = progress_after_cash_row (nat_lt x.stamp (first p)) (moved p) row in
       let rest : Appends (contents h.0) (contents q) (text_of_lines (lines_of_cash_rows (first p) step rows)) =
       subst (λ (ls : List Text). Appends (contents h.0) (contents q) (text_of_lines ls)) (λ i. lines_of_cash_rows (one.0 i) (one.1 i) rows) more.0 in (
@@ -92,8 +92,8 @@ module _ {S V : Type 0} (g : Ghosts S) (old new : Held S) (list : Tables → Lis
   walk_all u e =
       let h = rw e at (walked.all clean) in
       let f = taken before h.0 after h.1 in
-      let same : map abstract_move_row h.0 ≡ list t = h.2 t holds in
-      subst (λ (rows : List MoveRow). Appends (contents before) (contents after) (text_of_lines (lines_of_cash_rows (first before) (moved before) rows))
+      let same : map abstract_cash_row h.0 ≡ list t = h.2 t holds in
+      subst (λ (rows : List CashRow). Appends (contents before) (contents after) (text_of_lines (lines_of_cash_rows (first before) (moved before) rows))
       × (moved after ≡ progress_after_cash_rows (first before) (moved before) rows)) same (f.0, f.1)
 
   pub walk_first : (stop : WalkError LinesFault) → result ≡ Err stop
@@ -101,7 +101,7 @@ module _ {S V : Type 0} (g : Ghosts S) (old new : Held S) (list : Tables → Lis
   walk_first (Failed fault) e =
       let h = rw e at (walked.early clean) in
       let b = h.1.2 t holds in
-      let rows = map abstract_move_row h.1.0 in
+      let rows = map abstract_cash_row h.1.0 in
       let from = moved before in (
         h.0,
         (
@@ -114,8 +114,8 @@ module _ {S V : Type 0} (g : Ghosts S) (old new : Held S) (list : Tables → Lis
   walk_first (Cause fault) e =
       let h = rw e at (walked.early clean) in
       let b = h.5 t holds in
-      let rows = map abstract_move_row h.0 in
-      let row = abstract_move_row h.1 in
+      let rows = map abstract_cash_row h.0 in
+      let row = abstract_cash_row h.1 in
       let from = moved before in
       let start = first before in
       let f = taken before h.0 h.2 h.3 in
@@ -129,5 +129,5 @@ module _ {S V : Type 0} (g : Ghosts S) (old new : Held S) (list : Tables → Lis
       let whole = first_before (lines_of_cash_rows start from rows ++ lines_of_cash_rows start here (row ∷ [])) rest _ _ fault one in
       let same : (lines_of_cash_rows start from rows ++ lines_of_cash_rows start here (row ∷ [])) ++ rest ≡ lines_of_cash_rows start from (list t) =
       ap (λ (ls : List Text). ls ++ rest) (sym (lines_of_cash_rows-append start from rows (row ∷ []))) ∙ sym (lines_of_cash_rows-append start from (rows ++ row ∷ []) b.0)
-      ∙ ap (λ (rs : List MoveRow). lines_of_cash_rows start from (rs ++ b.0)) (sym (map-append abstract_move_row h.0 (h.1 ∷ []))) ∙ ap (lines_of_cash_rows start from) b.1 in
+      ∙ ap (λ (rs : List CashRow). lines_of_cash_rows start from (rs ++ b.0)) (sym (map-append abstract_cash_row h.0 (h.1 ∷ []))) ∙ ap (lines_of_cash_rows start from) b.1 in
       subst (λ (ls : List Text). FailsWithinFirstLines ls (contents before) (contents after) fault) same whole

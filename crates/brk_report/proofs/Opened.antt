@@ -2,7 +2,7 @@
 -- the days.
 use Rattle.std.proofs.Common.{◌≡◌, ℕ, ◌+◌, ◌*◌, ◌≤◌, ℤ, ◌+ℤ◌, List, ◌++◌, ap, length, ◌∙◌}
 use Rattle.brk_model.specs.Statement.{cash_move_rows_before_day, sorted_cash_rows_of_account, cash_move_rows_within_days, cash_row_total}
-use Rattle.brk_model.specs.Tables.{MoveRow, Tables}
+use Rattle.brk_model.specs.Tables.{CashRow, Tables}
 use Rattle.brk_store.specs.Walked.{cash_rows_in_span}
 use Rattle.brk_report.specs.CashWalk.{opening_and_cash_lines, progress_after_cash_rows, progress_before_cash_rows}
 use Rattle.brk_report.specs.declared.statements.visitors.CashProgress.{CashProgress}
@@ -10,13 +10,13 @@ use Rattle.brk_report.proofs.CashLists.{count_split, lines_split, lines_with_ope
 use Rattle.brk_report.proofs.Days.{before_first, not_before_first, rows_up_to}
 
 module _ (t : Tables) (account from to first last : ℕ) (opening : ℤ) (span : from ≤ to) (f : first ≡ from * 86400000) (l : last ≡ to * 86400000 + 86399999) where
-  abbrev rows : List MoveRow
+  abbrev rows : List CashRow
   rows = sorted_cash_rows_of_account t account
 
-  abbrev early : List MoveRow
+  abbrev early : List CashRow
   early = cash_move_rows_before_day from rows
 
-  abbrev late : List MoveRow
+  abbrev late : List CashRow
   late = cash_move_rows_within_days from to rows
 
   parts : cash_rows_in_span account 0 last t ≡ early ++ late

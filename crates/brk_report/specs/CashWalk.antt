@@ -7,7 +7,7 @@ use Rattle.std.specs.Io.KnownBytes.{Appends}
 use Rattle.brk_money.specs.Spelling.{Text}
 use Rattle.brk_model.specs.Statement.{amount_line, cash_move_rows_before_day, sorted_cash_rows_of_account, cash_move_rows_within_days}
 use Rattle.brk_model.specs.Statement.{cash_row_line, cash_row_total, text_of_lines}
-use Rattle.brk_model.specs.Tables.{MoveRow, Tables}
+use Rattle.brk_model.specs.Tables.{CashRow, Tables}
 use Rattle.brk_report.specs.declared.statements.visitors.CashProgress.{CashProgress}
 use Rattle.brk_report_lines.specs.Written.{FailsWithinFirstLines}
 use Rattle.brk_io.specs.declared.report_fault.LinesFault.{LinesFault}
@@ -27,7 +27,7 @@ progress_before_cash_rows opening = record { is_opened = false; count = 0; total
 -- amount of the row is added to the total. If the Boolean is false, the row is also counted, and
 -- the line of the opening amount is recorded as written. The Boolean is true if the row is before
 -- the first stamp.
-abbrev pub progress_after_cash_row : Bool → CashProgress → MoveRow → CashProgress
+abbrev pub progress_after_cash_row : Bool → CashProgress → CashRow → CashProgress
 progress_after_cash_row true p row = record { is_opened = p.is_opened; count = p.count; total = p.total +ℤ row.amount }
 progress_after_cash_row false p row = record { is_opened = true; count = p.count + 1; total = p.total +ℤ row.amount }
 
@@ -35,19 +35,19 @@ progress_after_cash_row false p row = record { is_opened = true; count = p.count
 -- none if the Boolean is true, which means that the row is before the first stamp; otherwise the
 -- line of the opening amount, which is the total of `p`, unless this line is written already, and
 -- the line of the row.
-abbrev pub lines_of_cash_row : Bool → CashProgress → MoveRow → List Text
+abbrev pub lines_of_cash_row : Bool → CashProgress → CashRow → List Text
 lines_of_cash_row true p row = []
 lines_of_cash_row false p row = opening_line_unless_written p.is_opened p.total ++ cash_row_line row ∷ []
 
 -- The progress of the walk after the cash rows, one after another, if its progress before them is
 -- `p` and `first` is the first stamp; `p` itself if there are no rows.
-abbrev pub progress_after_cash_rows : ℕ → CashProgress → List MoveRow → CashProgress
+abbrev pub progress_after_cash_rows : ℕ → CashProgress → List CashRow → CashProgress
 progress_after_cash_rows first p [] = p
 progress_after_cash_rows first p (row ∷ rows) = progress_after_cash_rows first (progress_after_cash_row (nat_lt row.stamp first) p row) rows
 
 -- The lines that the walk writes for the cash rows, one after another, if its progress before them
 -- is `p` and `first` is the first stamp; none if there are no rows.
-abbrev pub lines_of_cash_rows : ℕ → CashProgress → List MoveRow → List Text
+abbrev pub lines_of_cash_rows : ℕ → CashProgress → List CashRow → List Text
 lines_of_cash_rows first p [] = []
 lines_of_cash_rows first p (row ∷ rows) =
     lines_of_cash_row (nat_lt row.stamp first) p row ++ lines_of_cash_rows first (progress_after_cash_row (nat_lt row.stamp first) p row) rows
@@ -56,7 +56,7 @@ lines_of_cash_rows first p (row ∷ rows) =
 -- first stamp `first`. `Ok`: exactly the lines of the walk (`lines_of_cash_rows`) were written, and
 -- `moved` is the progress after all rows. `Err`: writing the lines failed as
 -- `FailsWithinFirstLines` specifies.
-abbrev pub WritesLinesOfCashWalk : List MoveRow → ℕ → ℤ → Option Text → Option Text → Result CashProgress LinesFault → Type 0
+abbrev pub WritesLinesOfCashWalk : List CashRow → ℕ → ℤ → Option Text → Option Text → Result CashProgress LinesFault → Type 0
 WritesLinesOfCashWalk rows first opening old new (Ok moved) =
     Appends old new (text_of_lines (lines_of_cash_rows first (progress_before_cash_rows opening) rows))
     × (moved ≡ progress_after_cash_rows first (progress_before_cash_rows opening) rows)

@@ -2,21 +2,21 @@
 
 ghost use Rattle.std.specs.Prelude.{◌≡◌, Err, IfOk, OnErr};
 ghost use Rattle.brk_money.specs.declared.fault.Fault.TheVariants.{Memory};
-ghost use Rattle.brk_trade_rows.specs.Rows.{abstract_holding_row, abstract_move_row};
+ghost use Rattle.brk_ref.specs.Rows.{abstract_holding_row, abstract_cash_row};
 ghost use Rattle.brk_model.specs.Statement as statement;
 ghost use Rattle.brk_report_lines.specs.Written.{line_with_line_feed};
 
 use crate::columns::{append_left_aligned, append_right_aligned};
 use brk_money::{Fault, Wide, day_of, write_cents, write_day};
-use brk_trade_rows::{HoldingRow, MoveRow};
+use brk_ref::{CashRow, HoldingRow};
 use itoa::Buffer;
 use std::alloc::Global;
 
 /// Returns the line of a cash row, with its line feed: the UTC day of its stamp (YYYY-MM-DD), its
 /// amount with two decimal places, right-aligned in 22 bytes (a longer one is written whole), and
 /// its name, separated by spaces. Fails with `Memory` only.
-pub fn cash_row_line(alloc: Global, row: &MoveRow) -> Result<Vec<u8>, Fault>
-    ensures line { IfOk result (λ line. line.items ≡ line_with_line_feed (statement.cash_row_line (abstract_move_row row.now))) }
+pub fn cash_row_line(alloc: Global, row: &CashRow) -> Result<Vec<u8>, Fault>
+    ensures line { IfOk result (λ line. line.items ≡ line_with_line_feed (statement.cash_row_line (abstract_cash_row row.now))) }
     ensures fault { OnErr result (result ≡ Err Memory) }
 {
     let mut cents = Vec::new(alloc);

@@ -7,8 +7,8 @@ use Rattle.sqlite.specs.State.{HasCleanDisk}
 use Rattle.brk_money.specs.Spelling.{Text}
 use Rattle.brk_model.specs.Tables.{HoldingRow, Tables}
 use Rattle.brk_lots.specs.Lots.{list_reversed_if_lifo}
-use Rattle.brk_trade_rows.specs.Rows.{abstract_holding_row, lots_oldest_first}
-use Rattle.brk_trade_rows.specs.declared.holding_row.HoldingRow as row
+use Rattle.brk_ref.specs.Rows.{abstract_holding_row, lots_oldest_first}
+use Rattle.brk_ref.specs.declared.holding_row.HoldingRow as row
 use Rattle.brk_tables_trading.specs.Pages.{page_after_skipped}
 use Rattle.brk_tables.proofs.OneTables.{one_tables}
 use Rattle.brk_store_lots.specs.declared.age.LotAge.{LotAge}

@@ -12,8 +12,8 @@ use Rattle.brk_trade_books.specs.OrderReads.{lot_of_typed_row}
 use Rattle.brk_money.specs.Spelling.{Text}
 use Rattle.brk_store_transactions.specs.Holds.{HoldsRows}
 use Rattle.brk_model.specs.Tables.{Tables, HoldingRow}
-use Rattle.brk_trade_rows.specs.Rows.{abstract_holding_row}
-use Rattle.brk_trade_rows.specs.declared.holding_row.HoldingRow as row
+use Rattle.brk_ref.specs.Rows.{abstract_holding_row}
+use Rattle.brk_ref.specs.declared.holding_row.HoldingRow as row
 use Rattle.brk_tables_trading.specs.Pages.{page_after_skipped, page_size}
 use Rattle.brk_trade_books.specs.TradeReads.{lot_of_row}
 use Rattle.brk_store.specs.Pages.{remaining_lots, unread_rows, lot_rows_in_closing_order}

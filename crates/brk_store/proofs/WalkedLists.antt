@@ -13,15 +13,15 @@ use Rattle.sqlite_value.proofs.OrderLemmas.{value_cmp-Int}
 use Rattle.sqlite_trees.specs.declared.store.Store.{Ghosts}
 use Rattle.sqlite.specs.Effect.{Database}
 use Rattle.sqlite.specs.Held.{Held, state}
-use Rattle.brk_trade_rows.specs.Rows.{abstract_holding_row, abstract_move_row, abstract_trade_row}
-use Rattle.brk_trade_rows.specs.declared.move_row.MoveRow as row
-use Rattle.brk_trade_rows.specs.declared.holding_row.HoldingRow as holding
-use Rattle.brk_trade_rows.specs.declared.trade_row.TradeRow as trade
+use Rattle.brk_ref.specs.Rows.{abstract_holding_row, abstract_cash_row, abstract_trade_row}
+use Rattle.brk_ref.specs.declared.cash_row.CashRow as row
+use Rattle.brk_ref.specs.declared.holding_row.HoldingRow as holding
+use Rattle.brk_ref.specs.declared.trade_row.TradeRow as trade
 use Rattle.brk_model.specs.Keys.{word, rows_sorted_by_key, is_row_key_less}
 use Rattle.brk_model.specs.Joins.{trade_rows_oldest_first}
 use Rattle.brk_model.specs.Lists.{insert_by, is_pair_less, sort_by, sort_by_key, is_text_less}
 use Rattle.brk_model.specs.Statement.{holding_rows_of_account}
-use Rattle.brk_model.specs.Tables.{AccountRow, HoldingRow, MoveRow, Tables, TradeRow}
+use Rattle.brk_model.specs.Tables.{AccountRow, HoldingRow, CashRow, Tables, TradeRow}
 use Rattle.brk_money.specs.Kinds.{is_same_trade_status}
 use Rattle.brk_money.specs.declared.status.Status.TheVariants.{Completed}
 use Rattle.brk_tables_sql.specs.Rows.{IsStrictlyAscending}
@@ -135,13 +135,13 @@ cash_tie false false p q k = rw k (alone false q)
 
 pub cash_same : (account from to : ℕ) (t : Tables) → IsStrictlyAscendingBy (λ r. r.id) t.moves → account_cash_rows_between account from to t ≡ cash_rows_in_span account from to t
 cash_same account from to t climb =
-    let mine = λ (r : MoveRow). r.account == account in
-    let within = λ (r : MoveRow). nat_le from r.stamp && nat_le r.stamp to in
+    let mine = λ (r : CashRow). r.account == account in
+    let within = λ (r : CashRow). nat_le from r.stamp && nat_le r.stamp to in
     ap (rows_sorted_by_key cash_sort_key) (filter_both mine within t.moves)
     ∙ by_key-filter cash_sort_key within (filter mine t.moves)
-    ∙ ap (filter within) (sort_same (λ (r : MoveRow). r.id) (is_row_key_less cash_sort_key) (λ a b. nat_lt a.stamp b.stamp) (filter mine t.moves)
+    ∙ ap (filter within) (sort_same (λ (r : CashRow). r.id) (is_row_key_less cash_sort_key) (λ a b. nat_lt a.stamp b.stamp) (filter mine t.moves)
     (λ x y k. cash_tie (nat_lt y.stamp x.stamp) (nat_lt x.stamp y.stamp) (nat_lt y.id x.id) (nat_lt x.id y.id) (not_above x.id y.id k))
-    (climb_filter (λ (r : MoveRow). r.id) mine t.moves climb))
+    (climb_filter (λ (r : CashRow). r.id) mine t.moves climb))
 
 -- ---- completed trades
 
@@ -192,7 +192,7 @@ pub holdings_climb : (t : Tables) (db : Database) → HasDeskTables t db → IsS
 holdings_climb t db has = climbs (λ (r : HoldingRow). r.trade) (ordering_by_primary_key Holdings) (λ x y k. less_number x.trade y.trade k) t.holdings (has.1.rows Holdings).rising
 
 pub moves_climb : (t : Tables) (db : Database) → HasDeskTables t db → IsStrictlyAscendingBy (λ r. r.id) t.moves
-moves_climb t db has = climbs (λ (r : MoveRow). r.id) (ordering_by_primary_key CashMoves) (λ x y k. less_number x.id y.id k) t.moves (has.1.rows CashMoves).rising
+moves_climb t db has = climbs (λ (r : CashRow). r.id) (ordering_by_primary_key CashMoves) (λ x y k. less_number x.id y.id k) t.moves (has.1.rows CashMoves).rising
 
 pub trades_climb : (t : Tables) (db : Database) → HasDeskTables t db → IsStrictlyAscendingBy (λ r. r.id) t.trades
 trades_climb t db has = climbs (λ (r : TradeRow). r.id) (ordering_by_primary_key Trades) (λ x y k. less_number x.id y.id k) t.trades (has.1.rows Trades).rising
@@ -210,12 +210,12 @@ lots_walked g old new account takes stops before after result w =
     is_walked g old new abstract_holding_row (account_lots_by_symbol account) (λ t. holding_rows_of_account t account) takes stops before after
     (λ t has. lots_same account t (holdings_climb t (state g old).now has)) result w
 
-pub cash_walked : {S V E : Type 0} (g : Ghosts S) (old new : Held S) (account from to : ℕ) (takes : V → row.MoveRow → V → Type 0)
-    (stops : V → row.MoveRow → E → V → Type 0) (before after : V) (result : Result (Unit {0}) (WalkError E))
-    → TableWalkPost g old new abstract_move_row (account_cash_rows_between account from to) takes stops before after result
-    → WalkPost g old new abstract_move_row (cash_rows_in_span account from to) takes stops before after result
+pub cash_walked : {S V E : Type 0} (g : Ghosts S) (old new : Held S) (account from to : ℕ) (takes : V → row.CashRow → V → Type 0)
+    (stops : V → row.CashRow → E → V → Type 0) (before after : V) (result : Result (Unit {0}) (WalkError E))
+    → TableWalkPost g old new abstract_cash_row (account_cash_rows_between account from to) takes stops before after result
+    → WalkPost g old new abstract_cash_row (cash_rows_in_span account from to) takes stops before after result
 cash_walked g old new account from to takes stops before after result w =
-    is_walked g old new abstract_move_row (account_cash_rows_between account from to) (cash_rows_in_span account from to) takes stops before after
+    is_walked g old new abstract_cash_row (account_cash_rows_between account from to) (cash_rows_in_span account from to) takes stops before after
     (λ t has. cash_same account from to t (moves_climb t (state g old).now has)) result w
 
 pub completed_walked : {S V E : Type 0} (g : Ghosts S) (old new : Held S) (takes : V → trade.TradeRow → V → Type 0)

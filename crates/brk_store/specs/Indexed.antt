@@ -5,8 +5,8 @@ use Rattle.sqlite.specs.Held.{Held, state}
 use Rattle.sqlite.specs.State.{HasCleanDisk}
 use Rattle.brk_money.specs.Spelling.{Text}
 use Rattle.brk_model.specs.Tables.{Tables}
-use Rattle.brk_trade_rows.specs.Rows.{abstract_holding_row}
-use Rattle.brk_trade_rows.specs.declared.holding_row.HoldingRow as row
+use Rattle.brk_ref.specs.Rows.{abstract_holding_row}
+use Rattle.brk_ref.specs.declared.holding_row.HoldingRow as row
 use Rattle.brk_tables_trading.specs.Pages.{page_size}
 use Rattle.brk_tables_schema.specs.Made.{HasDeskTables}
 use Rattle.brk_store_lots.specs.Ages.{IsIndexOf, in_closing_order, lot_of_age}

@@ -5,8 +5,8 @@ use Rattle.brk_lots.specs.declared.lot.Lot.{Lot}
 use Rattle.brk_lots.specs.Lots.{list_reversed_if_lifo}
 use Rattle.brk_model.specs.Tables.{Tables, HoldingRow}
 use Rattle.brk_money.specs.Spelling.{Text}
-use Rattle.brk_trade_rows.specs.Rows.{abstract_holding_row}
-use Rattle.brk_trade_rows.specs.declared.holding_row.HoldingRow as row
+use Rattle.brk_ref.specs.Rows.{abstract_holding_row}
+use Rattle.brk_ref.specs.declared.holding_row.HoldingRow as row
 use Rattle.brk_tables_trading.specs.Pages.{position_lots_by_age}
 use Rattle.brk_trade_books.specs.TradeReads.{lot_of_row}
 

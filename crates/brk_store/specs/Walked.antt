@@ -11,7 +11,7 @@ use Rattle.brk_money.specs.declared.fault.Fault.{Fault}
 use Rattle.brk_model.specs.Limits.{is_in_range}
 use Rattle.brk_model.specs.Lists.{sort_by_key}
 use Rattle.brk_model.specs.Statement.{sorted_cash_rows_of_account}
-use Rattle.brk_model.specs.Tables.{Tables, MoveRow, TradeRow}
+use Rattle.brk_model.specs.Tables.{Tables, CashRow, TradeRow}
 use Rattle.brk_money.specs.Kinds.{is_same_trade_status}
 use Rattle.brk_money.specs.declared.status.Status.TheVariants.{Completed}
 use Rattle.brk_tables_views.specs.Walk.{IsWalkError}
@@ -22,7 +22,7 @@ use Rattle.brk_store_transactions.specs.Holds.{HoldsRows, WasOpenAndIsUnchanged}
 
 -- The cash rows of `account` whose stamps are from `from` to `to`, both included, sorted by stamp,
 -- ascending. Rows with equal stamps are in the order of the table CASH_MOVE.
-abbrev pub cash_rows_in_span : ℕ → ℕ → ℕ → Tables → List MoveRow
+abbrev pub cash_rows_in_span : ℕ → ℕ → ℕ → Tables → List CashRow
 cash_rows_in_span account from to t = filter (λ r. is_in_range from to r.stamp) (sorted_cash_rows_of_account t account)
 
 -- The completed trades of all accounts, sorted by the stamp of completion, ascending. Trades with

@@ -4,7 +4,7 @@
 //! only states that a crash before it could expose.
 
 ghost use Rattle.std.specs.Prelude.{◌≡◌, ◌==◌, IfErr, bytes_eq, filter, map};
-ghost use Rattle.brk_trade_rows.specs.Rows.{abstract_request_row};
+ghost use Rattle.brk_ref.specs.Rows.{abstract_request_row};
 ghost use Rattle.brk_model.specs.Run.{IsCallFault};
 ghost use Rattle.brk_ref.specs.Records.{abstract_broker_row};
 ghost use Rattle.brk_store_transactions.specs.Holds.{ReadPost};
@@ -13,9 +13,8 @@ ghost use Rattle.brk_tables_schema.specs.Statements.{AreMatchingRows};
 
 use crate::Store;
 use brk_money::{Fault, Id};
-use brk_ref::{BrokerRow, Name};
+use brk_ref::{BrokerRow, Name, RequestRow};
 use brk_store_transactions::begin_transaction;
-use brk_trade_rows::RequestRow;
 use sqlite::Alter;
 use std::alloc::Global;
 

@@ -7,7 +7,7 @@ ghost use Rattle.std.specs.Prelude.{◌≡◌, ◌+◌, Err, OnErr, filter, is_n
 ghost use Rattle.brk_money.specs.declared.fault.Fault.TheVariants as fault;
 ghost use Rattle.brk_model.specs.Limits.{greatest_id};
 ghost use Rattle.brk_model.specs.LookupView.{is_cash_row_of_trade};
-ghost use Rattle.brk_trade_rows.specs.Rows.{abstract_move_row};
+ghost use Rattle.brk_ref.specs.Rows.{abstract_cash_row};
 ghost use Rattle.brk_trade_books.specs.TradeReads.{last_cash_row_number_or_zero};
 ghost use Rattle.brk_store_transactions.specs.Holds.{ReadPost};
 ghost use Rattle.brk_tables_schema.specs.Desk.{CashMoves};
@@ -15,8 +15,8 @@ ghost use Rattle.brk_tables_schema.specs.Statements.{IsFirstMatch};
 
 use crate::Store;
 use brk_money::{Day, Fault, Id, MoveId};
+use brk_ref::CashRow;
 use brk_store_transactions::begin_transaction;
-use brk_trade_rows::MoveRow;
 use sqlite::Alter;
 
 // The limit on the count of deposits and withdrawals of a desk.
@@ -37,8 +37,8 @@ impl<S: Alter> Store<S> {
 
     /// Returns the cash row of a trade, or `None` if it has none. If the database is still open, it
     /// is unchanged. Fails with `Store` only.
-    pub fn cash_row(&mut self, trade: Id) -> Result<Option<MoveRow>, Fault>
-        ensures read { ReadPost S.Store self.old self.new result (IsFirstMatch CashMoves abstract_move_row (is_cash_row_of_trade trade)) }
+    pub fn cash_row(&mut self, trade: Id) -> Result<Option<CashRow>, Fault>
+        ensures read { ReadPost S.Store self.old self.new result (IsFirstMatch CashMoves abstract_cash_row (is_cash_row_of_trade trade)) }
         ensures fault { OnErr result (result ≡ Err fault.Store) }
     {
         let mut tx = begin_transaction(&mut self.conn);
@@ -47,8 +47,8 @@ impl<S: Alter> Store<S> {
 
     // Returns the cash row with the greatest number (CM_ID), or `None` if there is no cash row. If
     // the database is still open, it is unchanged. Fails with `Store` only.
-    fn last_cash_row(&mut self) -> Result<Option<MoveRow>, Fault>
-        ensures read { ReadPost S.Store self.old self.new result (λ o t. option_map abstract_move_row o ≡ slice_get (reverse t.moves) 0) }
+    fn last_cash_row(&mut self) -> Result<Option<CashRow>, Fault>
+        ensures read { ReadPost S.Store self.old self.new result (λ o t. option_map abstract_cash_row o ≡ slice_get (reverse t.moves) 0) }
         ensures fault { OnErr result (result ≡ Err fault.Store) }
     {
         let mut tx = begin_transaction(&mut self.conn);

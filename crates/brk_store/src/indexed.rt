@@ -3,7 +3,7 @@
 ghost use Rattle.std.specs.Prelude.{◌≡◌, ◌==◌, ◌&&◌, Err, IfErr, OnErr, Some, bytes_eq, false, map};
 ghost use Rattle.std.specs.Option.{option_copied};
 ghost use Rattle.brk_trade_rows.specs.Changes.{tables_after_changes};
-ghost use Rattle.brk_trade_rows.specs.Rows.{abstract_holding_row};
+ghost use Rattle.brk_ref.specs.Rows.{abstract_holding_row};
 ghost use Rattle.brk_store_lots.specs.Ages.{IsIndexOf, ages_in, lot_of_age};
 ghost use Rattle.brk_model.specs.Run.{IsCallFault};
 ghost use Rattle.brk_model.specs.Tables.{Tables};
@@ -16,11 +16,11 @@ ghost use Rattle.brk_tables_schema.specs.Statements.{IsFirstMatch};
 
 use crate::Store;
 use brk_money::{Fault, Id, Stamp};
-use brk_ref::Symbol;
+use brk_ref::{HoldingRow, Symbol};
 use brk_store_lots::ages::age_in_closing_order;
 use brk_store_lots::{LotAge, LotIndex};
 use brk_store_transactions::begin_transaction;
-use brk_trade_rows::{Change, HoldingRow};
+use brk_trade_rows::Change;
 use sqlite::{Alter, Connection};
 use std::alloc::Global;
 use std::collections::VecDeque;
@@ -181,7 +181,7 @@ fn read_page_of_ages<S: Alter>(
 
 impl<S: Alter> Store<S> {
     ghost use Rattle.std.specs.Prelude.{◌≡◌, IfErr, map};
-    ghost use Rattle.brk_trade_rows.specs.Rows.{abstract_holding_row};
+    ghost use Rattle.brk_ref.specs.Rows.{abstract_holding_row};
     ghost use Rattle.brk_model.specs.Run.{IsCallFault};
     ghost use Rattle.brk_store_transactions.specs.Holds.{ReadPost};
     ghost use Rattle.brk_store.specs.Pages.{lot_rows_in_closing_order};

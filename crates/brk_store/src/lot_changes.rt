@@ -4,7 +4,7 @@
 //! that a crash before it could expose.
 
 ghost use Rattle.std.specs.Prelude.{◌==◌, IfErr};
-ghost use Rattle.brk_trade_rows.specs.Rows.{abstract_lot_change_row};
+ghost use Rattle.brk_ref.specs.Rows.{abstract_lot_change_row};
 ghost use Rattle.brk_model.specs.Run.{IsCallFault};
 ghost use Rattle.brk_store_transactions.specs.Holds.{ReadPost};
 ghost use Rattle.brk_tables_schema.specs.Desk.{HoldingHistory};
@@ -12,8 +12,8 @@ ghost use Rattle.brk_tables_schema.specs.Statements.{AreMatchingRows};
 
 use crate::Store;
 use brk_money::{Fault, Id};
+use brk_ref::LotChange;
 use brk_store_transactions::begin_transaction;
-use brk_trade_rows::LotChange;
 use sqlite::Alter;
 use std::alloc::Global;
 

@@ -3,7 +3,7 @@
 ghost use Rattle.std.specs.Prelude.{◌≡◌, ◌≢◌, ◌≤◌, ◌+◌, IfErr, IfOk, IsTrue, length, map, pos};
 ghost use Rattle.std.specs.List.{All};
 ghost use Rattle.brk_model.specs.Run.{IsCallFault};
-ghost use Rattle.brk_trade_rows.specs.Rows.{abstract_holding_row};
+ghost use Rattle.brk_ref.specs.Rows.{abstract_holding_row};
 ghost use Rattle.brk_tables_trading.specs.Pages.{page_after_skipped, page_size};
 ghost use Rattle.brk_trade_books.specs.OrderReads.{lot_of_typed_row};
 ghost use Rattle.brk_store_transactions.specs.Holds.{ReadPost};
@@ -12,8 +12,7 @@ ghost use Rattle.brk_store.specs.Pages.{lot_rows_in_closing_order};
 use crate::Store;
 use brk_lots::{Lot, LotSource};
 use brk_money::{Fault, Id};
-use brk_ref::Symbol;
-use brk_trade_rows::HoldingRow;
+use brk_ref::{HoldingRow, Symbol};
 use sqlite::Alter;
 use std::alloc::Global;
 
@@ -176,7 +175,7 @@ impl<S: Alter> Pages<'_, S, Page> {
     ghost use Rattle.sqlite.specs.Held.{state};
     ghost use Rattle.sqlite.specs.State.{HasCleanDisk};
     ghost use Rattle.brk_lots.specs.declared.lot.Lot.{Lot as TheLot};
-    ghost use Rattle.brk_trade_rows.specs.Rows.{abstract_holding_row};
+    ghost use Rattle.brk_ref.specs.Rows.{abstract_holding_row};
     ghost use Rattle.brk_model.specs.Run.{IsCallFault};
     ghost use Rattle.brk_model.specs.Tables.{Tables};
     ghost use Rattle.brk_store_transactions.specs.Holds.{HoldsRows};

@@ -4,7 +4,7 @@
 //! it could expose.
 
 ghost use Rattle.std.specs.Prelude.{◌≡◌, ◌==◌, IfErr, map, take};
-ghost use Rattle.brk_trade_rows.specs.Rows.{abstract_history_row, abstract_trade_row};
+ghost use Rattle.brk_ref.specs.Rows.{abstract_history_row, abstract_trade_row};
 ghost use Rattle.brk_model.specs.Joins.{trade_rows_recent_first, trade_rows_of_account};
 ghost use Rattle.brk_model.specs.Run.{IsCallFault};
 ghost use Rattle.brk_store_transactions.specs.Holds.{ReadPost};
@@ -13,8 +13,8 @@ ghost use Rattle.brk_tables_schema.specs.Statements.{AreMatchingRows};
 
 use crate::Store;
 use brk_money::{Fault, Id};
+use brk_ref::{HistoryRow, TradeRow};
 use brk_store_transactions::begin_transaction;
-use brk_trade_rows::{HistoryRow, TradeRow};
 use sqlite::Alter;
 use std::alloc::Global;
 

@@ -9,7 +9,7 @@ ghost use Rattle.brk_model.specs.Run.{IsCallFault};
 ghost use Rattle.brk_money.specs.Kinds.{is_same_trade_status, is_same_trade_type};
 ghost use Rattle.brk_money.specs.declared.status.Status.TheVariants.{Submitted};
 ghost use Rattle.brk_ref.specs.Records.{abstract_last_trade_row};
-ghost use Rattle.brk_trade_rows.specs.Rows.{abstract_holding_row, abstract_request_row, abstract_summary_row, abstract_trade_row};
+ghost use Rattle.brk_ref.specs.Rows.{abstract_holding_row, abstract_request_row, abstract_summary_row, abstract_trade_row};
 ghost use Rattle.brk_store_transactions.specs.Holds.{ReadPost};
 ghost use Rattle.brk_tables_schema.specs.Desk.{LastTrades, Requests, Summaries, Trades};
 ghost use Rattle.brk_tables_schema.specs.Statements.{IsFirstMatch, AreMatchingRows};
@@ -17,9 +17,8 @@ ghost use Rattle.brk_tables_trading.specs.Pages.{position_lots_by_age, page_afte
 
 use crate::Store;
 use brk_money::{Fault, Id, Price, TradeType};
-use brk_ref::{LastTrade, Symbol};
+use brk_ref::{HoldingRow, LastTrade, RequestRow, SummaryRow, Symbol, TradeRow};
 use brk_store_transactions::begin_transaction;
-use brk_trade_rows::{HoldingRow, RequestRow, SummaryRow, TradeRow};
 use sqlite::Alter;
 use std::alloc::Global;
 

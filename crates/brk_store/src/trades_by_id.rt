@@ -9,7 +9,7 @@ ghost use Rattle.brk_trade_books.specs.TradeReads.{AreTradesWithIds};
 
 use crate::Store;
 use brk_money::{Fault, Id};
-use brk_trade_rows::TradeRow;
+use brk_ref::TradeRow;
 use sqlite::Alter;
 use std::alloc::Global;
 

@@ -5,7 +5,7 @@
 
 ghost use Rattle.std.specs.Prelude.{◌≡◌, ◌==◌, ◌&&◌, Err, IfErr, OnErr, bytes_eq, filter, map, nat_le, option_map, option_to_list, take};
 ghost use Rattle.brk_money.specs.declared.fault.Fault.TheVariants as fault;
-ghost use Rattle.brk_trade_rows.specs.Rows.{abstract_trade_row};
+ghost use Rattle.brk_ref.specs.Rows.{abstract_trade_row};
 ghost use Rattle.brk_model.specs.Joins.{trade_rows_oldest_first, trade_rows_of_account};
 ghost use Rattle.brk_model.specs.LookupView.{row_stamp_is_between};
 ghost use Rattle.brk_model.specs.Run.{IsCallFault};
@@ -13,9 +13,8 @@ ghost use Rattle.brk_store_transactions.specs.Holds.{ReadPost};
 
 use crate::Store;
 use brk_money::{Fault, Id, Stamp};
-use brk_ref::{Span, Symbol};
+use brk_ref::{Span, Symbol, TradeRow};
 use brk_store_transactions::begin_transaction;
-use brk_trade_rows::TradeRow;
 use sqlite::Alter;
 use std::alloc::Global;
 

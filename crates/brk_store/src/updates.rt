@@ -7,16 +7,15 @@ ghost use Rattle.std.specs.Prelude.{◌≡◌, ◌==◌, Err, IfErr, OnErr, map}
 ghost use Rattle.brk_money.specs.declared.fault.Fault.TheVariants as fault;
 ghost use Rattle.brk_model.specs.Run.{IsCallFault};
 ghost use Rattle.brk_trade_rows.specs.Chosen as chosen;
-ghost use Rattle.brk_trade_rows.specs.Rows.{abstract_settlement_row, abstract_trade_row};
+ghost use Rattle.brk_ref.specs.Rows.{abstract_settlement_row, abstract_trade_row};
 ghost use Rattle.brk_store_transactions.specs.Holds.{ReadPost};
 ghost use Rattle.brk_tables_schema.specs.Desk.{Settlements};
 ghost use Rattle.brk_tables_schema.specs.Statements.{IsFirstMatch};
 
 use crate::Store;
 use brk_money::{Fault, Id};
-use brk_ref::{Span, Symbol};
+use brk_ref::{SettlementRow, Span, Symbol, TradeRow};
 use brk_store_transactions::begin_transaction;
-use brk_trade_rows::{SettlementRow, TradeRow};
 use sqlite::Alter;
 use std::alloc::Global;
 

@@ -3,7 +3,7 @@
 //! malformed or if the `sqlite` crate runs out of memory, and `Memory` if decoding in a walk does.
 
 ghost use Rattle.std.specs.Fn.{CalledAt};
-ghost use Rattle.brk_trade_rows.specs.Rows.{abstract_holding_row, abstract_move_row, abstract_trade_row};
+ghost use Rattle.brk_ref.specs.Rows.{abstract_holding_row, abstract_cash_row, abstract_trade_row};
 ghost use Rattle.brk_model.specs.Statement.{holding_rows_of_account};
 ghost use Rattle.brk_tables_views.specs.Calling.{IsClosureCallWithLot};
 ghost use Rattle.brk_store.specs.Walked.{CallsClosureWithEachRecord, WalkPost, cash_rows_in_span, completed_trades_by_stamp};
@@ -11,8 +11,8 @@ ghost use Rattle.brk_store.specs.Walked.{CallsClosureWithEachRecord, WalkPost, c
 use crate::Store;
 use brk_lots::Lot;
 use brk_money::{Fault, Id, Stamp};
+use brk_ref::{CashRow, HoldingRow, TradeRow};
 use brk_tables_views::{ClosureVisitor, LotClosureVisitor, Visitor, WalkError};
-use brk_trade_rows::{HoldingRow, MoveRow, TradeRow};
 use sqlite::Alter;
 
 impl<S: Alter> Store<S> {
@@ -29,7 +29,7 @@ impl<S: Alter> Store<S> {
     /// calls of the walk lead from the visitor before it to the visitor after it (`Visitor`).
     ///
     /// A crash after the call exposes only states that a crash before the call could expose.
-    pub fn visit_cash_rows<E, V: Visitor<MoveRow, E>>(
+    pub fn visit_cash_rows<E, V: Visitor<CashRow, E>>(
         &mut self,
         account: Id,
         from: Stamp,
@@ -39,7 +39,7 @@ impl<S: Alter> Store<S> {
         requires ready { V.ready visitor.old }
         ensures ready { V.ready visitor.new }
         ensures leads { V.leads visitor.old visitor.new }
-        ensures walked { WalkPost S.Store self.old self.new abstract_move_row (cash_rows_in_span account from to)
+        ensures walked { WalkPost S.Store self.old self.new abstract_cash_row (cash_rows_in_span account from to)
             V.takes V.stops visitor.old visitor.new result }
     {
         brk_tables_views::walk_cash_rows_of_account::<S, E, V>(
@@ -115,7 +115,7 @@ impl<S: Alter> Store<S> {
     /// error or a fault.
     ///
     /// A crash after the call exposes only states that a crash before the call could expose.
-    pub fn walk_cash<E: From<Fault>, F: FnMut(&MoveRow) -> Result<(), E> + Drop>(
+    pub fn walk_cash<E: From<Fault>, F: FnMut(&CashRow) -> Result<(), E> + Drop>(
         &mut self,
         account: Id,
         from: Stamp,
@@ -123,7 +123,7 @@ impl<S: Alter> Store<S> {
         call: F,
     ) -> Result<(), E>
         requires callable { F.IsAlwaysCallable call }
-        ensures called { CallsClosureWithEachRecord S.Store self.old self.new abstract_move_row (cash_rows_in_span account from to)
+        ensures called { CallsClosureWithEachRecord S.Store self.old self.new abstract_cash_row (cash_rows_in_span account from to)
             (CalledAt F.FnMut) E.from_gives call result }
     {
         let mut calls = ClosureVisitor { call };

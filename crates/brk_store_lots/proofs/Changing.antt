@@ -6,7 +6,7 @@ use Rattle.brk_model.specs.Keys.{holding_key, is_row_key_less}
 use Rattle.brk_model.specs.Lists.{insert_by}
 use Rattle.brk_model.specs.Tables.{HoldingRow, Tables}
 use Rattle.brk_trade_rows.specs.Changes.{tables_after_change, tables_after_changes}
-use Rattle.brk_trade_rows.specs.Rows.{abstract_holding_row}
+use Rattle.brk_ref.specs.Rows.{abstract_holding_row}
 use Rattle.brk_trade_rows.specs.declared.change.Change.{Change}
 use Rattle.brk_trade_rows.specs.declared.change.Change.TheVariants.{AddBroker, AddCustomer, AddAccount, AddPermission, AddSecurity, AddLastTrade}
 use Rattle.brk_trade_rows.specs.declared.change.Change.TheVariants.{AddCharge, AddBand, AddTaxRate, AddCustomerTax, AddTrade, SetStatus, AddHistory}
@@ -14,7 +14,7 @@ use Rattle.brk_trade_rows.specs.declared.change.Change.TheVariants.{AddRequest, 
 use Rattle.brk_trade_rows.specs.declared.change.Change.TheVariants.{AddLotChange, AddSummary, SetSummary, RemoveSummary, AddSettlement, AddMove}
 use Rattle.brk_trade_rows.specs.declared.change.Change.TheVariants.{SetBalance, SetBrokerTotals, SetExecutor, SetCashType, SetCashName, SetOneDaySettlementStart}
 use Rattle.brk_trade_rows.specs.declared.change.Change.TheVariants.{AddStoredReply, SetLastStamp}
-use Rattle.brk_trade_rows.specs.declared.holding_row.HoldingRow as typed
+use Rattle.brk_ref.specs.declared.holding_row.HoldingRow as typed
 use Rattle.brk_store_lots.specs.declared.index.LotIndex.{LotIndex}
 use Rattle.brk_store_lots.specs.Ages.{Has, IsIndexOf, age_of_row}
 use Rattle.brk_store_lots.proofs.Elements.{has_inserted, has_mapped, has_pushed, inserted_has, mapped_has, pushed_has}

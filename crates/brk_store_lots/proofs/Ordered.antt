@@ -10,7 +10,7 @@ use Rattle.brk_money.specs.Spelling.{Text}
 use Rattle.brk_model.specs.Keys.{is_row_key_less}
 use Rattle.brk_model.specs.Lists.{insert_by, sort_by}
 use Rattle.brk_model.specs.Tables.{HoldingRow}
-use Rattle.brk_trade_rows.specs.Rows.{lot_age_key, lots_oldest_first}
+use Rattle.brk_ref.specs.Rows.{lot_age_key, lots_oldest_first}
 use Rattle.brk_store_lots.specs.declared.age.LotAge.{LotAge}
 use Rattle.brk_store_lots.specs.declared.index.LotIndex.{LotIndex}
 use Rattle.brk_store_lots.specs.Ages.{Has, IsIndexOf, IsRising, RisesByTrade, age_of_row, in_closing_order, is_older, lot_of_age, lots_at, value_if}

@@ -2,10 +2,10 @@
 
 ghost use Rattle.std.specs.Prelude.{◌≡◌};
 ghost use Rattle.brk_store_lots.specs.Ages.{is_older, age_of_row};
-ghost use Rattle.brk_trade_rows.specs.Rows.{abstract_holding_row};
+ghost use Rattle.brk_ref.specs.Rows.{abstract_holding_row};
 
 use brk_money::{Id, Stamp};
-use brk_trade_rows::HoldingRow;
+use brk_ref::HoldingRow;
 
 /// When a lot was opened, and by which trade.
 #[derive(Clone, Copy)]

@@ -3,7 +3,7 @@
 ghost use Rattle.std.specs.Prelude.{◌≡◌, ◌==◌, ◌∷◌, IfOk, List, OnOk, [], filter, map, not};
 ghost use Rattle.std.specs.Option.{option_copied};
 ghost use Rattle.brk_trade_rows.specs.Changes.{tables_after_changes};
-ghost use Rattle.brk_trade_rows.specs.Rows.{abstract_holding_row};
+ghost use Rattle.brk_ref.specs.Rows.{abstract_holding_row};
 ghost use Rattle.brk_model.specs.Tables.{Tables, HoldingRow as Row};
 ghost use Rattle.brk_store_lots.specs.Ages.{IsIndexOf, ages_in, lots_at, number_of_lots};
 
@@ -11,8 +11,8 @@ use crate::age::LotAge;
 use crate::ages::{insert_age, remove_age};
 use crate::positions::Positions;
 use brk_money::{Id, Stamp};
-use brk_ref::Symbol;
-use brk_trade_rows::{Change, HoldingRow};
+use brk_ref::{HoldingRow, Symbol};
+use brk_trade_rows::Change;
 use std::alloc::{AllocError, AllocFailed, Global};
 use std::collections::{HashMap, VecDeque};
 

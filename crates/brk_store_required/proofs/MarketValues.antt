@@ -4,8 +4,8 @@ use Rattle.std.proofs.lemmas.Int.{ints}
 use Rattle.std.proofs.lemmas.List.{map-append, take_more}
 use Rattle.brk_model.specs.Lists.{total_by}
 use Rattle.brk_model.specs.Tables.{Tables}
-use Rattle.brk_trade_rows.specs.Rows.{abstract_summary_row}
-use Rattle.brk_trade_rows.specs.declared.summary_row.SummaryRow.{SummaryRow}
+use Rattle.brk_ref.specs.Rows.{abstract_summary_row}
+use Rattle.brk_ref.specs.declared.summary_row.SummaryRow.{SummaryRow}
 use Rattle.brk_store_required.specs.Valuation.{market_value_of_summary}
 
 pub total_by-more : {X : Type 0} (f : X → ℤ) (xs : List X) (x : X) → total_by f (xs ++ x ∷ []) ≡ total_by f xs +ℤ f x

@@ -3,7 +3,7 @@
 //! expose.
 
 ghost use Rattle.std.specs.Prelude.{◌≡◌, ◌==◌, IfErr, Some, find};
-ghost use Rattle.brk_trade_rows.specs.Rows.{abstract_settlement_row, abstract_trade_row};
+ghost use Rattle.brk_ref.specs.Rows.{abstract_settlement_row, abstract_trade_row};
 ghost use Rattle.brk_model.specs.Joins.{trade_row_with_id};
 ghost use Rattle.brk_model.specs.Run.{IsCallFault};
 ghost use Rattle.brk_ref.specs.Records.{abstract_tax_rate};
@@ -11,9 +11,9 @@ ghost use Rattle.brk_store_required.specs.Required.{AreTotalsOfBroker, IsAccount
 ghost use Rattle.brk_store_transactions.specs.Holds.{ReadPost};
 
 use brk_money::{Fault, Id};
-use brk_ref::{AccountRow, Customer, Security, Symbol, Tax};
+use brk_ref::{AccountRow, Customer, Security, SettlementRow, Symbol, Tax, TradeRow};
 use brk_store::Store;
-use brk_trade_rows::{BrokerTotals, SettlementRow, TradeRow};
+use brk_trade_rows::BrokerTotals;
 use sqlite::Alter;
 
 /// Returns the row of the trade with the id `id`. If the database is still open, it is unchanged.

@@ -2,16 +2,15 @@
 //! states that a crash before it could expose.
 
 ghost use Rattle.std.specs.Prelude.{◌≡◌, ◌+ℤ◌, ◌*ℤ◌, IfErr, IfSome, pos};
-ghost use Rattle.brk_trade_rows.specs.Rows.{abstract_summary_row};
+ghost use Rattle.brk_ref.specs.Rows.{abstract_summary_row};
 ghost use Rattle.brk_model.specs.Joins.{last_price_in_tables};
 ghost use Rattle.brk_model.specs.Run.{IsCallFault};
 ghost use Rattle.brk_store_transactions.specs.Holds.{ReadPost};
 ghost use Rattle.brk_store_required.specs.Valuation.{AreValuedSummariesOfAccount, market_value_of_summary, market_value_of_account};
 
 use brk_money::{Fault, Id, Price, Wide};
-use brk_ref::Symbol;
+use brk_ref::{SummaryRow, Symbol};
 use brk_store::Store;
-use brk_trade_rows::SummaryRow;
 use sqlite::Alter;
 use std::alloc::Global;
 

@@ -9,14 +9,14 @@ use Rattle.brk_model.specs.Adopted.{posting_of_cash_transaction_row, posting_of_
 use Rattle.brk_model.specs.Derived.{Posting, postings_sorted_by_stamp}
 use Rattle.brk_model.specs.Form.{has_utf8_texts}
 use Rattle.brk_model.specs.Upgraded.{tables_with_merged_cash_rows}
-use Rattle.brk_model.specs.Tables.{CashRow, MoveRow, Tables, numbered_move_rows}
+use Rattle.brk_model.specs.Tables.{OldCashRow, CashRow, Tables, numbered_cash_move_rows}
 use Rattle.brk_ref.specs.declared.key.Kept as kept
 use Rattle.brk_ref.specs.Records.{abstract_kept_row}
-use Rattle.brk_trade_rows.specs.Rows.{abstract_cash_row, abstract_move_row, abstract_trade_row}
-use Rattle.brk_trade_rows.specs.declared.cash_row.CashRow as cash
-use Rattle.brk_trade_rows.specs.declared.move_row.MoveRow as posted
+use Rattle.brk_ref.specs.Rows.{abstract_old_cash_row, abstract_cash_row, abstract_trade_row}
+use Rattle.brk_ref.specs.declared.old_cash_row.OldCashRow as cash
+use Rattle.brk_ref.specs.declared.cash_row.CashRow as posted
 use Rattle.brk_trade_rows.specs.declared.sheets.Sheets.{Sheets}
-use Rattle.brk_trade_rows.specs.declared.trade_row.TradeRow as trade
+use Rattle.brk_ref.specs.declared.trade_row.TradeRow as trade
 use Rattle.brk_tables_scan.specs.KeptKeys.{tables_with_whole_kept_rows}
 
 and_both : (a b : Bool) → a ≡ true → b ≡ true → a && b ≡ true
@@ -37,11 +37,11 @@ trade_texts : (rs : List trade.TradeRow) → list_all (λ r. is_utf8 r.executor)
 trade_texts [] = refl
 trade_texts (r ∷ rs) = and_both _ _ (text_is_utf8 r.executor) (trade_texts rs)
 
-cash_texts : (rs : List cash.CashRow) → list_all (λ r. is_utf8 r.name) (map abstract_cash_row rs) ≡ true
+cash_texts : (rs : List cash.OldCashRow) → list_all (λ r. is_utf8 r.name) (map abstract_old_cash_row rs) ≡ true
 cash_texts [] = refl
 cash_texts (r ∷ rs) = and_both _ _ (text_is_utf8 r.name) (cash_texts rs)
 
-move_texts : (rs : List posted.MoveRow) → list_all (λ r. is_utf8 r.name) (map abstract_move_row rs) ≡ true
+move_texts : (rs : List posted.CashRow) → list_all (λ r. is_utf8 r.name) (map abstract_cash_row rs) ≡ true
 move_texts [] = refl
 move_texts (r ∷ rs) = and_both _ _ (text_is_utf8 r.name) (move_texts rs)
 
@@ -70,18 +70,18 @@ mapped f P Q each (x ∷ xs) h = (each x h.0, mapped f P Q each xs h.1)
 abbrev HasUtf8Name : Posting → Type 0
 HasUtf8Name p = is_utf8 p.name ≡ true
 
-numbered_texts : (n : ℕ) (ps : List Posting) → AllByRecursion HasUtf8Name ps → list_all (λ r. is_utf8 r.name) (numbered_move_rows n ps) ≡ true
+numbered_texts : (n : ℕ) (ps : List Posting) → AllByRecursion HasUtf8Name ps → list_all (λ r. is_utf8 r.name) (numbered_cash_move_rows n ps) ≡ true
 numbered_texts n [] h = refl
 numbered_texts n (p ∷ ps) h = and_both _ _ h.0 (numbered_texts (n + 1) ps h.1)
 
 pub upgraded_texts : (t : Tables) → IsTrue (has_utf8_texts t) → IsTrue (has_utf8_texts (tables_with_merged_cash_rows t))
 unfolding tables_with_merged_cash_rows
 upgraded_texts t h =
-    let upper = and_parts _ (list_all (λ (r : MoveRow). is_utf8 r.name) t.moves) h in
-    let lower = and_parts _ (list_all (λ (r : CashRow). is_utf8 r.name) t.cash) upper.0 in
+    let upper = and_parts _ (list_all (λ (r : CashRow). is_utf8 r.name) t.moves) h in
+    let lower = and_parts _ (list_all (λ (r : OldCashRow). is_utf8 r.name) t.cash) upper.0 in
     and_both _ _ (and_both _ _ lower.0 refl)
     (numbered_texts 1 (postings_sorted_by_stamp (postings_of_tables t))
     (All-sort HasUtf8Name (λ (a b : Posting). nat_lt a.stamp b.stamp) (postings_of_tables t)
     (joined HasUtf8Name (map (posting_of_cash_transaction_row t) t.cash) (map posting_of_cash_move_row t.moves)
-    (mapped (posting_of_cash_transaction_row t) (λ (r : CashRow). is_utf8 r.name ≡ true) HasUtf8Name (λ x k. k) t.cash (all_of (λ (r : CashRow). is_utf8 r.name) t.cash lower.1))
-    (mapped posting_of_cash_move_row (λ (r : MoveRow). is_utf8 r.name ≡ true) HasUtf8Name (λ x k. k) t.moves (all_of (λ (r : MoveRow). is_utf8 r.name) t.moves upper.1)))))
+    (mapped (posting_of_cash_transaction_row t) (λ (r : OldCashRow). is_utf8 r.name ≡ true) HasUtf8Name (λ x k. k) t.cash (all_of (λ (r : OldCashRow). is_utf8 r.name) t.cash lower.1))
+    (mapped posting_of_cash_move_row (λ (r : CashRow). is_utf8 r.name ≡ true) HasUtf8Name (λ x k. k) t.moves (all_of (λ (r : CashRow). is_utf8 r.name) t.moves upper.1)))))

@@ -3,7 +3,7 @@ use Rattle.std.proofs.Common.{◌≡◌, ◌≢◌, pos, List, is_eq, refl, ap, 
 use Rattle.sqlite_value.specs.declared.value.Value.TheVariants.{Int}
 use Rattle.sqlite_value.specs.Order.{column}
 use Rattle.sqlite_value.proofs.OrderLemmas.{then-Equal}
-use Rattle.brk_model.specs.Tables.{Tables, CashRow, MoveRow}
+use Rattle.brk_model.specs.Tables.{Tables, OldCashRow, CashRow}
 use Rattle.brk_model.specs.Keys.{cash_transaction_key, cash_move_key}
 use Rattle.brk_tables_sql.proofs.Writes.{Place, IsRowidKey}
 use Rattle.brk_tables_schema.specs.Shapes.{cash_transaction_table, cash_move_table, settle_rule_table}
@@ -22,11 +22,11 @@ move_keyed tree r s x y e f = let a : column r 0 ≡ Int (pos x.id) = cc in let 
 pub rule_keyed : IsRowidKey settle_rule_table rule_cells (ordering_by_primary_key SettleRules)
 rule_keyed tree r s x y e f = let a : column r 0 ≡ Int (pos x.id) = cc in let b : column s 0 ≡ Int (pos y.id) = cc in rw (a, b) (ap is_eq (then-Equal _))
 
-pub cash_alone : (v : DeskTable) → v ≢ CashRows → (xs : List CashRow) (t : Tables) → rows_of_table v (record t { cash = xs }) ≡ rows_of_table v t
+pub cash_alone : (v : DeskTable) → v ≢ CashRows → (xs : List OldCashRow) (t : Tables) → rows_of_table v (record t { cash = xs }) ≡ rows_of_table v t
 cash_alone CashRows other xs t = absurd (other refl)
 cash_alone v other xs t = refl
 
-pub moves_alone : (v : DeskTable) → v ≢ CashMoves → (xs : List MoveRow) (t : Tables) → rows_of_table v (record t { moves = xs }) ≡ rows_of_table v t
+pub moves_alone : (v : DeskTable) → v ≢ CashMoves → (xs : List CashRow) (t : Tables) → rows_of_table v (record t { moves = xs }) ≡ rows_of_table v t
 moves_alone CashMoves other xs t = absurd (other refl)
 moves_alone v other xs t = refl
 

@@ -13,7 +13,7 @@ use Rattle.sqlite.specs.State.{State}
 use Rattle.sqlite.specs.Values.{bound, bound_value}
 use Rattle.brk_model.specs.LookupView.{is_cash_row_of_trade}
 use Rattle.brk_model.specs.Schemas.{third_schema}
-use Rattle.brk_model.specs.Tables.{Tables, CashRow, MoveRow}
+use Rattle.brk_model.specs.Tables.{Tables, OldCashRow, CashRow}
 use Rattle.brk_tables_sql.specs.Desk.{HasTables, ChangesTablesBy}
 use Rattle.brk_tables_sql.specs.Rows.{IsStrictlyAscending}
 use Rattle.brk_tables_sql.specs.Model.{ExecutesStatement}
@@ -48,7 +48,7 @@ both : {X : Type 0} {a b : X} {xs ys : List X} → a ≡ b → xs ≡ ys → a �
 both e f = ap₂ (λ x xs. x ∷ xs) e f
 
 -- parameters that are a cash row's
-pub params_are : (x : MoveRow) (v0 v1 v2 v3 v4 v5 : ValueRef) → owned v0 ≡ natural_as_value x.id → owned v1 ≡ natural_as_value x.account
+pub params_are : (x : CashRow) (v0 v1 v2 v3 v4 v5 : ValueRef) → owned v0 ≡ natural_as_value x.id → owned v1 ≡ natural_as_value x.account
     → owned v2 ≡ optional_natural_as_value x.trade → owned v3 ≡ natural_as_value x.stamp → owned v4 ≡ Int x.amount → owned v5 ≡ Words x.name
     → bound (v0 ∷ v1 ∷ v2 ∷ v3 ∷ v4 ∷ v5 ∷ []) ≡ move_cells x
 params_are x v0 v1 v2 v3 v4 v5 e0 e1 e2 e3 e4 e5 =
@@ -56,7 +56,7 @@ params_are x v0 v1 v2 v3 v4 v5 e0 e1 e2 e3 e4 e5 =
 
 -- ---- rows that come
 
-pub adds_move : (old new : State) (x : MoveRow) → ExecutesStatement AddMove.statement (move_cells x) old new → ChangesTablesBy desk_tables (tables_with_cash_row x) old.now new.now
+pub adds_move : (old new : State) (x : CashRow) → ExecutesStatement AddMove.statement (move_cells x) old new → ChangesTablesBy desk_tables (tables_with_cash_row x) old.now new.now
 adds_move old new x ran =
     added CashMoves moves x old.now new.now
     (inserts_as desk_tables CashMoves moves AddMove.statement (move_cells x) (read AddMove.statement) AddMove.terms 7
@@ -99,15 +99,15 @@ adds_rule old new day ran = λ t tree h.
 
 -- ---- rows that go
 
-every : (xs : List CashRow) → delete_where (λ _. true) xs ≡ []
+every : (xs : List OldCashRow) → delete_where (λ _. true) xs ≡ []
 every [] = refl
 every (x ∷ xs) = every xs
 
 pub removes_cash : (old new : State) → ExecutesStatement RemoveCashRows.statement [] old new → ChangesTablesBy desk_tables tables_without_cash_transactions old.now new.now
 removes_cash old new ran = λ t tree h.
-    let turned = deletes_as desk_tables CashRows cash_rows RemoveCashRows.statement [] (read RemoveCashRows.statement) RemoveCashRows.terms RemoveCashRows.project (λ (r : CashRow). true)
+    let turned = deletes_as desk_tables CashRows cash_rows RemoveCashRows.statement [] (read RemoveCashRows.statement) RemoveCashRows.terms RemoveCashRows.project (λ (r : OldCashRow). true)
     (λ tree r x e. refl) (λ r. refl) RemoveCashRows.understood_as old new ran.0 ran.1 t tree h in
-    (subst (λ (xs : List CashRow). HasTables desk_tables (record t { cash = xs }) tree new.now) (every t.cash) turned.0, turned.1)
+    (subst (λ (xs : List OldCashRow). HasTables desk_tables (record t { cash = xs }) tree new.now) (every t.cash) turned.0, turned.1)
 
 -- ---- rows that change
 
@@ -118,7 +118,7 @@ sets_cash_name old new trade name ran =
     SetCashName.project (is_cash_row_of_trade trade)
     (λ tree r x e. let a : column r 3 ≡ optional_natural_as_value x.trade = cc in rw (a, same_maybe x.trade trade) (and_true _)) (λ r. refl) SetCashName.understood_as
     (λ r. column r 0 ∷ Null ∷ column r 2 ∷ column r 3 ∷ column r 4 ∷ column r 5 ∷ Words name ∷ [])
-    (λ (r : MoveRow). record r { name = name }) (λ x y. refl) (λ x y. refl) (λ r. refl)
+    (λ (r : CashRow). record r { name = name }) (λ x y. refl) (λ x y. refl) (λ r. refl)
     (λ tree r x whole e.
     let a2 : column r 2 ≡ natural_as_value x.account = cc in
     let a3 : column r 3 ≡ optional_natural_as_value x.trade = cc in

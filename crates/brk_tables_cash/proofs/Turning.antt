@@ -7,7 +7,7 @@ use Rattle.sqlite.specs.State.{State}
 use Rattle.brk_money.specs.declared.fault.Fault.{Fault}
 use Rattle.brk_tables_sql.specs.Model.{IsTransactionStep}
 use Rattle.brk_model.specs.Joins.{trade_row_with_id}
-use Rattle.brk_model.specs.Tables.{Tables, CashRow, MoveRow, TradeRow}
+use Rattle.brk_model.specs.Tables.{Tables, OldCashRow, CashRow, TradeRow}
 use Rattle.brk_trade_rows.specs.Changes.{tables_with_cash_row}
 use Rattle.brk_tables_sql.specs.Desk.{HasTables, TablesSatisfy, ChangesTablesBy}
 use Rattle.brk_tables_sql.proofs.Strangers.{spares_then}
@@ -39,10 +39,10 @@ found : (account : ℕ) (o : Option TradeRow) → Some account ≡ option_map (�
 found account None e = absurd (let f = e in cc)
 found account (Some r) e = cc
 
-abbrev pub numbered_row : (id account : ℕ) → CashRow → MoveRow
+abbrev pub numbered_row : (id account : ℕ) → OldCashRow → CashRow
 numbered_row id account c = record { id = id; account = account; trade = Some c.trade; stamp = c.stamp; amount = c.amount; name = c.name }
 
-pub adds_numbered : (id account : ℕ) (c : CashRow) (a b d : Database) → b ≡ a
+pub adds_numbered : (id account : ℕ) (c : OldCashRow) (a b d : Database) → b ≡ a
     → TablesSatisfy desk_tables (λ t. Some account ≡ option_map (λ r. r.account) (trade_row_with_id t c.trade)) a
     → ChangesTablesBy desk_tables (tables_with_cash_row (numbered_row id account c)) b d → ChangesTablesBy desk_tables (tables_with_numbered_cash_row id c) a d
 adds_numbered id account c a b d still told turns = λ t tree h.
@@ -53,7 +53,7 @@ adds_numbered id account c a b d still told turns = λ t tree h.
 
 -- ---- all of them
 
-pub one_added : (d : CashRow) (cs : List CashRow) (i : ℕ) → i < length cs → (a b c : Database)
+pub one_added : (d : OldCashRow) (cs : List OldCashRow) (i : ℕ) → i < length cs → (a b c : Database)
     → ChangesTablesBy desk_tables (tables_with_cash_rows_numbered_from 1 (take i cs)) a b
     → ChangesTablesBy desk_tables (tables_with_numbered_cash_row (1 + i) (get_or cs i d)) b c
     → ChangesTablesBy desk_tables (tables_with_cash_rows_numbered_from 1 (take (i + 1) cs)) a c
@@ -61,7 +61,7 @@ one_added d cs i lt a b c p q = λ t tree h.
     let both = turns_then (tables_with_cash_rows_numbered_from 1 (take i cs)) (tables_with_numbered_cash_row (1 + i) (get_or cs i d)) a b c p q t tree h in
     (subst (λ u. HasTables desk_tables u tree c) (sym (one_more d cs i lt t)) both.0, both.1)
 
-pub all_added : (rows : List CashRow) (a b c : Database) → b ≡ a → TablesSatisfy desk_tables (λ t. rows ≡ cash_transactions_by_stamp t) a
+pub all_added : (rows : List OldCashRow) (a b c : Database) → b ≡ a → TablesSatisfy desk_tables (λ t. rows ≡ cash_transactions_by_stamp t) a
     → ChangesTablesBy desk_tables (tables_with_cash_rows_numbered_from 1 rows) b c
     → ChangesTablesBy desk_tables (λ t. tables_with_cash_rows_numbered_from 1 (cash_transactions_by_stamp t) t) a c
 all_added rows a b c still told turns = λ t tree h.

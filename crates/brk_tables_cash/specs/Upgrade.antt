@@ -7,7 +7,7 @@ use Rattle.brk_model.specs.Lists.{sort_by_key}
 use Rattle.brk_model.specs.Adopted.{posting_of_cash_transaction_row}
 use Rattle.brk_model.specs.Upgraded.{tables_upgraded_from_schema}
 use Rattle.brk_model.specs.Schemas.{Schema}
-use Rattle.brk_model.specs.Tables.{Tables, CashRow, cash_move_row}
+use Rattle.brk_model.specs.Tables.{Tables, OldCashRow, cash_move_row}
 use Rattle.brk_trade_rows.specs.Changes.{tables_with_cash_row}
 use Rattle.brk_tables_sql.specs.Desk.{HasTables, HasSelectedTables, HasNoWritingForeignKeysAt}
 use Rattle.brk_tables_schema.specs.Desk.{DeskTable, desk_tables, desk_tables_of_schema}
@@ -16,18 +16,18 @@ use Rattle.brk_tables_cash.specs.UpgradeStatements.{tables_without_cash_transact
 
 -- The rows of CASH_TRANSACTION, sorted by stamp, ascending. Rows with equal stamps are in the order
 -- of the table.
-abbrev pub cash_transactions_by_stamp : Tables → List CashRow
+abbrev pub cash_transactions_by_stamp : Tables → List OldCashRow
 cash_transactions_by_stamp t = sort_by_key (λ r. r.stamp) t.cash
 
 -- The tables `t` with the row `c` of CASH_TRANSACTION inserted into CASH_MOVE under the number
 -- `id`, with the account of its trade (0 if the trade does not exist).
-abbrev pub tables_with_numbered_cash_row : ℕ → CashRow → Tables → Tables
+abbrev pub tables_with_numbered_cash_row : ℕ → OldCashRow → Tables → Tables
 tables_with_numbered_cash_row id c t = tables_with_cash_row (cash_move_row id (posting_of_cash_transaction_row t c)) t
 
 -- The tables `t` with the given rows of CASH_TRANSACTION inserted into CASH_MOVE, in order, under
 -- the numbers `n`, `n + 1` and so on, each with the account of its trade
 -- (`tables_with_numbered_cash_row`).
-abbrev pub tables_with_cash_rows_numbered_from : ℕ → List CashRow → Tables → Tables
+abbrev pub tables_with_cash_rows_numbered_from : ℕ → List OldCashRow → Tables → Tables
 tables_with_cash_rows_numbered_from n [] t = t
 tables_with_cash_rows_numbered_from n (c ∷ cs) t = tables_with_cash_rows_numbered_from (n + 1) cs (tables_with_numbered_cash_row n c t)
 

@@ -5,25 +5,25 @@ ghost use Rattle.brk_money.specs.declared.fault.Fault.TheVariants.{Store};
 ghost use Rattle.brk_model.specs.Limits.{greatest_id};
 ghost use Rattle.brk_model.specs.LookupView.{is_cash_row_of_trade};
 ghost use Rattle.brk_trade_rows.specs.Changes.{tables_with_cash_text, tables_with_cash_row};
-ghost use Rattle.brk_trade_rows.specs.Rows.{abstract_move_row};
+ghost use Rattle.brk_ref.specs.Rows.{abstract_cash_row};
 ghost use Rattle.brk_tables_schema.specs.Desk.{CashMoves};
 ghost use Rattle.brk_tables_schema.specs.Statements.{ReadsFirstMatch, ReadsDeskTables, WritesDeskTables};
 
 use brk_money::{Fault, Id};
+use brk_ref::CashRow;
 use brk_tables_schema::calls::{execute_statement, select_rows};
 use brk_tables_schema::record::decode_first_row;
 use brk_tables_schema::values::{
     cash_row_id_as_parameter, cents_as_parameter, id_as_parameter, integer_as_parameter,
     optional_id_as_parameter, stamp_as_parameter, text_as_parameter,
 };
-use brk_trade_rows::MoveRow;
 use sqlite::{Alter, Transaction};
 
 /// Inserts a cash row (CASH_MOVE). Fails with `Store` only, also if its number exists, if its trade
 /// has a cash row, if the row breaks another constraint of the table, or if memory runs out.
-pub fn add_cash_row<S: Alter>(tx: &mut Transaction<'_, S>, row: &MoveRow) -> Result<(), Fault>
+pub fn add_cash_row<S: Alter>(tx: &mut Transaction<'_, S>, row: &CashRow) -> Result<(), Fault>
     ensures same_reference { tx.new.conn.ghost_name ≡ tx.old.conn.ghost_name }
-    ensures step { WritesDeskTables S.Store tx.old tx.new result (tables_with_cash_row (abstract_move_row row.now)) }
+    ensures step { WritesDeskTables S.Store tx.old tx.new result (tables_with_cash_row (abstract_cash_row row.now)) }
     ensures fault { OnErr result (result ≡ Err Store) }
 {
     execute_statement(
@@ -45,9 +45,9 @@ pub fn add_cash_row<S: Alter>(tx: &mut Transaction<'_, S>, row: &MoveRow) -> Res
 /// runs out.
 pub fn cash_row_with_greatest_number<S: Alter>(
     tx: &mut Transaction<'_, S>,
-) -> Result<Option<MoveRow>, Fault>
+) -> Result<Option<CashRow>, Fault>
     ensures same_reference { tx.new.conn.ghost_name ≡ tx.old.conn.ghost_name }
-    ensures step { ReadsDeskTables S.Store tx.old tx.new result (λ o t. option_map abstract_move_row o ≡ slice_get (reverse t.moves) 0) }
+    ensures step { ReadsDeskTables S.Store tx.old tx.new result (λ o t. option_map abstract_cash_row o ≡ slice_get (reverse t.moves) 0) }
     ensures fault { OnErr result (result ≡ Err Store) }
 {
     let rows = select_rows(
@@ -79,9 +79,9 @@ pub fn has_reached_movement_limit<S: Alter>(tx: &mut Transaction<'_, S>) -> Resu
 pub fn cash_row_by_trade<S: Alter>(
     tx: &mut Transaction<'_, S>,
     trade: Id,
-) -> Result<Option<MoveRow>, Fault>
+) -> Result<Option<CashRow>, Fault>
     ensures same_reference { tx.new.conn.ghost_name ≡ tx.old.conn.ghost_name }
-    ensures step { ReadsFirstMatch S.Store tx.old tx.new result CashMoves abstract_move_row (is_cash_row_of_trade trade) }
+    ensures step { ReadsFirstMatch S.Store tx.old tx.new result CashMoves abstract_cash_row (is_cash_row_of_trade trade) }
     ensures fault { OnErr result (result ≡ Err Store) }
 {
     let rows = select_rows(

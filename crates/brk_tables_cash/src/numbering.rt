@@ -2,14 +2,14 @@
 
 ghost use Rattle.std.specs.Prelude.{◌≡◌, IfErr, map};
 ghost use Rattle.brk_model.specs.Run.{IsCallFault};
-ghost use Rattle.brk_trade_rows.specs.Rows.{abstract_cash_row};
+ghost use Rattle.brk_ref.specs.Rows.{abstract_old_cash_row};
 ghost use Rattle.brk_tables_schema.specs.Statements.{WritesDeskTables};
 ghost use Rattle.brk_tables_cash.specs.Upgrade.{tables_with_cash_rows_numbered_from, tables_with_numbered_cash_row};
 
 use crate::moves::add_cash_row;
 use crate::reading::account_id_of_trade;
 use brk_money::{Fault, MoveId};
-use brk_trade_rows::{CashRow, MoveRow};
+use brk_ref::{CashRow, OldCashRow};
 use sqlite::{Alter, Transaction};
 
 // Inserts the cash row of a trade (a row of CASH_TRANSACTION) into CASH_MOVE under the number `id`,
@@ -19,16 +19,16 @@ use sqlite::{Alter, Transaction};
 fn add_numbered_cash_row<S: Alter>(
     tx: &mut Transaction<'_, S>,
     id: MoveId,
-    row: &CashRow,
+    row: &OldCashRow,
 ) -> Result<(), Fault>
     ensures same_reference { tx.new.conn.ghost_name ≡ tx.old.conn.ghost_name }
-    ensures step { WritesDeskTables S.Store tx.old tx.new result (tables_with_numbered_cash_row id (abstract_cash_row row.now)) }
+    ensures step { WritesDeskTables S.Store tx.old tx.new result (tables_with_numbered_cash_row id (abstract_old_cash_row row.now)) }
     ensures fault { IfErr result IsCallFault }
 {
     let Some(account) = account_id_of_trade(tx, row.trade)? else {
         return Err(Fault::Store);
     };
-    let numbered = MoveRow {
+    let numbered = CashRow {
         id,
         account,
         trade: Some(row.trade),
@@ -46,10 +46,10 @@ fn add_numbered_cash_row<S: Alter>(
 /// inserted in the transaction.
 pub fn add_numbered_cash_rows<S: Alter>(
     tx: &mut Transaction<'_, S>,
-    rows: &[CashRow],
+    rows: &[OldCashRow],
 ) -> Result<(), Fault>
     ensures same_reference { tx.new.conn.ghost_name ≡ tx.old.conn.ghost_name }
-    ensures step { WritesDeskTables S.Store tx.old tx.new result (tables_with_cash_rows_numbered_from 1 (map abstract_cash_row rows.now)) }
+    ensures step { WritesDeskTables S.Store tx.old tx.new result (tables_with_cash_rows_numbered_from 1 (map abstract_old_cash_row rows.now)) }
     ensures fault { IfErr result IsCallFault }
 {
     let mut number: u64 = 1;

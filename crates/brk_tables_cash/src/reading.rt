@@ -4,14 +4,14 @@ ghost use Rattle.std.specs.Prelude.{◌≡◌, Err, IfErr, OnErr, map, option_ma
 ghost use Rattle.brk_money.specs.declared.fault.Fault.TheVariants.{Store};
 ghost use Rattle.brk_model.specs.Run.{IsCallFault};
 ghost use Rattle.brk_model.specs.Joins.{trade_row_with_id};
-ghost use Rattle.brk_trade_rows.specs.Rows.{abstract_cash_row};
+ghost use Rattle.brk_ref.specs.Rows.{abstract_old_cash_row};
 ghost use Rattle.brk_tables_schema.specs.Statements.{ReadsDeskTables};
 
 use brk_money::{Fault, Id};
+use brk_ref::OldCashRow;
 use brk_tables_schema::calls::select_rows;
 use brk_tables_schema::record::{decode_first_row, decode_rows};
 use brk_tables_schema::values::id_as_parameter;
-use brk_trade_rows::CashRow;
 use sqlite::{Alter, Transaction};
 use std::alloc::Global;
 
@@ -20,9 +20,9 @@ use std::alloc::Global;
 pub fn all_cash_transactions<S: Alter>(
     tx: &mut Transaction<'_, S>,
     alloc: Global,
-) -> Result<Vec<CashRow>, Fault>
+) -> Result<Vec<OldCashRow>, Fault>
     ensures same_reference { tx.new.conn.ghost_name ≡ tx.old.conn.ghost_name }
-    ensures step { ReadsDeskTables S.Store tx.old tx.new result (λ all t. map abstract_cash_row all.items ≡ t.cash) }
+    ensures step { ReadsDeskTables S.Store tx.old tx.new result (λ all t. map abstract_old_cash_row all.items ≡ t.cash) }
     ensures fault { IfErr result IsCallFault }
 {
     let rows = select_rows(

@@ -19,7 +19,7 @@ use Rattle.brk_model.specs.Form.{is_well_formed_settlement_row, is_well_formed_c
 use Rattle.brk_model.specs.Form.{is_movement_name_and_amount, is_cash_row_number, has_account, is_at_most_last_stamp, has_utf8_texts, has_customer, has_broker}
 use Rattle.brk_model.specs.Form.{is_quantity_in_schema, has_security, has_price_matching_completion}
 use Rattle.brk_model.specs.Schemas.{Schema, third_schema}
-use Rattle.brk_model.specs.Tables.{Tables, MoveRow}
+use Rattle.brk_model.specs.Tables.{Tables, CashRow}
 use Rattle.brk_model_theorems.specs.FormParts.{SatisfiesFormParts}
 use Rattle.brk_model_theorems.proofs.Conjunctions.{parts3, parts4, parts5, parts6, parts10}
 use Rattle.brk_model_theorems.proofs.FormParts.{form_parts}
@@ -181,7 +181,7 @@ module _ (schema : Schema) (narrow : schema.greatest_qty ≤ third_schema.greate
       both (trade_id schema t p r.trade (ap is_some s.1)) (both (stamp_of schema t p r.stamp q.1) (both q.2 (both a.1 refl)))) t.cash
       (all_both (is_well_formed_cash_transaction_row t) _ t.cash p.cash texts)
 
-  cash_of_formed : (r : MoveRow) (trade : Option ℕ) → option_map_or (has_cash_row_name_of_trade t r) trade (is_movement_name_and_amount r.name r.amount) ≡ true
+  cash_of_formed : (r : CashRow) (trade : Option ℕ) → option_map_or (has_cash_row_name_of_trade t r) trade (is_movement_name_and_amount r.name r.amount) ≡ true
       → is_null_or_natural_cell is_id (optional_natural_as_value trade) ≡ true
   cash_of_formed r None h = refl
   cash_of_formed r (Some id) h = let s = some_of (trade_row_with_id t id) (is_cash_row_name_of_trade t r.name) h in trade_id schema t p id (ap is_some s.1)

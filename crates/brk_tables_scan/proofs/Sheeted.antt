@@ -5,8 +5,8 @@ use Rattle.brk_tables_sql.proofs.Order.{map_twice}
 use Rattle.brk_model.specs.Schemas.{Schema}
 use Rattle.brk_ref.specs.Records.{abstract_kept_row, abstract_broker_row, abstract_customer, abstract_account_row, abstract_permission, abstract_security_row}
 use Rattle.brk_ref.specs.Records.{abstract_last_trade_row, abstract_charge, abstract_band, abstract_tax_rate, abstract_customer_tax}
-use Rattle.brk_trade_rows.specs.Rows.{abstract_trade_row, abstract_history_row, abstract_request_row, abstract_holding_row, abstract_summary_row}
-use Rattle.brk_trade_rows.specs.Rows.{abstract_lot_change_row, abstract_settlement_row, abstract_cash_row, abstract_move_row}
+use Rattle.brk_ref.specs.Rows.{abstract_trade_row, abstract_history_row, abstract_request_row, abstract_holding_row, abstract_summary_row}
+use Rattle.brk_ref.specs.Rows.{abstract_lot_change_row, abstract_settlement_row, abstract_old_cash_row, abstract_cash_row}
 use Rattle.brk_trade_rows.specs.declared.sheets.Sheets.{Sheets}
 use Rattle.brk_tables_schema.specs.Cells.{kept_cells, broker_cells, customer_cells, account_cells, permission_cells, security_cells, last_trade_cells}
 use Rattle.brk_tables_schema.specs.Cells.{charge_cells, band_cells, tax_rate_cells, customer_tax_cells, trade_cells, history_cells, request_cells}
@@ -79,8 +79,8 @@ module _ (f : DeskBrokerAndCustomerSheets) (a : AccountAndSecuritySheets) (r : C
   each Summaries = map_twice summary_cells abstract_summary_row l.summaries.items ∙ is_l.summaries
   each HoldingHistory = map_twice holding_history_cells abstract_lot_change_row l.holding_history.items ∙ is_l.holding_history
   each Settlements = map_twice settlement_cells abstract_settlement_row l.settlements.items ∙ is_l.settlements
-  each CashRows = map_twice cash_cells abstract_cash_row l.cash.items ∙ is_l.cash
-  each CashMoves = map_twice move_cells abstract_move_row n.moves.items ∙ is_n.moves
+  each CashRows = map_twice cash_cells abstract_old_cash_row l.cash.items ∙ is_l.cash
+  each CashMoves = map_twice move_cells abstract_cash_row n.moves.items ∙ is_n.moves
   each SettleRules = is_n.rule
 
   pub are_sheets : DecodesSheets desk (sheets f a r t l n) raw

@@ -7,8 +7,8 @@ use Rattle.sqlite.specs.State.{State}
 use Rattle.brk_model.specs.Schemas.{Schema}
 use Rattle.brk_ref.specs.Records.{abstract_broker_row, abstract_customer, abstract_account_row, abstract_permission, abstract_security_row}
 use Rattle.brk_ref.specs.Records.{abstract_last_trade_row, abstract_charge, abstract_band, abstract_tax_rate, abstract_customer_tax}
-use Rattle.brk_trade_rows.specs.Rows.{abstract_trade_row, abstract_history_row, abstract_request_row, abstract_holding_row, abstract_summary_row}
-use Rattle.brk_trade_rows.specs.Rows.{abstract_lot_change_row, abstract_settlement_row, abstract_cash_row, abstract_move_row}
+use Rattle.brk_ref.specs.Rows.{abstract_trade_row, abstract_history_row, abstract_request_row, abstract_holding_row, abstract_summary_row}
+use Rattle.brk_ref.specs.Rows.{abstract_lot_change_row, abstract_settlement_row, abstract_old_cash_row, abstract_cash_row}
 use Rattle.brk_ref.specs.Records.{abstract_key}
 use Rattle.brk_ref.specs.declared.key.Kept as typed
 use Rattle.brk_trade_rows.specs.declared.sheets.Sheets.{Sheets}
@@ -111,7 +111,7 @@ pub record DecodesSummaryHistoryAndCashTables (sheets : SummaryHistoryAndCashShe
   pub summaries : map (λ r. summary_cells (abstract_summary_row r)) sheets.summaries.items ≡ raw.summaries
   pub holding_history : map (λ r. holding_history_cells (abstract_lot_change_row r)) sheets.holding_history.items ≡ raw.holding_history
   pub settlements : map (λ r. settlement_cells (abstract_settlement_row r)) sheets.settlements.items ≡ raw.settlements
-  pub cash : map (λ r. cash_cells (abstract_cash_row r)) sheets.cash.items ≡ raw.cash
+  pub cash : map (λ r. cash_cells (abstract_old_cash_row r)) sheets.cash.items ≡ raw.cash
 
 -- True if each raw row of HOLDING_SUMMARY, HOLDING_HISTORY, SETTLEMENT and CASH_TRANSACTION has
 -- exactly the columns of its table, each well-formed (`passes_all_cell_checks`).
@@ -126,7 +126,7 @@ are_summary_history_and_cash_rows_well_formed raw =
 -- `sheets`. SETTLE_RULE has one row if `sheets` has a first day of one-day settlement, otherwise
 -- none.
 pub record DecodesLaterSchemaTables (sheets : LaterSchemaSheets) (raw : LaterSchemaRows) : Type 0 where
-  pub moves : map (λ r. move_cells (abstract_move_row r)) sheets.moves.items ≡ raw.moves
+  pub moves : map (λ r. move_cells (abstract_cash_row r)) sheets.moves.items ≡ raw.moves
   pub rule : map rule_cells (rule_rows sheets.rule) ≡ raw.rule
 
 -- True if each raw row of CASH_MOVE and SETTLE_RULE has exactly the columns of its table, each

@@ -20,13 +20,11 @@ use crate::rows::{
 };
 use brk_money::{Day, Fault, Stamp};
 use brk_ref::{
-    AccountRow, Band, BrokerRow, Charge, Customer, CustomerTax, Key, LastTrade, Permission,
-    Security, Tax,
+    AccountRow, Band, BrokerRow, CashRow, Charge, Customer, CustomerTax, HistoryRow, HoldingRow,
+    Key, LastTrade, LotChange, OldCashRow, Permission, RequestRow, Security, SettlementRow,
+    SummaryRow, Tax, TradeRow,
 };
-use brk_trade_rows::{
-    CashRow, HistoryRow, HoldingRow, LotChange, MoveRow, RequestRow, Schema, SettlementRow, Sheets,
-    SummaryRow, TradeRow,
-};
+use brk_trade_rows::{Schema, Sheets};
 use sqlite::{Alter, Transaction};
 use std::alloc::Global;
 
@@ -178,7 +176,7 @@ pub struct SummaryHistoryAndCashSheets {
     summaries: Vec<SummaryRow>,
     holding_history: Vec<LotChange>,
     settlements: Vec<SettlementRow>,
-    cash: Vec<CashRow>,
+    cash: Vec<OldCashRow>,
 }
 
 // Returns the decoded rows of HOLDING_SUMMARY, HOLDING_HISTORY, SETTLEMENT and CASH_TRANSACTION,
@@ -210,7 +208,7 @@ fn read_summary_history_and_cash_tables<S: Alter>(
 /// The typed rows of CASH_MOVE and SETTLE_RULE.
 #[derive(Drop)]
 pub struct LaterSchemaSheets {
-    moves: Vec<MoveRow>,
+    moves: Vec<CashRow>,
     rule: Option<Day>,
 }
 

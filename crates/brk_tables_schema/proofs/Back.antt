@@ -11,7 +11,7 @@ use Rattle.brk_money.specs.declared.trade_type.TradeType.{TradeType}
 use Rattle.brk_money.specs.declared.trade_type.TradeType.TheVariants.{MarketBuy, MarketSell, StopLoss, LimitSell, LimitBuy}
 use Rattle.brk_model.specs.Forms.{trade_type_with_code}
 use Rattle.brk_model.specs.Records.{Customer, Permission, Charge, Band, TaxRate, CustomerTax, Kept}
-use Rattle.brk_model.specs.Tables.{BrokerRow, AccountRow, SecurityRow, MoveRow}
+use Rattle.brk_model.specs.Tables.{BrokerRow, AccountRow, SecurityRow, CashRow}
 use Rattle.brk_tables_sql.proofs.Decode.{text_in}
 use Rattle.brk_tables_schema.specs.Cells.{DeskRow, RuleRow, optional_natural_as_value, move_cells, rule_cells, desk_row_cells, kept_cells, broker_cells}
 use Rattle.brk_tables_schema.specs.Cells.{customer_cells, account_cells, permission_cells, security_cells, charge_cells, band_cells, tax_rate_cells}
@@ -145,7 +145,7 @@ pub customer_tax_is_back : (x : CustomerTax) → customer_tax_back (customer_tax
 unfolding customer_tax_back
 customer_tax_is_back x = refl
 
-pub move_back : Row → MoveRow
+pub move_back : Row → CashRow
 move_back r = record {
   id = number_in (column r 0);
   account = number_in (column r 1);
@@ -156,9 +156,9 @@ move_back r = record {
   name = text_in (column r 5);
 }
 
-pub move_is_back : (m : MoveRow) → move_back (move_cells m) ≡ m
+pub move_is_back : (m : CashRow) → move_back (move_cells m) ≡ m
 unfolding move_back text_in
-move_is_back m = ap (λ t. let r : MoveRow = record m { trade = t } in r) (maybe_back m.trade)
+move_is_back m = ap (λ t. let r : CashRow = record m { trade = t } in r) (maybe_back m.trade)
 
 pub rule_back : Row → RuleRow
 rule_back r = record { id = number_in (column r 0); day = number_in (column r 1) }

@@ -6,7 +6,7 @@ use Rattle.sqlite_rules.specs.Edit.{id_in}
 use Rattle.brk_money.specs.Kinds.{trade_status_code, trade_type_code}
 use Rattle.brk_money.specs.declared.status.Status.{Status}
 use Rattle.brk_money.specs.declared.status.Status.TheVariants.{Completed, Active, Submitted, Pending, Canceled}
-use Rattle.brk_model.specs.Tables.{TradeRow, RequestRow, LastTradeRow, HistoryRow, HoldingRow, SummaryRow, HoldingHistoryRow, SettlementRow, CashRow}
+use Rattle.brk_model.specs.Tables.{TradeRow, RequestRow, LastTradeRow, HistoryRow, HoldingRow, SummaryRow, HoldingHistoryRow, SettlementRow, OldCashRow}
 use Rattle.brk_tables_sql.proofs.Decode.{text_in}
 use Rattle.brk_tables_schema.specs.Cells.{natural_as_value, flag_as_value, optional_natural_as_value, trade_cells, request_cells, last_trade_cells}
 use Rattle.brk_tables_schema.specs.Cells.{history_cells, holding_cells, summary_cells, holding_history_cells, settlement_cells, cash_cells}
@@ -147,10 +147,10 @@ pub settlement_is_back : (s : SettlementRow) → settlement_back (settlement_cel
 unfolding settlement_back text_in
 settlement_is_back s = refl
 
-pub cash_back : Row → CashRow
+pub cash_back : Row → OldCashRow
 cash_back r = record { trade = number_in (column r 0); stamp = number_in (column r 1); amount = id_in (column r 2); name = text_in (column r 3) }
 
-pub cash_is_back : (c : CashRow) → cash_back (cash_cells c) ≡ c
+pub cash_is_back : (c : OldCashRow) → cash_back (cash_cells c) ≡ c
 unfolding cash_back text_in
 cash_is_back c = refl
 

@@ -7,7 +7,7 @@ use Rattle.sqlite.specs.Values.{or_null}
 use Rattle.brk_money.specs.Kinds.{trade_type_code, trade_status_code, tax_status_number}
 use Rattle.brk_model.specs.Records.{Customer, Permission, Charge, Band, TaxRate, CustomerTax, Kept}
 use Rattle.brk_model.specs.Tables.{BrokerRow, AccountRow, SecurityRow, LastTradeRow, TradeRow, HistoryRow, RequestRow, HoldingRow, SummaryRow}
-use Rattle.brk_model.specs.Tables.{HoldingHistoryRow, SettlementRow, CashRow, MoveRow}
+use Rattle.brk_model.specs.Tables.{HoldingHistoryRow, SettlementRow, OldCashRow, CashRow}
 
 -- A row of DESK: its id (D_ID), the number of the schema (D_SCHEMA), and the stamp of the last
 -- accepted command in milliseconds since 1970-01-01 UTC, or `None` if there is none (D_LAST).
@@ -122,11 +122,11 @@ abbrev pub settlement_cells : SettlementRow → Row
 settlement_cells r = natural_as_value r.trade ∷ Words r.cash_type ∷ natural_as_value r.due_day ∷ Int r.amount ∷ []
 
 -- The SQL values of a row of CASH_TRANSACTION, in the order of its columns.
-abbrev pub cash_cells : CashRow → Row
+abbrev pub cash_cells : OldCashRow → Row
 cash_cells r = natural_as_value r.trade ∷ natural_as_value r.stamp ∷ Int r.amount ∷ Words r.name ∷ []
 
 -- The SQL values of a row of CASH_MOVE, in the order of its columns.
-abbrev pub move_cells : MoveRow → Row
+abbrev pub move_cells : CashRow → Row
 move_cells r =
     natural_as_value r.id ∷ natural_as_value r.account ∷ optional_natural_as_value r.trade ∷ natural_as_value r.stamp ∷ Int r.amount ∷ Words r.name
     ∷ []

@@ -6,7 +6,7 @@ use Rattle.sqlite_schema.specs.declared.schema.Table.{Table}
 use Rattle.brk_model.specs.Records.{Customer, Permission, Charge, Band, TaxRate, CustomerTax, Kept}
 use Rattle.brk_model.specs.Schemas.{Schema, third_schema}
 use Rattle.brk_model.specs.Tables.{Tables, BrokerRow, AccountRow, SecurityRow, LastTradeRow, TradeRow, HistoryRow, RequestRow, HoldingRow, SummaryRow}
-use Rattle.brk_model.specs.Tables.{HoldingHistoryRow, SettlementRow, CashRow, MoveRow}
+use Rattle.brk_model.specs.Tables.{HoldingHistoryRow, SettlementRow, OldCashRow, CashRow}
 use Rattle.brk_model.specs.Keys.{KeyPart, number, kept_key, broker_key, customer_key, account_key, permission_key, security_key, last_trade_key}
 use Rattle.brk_model.specs.Keys.{charge_key, band_key, tax_rate_key, customer_tax_key, trade_key, history_key, request_key, holding_key, summary_key}
 use Rattle.brk_model.specs.Keys.{holding_history_key, settlement_key, cash_transaction_key, cash_move_key}
@@ -146,8 +146,8 @@ RecordOfTable Holdings = HoldingRow
 RecordOfTable Summaries = SummaryRow
 RecordOfTable HoldingHistory = HoldingHistoryRow
 RecordOfTable Settlements = SettlementRow
-RecordOfTable CashRows = CashRow
-RecordOfTable CashMoves = MoveRow
+RecordOfTable CashRows = OldCashRow
+RecordOfTable CashMoves = CashRow
 RecordOfTable SettleRules = RuleRow
 
 -- The SQL row that encodes a record of the table `w`: its values in the order of the columns.

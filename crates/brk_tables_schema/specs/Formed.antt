@@ -14,9 +14,9 @@ use Rattle.brk_model.specs.Limits.{greatest_amount, greatest_charge, greatest_co
 use Rattle.brk_model.specs.Form.{is_id, is_cash_row_number, is_quantity_in_schema, is_price, is_tier}
 use Rattle.brk_model.specs.Schemas.{Schema, third_schema}
 use Rattle.brk_model.specs.Forms.{is_name, is_tax_id, is_symbol, is_exchange, is_acl, is_batch_name, trade_type_with_code}
-use Rattle.brk_trade_rows.specs.Rows.{cash_type_text}
-use Rattle.brk_trade_rows.specs.declared.cash_type.CashType.{CashType}
-use Rattle.brk_trade_rows.specs.declared.cash_type.CashType.TheVariants.{CashAccount, Cash, Margin, MarginAccount}
+use Rattle.brk_ref.specs.Rows.{cash_type_text}
+use Rattle.brk_ref.specs.declared.cash_type.CashType.{CashType}
+use Rattle.brk_ref.specs.declared.cash_type.CashType.TheVariants.{CashAccount, Cash, Margin, MarginAccount}
 
 -- ---- The check of one column
 

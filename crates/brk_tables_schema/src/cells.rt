@@ -5,7 +5,7 @@ ghost use Rattle.std.specs.Prelude.{◌≡◌, ◌≢◌, ◌<◌, ◌^◌, Err,
 ghost use Rattle.sqlite_value.specs.declared.value.Value.TheVariants.{Int, Text};
 ghost use Rattle.sqlite_value.specs.Order.{column};
 ghost use Rattle.brk_money.specs.Kinds.{trade_status_code, tax_status_number, trade_type_code};
-ghost use Rattle.brk_trade_rows.specs.Rows.{cash_type_text};
+ghost use Rattle.brk_ref.specs.Rows.{cash_type_text};
 ghost use Rattle.brk_model.specs.Form.{is_id, is_price};
 ghost use Rattle.brk_tables_schema.specs.Cells.{flag_as_value, optional_natural_as_value};
 ghost use Rattle.brk_tables_schema.specs.Formed.{is_signed_amount_cell, is_charge_cell, is_day_cell, is_flag_cell, is_id_cell, is_cash_type_text};
@@ -19,8 +19,10 @@ use crate::decode_error::{DecodeError, decode_error_of_read_error};
 use brk_money::{
     Cents, Day, Id, MoveId, Price, Qty, Rate, Stamp, Status, TaxRate, TaxStatus, TradeType,
 };
-use brk_ref::{ChargeAmount, Form, RowNumber, Text as FormedText, Tier, Volume, parse_trade_type};
-use brk_trade_rows::{Amount, CashType};
+use brk_ref::{
+    CashType, ChargeAmount, Form, RowNumber, Text as FormedText, Tier, Volume, parse_trade_type,
+};
+use brk_trade_rows::Amount;
 use sqlite::Row;
 use sqlite::types::FromSql;
 use sqlite_value::value::ValueRef;

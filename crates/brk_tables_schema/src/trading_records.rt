@@ -2,8 +2,8 @@
 
 ghost use Rattle.std.specs.Prelude.{◌∷◌, []};
 ghost use Rattle.brk_ref.specs.Records.{abstract_last_trade_row};
-ghost use Rattle.brk_trade_rows.specs.Rows.{abstract_cash_row, abstract_history_row, abstract_holding_row, abstract_lot_change_row, abstract_move_row};
-ghost use Rattle.brk_trade_rows.specs.Rows.{abstract_request_row, abstract_settlement_row, abstract_summary_row, abstract_trade_row};
+ghost use Rattle.brk_ref.specs.Rows.{abstract_old_cash_row, abstract_history_row, abstract_holding_row, abstract_lot_change_row, abstract_cash_row};
+ghost use Rattle.brk_ref.specs.Rows.{abstract_request_row, abstract_settlement_row, abstract_summary_row, abstract_trade_row};
 ghost use Rattle.brk_tables_schema.specs.Cells.{cash_cells, history_cells, holding_cells, holding_history_cells, last_trade_cells, move_cells};
 ghost use Rattle.brk_tables_schema.specs.Cells.{natural_as_value, request_cells, settlement_cells, summary_cells, trade_cells};
 ghost use Rattle.brk_tables_schema.specs.Formed.{cash_column_cell_checks, history_column_cell_checks, holding_column_cell_checks};
@@ -21,10 +21,9 @@ use crate::cells::{
 use crate::decode_error::DecodeError;
 use crate::record::Record;
 use brk_money::Id;
-use brk_ref::LastTrade;
-use brk_trade_rows::{
-    CashRow, HistoryRow, HoldingRow, LotChange, MoveRow, RequestRow, SettlementRow, SummaryRow,
-    TradeRow,
+use brk_ref::{
+    CashRow, HistoryRow, HoldingRow, LastTrade, LotChange, OldCashRow, RequestRow, SettlementRow,
+    SummaryRow, TradeRow,
 };
 use sqlite::Row;
 
@@ -185,16 +184,16 @@ impl Record for SettlementRow {
     }
 }
 
-impl Record for CashRow {
-    ghost cells = { λ r. cash_cells (abstract_cash_row r) };
+impl Record for OldCashRow {
+    ghost cells = { λ r. cash_cells (abstract_old_cash_row r) };
 
     ghost forms = { cash_column_cell_checks };
 
     /// Decodes a row of CASH_TRANSACTION. Fails with `Form`, only if a column is malformed or the
     /// number of columns is not 4, or with `Memory`.
-    fn from_row(row: &Row) -> Result<CashRow, DecodeError> {
+    fn from_row(row: &Row) -> Result<OldCashRow, DecodeError> {
         check_column_count(row, 4)?;
-        Ok(CashRow {
+        Ok(OldCashRow {
             trade: id_in_column(row, 0)?,
             stamp: stamp_in_column(row, 1)?,
             amount: cents_in_column(row, 2)?,
@@ -203,16 +202,16 @@ impl Record for CashRow {
     }
 }
 
-impl Record for MoveRow {
-    ghost cells = { λ r. move_cells (abstract_move_row r) };
+impl Record for CashRow {
+    ghost cells = { λ r. move_cells (abstract_cash_row r) };
 
     ghost forms = { move_column_cell_checks };
 
     /// Decodes a row of CASH_MOVE. Fails with `Form`, only if a column is malformed or the number
     /// of columns is not 6, or with `Memory`.
-    fn from_row(row: &Row) -> Result<MoveRow, DecodeError> {
+    fn from_row(row: &Row) -> Result<CashRow, DecodeError> {
         check_column_count(row, 6)?;
-        Ok(MoveRow {
+        Ok(CashRow {
             id: cash_row_id_in_column(row, 0)?,
             account: id_in_column(row, 1)?,
             trade: optional_id_in_column(row, 2)?,

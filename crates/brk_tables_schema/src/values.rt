@@ -4,14 +4,14 @@ ghost use Rattle.std.specs.Prelude.{◌≡◌, pos};
 ghost use Rattle.sqlite_value.specs.Value.{owned};
 ghost use Rattle.sqlite_value.specs.declared.value.Value.TheVariants.{Int, Text};
 ghost use Rattle.brk_money.specs.Kinds.{trade_status_code, tax_status_number, trade_type_code};
-ghost use Rattle.brk_trade_rows.specs.Rows.{cash_type_text};
+ghost use Rattle.brk_ref.specs.Rows.{cash_type_text};
 ghost use Rattle.brk_tables_schema.specs.Cells.{flag_as_value, optional_natural_as_value};
 
 use brk_money::{
     Cents, Day, Id, MoveId, Price, Qty, Rate, Stamp, Status, TaxRate, TaxStatus, TradeType,
 };
-use brk_ref::{ChargeAmount, RowNumber, Tier, Volume};
-use brk_trade_rows::{Amount, CashType};
+use brk_ref::{CashType, ChargeAmount, RowNumber, Tier, Volume};
+use brk_trade_rows::Amount;
 use sqlite_value::value::ValueRef;
 
 /// Converts an integer of 64 bits to an INTEGER, as the parameter of a statement.

@@ -22,7 +22,7 @@ use Rattle.brk_tables_schema.specs.Desk.{Holdings, Summaries, desk_tables, order
 use Rattle.brk_tables_schema.specs.Order.{ordering_by_key}
 use Rattle.brk_tables_schema.proofs.Order.{key_total, inserted}
 use Rattle.brk_tables_schema.proofs.Tests.{same_number, same_text}
-use Rattle.brk_trade_rows.specs.Rows.{lot_age_key, lots_oldest_first}
+use Rattle.brk_ref.specs.Rows.{lot_age_key, lots_oldest_first}
 use Rattle.brk_tables_trading.specs.Pages.{page_after_skipped, page_size}
 use Rattle.brk_tables_trading.proofs.NewestLots
 use Rattle.brk_tables_trading.proofs.OldestLots

@@ -2,7 +2,7 @@
 use Rattle.std.specs.Prelude.{ℕ, ◌==◌, ◌&&◌, List, bytes_eq, drop, filter, take}
 use Rattle.brk_money.specs.Spelling.{Text}
 use Rattle.brk_model.specs.Tables.{Tables, HoldingRow}
-use Rattle.brk_trade_rows.specs.Rows.{lots_oldest_first}
+use Rattle.brk_ref.specs.Rows.{lots_oldest_first}
 
 -- The greatest number of rows of a page: 16.
 abbrev pub page_size : ℕ

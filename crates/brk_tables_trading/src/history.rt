@@ -1,13 +1,13 @@
 ghost use Rattle.std.specs.Prelude.{◌≡◌, Err, OnErr};
 ghost use Rattle.brk_money.specs.declared.fault.Fault.TheVariants.{Store};
 ghost use Rattle.brk_trade_rows.specs.Changes.{tables_with_history_row};
-ghost use Rattle.brk_trade_rows.specs.Rows.{abstract_history_row};
+ghost use Rattle.brk_ref.specs.Rows.{abstract_history_row};
 ghost use Rattle.brk_tables_schema.specs.Statements.{WritesDeskTables};
 
 use brk_money::Fault;
+use brk_ref::HistoryRow;
 use brk_tables_schema::calls::execute_statement;
 use brk_tables_schema::values::{id_as_parameter, stamp_as_parameter, status_as_parameter};
-use brk_trade_rows::HistoryRow;
 use sqlite::{Alter, Transaction};
 
 /// Inserts a row of TRADE_HISTORY: a status that a trade reached, and the stamp of this change.

@@ -3,16 +3,16 @@
 ghost use Rattle.std.specs.Prelude.{◌≡◌, Err, OnErr};
 ghost use Rattle.brk_money.specs.declared.fault.Fault.TheVariants.{Store};
 ghost use Rattle.brk_trade_rows.specs.Changes.{tables_with_lot, tables_with_lot_change, tables_with_lot_quantity, tables_without_lot};
-ghost use Rattle.brk_trade_rows.specs.Rows.{abstract_holding_row, abstract_lot_change_row};
+ghost use Rattle.brk_ref.specs.Rows.{abstract_holding_row, abstract_lot_change_row};
 ghost use Rattle.brk_tables_schema.specs.Statements.{WritesDeskTables};
 
 use brk_money::{Fault, Id};
+use brk_ref::{HoldingRow, LotChange};
 use brk_tables_schema::calls::execute_statement;
 use brk_tables_schema::values::{
     id_as_parameter, integer_as_parameter, price_as_parameter, stamp_as_parameter,
     text_as_parameter,
 };
-use brk_trade_rows::{HoldingRow, LotChange};
 use sqlite::{Alter, Transaction};
 
 /// Inserts the lot that a trade opened (HOLDING). Fails with `Store` only, also if a lot of this

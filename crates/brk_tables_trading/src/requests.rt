@@ -3,19 +3,18 @@ ghost use Rattle.brk_money.specs.Kinds.{is_same_trade_type};
 ghost use Rattle.brk_money.specs.declared.fault.Fault.TheVariants.{Store};
 ghost use Rattle.brk_model.specs.Run.{IsCallFault};
 ghost use Rattle.brk_trade_rows.specs.Changes.{tables_with_request, tables_without_request};
-ghost use Rattle.brk_trade_rows.specs.Rows.{abstract_request_row};
+ghost use Rattle.brk_ref.specs.Rows.{abstract_request_row};
 ghost use Rattle.brk_tables_schema.specs.Desk.{Requests};
 ghost use Rattle.brk_tables_schema.specs.Statements.{ReadsMatchingRows, WritesDeskTables};
 
 use brk_money::{Fault, Id, Price, TradeType};
-use brk_ref::Symbol;
+use brk_ref::{RequestRow, Symbol};
 use brk_tables_schema::calls::{execute_statement, select_rows};
 use brk_tables_schema::record::decode_rows;
 use brk_tables_schema::values::{
     id_as_parameter, price_as_parameter, quantity_as_parameter, text_as_parameter,
     trade_type_as_parameter,
 };
-use brk_trade_rows::RequestRow;
 use sqlite::{Alter, Transaction};
 use std::alloc::Global;
 

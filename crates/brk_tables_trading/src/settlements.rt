@@ -3,15 +3,15 @@
 ghost use Rattle.std.specs.Prelude.{◌≡◌, Err, OnErr};
 ghost use Rattle.brk_money.specs.declared.fault.Fault.TheVariants.{Store};
 ghost use Rattle.brk_trade_rows.specs.Changes.{tables_with_settlement};
-ghost use Rattle.brk_trade_rows.specs.Rows.{abstract_settlement_row};
+ghost use Rattle.brk_ref.specs.Rows.{abstract_settlement_row};
 ghost use Rattle.brk_tables_schema.specs.Statements.{WritesDeskTables};
 
 use brk_money::Fault;
+use brk_ref::SettlementRow;
 use brk_tables_schema::calls::execute_statement;
 use brk_tables_schema::values::{
     cash_type_as_parameter, cents_as_parameter, day_as_parameter, id_as_parameter,
 };
-use brk_trade_rows::SettlementRow;
 use sqlite::{Alter, Transaction};
 
 /// Inserts the settlement of a completed trade (SETTLEMENT): its cash type, due day and amount in

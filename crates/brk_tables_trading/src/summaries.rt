@@ -4,14 +4,13 @@
 ghost use Rattle.std.specs.Prelude.{◌≡◌, Err, OnErr};
 ghost use Rattle.brk_money.specs.declared.fault.Fault.TheVariants.{Store};
 ghost use Rattle.brk_trade_rows.specs.Changes.{tables_with_summary, tables_with_summary_quantity, tables_without_summary};
-ghost use Rattle.brk_trade_rows.specs.Rows.{abstract_summary_row};
+ghost use Rattle.brk_ref.specs.Rows.{abstract_summary_row};
 ghost use Rattle.brk_tables_schema.specs.Statements.{WritesDeskTables};
 
 use brk_money::{Fault, Id};
-use brk_ref::Symbol;
+use brk_ref::{SummaryRow, Symbol};
 use brk_tables_schema::calls::execute_statement;
 use brk_tables_schema::values::{id_as_parameter, integer_as_parameter, text_as_parameter};
-use brk_trade_rows::SummaryRow;
 use sqlite::{Alter, Transaction};
 
 /// Inserts the holding summary of an account in a security. Fails with `Store` only, also if one

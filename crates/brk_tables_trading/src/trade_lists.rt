@@ -4,15 +4,15 @@
 ghost use Rattle.std.specs.Prelude.{◌≡◌, ◌==◌, IfErr, map, take};
 ghost use Rattle.brk_model.specs.Joins.{trade_rows_recent_first, trade_rows_of_account};
 ghost use Rattle.brk_model.specs.Run.{IsCallFault};
-ghost use Rattle.brk_trade_rows.specs.Rows.{abstract_history_row, abstract_trade_row};
+ghost use Rattle.brk_ref.specs.Rows.{abstract_history_row, abstract_trade_row};
 ghost use Rattle.brk_tables_schema.specs.Desk.{TradeHistory};
 ghost use Rattle.brk_tables_schema.specs.Statements.{ReadsMatchingRows, ReadsDeskTables};
 
 use brk_money::{Fault, Id};
+use brk_ref::{HistoryRow, TradeRow};
 use brk_tables_schema::calls::select_rows;
 use brk_tables_schema::record::decode_rows;
 use brk_tables_schema::values::id_as_parameter;
-use brk_trade_rows::{HistoryRow, TradeRow};
 use sqlite::{Alter, Transaction};
 use std::alloc::Global;
 

@@ -4,11 +4,12 @@ ghost use Rattle.brk_money.specs.declared.fault.Fault.TheVariants.{Store};
 ghost use Rattle.brk_money.specs.declared.status.Status.TheVariants.{Submitted};
 ghost use Rattle.brk_model.specs.Run.{IsCallFault};
 ghost use Rattle.brk_trade_rows.specs.Changes.{tables_with_trade_completed, tables_with_trade_status, tables_with_trade};
-ghost use Rattle.brk_trade_rows.specs.Rows.{abstract_trade_row};
+ghost use Rattle.brk_ref.specs.Rows.{abstract_trade_row};
 ghost use Rattle.brk_tables_schema.specs.Desk.{Trades};
 ghost use Rattle.brk_tables_schema.specs.Statements.{ReadsFirstMatch, ReadsMatchingRows, ReadsDeskTables, WritesDeskTables};
 
 use brk_money::{Fault, Id, Price, Stamp, Status};
+use brk_ref::TradeRow;
 use brk_tables_schema::calls::{execute_statement, select_rows};
 use brk_tables_schema::record::{decode_first_row, decode_rows};
 use brk_tables_schema::values::{
@@ -16,7 +17,7 @@ use brk_tables_schema::values::{
     optional_price_as_parameter, price_as_parameter, quantity_as_parameter, stamp_as_parameter,
     status_as_parameter, text_as_parameter, trade_type_as_parameter,
 };
-use brk_trade_rows::{Amount, TradeRow};
+use brk_trade_rows::Amount;
 use sqlite::{Alter, Transaction};
 use std::alloc::Global;
 

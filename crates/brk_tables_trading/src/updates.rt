@@ -5,19 +5,18 @@ ghost use Rattle.brk_money.specs.declared.fault.Fault.TheVariants.{Store};
 ghost use Rattle.brk_model.specs.Run.{IsCallFault};
 ghost use Rattle.brk_trade_rows.specs.Changes.{tables_with_cash_type, tables_with_executor_name};
 ghost use Rattle.brk_trade_rows.specs.Chosen as chosen;
-ghost use Rattle.brk_trade_rows.specs.Rows.{cash_type_text, abstract_settlement_row, abstract_trade_row};
+ghost use Rattle.brk_ref.specs.Rows.{cash_type_text, abstract_settlement_row, abstract_trade_row};
 ghost use Rattle.brk_tables_schema.specs.Desk.{Settlements};
 ghost use Rattle.brk_tables_schema.specs.Statements.{ReadsFirstMatch, ReadsDeskTables, WritesDeskTables};
 
 use brk_money::{Fault, Id, Stamp, Status};
-use brk_ref::Symbol;
+use brk_ref::{CashType, SettlementRow, Symbol, TradeRow};
 use brk_tables_schema::calls::{execute_statement, select_rows};
 use brk_tables_schema::record::{decode_first_row, decode_rows};
 use brk_tables_schema::values::{
     cash_type_as_parameter, flag_as_parameter, id_as_parameter, stamp_as_parameter,
     status_as_parameter, text_as_parameter,
 };
-use brk_trade_rows::{CashType, SettlementRow, TradeRow};
 use sqlite::{Alter, Transaction};
 use std::alloc::Global;
 

@@ -3,7 +3,7 @@ use Rattle.std.specs.Prelude.{◌≡◌, ℕ, List}
 use Rattle.std.specs.Fn.{Called, Mut}
 use denote.Ref.{Bor}
 use Rattle.brk_lots.specs.declared.lot.Lot.{Lot}
-use Rattle.brk_trade_rows.specs.declared.holding_row.HoldingRow.{HoldingRow}
+use Rattle.brk_ref.specs.declared.holding_row.HoldingRow.{HoldingRow}
 
 -- A call of the closure `f`, whose contract is `g`, with the symbol and the lot of `row` may return
 -- `r`, and the closure is `f'` after it.

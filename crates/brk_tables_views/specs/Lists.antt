@@ -3,7 +3,7 @@
 use Rattle.std.specs.Prelude.{ℕ, Bool, ◌==◌, ◌&&◌, List, [], ◌∷◌, filter}
 use Rattle.brk_model.specs.Limits.{is_in_range}
 use Rattle.brk_model.specs.Keys.{KeyPart, number, word, rows_sorted_by_key}
-use Rattle.brk_model.specs.Tables.{Tables, HoldingRow, MoveRow, TradeRow}
+use Rattle.brk_model.specs.Tables.{Tables, HoldingRow, CashRow, TradeRow}
 use Rattle.brk_money.specs.Kinds.{is_same_trade_status}
 use Rattle.brk_money.specs.declared.status.Status.TheVariants.{Completed}
 
@@ -18,16 +18,16 @@ abbrev pub account_lots_by_symbol : ℕ → Tables → List HoldingRow
 account_lots_by_symbol account t = rows_sorted_by_key lot_sort_key (filter (λ row. row.account == account) t.holdings)
 
 -- The sort key of a cash row: its stamp, then its number.
-abbrev pub cash_sort_key : MoveRow → List KeyPart
+abbrev pub cash_sort_key : CashRow → List KeyPart
 cash_sort_key r = number r.stamp ∷ number r.id ∷ []
 
 -- True if the cash row belongs to `account` and its stamp is from `from` to `to`, both included.
-abbrev pub is_account_cash_row_between : ℕ → ℕ → ℕ → MoveRow → Bool
+abbrev pub is_account_cash_row_between : ℕ → ℕ → ℕ → CashRow → Bool
 is_account_cash_row_between account from to row = (row.account == account) && is_in_range from to row.stamp
 
 -- The cash rows of `account` with stamps from `from` to `to`, both included, sorted by stamp and
 -- then by number, both ascending.
-abbrev pub account_cash_rows_between : ℕ → ℕ → ℕ → Tables → List MoveRow
+abbrev pub account_cash_rows_between : ℕ → ℕ → ℕ → Tables → List CashRow
 account_cash_rows_between account from to t = rows_sorted_by_key cash_sort_key (filter (is_account_cash_row_between account from to) t.moves)
 
 -- The sort key of a trade: the stamp of its last status change, which is the stamp of completion

@@ -3,16 +3,15 @@
 ghost use Rattle.std.specs.Prelude.{◌≡◌, ◌==◌, IfErr, bytes_eq, filter, map};
 ghost use Rattle.brk_model.specs.Run.{IsCallFault};
 ghost use Rattle.brk_ref.specs.Records.{abstract_broker_row};
-ghost use Rattle.brk_trade_rows.specs.Rows.{abstract_request_row};
+ghost use Rattle.brk_ref.specs.Rows.{abstract_request_row};
 ghost use Rattle.brk_tables_schema.specs.Desk.{Brokers};
 ghost use Rattle.brk_tables_schema.specs.Statements.{ReadsMatchingRows, ReadsDeskTables};
 
 use brk_money::{Fault, Id};
-use brk_ref::{BrokerRow, Name};
+use brk_ref::{BrokerRow, Name, RequestRow};
 use brk_tables_schema::calls::select_rows;
 use brk_tables_schema::record::decode_rows;
 use brk_tables_schema::values::{id_as_parameter, text_as_parameter};
-use brk_trade_rows::RequestRow;
 use sqlite::{Alter, Transaction};
 use std::alloc::Global;
 

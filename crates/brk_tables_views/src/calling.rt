@@ -2,7 +2,7 @@
 
 use crate::Visitor;
 use brk_lots::Lot;
-use brk_trade_rows::HoldingRow;
+use brk_ref::HoldingRow;
 
 /// A visitor that calls a closure with each record and stops at the closure's first error.
 #[derive(Drop)]

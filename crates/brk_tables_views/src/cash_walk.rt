@@ -1,15 +1,15 @@
 //! A walk over the cash rows of an account.
 
 ghost use Rattle.std.specs.Prelude.{◌≡◌, false};
-ghost use Rattle.brk_trade_rows.specs.Rows.{abstract_move_row};
+ghost use Rattle.brk_ref.specs.Rows.{abstract_cash_row};
 ghost use Rattle.brk_tables_views.specs.Lists.{account_cash_rows_between};
 ghost use Rattle.brk_tables_views.specs.Walks.{TableWalkPost};
 
 use crate::visitor::Visitor;
 use crate::walking::{WalkError, walk_query_rows};
 use brk_money::{Id, Stamp};
+use brk_ref::CashRow;
 use brk_tables_schema::values::{id_as_parameter, stamp_as_parameter};
-use brk_trade_rows::MoveRow;
 use sqlite::{Alter, Connection};
 
 /// Passes the cash rows of an account with stamps from `from` to `to`, both included, to the
@@ -25,7 +25,7 @@ use sqlite::{Alter, Connection};
 /// hold also after the walk. Under the disk assumption a database that is open after the walk was
 /// open before it and is unchanged, and a crash after the walk exposes only states that a crash
 /// before it could expose.
-pub fn walk_cash_rows_of_account<S: Alter, E, V: Visitor<MoveRow, E>>(
+pub fn walk_cash_rows_of_account<S: Alter, E, V: Visitor<CashRow, E>>(
     conn: &mut Connection<S>,
     account: Id,
     from: Stamp,
@@ -43,13 +43,13 @@ pub fn walk_cash_rows_of_account<S: Alter, E, V: Visitor<MoveRow, E>>(
 
     // The visitor took the records in sequence, all of them at `Ok`; the database is unchanged if
     // it is open.
-    ensures walked { TableWalkPost S.Store conn.old conn.new abstract_move_row
+    ensures walked { TableWalkPost S.Store conn.old conn.new abstract_cash_row
         (account_cash_rows_between account from to) V.takes V.stops visitor.old visitor.new result }
 {
     // The value is not needed: the call shows that an open database outside a transaction is in its
     // committed state.
     let _is_autocommit = conn.is_autocommit();
-    walk_query_rows::<S, MoveRow, E, V>(
+    walk_query_rows::<S, CashRow, E, V>(
         conn,
         "SELECT CM_ID, CM_CA_ID, CM_T_ID, CM_DTS, CM_AMT, CM_NAME FROM CASH_MOVE WHERE CM_CA_ID = ?1 AND CM_DTS >= ?2 AND CM_DTS <= ?3 ORDER BY CM_DTS, CM_ID",
         &[

@@ -2,15 +2,15 @@
 
 ghost use Rattle.std.specs.Prelude.{◌≡◌, ◌==◌, IfErr};
 ghost use Rattle.brk_model.specs.Run.{IsCallFault};
-ghost use Rattle.brk_trade_rows.specs.Rows.{abstract_lot_change_row};
+ghost use Rattle.brk_ref.specs.Rows.{abstract_lot_change_row};
 ghost use Rattle.brk_tables_schema.specs.Desk.{HoldingHistory};
 ghost use Rattle.brk_tables_schema.specs.Statements.{ReadsMatchingRows};
 
 use brk_money::{Fault, Id};
+use brk_ref::LotChange;
 use brk_tables_schema::calls::select_rows;
 use brk_tables_schema::record::decode_rows;
 use brk_tables_schema::values::id_as_parameter;
-use brk_trade_rows::LotChange;
 use sqlite::{Alter, Transaction};
 use std::alloc::Global;
 

@@ -1,15 +1,15 @@
 //! A walk over the lots of an account.
 
 ghost use Rattle.std.specs.Prelude.{◌≡◌, false};
-ghost use Rattle.brk_trade_rows.specs.Rows.{abstract_holding_row};
+ghost use Rattle.brk_ref.specs.Rows.{abstract_holding_row};
 ghost use Rattle.brk_tables_views.specs.Lists.{account_lots_by_symbol};
 ghost use Rattle.brk_tables_views.specs.Walks.{TableWalkPost};
 
 use crate::visitor::Visitor;
 use crate::walking::{WalkError, walk_query_rows};
 use brk_money::Id;
+use brk_ref::HoldingRow;
 use brk_tables_schema::values::id_as_parameter;
-use brk_trade_rows::HoldingRow;
 use sqlite::{Alter, Connection};
 
 /// Passes the lots of an account to the visitor, sorted by symbol, then by the stamp of their

@@ -1,15 +1,15 @@
 //! A walk over the completed trades.
 
 ghost use Rattle.std.specs.Prelude.{◌≡◌, false};
-ghost use Rattle.brk_trade_rows.specs.Rows.{abstract_trade_row};
+ghost use Rattle.brk_ref.specs.Rows.{abstract_trade_row};
 ghost use Rattle.brk_tables_views.specs.Lists.{completed_trades_by_stamp_and_id};
 ghost use Rattle.brk_tables_views.specs.Walks.{TableWalkPost};
 
 use crate::visitor::Visitor;
 use crate::walking::{WalkError, walk_query_rows};
 use brk_money::Status;
+use brk_ref::TradeRow;
 use brk_tables_schema::values::status_as_parameter;
-use brk_trade_rows::TradeRow;
 use sqlite::{Alter, Connection};
 
 /// Passes the completed trades of all accounts to the visitor, sorted by the stamp of completion

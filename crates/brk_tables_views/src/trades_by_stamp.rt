@@ -5,15 +5,14 @@ ghost use Rattle.brk_money.specs.declared.fault.Fault.TheVariants.{Store};
 ghost use Rattle.brk_model.specs.Joins.{trade_rows_oldest_first, trade_rows_of_account};
 ghost use Rattle.brk_model.specs.LookupView.{row_stamp_is_between};
 ghost use Rattle.brk_model.specs.Run.{IsCallFault};
-ghost use Rattle.brk_trade_rows.specs.Rows.{abstract_trade_row};
+ghost use Rattle.brk_ref.specs.Rows.{abstract_trade_row};
 ghost use Rattle.brk_tables_schema.specs.Statements.{ReadsDeskTables};
 
 use brk_money::{Fault, Id, Stamp};
-use brk_ref::Symbol;
+use brk_ref::{Symbol, TradeRow};
 use brk_tables_schema::calls::select_rows;
 use brk_tables_schema::record::{decode_first_row, decode_rows};
 use brk_tables_schema::values::{id_as_parameter, stamp_as_parameter, text_as_parameter};
-use brk_trade_rows::TradeRow;
 use sqlite::{Alter, Transaction};
 use std::alloc::Global;
 

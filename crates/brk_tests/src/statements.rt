@@ -7,8 +7,8 @@ use crate::faulty::Narrow;
 use brk_desk::Desk;
 use brk_lots::Lot;
 use brk_money::{Day, Fault, Id, Stamp, parse_day};
+use brk_ref::CashRow;
 use brk_report::ReportFault;
-use brk_trade_rows::MoveRow;
 use sqlite::{Alter, Connection};
 use std::alloc::Global;
 use std::io::ErrorKind;
@@ -191,7 +191,7 @@ fn count_row_or_stop(seen: &mut Seen, trade: u64) -> Result<(), Ended> {
 // Counts a cash row (`count_row_or_stop`) and appends its number, trade (0 for a movement), stamp,
 // amount in cents and text to the rows as a line. Fails with `At` if no more rows may be passed,
 // and with `Memory` if memory runs out.
-fn record_cash_row(seen: &mut Seen, row: &MoveRow) -> Result<(), Ended> {
+fn record_cash_row(seen: &mut Seen, row: &CashRow) -> Result<(), Ended> {
     let trade = row.trade.map_or(0, Id::get);
     count_row_or_stop(seen, trade)?;
     let (place, stamp, amount) = (row.id.get(), row.stamp.get(), row.amount.get());
@@ -302,7 +302,7 @@ fn record_cash_rows<S: Alter>(
         account,
         Stamp::nearest(from),
         Stamp::nearest(to),
-        |row: &MoveRow| record_cash_row(seen, row),
+        |row: &CashRow| record_cash_row(seen, row),
     )
 }
 

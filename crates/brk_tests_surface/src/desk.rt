@@ -6,10 +6,9 @@ use brk_desk::{
 };
 use brk_lots::Lot;
 use brk_money::{Fault, Id, Stamp};
-use brk_ref::{BatchName, RowNumber};
+use brk_ref::{BatchName, CashRow, RowNumber};
 use brk_tests::worked::FIRST_MOMENT;
 use brk_tests::{expect, open_in_memory};
-use brk_trade_rows::MoveRow;
 use sqlite::{Alter, Connection};
 use std::alloc::Global;
 use std::test::Fail;
@@ -130,7 +129,7 @@ fn sum_cash_rows<S: Alter>(desk: &mut Desk<S>, account: Id, sum: &mut i64) -> Re
         account,
         Stamp::nearest(0),
         Stamp::nearest(i64::MAX),
-        |row: &MoveRow| add_amount(sum, row),
+        |row: &CashRow| add_amount(sum, row),
     )
 }
 

@@ -1,11 +1,11 @@
 use brk_lots::{Lot, LotSource};
 use brk_money::{Fault, Id, Stamp};
-use brk_ref::{Symbol, check_broker};
+use brk_ref::{CashRow, SummaryRow, Symbol, check_broker};
 use brk_store::{LotPages, Store};
 use brk_tests::desks::{desk_with_reference_data, expect_batch_result, expect_connection};
 use brk_tests::statements::BOUGHT;
 use brk_tests::{expect, open_in_memory};
-use brk_trade_rows::{BrokerTotals, Change, MoveRow, SummaryRow};
+use brk_trade_rows::{BrokerTotals, Change};
 use sqlite::{Alter, Connection};
 use std::alloc::Global;
 use std::test::Fail;
@@ -99,7 +99,7 @@ fn first_lot_and_rows_read<S: Alter>(
 }
 
 /// Adds the amount of a cash row, in cents, to `sum`. Never fails.
-pub fn add_amount(sum: &mut i64, row: &MoveRow) -> Result<(), Fault> {
+pub fn add_amount(sum: &mut i64, row: &CashRow) -> Result<(), Fault> {
     *sum = sum.saturating_add(row.amount.get());
     Ok(())
 }
@@ -118,7 +118,7 @@ fn sum_cash_rows<S: Alter>(store: &mut Store<S>, account: Id, sum: &mut i64) -> 
         account,
         Stamp::nearest(0),
         Stamp::nearest(i64::MAX),
-        |row: &MoveRow| add_amount(sum, row),
+        |row: &CashRow| add_amount(sum, row),
     )
 }
 

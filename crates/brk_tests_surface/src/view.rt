@@ -2,7 +2,7 @@ use brk_money::{Cents, Day, Id, MoveId, Price, Stamp, Status, Wide};
 use brk_ref::{Broker, Customer, Listing, Name, check_broker, check_customer, check_security};
 use brk_tests_unit::expect::expect_text;
 use brk_tests_unit::result_plans::{SUBMITTED_CASH_PURCHASE, trade_row_of_case};
-use brk_trade::{Amount, CashType, HistoryRow, LotChange, MoveRow, SettlementRow, TradeRow};
+use brk_trade::{Amount, CashRow, CashType, HistoryRow, LotChange, SettlementRow, TradeRow};
 use brk_view::{
     AccountStatus, AccountWorth, BrokerVolume, LookedUp, LotTouch, TouchedLots, View,
     broker_volume, create_looked_up_trade, lookup_account, lookup_ids, lookup_lots, lookup_symbol,
@@ -129,7 +129,7 @@ fn looked_up_purchase(alloc: Global) -> Result<Vec<LookedUp>, Fail> {
         due_day: Day::new(19_785).ok_or("day")?,
         amount,
     };
-    let cash = MoveRow {
+    let cash = CashRow {
         id: MoveId::new(1).ok_or("number")?,
         account: Id::new(100).ok_or("account")?,
         trade: Some(trade),

@@ -16,7 +16,7 @@ use Rattle.brk_money.specs.declared.side.Side.TheVariants.{Buy, Sell}
 use Rattle.brk_trade_plans.proofs.Refusals.{first_joined, first_of}
 use Rattle.brk_trade.specs.Outcomes.{deal_of_trade_row, checks_before_reading_lots, checks_after_reading_lots, result_checks}
 use Rattle.brk_trade.specs.declared.result_found.ResultPlanFacts.{ResultPlanFacts}
-use Rattle.brk_trade_rows.specs.declared.trade_row.TradeRow.{TradeRow}
+use Rattle.brk_ref.specs.declared.trade_row.TradeRow.{TradeRow}
 
 -- where the first tests find no cause, the first refusal is that of the others
 pub first_after : (ts us : List RefusalCheck) → first_refusal ts ≡ None → first_refusal (ts ++ us) ≡ first_refusal us

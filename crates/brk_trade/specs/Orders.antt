@@ -27,15 +27,15 @@ use Rattle.brk_money.specs.declared.tax_status.TaxStatus.TheVariants.{Untaxed}
 use Rattle.brk_ref_orders.specs.declared.order.Order.{Order}
 use Rattle.brk_ref.specs.Records.{abstract_executor}
 use Rattle.brk_trade_plans.specs.Reference.{later_stamp_check}
-use Rattle.brk_trade_rows.specs.Rows.{abstract_trade_row}
+use Rattle.brk_ref.specs.Rows.{abstract_trade_row}
 use Rattle.brk_trade_rows.specs.declared.change.Change.{Change}
 use Rattle.brk_trade_rows.specs.declared.change.Change.TheVariants as change
 use Rattle.brk_trade.specs.declared.order.Placement.{Placement}
 use Rattle.brk_trade.specs.declared.order.OrderPlanFacts.{OrderPlanFacts}
 use Rattle.brk_trade_plans.specs.declared.plan.Plan.{Plan}
 use Rattle.brk_trade_plans.specs.declared.reply.Reply.TheVariants.{Ordered}
-use Rattle.brk_trade_rows.specs.declared.request_row.RequestRow.{RequestRow}
-use Rattle.brk_trade_rows.specs.declared.trade_row.TradeRow.{TradeRow}
+use Rattle.brk_ref.specs.declared.request_row.RequestRow.{RequestRow}
+use Rattle.brk_ref.specs.declared.trade_row.TradeRow.{TradeRow}
 
 -- The checks of an order against the facts `found`, in this order: its account and its security
 -- exist (`NoAccount`, `NoSecurity`), its executor is permitted (`NotPermitted`), and a charge and a

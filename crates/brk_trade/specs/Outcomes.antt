@@ -17,7 +17,7 @@ use Rattle.brk_money.specs.declared.status.Status.TheVariants.{Submitted}
 use Rattle.brk_trade_plans.specs.declared.reply.Completed.{Completed}
 use Rattle.brk_trade.specs.declared.outcome.ResultFigures.{ResultFigures}
 use Rattle.brk_trade.specs.declared.result_found.ResultPlanFacts.{ResultPlanFacts}
-use Rattle.brk_trade_rows.specs.declared.trade_row.TradeRow.{TradeRow}
+use Rattle.brk_ref.specs.declared.trade_row.TradeRow.{TradeRow}
 
 -- The greatest value of a trade, in cents: the greatest quantity times the greatest price.
 abbrev pub greatest_trade_value : ℕ

@@ -22,19 +22,19 @@ use Rattle.brk_money.specs.Spelling.{Text}
 use Rattle.brk_money.specs.declared.refusal.Refusal.{Refusal}
 use Rattle.brk_money.specs.declared.refusal.Refusal.TheVariants.{NoTrade}
 use Rattle.brk_money.specs.declared.status.Status.TheVariants as status
-use Rattle.brk_trade_rows.specs.Rows.{abstract_move_row}
+use Rattle.brk_ref.specs.Rows.{abstract_cash_row}
 use Rattle.brk_trade.specs.Outcomes.{deal_of_trade_row, checks_before_reading_lots, result_checks, figures_of_result, reply_figures_of_result}
-use Rattle.brk_trade_rows.specs.declared.cash_type.CashType.{CashType}
-use Rattle.brk_trade_rows.specs.declared.cash_type.CashType.TheVariants as cash_type
+use Rattle.brk_ref.specs.declared.cash_type.CashType.{CashType}
+use Rattle.brk_ref.specs.declared.cash_type.CashType.TheVariants as cash_type
 use Rattle.brk_trade_rows.specs.declared.change.Change.{Change}
 use Rattle.brk_trade_rows.specs.declared.change.Change.TheVariants as change
-use Rattle.brk_trade_rows.specs.declared.move_row.MoveRow.{MoveRow}
+use Rattle.brk_ref.specs.declared.cash_row.CashRow.{CashRow}
 use Rattle.brk_trade.specs.declared.outcome.ResultFigures.{ResultFigures}
 use Rattle.brk_trade.specs.declared.result_found.ResultPlanFacts.{ResultPlanFacts}
 use Rattle.brk_trade_plans.specs.declared.plan.Plan.{Plan}
 use Rattle.brk_trade_plans.specs.declared.reply.Completed.{Completed}
 use Rattle.brk_trade_plans.specs.declared.reply.Reply.TheVariants as reply
-use Rattle.brk_trade_rows.specs.declared.trade_row.TradeRow.{TradeRow}
+use Rattle.brk_ref.specs.declared.trade_row.TradeRow.{TradeRow}
 
 -- The row change of the HOLDING row of the lot of `touch`: the lot is deleted if none of its shares
 -- remains, and otherwise its quantity is set.
@@ -80,7 +80,7 @@ cash_text_of_trade t security = cash_row_name_from_parts (codes " shares of ") t
 
 -- The CASH_MOVE row of the completed trade, with the next id and with the stamp and the settlement
 -- amount of the figures `completed`, or none if the trade is a margin trade.
-abbrev pub cash_row_of_result : ResultPlanFacts → Completed → Option tables.MoveRow
+abbrev pub cash_row_of_result : ResultPlanFacts → Completed → Option tables.CashRow
 cash_row_of_result found completed =
     if found.trade.is_cash
     then Some (record {
@@ -95,7 +95,7 @@ cash_row_of_result found completed =
 
 -- The row changes of the cash row `row`: it is added, and the balance of `account` is set to
 -- `balance` cents.
-abbrev pub row_changes_of_cash_row : ℕ → ℤ → MoveRow → List Change
+abbrev pub row_changes_of_cash_row : ℕ → ℤ → CashRow → List Change
 row_changes_of_cash_row account balance row = change.AddMove row ∷ change.SetBalance account balance ∷ []
 
 -- The row changes of the completed trade itself: the status, stamp, price (`price`, in cents),
@@ -127,7 +127,7 @@ summary_broker_settlement_changes found outcome =
 -- the trade itself, of the lots that it closes or reduces, of the lot that it opens, if any, of the
 -- summary, the broker's totals and the settlement, of its cash row and the account's balance if
 -- `cash` is a row, and of the last stamp.
-abbrev pub row_changes_of_result : ResultPlanFacts → ℕ → ClosedLots → ResultFigures → Option MoveRow → List Change
+abbrev pub row_changes_of_result : ResultPlanFacts → ℕ → ClosedLots → ResultFigures → Option CashRow → List Change
 row_changes_of_result found price closed outcome cash =
     row_changes_of_completed_trade found.trade.id price outcome.completed
     ++ flat_map (row_changes_of_touched_lot found.trade.id) closed.touched.items
@@ -140,8 +140,8 @@ row_changes_of_result found price closed outcome cash =
 -- the lots of `closed` and the figures `outcome`. For a cash trade they add a cash row and set the
 -- account's balance; for a margin trade they do neither.
 pub record AreResultChanges (found : ResultPlanFacts) (price : ℕ) (closed : ClosedLots) (outcome : ResultFigures) (changes : List Change) : Type 0 where
-  pub cash : Option MoveRow
-  pub moved : option_map abstract_move_row cash ≡ cash_row_of_result found outcome.completed
+  pub cash : Option CashRow
+  pub moved : option_map abstract_cash_row cash ≡ cash_row_of_result found outcome.completed
   pub changed : changes ≡ row_changes_of_result found price closed outcome cash
 
 -- The number of shares of the trade's security that its account holds before the trade, below 0 if

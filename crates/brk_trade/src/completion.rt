@@ -4,18 +4,17 @@ ghost use Rattle.std.specs.Prelude.{◌≡◌, ◌++◌, flat_map, option_map, o
 ghost use Rattle.brk_money.specs.declared.fault.Fault.TheVariants.{Memory};
 ghost use Rattle.brk_trade.specs.Results as spec;
 ghost use Rattle.brk_trade.specs.Results.{AreResultChanges};
-ghost use Rattle.brk_trade_rows.specs.Rows.{abstract_move_row};
+ghost use Rattle.brk_ref.specs.Rows.{abstract_cash_row};
 
 use crate::outcome::ResultFigures;
 use crate::result_found::ResultPlanFacts;
 use brk_lots::{ClosedLots, Lot, Touch};
 use brk_money::{Fault, Id, Price, Qty, Status};
-use brk_ref::Name;
-use brk_trade_plans::Completed;
-use brk_trade_rows::{
-    Amount, CashType, Change, HistoryRow, HoldingRow, LotChange, MoveRow, SettlementRow,
-    SummaryRow, TradeRow,
+use brk_ref::{
+    CashRow, CashType, HistoryRow, HoldingRow, LotChange, Name, SettlementRow, SummaryRow, TradeRow,
 };
+use brk_trade_plans::Completed;
+use brk_trade_rows::{Amount, Change};
 use std::alloc::{AllocError, Global};
 
 // Appends to `changes` the row changes of the completed trade itself: the status, stamp, price,
@@ -248,13 +247,13 @@ fn create_result_cash_row(
     alloc: Global,
     found: &ResultPlanFacts,
     completed: &Completed,
-) -> Result<Option<MoveRow>, AllocError>
-    ensures { IfOk result (λ cash. option_map abstract_move_row cash ≡ spec.cash_row_of_result found.now completed.now) }
+) -> Result<Option<CashRow>, AllocError>
+    ensures { IfOk result (λ cash. option_map abstract_cash_row cash ≡ spec.cash_row_of_result found.now completed.now) }
 {
     if !found.trade.is_cash {
         return Ok(None);
     }
-    Ok(Some(MoveRow {
+    Ok(Some(CashRow {
         id: found.next,
         account: found.trade.account,
         trade: Some(found.trade.id),
@@ -270,7 +269,7 @@ fn create_result_cash_row(
 fn append_cash_row_changes(
     account: Id,
     completed: &Completed,
-    cash: Option<MoveRow>,
+    cash: Option<CashRow>,
     changes: &mut Vec<Change>,
 ) -> Result<(), Fault>
     ensures changes { OnOk result (changes.new.items
@@ -298,7 +297,7 @@ fn create_result_changes(
     price: Price,
     closed: &ClosedLots,
     outcome: &ResultFigures,
-    cash: Option<MoveRow>,
+    cash: Option<CashRow>,
 ) -> Result<Vec<Change>, Fault>
     ensures changes { IfOk result (λ changes. changes.items ≡ spec.row_changes_of_result found.now price closed.now outcome.now cash) }
     ensures fault { OnErr result (result ≡ Err Memory) }

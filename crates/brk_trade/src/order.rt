@@ -11,7 +11,7 @@ ghost use Rattle.brk_money.specs.declared.refusal.Refusal.TheVariants.{Range};
 ghost use Rattle.brk_trade.specs.Estimates.{OrderReadsAtMostOneLotMore, commission_from_terms};
 ghost use Rattle.brk_trade.specs.Orders as spec;
 ghost use Rattle.brk_trade_plans.specs.Reference.{later_stamp_check};
-ghost use Rattle.brk_trade_rows.specs.Rows.{abstract_trade_row};
+ghost use Rattle.brk_ref.specs.Rows.{abstract_trade_row};
 ghost use Rattle.brk_trade.specs.Orders.{AreOrderChanges, EstimatesCheckedOrder, IsOrderPlan};
 ghost use Rattle.brk_trade.specs.Orders.{IsCheckedPlacement, order_checks, terms_of_order};
 ghost use Rattle.brk_trade.specs.Orders.{free_trade_id_check};
@@ -22,10 +22,10 @@ use brk_money::{
     Fault, Id, Limit, Planned, Price, Rate, Refusal, Stamp, Status, TaxRate, TaxStatus, TradeType,
     Wide, stamp_after,
 };
-use brk_ref::{ChargeAmount, Executor, Symbol};
+use brk_ref::{ChargeAmount, Executor, HistoryRow, RequestRow, Symbol, TradeRow};
 use brk_ref_orders::Order;
 use brk_trade_plans::{Estimate, Ordered, Plan, Reply};
-use brk_trade_rows::{Amount, Change, HistoryRow, RequestRow, TradeRow};
+use brk_trade_rows::{Amount, Change};
 use std::alloc::{AllocError, Global};
 
 /// The facts of an order's account that decide on the order.

@@ -14,8 +14,9 @@ use crate::settling::{
 };
 use brk_lots::{ClosedLots, signed_qty};
 use brk_money::{Limit, Price, Rate, Refusal, Stamp};
+use brk_ref::is_submitted;
 use brk_trade_plans::Completed;
-use brk_trade_rows::{Amount, Schema, is_submitted};
+use brk_trade_rows::{Amount, Schema};
 
 /// The figures of a completed trade (Trade-Result). The amounts are in cents.
 #[derive(Clone, Copy, PartialEq, Eq)]

@@ -1,6 +1,6 @@
 use brk_money::{Cents, Day, Id, MoveId, Rate, TaxRate, TaxStatus};
-use brk_ref::Name;
-use brk_trade_rows::{BrokerTotals, TradeRow};
+use brk_ref::{Name, TradeRow};
+use brk_trade_rows::BrokerTotals;
 
 /// The facts of a trade's account that decide on its result.
 #[derive(Clone, Copy, PartialEq, Eq)]

@@ -16,8 +16,9 @@ use crate::estimate::tax_on_realised_gain;
 use crate::result_found::ResultPlanFacts;
 use brk_lots::Values;
 use brk_money::{Cents, Day, Price, Rate, Side, Stamp, TaxStatus, commission};
+use brk_ref::TradeRow;
 use brk_trade_plans::add_within_balance_limit;
-use brk_trade_rows::{Amount, BrokerTotals, TradeRow, due_day_after_completion};
+use brk_trade_rows::{Amount, BrokerTotals, due_day_after_completion};
 
 // Returns the commission of a trade at `price` and at `rate` (hundredths of a percent), in whole
 // cents, rounded half up. It is at most the greatest value of a trade.

@@ -9,7 +9,7 @@ use Rattle.brk_model.specs.Base.{Base, completed_trades}
 use Rattle.brk_model.specs.Derived.{Posting, cash_trades, postings_sorted_by_stamp, posting_of_movement, posting_of_trade, postings, postings_of_base}
 use Rattle.brk_model.specs.Adopted.{movement_of_row, posting_of_cash_move_row}
 use Rattle.brk_model.specs.Sheets.{sheets, tables_sorted_by_key}
-use Rattle.brk_model.specs.Tables.{MoveRow, cash_move_row, numbered_move_rows, tables_of_base_in_schema}
+use Rattle.brk_model.specs.Tables.{CashRow, cash_move_row, numbered_cash_move_rows, tables_of_base_in_schema}
 use Rattle.brk_trade_books.specs.TradeReads.{last_cash_row_number_or_zero}
 use Rattle.brk_trade_books.proofs.Order.{OneWay, Splits, map-insert_by, nat_one_way, nat_splits, sort_filter}
 use Rattle.brk_trade_books.proofs.Places.{filter-append}
@@ -18,7 +18,7 @@ use Rattle.brk_trade_books.proofs.TradeReading.{first_of_more}
 
 -- ---- rows as postings
 
-pub postings_back : (n : ℕ) (ps : List Posting) → map posting_of_cash_move_row (numbered_move_rows n ps) ≡ ps
+pub postings_back : (n : ℕ) (ps : List Posting) → map posting_of_cash_move_row (numbered_cash_move_rows n ps) ≡ ps
 postings_back n [] = refl
 postings_back n (p ∷ ps) = ap (λ qs. p ∷ qs) (postings_back (n + 1) ps)
 
@@ -35,12 +35,12 @@ movement_of p = record { account = p.account; stamp = p.stamp; amount = p.amount
 abbrev is_moved : Posting → Bool
 is_moved p = is_none p.trade
 
-numbered_moved : (n : ℕ) (ps : List Posting) → map movement_of_row (filter (λ r. is_none r.trade) (numbered_move_rows n ps)) ≡ map movement_of (filter is_moved ps)
+numbered_moved : (n : ℕ) (ps : List Posting) → map movement_of_row (filter (λ r. is_none r.trade) (numbered_cash_move_rows n ps)) ≡ map movement_of (filter is_moved ps)
 numbered_moved n [] = refl
 numbered_moved n (p ∷ ps) = by_test (is_none p.trade) (numbered_moved (n + 1) ps)
   where
-    by_test : (b : Bool) → map movement_of_row (filter (λ r. is_none r.trade) (numbered_move_rows (n + 1) ps)) ≡ map movement_of (filter is_moved ps)
-        → map movement_of_row (cond b (cash_move_row n p ∷ filter (λ r. is_none r.trade) (numbered_move_rows (n + 1) ps)) (filter (λ r. is_none r.trade) (numbered_move_rows (n + 1) ps)))
+    by_test : (b : Bool) → map movement_of_row (filter (λ r. is_none r.trade) (numbered_cash_move_rows (n + 1) ps)) ≡ map movement_of (filter is_moved ps)
+        → map movement_of_row (cond b (cash_move_row n p ∷ filter (λ r. is_none r.trade) (numbered_cash_move_rows (n + 1) ps)) (filter (λ r. is_none r.trade) (numbered_cash_move_rows (n + 1) ps)))
         ≡ map movement_of (cond b (p ∷ filter is_moved ps) (filter is_moved ps))
     by_test true ih = ap (λ ms. movement_of p ∷ ms) ih
     by_test false ih = ih
@@ -99,16 +99,16 @@ moves_counted base =
 
 -- ---- the last number
 
-id_or : (o : Option MoveRow) (r : MoveRow) → (unwrap_or o r).id ≡ unwrap_or (option_map (λ r. r.id) o) r.id
+id_or : (o : Option CashRow) (r : CashRow) → (unwrap_or o r).id ≡ unwrap_or (option_map (λ r. r.id) o) r.id
 id_or None r = refl
 id_or (Some q) r = refl
 
-number_last : (m : ℕ) (ps : List Posting) → unwrap_or (option_map (λ r. r.id) (slice_get (reverse (numbered_move_rows (m + 1) ps)) 0)) m ≡ m + length ps
+number_last : (m : ℕ) (ps : List Posting) → unwrap_or (option_map (λ r. r.id) (slice_get (reverse (numbered_cash_move_rows (m + 1) ps)) 0)) m ≡ m + length ps
 number_last m [] = omega arith
 number_last m (p ∷ ps) =
-    let rows : List MoveRow = reverse (numbered_move_rows (m + 1 + 1) ps) in
+    let rows : List CashRow = reverse (numbered_cash_move_rows (m + 1 + 1) ps) in
     let more : m + 1 + length ps ≡ m + length (p ∷ ps) = omega arith in
-    ap (λ rs. unwrap_or (option_map (λ r. r.id) (slice_get rs 0)) m) (reverse-append (cash_move_row (m + 1) p ∷ []) (numbered_move_rows (m + 1 + 1) ps))
+    ap (λ rs. unwrap_or (option_map (λ r. r.id) (slice_get rs 0)) m) (reverse-append (cash_move_row (m + 1) p ∷ []) (numbered_cash_move_rows (m + 1 + 1) ps))
     ∙ ap (λ o. unwrap_or (option_map (λ r. r.id) o) m) (first_of_more rows (cash_move_row (m + 1) p)) ∙ id_or (slice_get rows 0) (cash_move_row (m + 1) p)
     ∙ number_last (m + 1) ps ∙ more
 

@@ -15,7 +15,7 @@ use Rattle.brk_model.specs.Keys.{rows_sorted_by_key, cash_move_key, settlement_k
 use Rattle.brk_model.specs.Movements.{deposit_movement, withdrawal_movement, base_after_movement, base_with_one_day_settlement_start}
 use Rattle.brk_model.specs.Sheets.{sheets, tables_sorted_by_key}
 use Rattle.brk_model.specs.Step.{base_after_command_unstamped}
-use Rattle.brk_model.specs.Tables.{numbered_move_rows, settlement_row, tables_of_base_in_schema}
+use Rattle.brk_model.specs.Tables.{numbered_cash_move_rows, settlement_row, tables_of_base_in_schema}
 use Rattle.brk_model.specs.Tests.{stamp_of_next_command, refusal_of_command, checks_of_command}
 use Rattle.brk_trade_rows.specs.Changes.{tables_with_last_stamp, tables_with_one_day_settlement_start}
 use Rattle.brk_trade_books.specs.Books.{MovementBooksInvariant, BooksInvariant}
@@ -54,7 +54,7 @@ row_stands : (base : Base) (now : ℕ) (m : Movement) → BooksInvariant base �
     → (sheets (base_after_movement base m)).moves ≡ (tables_after_movement base m (sheets base)).moves
 unfolding tables_of_base_in_schema tables_sorted_by_key
 row_stands base now m books e =
-    ap (λ ps. rows_sorted_by_key cash_move_key (numbered_move_rows 1 (postings_sorted_by_stamp ps))) (postings_moved base.accounts (completed_trades base) base.movements m)
+    ap (λ ps. rows_sorted_by_key cash_move_key (numbered_cash_move_rows 1 (postings_sorted_by_stamp ps))) (postings_moved base.accounts (completed_trades base) base.movements m)
     ∙ rows_end (postings_of_base base) (posting_of_movement m) (posted_before base.accounts (completed_trades base) base.movements m.stamp
     (subst (λ (n : ℕ). AllByRecursion (λ t. last_status_stamp_of_trade t < n) (completed_trades base)) (sym e) (all_before base now books))
     (subst (λ (n : ℕ). AllByRecursion (λ x. x.stamp < n) base.movements) (sym e) (movements_before base now books.movements)))

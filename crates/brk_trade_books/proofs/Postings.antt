@@ -10,7 +10,7 @@ use Rattle.brk_model.specs.Records.{Account, Movement, Trade}
 use Rattle.brk_model.specs.Base.{opening_balance_in_accounts}
 use Rattle.brk_model.specs.Derived.{Posting, settlement_amount, balance_of_account, cash_trades, postings_sorted_by_stamp, posting_of_movement, postings_to_account, posting_of_trade, postings}
 use Rattle.brk_model.specs.Keys.{number, rows_sorted_by_key, insert_row_by_key, is_key_less, cash_move_key, is_row_key_less}
-use Rattle.brk_model.specs.Tables.{MoveRow, cash_move_row, numbered_move_rows}
+use Rattle.brk_model.specs.Tables.{CashRow, cash_move_row, numbered_cash_move_rows}
 use Rattle.brk_trade_books.proofs.Order.{NewKey, Sorted, append_nil, by_key-append, sort_sorted}
 use Rattle.brk_trade_books.proofs.Places.{append_assoc, filter-append, filter-not_one, filter-one, map-append}
 use Rattle.brk_trade_books.proofs.Positions.{sort_last}
@@ -110,35 +110,35 @@ length_one (y ∷ xs) x ys = let h = length_one xs x ys in omega (arith, h)
 
 -- ---- numbered rows
 
-is_after : ℕ → MoveRow → Type 0
+is_after : ℕ → CashRow → Type 0
 is_after n r = n ≤ r.id
 
-numbers_after : (m n : ℕ) (ps : List Posting) → m ≤ n → AllByRecursion (λ r. m ≤ r.id) (numbered_move_rows n ps)
+numbers_after : (m n : ℕ) (ps : List Posting) → m ≤ n → AllByRecursion (λ r. m ≤ r.id) (numbered_cash_move_rows n ps)
 numbers_after m n [] h = tt
 numbers_after m n (p ∷ ps) h = (h, numbers_after m (n + 1) ps (omega (arith, h)))
 
 later_number : (m n : ℕ) → m + 1 ≤ n → is_key_less (number n ∷ []) (number m ∷ []) ≡ false
 later_number m n h = grind (arith, nat_tests)
 
-numbered_sorted : (n : ℕ) (ps : List Posting) → Sorted (is_row_key_less cash_move_key) (numbered_move_rows n ps)
+numbered_sorted : (n : ℕ) (ps : List Posting) → Sorted (is_row_key_less cash_move_key) (numbered_cash_move_rows n ps)
 numbered_sorted n [] = tt
 numbered_sorted n (p ∷ ps) =
-    (All-map (numbered_move_rows (n + 1) ps) (λ r h. later_number n r.id h) (numbers_after (n + 1) (n + 1) ps (omega arith)), numbered_sorted (n + 1) ps)
+    (All-map (numbered_cash_move_rows (n + 1) ps) (λ r h. later_number n r.id h) (numbers_after (n + 1) (n + 1) ps (omega arith)), numbered_sorted (n + 1) ps)
 
 -- they stand by their numbers
-pub numbered_stay : (n : ℕ) (ps : List Posting) → rows_sorted_by_key cash_move_key (numbered_move_rows n ps) ≡ numbered_move_rows n ps
-numbered_stay n ps = sort_sorted (is_row_key_less cash_move_key) (numbered_move_rows n ps) (numbered_sorted n ps)
+pub numbered_stay : (n : ℕ) (ps : List Posting) → rows_sorted_by_key cash_move_key (numbered_cash_move_rows n ps) ≡ numbered_cash_move_rows n ps
+numbered_stay n ps = sort_sorted (is_row_key_less cash_move_key) (numbered_cash_move_rows n ps) (numbered_sorted n ps)
 
-pub numbered_last : (n : ℕ) (ps : List Posting) (p : Posting) → numbered_move_rows n (ps ++ p ∷ []) ≡ numbered_move_rows n ps ++ cash_move_row (n + length ps) p ∷ []
+pub numbered_last : (n : ℕ) (ps : List Posting) (p : Posting) → numbered_cash_move_rows n (ps ++ p ∷ []) ≡ numbered_cash_move_rows n ps ++ cash_move_row (n + length ps) p ∷ []
 numbered_last n [] p = ap (λ m. cash_move_row m p ∷ []) (omega arith)
-numbered_last n (q ∷ ps) p = ap (λ rows. cash_move_row n q ∷ rows) (numbered_last (n + 1) ps p ∙ ap (λ m. numbered_move_rows (n + 1) ps ++ cash_move_row m p ∷ []) (omega arith))
+numbered_last n (q ∷ ps) p = ap (λ rows. cash_move_row n q ∷ rows) (numbered_last (n + 1) ps p ∙ ap (λ m. numbered_cash_move_rows (n + 1) ps ++ cash_move_row m p ∷ []) (omega arith))
 
-numbers_below : (n : ℕ) (ps : List Posting) → AllByRecursion (λ r. r.id < n + length ps) (numbered_move_rows n ps)
+numbers_below : (n : ℕ) (ps : List Posting) → AllByRecursion (λ r. r.id < n + length ps) (numbered_cash_move_rows n ps)
 numbers_below n [] = tt
-numbers_below n (p ∷ ps) = (omega arith, All-map (numbered_move_rows (n + 1) ps) (λ r h. omega (arith, h)) (numbers_below (n + 1) ps))
+numbers_below n (p ∷ ps) = (omega arith, All-map (numbered_cash_move_rows (n + 1) ps) (λ r h. omega (arith, h)) (numbers_below (n + 1) ps))
 
-new_last : (n : ℕ) (ps : List Posting) (p : Posting) → NewKey cash_move_key (cash_move_row (n + length ps) p) (numbered_move_rows n ps)
-new_last n ps p = All-map (numbered_move_rows n ps) (λ r h e. let k : r.id ≡ n + length ps = cc in omega (arith, h, k)) (numbers_below n ps)
+new_last : (n : ℕ) (ps : List Posting) (p : Posting) → NewKey cash_move_key (cash_move_row (n + length ps) p) (numbered_cash_move_rows n ps)
+new_last n ps p = All-map (numbered_cash_move_rows n ps) (λ r h e. let k : r.id ≡ n + length ps = cc in omega (arith, h, k)) (numbers_below n ps)
 
 -- ---- the posting with the last stamp
 
@@ -153,46 +153,46 @@ turn_last xs p ys h =
     (All-map ys (λ q k. grind (arith, nat_tests)) (All-back (λ q. q.stamp < p.stamp) xs ys h))
 
 pub rows_last : (xs : List Posting) (p : Posting) (ys : List Posting) → AllByRecursion (λ q. q.stamp < p.stamp) (xs ++ ys)
-    → rows_sorted_by_key cash_move_key (numbered_move_rows 1 (postings_sorted_by_stamp (xs ++ p ∷ ys)))
+    → rows_sorted_by_key cash_move_key (numbered_cash_move_rows 1 (postings_sorted_by_stamp (xs ++ p ∷ ys)))
     ≡ insert_row_by_key cash_move_key (cash_move_row (length (xs ++ ys) + 1) p)
-    (rows_sorted_by_key cash_move_key (numbered_move_rows 1 (postings_sorted_by_stamp (xs ++ ys))))
+    (rows_sorted_by_key cash_move_key (numbered_cash_move_rows 1 (postings_sorted_by_stamp (xs ++ ys))))
 rows_last xs p ys h =
     let turned : List Posting = postings_sorted_by_stamp (xs ++ ys) in
-    ap (λ ps. rows_sorted_by_key cash_move_key (numbered_move_rows 1 ps)) (turn_last xs p ys h) ∙ ap (rows_sorted_by_key cash_move_key) (numbered_last 1 turned p)
-    ∙ by_key-append cash_move_key (numbered_move_rows 1 turned) (cash_move_row (1 + length turned) p) (new_last 1 turned p)
-    ∙ ap (λ n. insert_row_by_key cash_move_key (cash_move_row n p) (rows_sorted_by_key cash_move_key (numbered_move_rows 1 turned)))
+    ap (λ ps. rows_sorted_by_key cash_move_key (numbered_cash_move_rows 1 ps)) (turn_last xs p ys h) ∙ ap (rows_sorted_by_key cash_move_key) (numbered_last 1 turned p)
+    ∙ by_key-append cash_move_key (numbered_cash_move_rows 1 turned) (cash_move_row (1 + length turned) p) (new_last 1 turned p)
+    ∙ ap (λ n. insert_row_by_key cash_move_key (cash_move_row n p) (rows_sorted_by_key cash_move_key (numbered_cash_move_rows 1 turned)))
     (number_is (length turned) (length (xs ++ ys)) (length_sort (λ a b. nat_lt a.stamp b.stamp) (xs ++ ys)))
   where
     number_is : (m n : ℕ) → m ≡ n → 1 + m ≡ n + 1
     number_is m n e = omega (arith, e)
 
 pub rows_end : (ps : List Posting) (p : Posting) → AllByRecursion (λ q. q.stamp < p.stamp) ps
-    → rows_sorted_by_key cash_move_key (numbered_move_rows 1 (postings_sorted_by_stamp (ps ++ p ∷ [])))
+    → rows_sorted_by_key cash_move_key (numbered_cash_move_rows 1 (postings_sorted_by_stamp (ps ++ p ∷ [])))
     ≡ insert_row_by_key cash_move_key (cash_move_row (length ps + 1) p)
-    (rows_sorted_by_key cash_move_key (numbered_move_rows 1 (postings_sorted_by_stamp ps)))
+    (rows_sorted_by_key cash_move_key (numbered_cash_move_rows 1 (postings_sorted_by_stamp ps)))
 rows_end ps p h =
     rows_last ps p [] (subst (AllByRecursion (λ q. q.stamp < p.stamp)) (sym (append_nil ps)) h)
-    ∙ ap (λ qs. insert_row_by_key cash_move_key (cash_move_row (length qs + 1) p) (rows_sorted_by_key cash_move_key (numbered_move_rows 1 (postings_sorted_by_stamp qs)))) (append_nil ps)
+    ∙ ap (λ qs. insert_row_by_key cash_move_key (cash_move_row (length qs + 1) p) (rows_sorted_by_key cash_move_key (numbered_cash_move_rows 1 (postings_sorted_by_stamp qs)))) (append_nil ps)
 
 -- ---- what rows move
 
 total_numbered : (n account : ℕ) (ps : List Posting)
-    → total_by (λ r. r.amount) (filter (λ r. r.account == account) (numbered_move_rows n ps)) ≡ total_by (λ p. p.amount) (filter (λ p. p.account == account) ps)
+    → total_by (λ r. r.amount) (filter (λ r. r.account == account) (numbered_cash_move_rows n ps)) ≡ total_by (λ p. p.amount) (filter (λ p. p.account == account) ps)
 unfolding total_by
 total_numbered n account [] = refl
 total_numbered n account (p ∷ ps) = by_test (p.account == account) (total_numbered (n + 1) account ps)
   where
     by_test : (b : Bool)
-        → total_by (λ r. r.amount) (filter (λ r. r.account == account) (numbered_move_rows (n + 1) ps)) ≡ total_by (λ p. p.amount) (filter (λ p. p.account == account) ps)
+        → total_by (λ r. r.amount) (filter (λ r. r.account == account) (numbered_cash_move_rows (n + 1) ps)) ≡ total_by (λ p. p.amount) (filter (λ p. p.account == account) ps)
         → total_by (λ r. r.amount)
-        (cond b (cash_move_row n p ∷ filter (λ r. r.account == account) (numbered_move_rows (n + 1) ps))
-        (filter (λ r. r.account == account) (numbered_move_rows (n + 1) ps)))
+        (cond b (cash_move_row n p ∷ filter (λ r. r.account == account) (numbered_cash_move_rows (n + 1) ps))
+        (filter (λ r. r.account == account) (numbered_cash_move_rows (n + 1) ps)))
         ≡ total_by (λ p. p.amount) (cond b (p ∷ filter (λ p. p.account == account) ps) (filter (λ p. p.account == account) ps))
     by_test true ih = ap (λ n. p.amount +ℤ n) ih
     by_test false ih = ih
 
 pub rows_total : (account : ℕ) (ps : List Posting)
-    → total_by (λ r. r.amount) (filter (λ r. r.account == account) (rows_sorted_by_key cash_move_key (numbered_move_rows 1 (postings_sorted_by_stamp ps))))
+    → total_by (λ r. r.amount) (filter (λ r. r.account == account) (rows_sorted_by_key cash_move_key (numbered_cash_move_rows 1 (postings_sorted_by_stamp ps))))
     ≡ total_by (λ p. p.amount) (filter (λ p. p.account == account) ps)
 rows_total account ps =
     ap (λ rows. total_by (λ r. r.amount) (filter (λ r. r.account == account) rows)) (numbered_stay 1 (postings_sorted_by_stamp ps))

@@ -13,7 +13,7 @@ use Rattle.brk_model.specs.Base.{Base, account_with_id_in_list, account_with_id,
 use Rattle.brk_model.specs.Derived.{trades_of_account, trades_of_position, trades_of_broker, shares_of_position, holding_summary_quantity, settlement_amount}
 use Rattle.brk_model.specs.Derived.{due_day, posting_of_trade, posting_of_movement, postings, postings_to_account, postings_sorted_by_stamp, balance_of_account}
 use Rattle.brk_model.specs.Derived.{trade_count_of_broker, commission_total_of_broker, cash_trades, pending_trades}
-use Rattle.brk_model.specs.Tables.{BrokerRow, AccountRow, tables_of_base_in_schema, broker_row, account_row, request_row, summary_rows, settlement_row, numbered_move_rows}
+use Rattle.brk_model.specs.Tables.{BrokerRow, AccountRow, tables_of_base_in_schema, broker_row, account_row, request_row, summary_rows, settlement_row, numbered_cash_move_rows}
 use Rattle.brk_model.specs.Keys.{KeyPart, number, rows_sorted_by_key, insert_row_by_key, broker_key, customer_key, account_key, request_key, summary_key, settlement_key, cash_move_key}
 use Rattle.brk_model.specs.Sheets.{sheets, tables_sorted_by_key}
 use Rattle.brk_model.specs.Commands.{AddBroker, AddCustomer, AddAccount}
@@ -204,5 +204,5 @@ account_rows base stamp a books h =
       requests = rows_sorted_by_key request_key (requests i);
       summaries = rows_sorted_by_key summary_key (sums i);
       settlements = rows_sorted_by_key settlement_key (settlements i);
-      moves = rows_sorted_by_key cash_move_key (numbered_move_rows 1 (postings_sorted_by_stamp (postings_as_before base a books i)));
+      moves = rows_sorted_by_key cash_move_key (numbered_cash_move_rows 1 (postings_sorted_by_stamp (postings_as_before base a books i)));
     }

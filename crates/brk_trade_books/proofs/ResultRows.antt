@@ -15,8 +15,8 @@ use Rattle.brk_model.specs.Derived.{posting_of_trade, postings, postings_of_base
 use Rattle.brk_model.specs.Results.{trade_after_completion, deal_of_result, base_after_result}
 use Rattle.brk_model.specs.Shares as model
 use Rattle.brk_model.specs.Shares.{Touch}
-use Rattle.brk_model.specs.Tables.{BrokerRow, HistoryRow, MoveRow, SummaryRow, Tables, TradeRow, account_row, broker_row, history_rows, holding_row}
-use Rattle.brk_model.specs.Tables.{cash_move_row as numbered_row, numbered_move_rows, request_row, settlement_row, tables_of_base_in_schema, trade_row}
+use Rattle.brk_model.specs.Tables.{BrokerRow, HistoryRow, CashRow, SummaryRow, Tables, TradeRow, account_row, broker_row, history_rows, holding_row}
+use Rattle.brk_model.specs.Tables.{cash_move_row as numbered_row, numbered_cash_move_rows, request_row, settlement_row, tables_of_base_in_schema, trade_row}
 use Rattle.brk_lots.proofs.HistoryRows.{rows_of_lots_are}
 use Rattle.brk_lots.specs.HistoryRows.{lot_rows_with_quantity_change}
 use Rattle.brk_model.specs.Keys.{number, word, account_key, broker_key, rows_sorted_by_key, history_key, holding_history_key, holding_key, insert_row_by_key}
@@ -38,7 +38,7 @@ use Rattle.brk_trade_books.proofs.Completing.{Completes}
 use Rattle.brk_trade_books.proofs.LotSetting.{set_lot, set_lots}
 use Rattle.brk_trade_books.proofs.Holdings.{holdings_after, open_lots}
 use Rattle.brk_trade_books.proofs.Histories.{histories_after, put_changes, put_openings}
-use Rattle.brk_trade_books.proofs.Summaries.{all_summaries, is_of, move_row, summaries_after}
+use Rattle.brk_trade_books.proofs.Summaries.{all_summaries, is_of, changed_summary_rows, summaries_after}
 use Rattle.brk_trade_books.proofs.Sums.{accounts_after, brokers_after, cash_after, margin_accounts, margin_cash, posted_before, settlements_after, with_numbers, with_other_balance}
 
 -- ---- a trade at the market, and once it is completed
@@ -168,7 +168,7 @@ opened_are : (u : Trade) (opened : List model.Lot) (t : Tables)
 opened_are u [] t = refl
 opened_are u (lot ∷ opened) t = opened_are u opened _
 
-summary_is : (before after : ℤ) (row : SummaryRow) (t : Tables) → tables_with_summary_changed before after row t ≡ record t { summaries = move_row before after row t.summaries }
+summary_is : (before after : ℤ) (row : SummaryRow) (t : Tables) → tables_with_summary_changed before after row t ≡ record t { summaries = changed_summary_rows before after row t.summaries }
 summary_is before after row t = by_test (is_zero after) (is_zero before)
   where
     F : Tables
@@ -242,7 +242,7 @@ rows_set u c t = record t {
   trades = update_where (λ r. r.id == u.id) (completed_row (trade_row u)) t.trades;
   history = insert_row_by_key history_key (history_row_of_status u.id Completed (last_status_stamp_of_trade u)) t.history;
   holdings = open_lots u c.opened (set_lots c.touched t.holdings);
-  summaries = move_row c.before c.after (record { account = u.account; symbol = u.symbol; qty = c.after }) t.summaries;
+  summaries = changed_summary_rows c.before c.after (record { account = u.account; symbol = u.symbol; qty = c.after }) t.summaries;
   holding_history = put_openings c.opened (put_changes u.id c.touched t.holding_history);
   settlements = insert_row_by_key settlement_key c.settlement t.settlements;
   moves = cond u.is_cash (insert_row_by_key cash_move_key c.cash t.moves) t.moves;
@@ -253,7 +253,7 @@ rows_are u c t =
     ap (λ x. C (S (B (M (tables_with_lots_opened (trade_row u) c.opened x))))) (touched_are u.id c.touched (tables_with_trade_completed_and_history (trade_row u) t))
     ∙ ap (λ x. C (S (B (M x)))) (opened_are u c.opened touched)
     ∙ ap (λ x. C (S (B x))) (summary_is c.before c.after row opened)
-    ∙ cash_is u c (S (B (record opened { summaries = move_row c.before c.after row opened.summaries })))
+    ∙ cash_is u c (S (B (record opened { summaries = changed_summary_rows c.before c.after row opened.summaries })))
   where
     B : Tables → Tables
     B x = tables_with_broker_totals c.broker c.trades c.commissions x
@@ -378,7 +378,7 @@ sheets_then base stamp price t xs ys k a s ea es marks =
         ∙ ap (λ ts. insert_row_by_key settlement_key (settlement_row base.accounts base.rule u) (rows_sorted_by_key settlement_key (map (settlement_row base.accounts base.rule) ts))) (sym now)
 
     -- what was posted before
-    M : Tables → List MoveRow
+    M : Tables → List CashRow
     M x = cond u.is_cash (insert_row_by_key cash_move_key c.cash x.moves) x.moves
 
     before : AllByRecursion (λ p. p.stamp < last_status_stamp_of_trade u) (postings base.accounts (A ++ Z) base.movements)
@@ -386,25 +386,25 @@ sheets_then base stamp price t xs ys k a s ea es marks =
         subst (λ (m : ℕ). AllByRecursion (λ p. p.stamp < m) (postings base.accounts (A ++ Z) base.movements)) (sym (moment_then base stamp price t))
         (posted_before base.accounts (A ++ Z) base.movements stamp (subst (AllByRecursion (λ v. last_status_stamp_of_trade v < stamp)) now k.later) k.moved)
 
-    row_of : List Trade → MoveRow
+    row_of : List Trade → CashRow
     row_of ts = numbered_row (length (postings base.accounts ts base.movements) + 1) (posting_of_trade base.accounts u)
 
-    cash : (b : Bool) → t.is_cash ≡ b → rows_sorted_by_key cash_move_key (numbered_move_rows 1 (postings_sorted_by_stamp (postings_of_base after))) ≡ M (sheets base)
+    cash : (b : Bool) → t.is_cash ≡ b → rows_sorted_by_key cash_move_key (numbered_cash_move_rows 1 (postings_sorted_by_stamp (postings_of_base after))) ≡ M (sheets base)
     cash true e =
-        ap (λ ts. rows_sorted_by_key cash_move_key (numbered_move_rows 1 (postings_sorted_by_stamp (postings base.accounts ts base.movements)))) then
+        ap (λ ts. rows_sorted_by_key cash_move_key (numbered_cash_move_rows 1 (postings_sorted_by_stamp (postings base.accounts ts base.movements)))) then
         ∙ cash_after base.accounts A u Z base.movements e before
         ∙ ap (λ ts. insert_row_by_key cash_move_key (row_of ts)
-        (rows_sorted_by_key cash_move_key (numbered_move_rows 1 (postings_sorted_by_stamp (postings base.accounts ts base.movements))))) (sym now)
+        (rows_sorted_by_key cash_move_key (numbered_cash_move_rows 1 (postings_sorted_by_stamp (postings base.accounts ts base.movements))))) (sym now)
         ∙ sym (ap (λ b. cond b (insert_row_by_key cash_move_key (row_of (completed_trades base)) (sheets base).moves) (sheets base).moves) e)
     cash false e =
-        ap (λ ts. rows_sorted_by_key cash_move_key (numbered_move_rows 1 (postings_sorted_by_stamp (postings base.accounts ts base.movements)))) then ∙ margin_cash base.accounts A u Z base.movements e
-        ∙ ap (λ ts. rows_sorted_by_key cash_move_key (numbered_move_rows 1 (postings_sorted_by_stamp (postings base.accounts ts base.movements)))) (sym now)
+        ap (λ ts. rows_sorted_by_key cash_move_key (numbered_cash_move_rows 1 (postings_sorted_by_stamp (postings base.accounts ts base.movements)))) then ∙ margin_cash base.accounts A u Z base.movements e
+        ∙ ap (λ ts. rows_sorted_by_key cash_move_key (numbered_cash_move_rows 1 (postings_sorted_by_stamp (postings base.accounts ts base.movements)))) (sym now)
         ∙ sym (ap (λ b. cond b (insert_row_by_key cash_move_key (row_of (completed_trades base)) (sheets base).moves) (sheets base).moves) e)
 
     holdings : (sheets after).holdings ≡ open_lots u c.opened (set_lots c.touched (sheets base).holdings)
     holdings = ap (λ ts. rows_sorted_by_key holding_key (filter (λ row. not (is_zero row.qty)) (map (holding_row ts) ts))) then ∙ holdings_after base A u Z m
 
-    summaries : (sheets after).summaries ≡ move_row c.before c.after (record { account = u.account; symbol = u.symbol; qty = c.after }) (sheets base).summaries
+    summaries : (sheets after).summaries ≡ changed_summary_rows c.before c.after (record { account = u.account; symbol = u.symbol; qty = c.after }) (sheets base).summaries
     summaries = ap (λ ts. rows_sorted_by_key summary_key (all_summaries base ts)) then ∙ summaries_after base A u Z m a s ea es
 
     histories : (sheets after).holding_history ≡ put_openings c.opened (put_changes u.id c.touched (sheets base).holding_history)

@@ -195,8 +195,8 @@ others_same base done after id wanted h =
     accounts (a ∷ bs) = (of_one a.id, accounts bs)
 
 -- the row that is moved from one number to another, among rows of other positions
-abbrev pub move_row : ℤ → ℤ → SummaryRow → List SummaryRow → List SummaryRow
-move_row before after row rows =
+abbrev pub changed_summary_rows : ℤ → ℤ → SummaryRow → List SummaryRow → List SummaryRow
+changed_summary_rows before after row rows =
     cond (is_zero after) (filter (λ r. not (is_of row.account row.symbol r)) rows)
     (cond (is_zero before) (insert_row_by_key summary_key row rows) (update_where (is_of row.account row.symbol) (λ r. record r { qty = row.qty }) rows))
 
@@ -215,7 +215,7 @@ gone before p row (r ∷ rows) e = by_test (before r row) (gone before p row row
 
 moved_row : (account : ℕ) (symbol : Text) (before after : ℤ) (others : List SummaryRow) → AllByRecursion (λ r. is_of account symbol r ≡ false) others
     → each (insert_row_by_key summary_key) (row_of account symbol after) others
-    ≡ move_row before after (record { account = account; symbol = symbol; qty = after }) (each (insert_row_by_key summary_key) (row_of account symbol before) others)
+    ≡ changed_summary_rows before after (record { account = account; symbol = symbol; qty = after }) (each (insert_row_by_key summary_key) (row_of account symbol before) others)
 moved_row account symbol before after others h = by_test (is_zero after) (is_zero before)
   where
     I : SummaryRow → List SummaryRow → List SummaryRow
@@ -270,7 +270,7 @@ none_of account symbol rows =
 pub summaries_after : (base : Base) (xs : List Trade) (t : Trade) (ys : List Trade) → Completes base xs t ys → (a : Account) (s : Security)
     → account_with_id base t.account ≡ Some a → security_with_symbol base t.symbol ≡ Some s
     → rows_sorted_by_key summary_key (all_summaries base (xs ++ t ∷ ys))
-    ≡ move_row (holding_summary_quantity (completed_trades base) t.account t.symbol) (holding_summary_quantity (xs ++ t ∷ ys) t.account t.symbol)
+    ≡ changed_summary_rows (holding_summary_quantity (completed_trades base) t.account t.symbol) (holding_summary_quantity (xs ++ t ∷ ys) t.account t.symbol)
     (record { account = t.account; symbol = t.symbol; qty = holding_summary_quantity (xs ++ t ∷ ys) t.account t.symbol }) (rows_sorted_by_key summary_key (all_summaries base (completed_trades base)))
 summaries_after base xs t ys c a s e f =
     let P : SummaryRow → Bool = is_of t.account t.symbol in
@@ -283,7 +283,7 @@ summaries_after base xs t ys c a s e f =
     ∙ (λ i. each (insert_row_by_key K) (own_summary base (xs ++ t ∷ ys) t.account t.symbol a s c.books e f i)
     (rows_sorted_by_key K (others_same base (completed_trades base) (xs ++ t ∷ ys) t.account t.symbol elsewhere i)))
     ∙ moved_row t.account t.symbol before after O (none_of t.account t.symbol (all_summaries base (completed_trades base)))
-    ∙ ap (λ rows. move_row before after (record { account = t.account; symbol = t.symbol; qty = after }) rows)
+    ∙ ap (λ rows. changed_summary_rows before after (record { account = t.account; symbol = t.symbol; qty = after }) rows)
     (sym (by_key-parts K P (all_summaries base (completed_trades base)) (apart_keys t.account t.symbol)
     ∙ ap (λ rows. each (insert_row_by_key K) rows O) (own_summary base (completed_trades base) t.account t.symbol a s c.books e f)))
   where

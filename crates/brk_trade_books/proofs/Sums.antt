@@ -9,7 +9,7 @@ use Rattle.brk_model.specs.Base.{broker_id_in_accounts, last_status_stamp_of_tra
 use Rattle.brk_model.specs.Derived.{Posting, balance_of_account, cash_trades, commission_total_of_broker, postings_sorted_by_stamp, trades_of_broker}
 use Rattle.brk_model.specs.Derived.{postings_to_account, posting_of_movement, posting_of_trade, postings, trade_count_of_broker}
 use Rattle.brk_model.specs.Keys.{KeyPart, number, account_key, broker_key, rows_sorted_by_key, insert_row_by_key, cash_move_key, settlement_key}
-use Rattle.brk_model.specs.Tables.{AccountRow, BrokerRow, account_row, broker_row, cash_move_row, numbered_move_rows, settlement_row}
+use Rattle.brk_model.specs.Tables.{AccountRow, BrokerRow, account_row, broker_row, cash_move_row, numbered_cash_move_rows, settlement_row}
 use Rattle.brk_trade_books.proofs.Bools.{numbers_back}
 use Rattle.brk_trade_books.proofs.Order.{by_key-map, by_key-middle}
 use Rattle.brk_trade_books.proofs.Same.{NonePass, All-append, All-filter, All-map, All-mapped, map-same}
@@ -190,19 +190,19 @@ posted_before accounts ts ms stamp h k =
 -- the row of a cash trade that is completed after all that was posted
 pub cash_after : (accounts : List Account) (xs : List Trade) (t : Trade) (ys : List Trade) (ms : List Movement) → t.is_cash ≡ true
     → AllByRecursion (λ p. p.stamp < last_status_stamp_of_trade t) (postings accounts (xs ++ ys) ms)
-    → rows_sorted_by_key cash_move_key (numbered_move_rows 1 (postings_sorted_by_stamp (postings accounts (xs ++ t ∷ ys) ms)))
+    → rows_sorted_by_key cash_move_key (numbered_cash_move_rows 1 (postings_sorted_by_stamp (postings accounts (xs ++ t ∷ ys) ms)))
     ≡ insert_row_by_key cash_move_key (cash_move_row (length (postings accounts (xs ++ ys) ms) + 1) (posting_of_trade accounts t))
-    (rows_sorted_by_key cash_move_key (numbered_move_rows 1 (postings_sorted_by_stamp (postings accounts (xs ++ ys) ms))))
+    (rows_sorted_by_key cash_move_key (numbered_cash_move_rows 1 (postings_sorted_by_stamp (postings accounts (xs ++ ys) ms))))
 cash_after accounts xs t ys ms e h =
     let X : List Posting = map (posting_of_trade accounts) (cash_trades xs) in
     let Y : List Posting = map (posting_of_trade accounts) (cash_trades ys) ++ map posting_of_movement ms in
     let both : postings accounts (xs ++ ys) ms ≡ X ++ Y = postings_both accounts xs ys ms in
-    ap (λ ps. rows_sorted_by_key cash_move_key (numbered_move_rows 1 (postings_sorted_by_stamp ps))) (postings_one accounts xs t ys ms e)
+    ap (λ ps. rows_sorted_by_key cash_move_key (numbered_cash_move_rows 1 (postings_sorted_by_stamp ps))) (postings_one accounts xs t ys ms e)
     ∙ rows_last X (posting_of_trade accounts t) Y (subst (AllByRecursion (λ p. p.stamp < last_status_stamp_of_trade t)) both h)
     ∙ ap (λ ps. insert_row_by_key cash_move_key (cash_move_row (length ps + 1) (posting_of_trade accounts t))
-    (rows_sorted_by_key cash_move_key (numbered_move_rows 1 (postings_sorted_by_stamp ps)))) (sym both)
+    (rows_sorted_by_key cash_move_key (numbered_cash_move_rows 1 (postings_sorted_by_stamp ps)))) (sym both)
 
 pub margin_cash : (accounts : List Account) (xs : List Trade) (t : Trade) (ys : List Trade) (ms : List Movement) → t.is_cash ≡ false
-    → rows_sorted_by_key cash_move_key (numbered_move_rows 1 (postings_sorted_by_stamp (postings accounts (xs ++ t ∷ ys) ms)))
-    ≡ rows_sorted_by_key cash_move_key (numbered_move_rows 1 (postings_sorted_by_stamp (postings accounts (xs ++ ys) ms)))
-margin_cash accounts xs t ys ms e = ap (λ ps. rows_sorted_by_key cash_move_key (numbered_move_rows 1 (postings_sorted_by_stamp ps))) (postings_none accounts xs t ys ms e)
+    → rows_sorted_by_key cash_move_key (numbered_cash_move_rows 1 (postings_sorted_by_stamp (postings accounts (xs ++ t ∷ ys) ms)))
+    ≡ rows_sorted_by_key cash_move_key (numbered_cash_move_rows 1 (postings_sorted_by_stamp (postings accounts (xs ++ ys) ms)))
+margin_cash accounts xs t ys ms e = ap (λ ps. rows_sorted_by_key cash_move_key (numbered_cash_move_rows 1 (postings_sorted_by_stamp ps))) (postings_none accounts xs t ys ms e)

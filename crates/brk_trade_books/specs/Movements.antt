@@ -4,17 +4,17 @@ use Rattle.brk_model.specs.Records.{Movement}
 use Rattle.brk_model.specs.Base.{Base}
 use Rattle.brk_model.specs.Derived.{balance_of_account, posting_of_movement, postings_of_base}
 use Rattle.brk_model.specs.Movements.{base_after_movement}
-use Rattle.brk_model.specs.Tables.{MoveRow, Tables, cash_move_row}
+use Rattle.brk_model.specs.Tables.{CashRow, Tables, cash_move_row}
 use Rattle.brk_trade_rows.specs.Changes.{tables_with_balance, tables_with_cash_row}
 
 -- The tables `t` with the cash row `row` inserted in key order, and the balance of its account, if
 -- there is such an account, set to `balance`, in cents.
-abbrev pub tables_with_cash_row_and_balance : MoveRow → (balance : ℤ) → Tables → Tables
+abbrev pub tables_with_cash_row_and_balance : CashRow → (balance : ℤ) → Tables → Tables
 tables_with_cash_row_and_balance row balance t = tables_with_balance row.account balance (tables_with_cash_row row t)
 
 -- The row of CASH_MOVE of the movement `m`. Its number is the number of postings of the base plus
 -- 1.
-abbrev pub numbered_cash_row_of_movement : Base → Movement → MoveRow
+abbrev pub numbered_cash_row_of_movement : Base → Movement → CashRow
 numbered_cash_row_of_movement base m = cash_move_row (length (postings_of_base base) + 1) (posting_of_movement m)
 
 -- The balance of the account of the movement `m`, in cents, in the base after this movement.

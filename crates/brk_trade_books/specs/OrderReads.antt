@@ -8,7 +8,7 @@ use Rattle.brk_model.specs.Tables.{Tables}
 use Rattle.brk_money.specs.Kinds.{is_same_trade_type}
 use Rattle.brk_money.specs.Spelling.{Text}
 use Rattle.brk_money.specs.declared.trade_type.TradeType.{TradeType}
-use Rattle.brk_trade_rows.specs.declared.holding_row.HoldingRow.{HoldingRow}
+use Rattle.brk_ref.specs.declared.holding_row.HoldingRow.{HoldingRow}
 use Rattle.brk_trade_books.specs.TradeReads.{lots_of_position}
 
 -- ---- lookups

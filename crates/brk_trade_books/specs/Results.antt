@@ -8,7 +8,7 @@ use Rattle.brk_model.specs.Base.{Base, broker_id_of_account, completed_trades}
 use Rattle.brk_model.specs.Derived.{balance_of_account, commission_total_of_broker, posting_of_trade, postings, postings_of_base}
 use Rattle.brk_model.specs.Derived.{shares_of_position, holding_summary_quantity, trade_count_of_broker}
 use Rattle.brk_model.specs.Results.{trade_after_completion, deal_of_result, base_after_result}
-use Rattle.brk_model.specs.Tables.{HoldingHistoryRow, HoldingRow, MoveRow, SettlementRow, SummaryRow}
+use Rattle.brk_model.specs.Tables.{HoldingHistoryRow, HoldingRow, CashRow, SettlementRow, SummaryRow}
 use Rattle.brk_model.specs.Tables.{Tables, TradeRow, cash_move_row, settlement_row, trade_row}
 use Rattle.brk_lots.specs.Lots.{list_reversed_if_lifo}
 use Rattle.brk_trade_rows.specs.Changes.{tables_with_balance, tables_with_broker_totals, tables_with_cash_row, tables_with_trade_completed}
@@ -31,7 +31,7 @@ pub record ResultRows : Type 0 where
   pub after : ℤ
   -- The settlement of the trade, and the cash row that the result adds if `trade` is a cash trade.
   pub settlement : SettlementRow
-  pub cash : MoveRow
+  pub cash : CashRow
   -- The balance of the account after the result; a result of a margin trade does not set it.
   pub balance : ℤ
   -- The broker of the account, and its trade count and commission total after the result.
@@ -96,7 +96,7 @@ tables_with_summary_changed before after row t =
 
 -- If `is_cash` is true, the tables with the cash row `cash` added and the balance of `account` set
 -- to `balance`, in cents; otherwise the tables unchanged.
-abbrev pub tables_with_cash_row_if_cash_trade : (is_cash : Bool) → MoveRow → (account : ℕ) → (balance : ℤ) → Tables → Tables
+abbrev pub tables_with_cash_row_if_cash_trade : (is_cash : Bool) → CashRow → (account : ℕ) → (balance : ℤ) → Tables → Tables
 tables_with_cash_row_if_cash_trade is_cash cash account balance t = if is_cash then tables_with_balance account balance (tables_with_cash_row cash t) else t
 
 -- ---- the whole result

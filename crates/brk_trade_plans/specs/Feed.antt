@@ -22,7 +22,7 @@ use Rattle.brk_trade_plans.specs.declared.quote.Quote.{Quote}
 use Rattle.brk_trade_plans.specs.declared.reply.Reply.{Reply}
 use Rattle.brk_trade_plans.specs.declared.reply.Reply.TheVariants as reply
 use Rattle.brk_trade_plans.specs.declared.span.PriceSpan.{PriceSpan}
-use Rattle.brk_trade_rows.specs.declared.request_row.RequestRow.{RequestRow}
+use Rattle.brk_ref.specs.declared.request_row.RequestRow.{RequestRow}
 
 -- The state of one symbol: its last trade on the market, and its pending requests.
 pub record SymbolState : Type 0 where

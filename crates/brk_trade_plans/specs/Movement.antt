@@ -10,10 +10,10 @@ use Rattle.brk_model.specs.Tests.{RefusalCheck, first_refusal}
 use Rattle.brk_ref_orders.specs.declared.movement.Direction.{Direction}
 use Rattle.brk_ref_orders.specs.declared.movement.Direction.TheVariants.{Deposit, Withdrawal}
 use Rattle.brk_ref_orders.specs.declared.movement.Movement.{Movement}
-use Rattle.brk_trade_rows.specs.Rows.{abstract_move_row}
+use Rattle.brk_ref.specs.Rows.{abstract_cash_row}
 use Rattle.brk_trade_rows.specs.declared.change.Change.{Change}
 use Rattle.brk_trade_rows.specs.declared.change.Change.TheVariants as change
-use Rattle.brk_trade_rows.specs.declared.move_row.MoveRow.{MoveRow}
+use Rattle.brk_ref.specs.declared.cash_row.CashRow.{CashRow}
 use Rattle.brk_trade_plans.specs.Reference.{later_stamp_check}
 use Rattle.brk_trade_plans.specs.declared.movement.MovementPlanFacts.{MovementPlanFacts}
 use Rattle.brk_trade_plans.specs.declared.plan.Plan.{Plan}
@@ -48,21 +48,21 @@ movement_checks m found =
 
 -- The CASH_MOVE row of the movement `m` with the id `number` and the stamp `stamp`. It has no
 -- trade.
-abbrev pub cash_row_of_movement : Movement → (number stamp : ℕ) → tables.MoveRow
+abbrev pub cash_row_of_movement : Movement → (number stamp : ℕ) → tables.CashRow
 cash_row_of_movement m number stamp =
     record { id = number; account = m.account; trade = None; stamp = stamp; amount = signed_amount_of_movement m; name = cash_text_of_direction m.direction }
 
 -- The row changes of a movement: the cash row `row` is added, the balance of `account` is set to
 -- `balance` cents, and the last stamp to `stamp`.
-abbrev pub row_changes_of_movement : ℕ → MoveRow → ℤ → ℕ → List Change
+abbrev pub row_changes_of_movement : ℕ → CashRow → ℤ → ℕ → List Change
 row_changes_of_movement account row balance stamp = change.AddMove row ∷ change.SetBalance account balance ∷ change.SetLastStamp stamp ∷ []
 
 -- `plan` adds the cash row of the movement `m` with the id `number`, sets the balance of its
 -- account to `balance` cents and the last stamp to `stamp`, and the reply is `Moved` with the
 -- stamp, the id and the balance.
 pub record AppliesMovement (m : Movement) (number : ℕ) (balance : ℤ) (stamp : ℕ) (plan : Plan) : Type 0 where
-  pub row : MoveRow
-  pub posted : abstract_move_row row ≡ cash_row_of_movement m number stamp
+  pub row : CashRow
+  pub posted : abstract_cash_row row ≡ cash_row_of_movement m number stamp
   pub replied : plan.reply ≡ reply.Moved stamp number balance
   pub changes : plan.changes.items ≡ row_changes_of_movement m.account row balance stamp
 

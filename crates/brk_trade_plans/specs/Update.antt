@@ -11,8 +11,8 @@ use Rattle.brk_model.specs.Tables.{Tables}
 use Rattle.brk_model.specs.Tests.{RefusalCheck}
 use Rattle.brk_model.specs.Updates.{updated_executor_name, toggled_word}
 use Rattle.brk_trade_rows.specs.Changes.{tables_after_change, tables_with_cash_text, tables_with_cash_type, tables_with_executor_name, tables_with_last_stamp}
-use Rattle.brk_trade_rows.specs.Rows.{cash_type_text}
-use Rattle.brk_trade_rows.specs.declared.trade_row.TradeRow.{TradeRow}
+use Rattle.brk_ref.specs.Rows.{cash_type_text}
+use Rattle.brk_ref.specs.declared.trade_row.TradeRow.{TradeRow}
 use Rattle.brk_ref_orders.specs.declared.update.Update as told
 use Rattle.brk_ref_orders.specs.declared.update.Update.TheVariants as update
 use Rattle.brk_trade_plans.specs.declared.corrected.TextUpdate.{TextUpdate}

@@ -1,6 +1,5 @@
 use brk_money::{Id, Qty, TradeType};
-use brk_ref::Name;
-use brk_trade_rows::{CashType, TradeRow};
+use brk_ref::{CashType, Name, TradeRow};
 
 /// A completed trade with its settlement text (SE_CASH_TYPE). `is_cash` is true for a cash trade
 /// and false for a margin trade.

@@ -18,9 +18,9 @@ use crate::quote::Quote;
 use crate::reply::Reply;
 use crate::waiting::append_pending_trade_changes;
 use brk_money::{Fault, Id, Limit, Planned, Price, Refusal, Stamp, Status, TradeType, stamp_after};
-use brk_ref::{LastTrade, Symbol, Volume};
+use brk_ref::{LastTrade, RequestRow, Symbol, Volume};
 use brk_ref_orders::{Feed, Tick};
-use brk_trade_rows::{Change, RequestRow};
+use brk_trade_rows::Change;
 use std::alloc::Global;
 
 /// Returns true if a market price of `price` cents triggers a pending trade of the type `kind` with

@@ -1,5 +1,5 @@
 ghost use Rattle.std.specs.Prelude.{◌≡◌, ◌∷◌, ◌++◌, ◌+ℤ◌, [], true, false, nat_abs, nat_lt, IfOk, OnErr, Err, MatchOption, MatchResult, None, Some};
-ghost use Rattle.brk_trade_rows.specs.Rows.{abstract_move_row};
+ghost use Rattle.brk_ref.specs.Rows.{abstract_cash_row};
 ghost use Rattle.brk_model.specs.Limits.{greatest_amount};
 ghost use Rattle.brk_model.specs.Tests.{first_refusal};
 ghost use Rattle.brk_money.specs.declared.fault.Fault.TheVariants.{Memory};
@@ -10,8 +10,9 @@ ghost use Rattle.brk_trade_plans.specs.Reference.{later_stamp_check};
 use crate::plan::Plan;
 use crate::reply::Reply;
 use brk_money::{Cents, Fault, Id, Limit, MoveId, Planned, Refusal, Stamp, stamp_after};
+use brk_ref::CashRow;
 use brk_ref_orders::{Direction, Movement};
-use brk_trade_rows::{Change, MoveRow};
+use brk_trade_rows::Change;
 use std::alloc::{AllocError, Global};
 
 /// The facts in the tables that decide a deposit or a withdrawal.
@@ -88,10 +89,10 @@ fn create_movement_cash_row(
     movement: &Movement,
     number: MoveId,
     stamp: Stamp,
-) -> Result<MoveRow, AllocError>
-    ensures { IfOk result (λ row. abstract_move_row row ≡ spec.cash_row_of_movement movement.now number stamp) }
+) -> Result<CashRow, AllocError>
+    ensures { IfOk result (λ row. abstract_cash_row row ≡ spec.cash_row_of_movement movement.now number stamp) }
 {
-    Ok(MoveRow {
+    Ok(CashRow {
         id: number,
         account: movement.account,
         trade: None,
@@ -106,7 +107,7 @@ fn create_movement_cash_row(
 fn create_movement_changes(
     alloc: Global,
     account: Id,
-    row: MoveRow,
+    row: CashRow,
     balance: Cents,
     stamp: Stamp,
 ) -> Result<Vec<Change>, Fault>

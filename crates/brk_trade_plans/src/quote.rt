@@ -1,11 +1,10 @@
 ghost use Rattle.std.specs.Prelude.{◌≡◌, ◌++◌, IfOk, OnErr, Err};
 ghost use Rattle.std.specs.List.Sorted.{IsNonDecreasingBy, IsPermutation};
 ghost use Rattle.brk_money.specs.declared.fault.Fault.TheVariants.{Memory};
-ghost use Rattle.brk_trade_rows.specs.declared.request_row.RequestRow as request;
+ghost use Rattle.brk_ref.specs.declared.request_row.RequestRow as request;
 
 use brk_money::Fault;
-use brk_ref::LastTrade;
-use brk_trade_rows::RequestRow;
+use brk_ref::{LastTrade, RequestRow};
 
 /// The last trade of one security on the market, and its pending requests, sorted by trade,
 /// ascending.

@@ -12,9 +12,9 @@ use crate::plan::Plan;
 use crate::reply::Reply;
 use crate::wording::{toggle_cash_text, toggle_cash_type, toggle_executor_name};
 use brk_money::{Fault, Planned, Refusal, Stamp, stamp_after};
-use brk_ref::Name;
+use brk_ref::{Name, TradeRow};
 use brk_ref_orders::Update;
-use brk_trade_rows::{Change, TradeRow};
+use brk_trade_rows::Change;
 use std::alloc::Global;
 
 // Returns the refusal of a text update whose target does not exist: `NoTrade` if it names trades,

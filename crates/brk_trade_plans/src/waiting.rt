@@ -3,7 +3,8 @@ ghost use Rattle.brk_money.specs.declared.fault.Fault.TheVariants.{Memory};
 ghost use Rattle.brk_trade_plans.specs.Waiting.{row_changes_of_status_after_pending};
 
 use brk_money::{Fault, Id, Stamp, Status};
-use brk_trade_rows::{Change, HistoryRow};
+use brk_ref::HistoryRow;
+use brk_trade_rows::Change;
 
 // Appends to `changes` the row changes by which a pending trade changes to the status `status` at
 // `stamp`: its status and its stamp are set, a history row is added, and its request is deleted.

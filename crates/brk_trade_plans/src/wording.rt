@@ -5,13 +5,12 @@ ghost use Rattle.std.specs.Prelude.{◌≡◌, ◌≤◌, ◌∷◌, ◌++◌, I
 ghost use Rattle.brk_model.specs.Lists.{contains_text, replace_text};
 ghost use Rattle.brk_model.specs.Results.{cash_row_name_from_parts};
 ghost use Rattle.brk_model.specs.Updates as definition;
-ghost use Rattle.brk_trade_rows.specs.Rows.{cash_type_text};
+ghost use Rattle.brk_ref.specs.Rows.{cash_type_text};
 ghost use Rattle.brk_trade_plans.specs.Update as spec;
 
 use crate::corrected::CashText;
 use brk_money::Qty;
-use brk_ref::Name;
-use brk_trade_rows::CashType;
+use brk_ref::{CashType, Name};
 use std::alloc::{AllocError, Global};
 
 // Returns the text with each occurrence of `part`, which is not empty, replaced by `new`, from the

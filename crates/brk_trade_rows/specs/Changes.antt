@@ -7,7 +7,7 @@ use Rattle.brk_money.specs.declared.status.Status.TheVariants.{Completed}
 use Rattle.brk_model.specs.Lists.{update_where}
 use Rattle.brk_model.specs.Records.{Broker, Customer, Account, Permission, Charge, Band, TaxRate, CustomerTax, Kept}
 use Rattle.brk_model.specs.Tables.{Tables, SecurityRow, LastTradeRow, TradeRow, HistoryRow, RequestRow}
-use Rattle.brk_model.specs.Tables.{HoldingRow, SummaryRow, HoldingHistoryRow, SettlementRow, MoveRow}
+use Rattle.brk_model.specs.Tables.{HoldingRow, SummaryRow, HoldingHistoryRow, SettlementRow, CashRow}
 use Rattle.brk_model.specs.Keys.{insert_row_by_key, broker_key, customer_key, account_key, permission_key, security_key}
 use Rattle.brk_model.specs.Keys.{last_trade_key, charge_key, band_key, tax_rate_key, customer_tax_key, kept_key, trade_key}
 use Rattle.brk_model.specs.Keys.{history_key, request_key, holding_key, summary_key, holding_history_key, settlement_key, cash_move_key}
@@ -15,9 +15,9 @@ use Rattle.brk_model.specs.LookupView.{is_cash_row_of_trade}
 use Rattle.brk_ref.specs.Records.{abstract_broker, abstract_customer, abstract_account, abstract_permission, abstract_security_row}
 use Rattle.brk_ref.specs.Records.{abstract_last_trade_row, abstract_charge, abstract_band, abstract_tax_rate, abstract_customer_tax}
 use Rattle.brk_ref.specs.Records.{abstract_kept_row}
-use Rattle.brk_trade_rows.specs.Rows.{abstract_trade_row, abstract_history_row, abstract_request_row, abstract_holding_row}
-use Rattle.brk_trade_rows.specs.Rows.{abstract_summary_row, abstract_lot_change_row, cash_type_text, abstract_settlement_row}
-use Rattle.brk_trade_rows.specs.Rows.{abstract_move_row}
+use Rattle.brk_ref.specs.Rows.{abstract_trade_row, abstract_history_row, abstract_request_row, abstract_holding_row}
+use Rattle.brk_ref.specs.Rows.{abstract_summary_row, abstract_lot_change_row, cash_type_text, abstract_settlement_row}
+use Rattle.brk_ref.specs.Rows.{abstract_cash_row}
 use Rattle.brk_trade_rows.specs.declared.change.Change.{Change}
 use Rattle.brk_trade_rows.specs.declared.change.Change.TheVariants.{AddBroker, AddCustomer, AddAccount, AddPermission, AddSecurity, AddLastTrade}
 use Rattle.brk_trade_rows.specs.declared.change.Change.TheVariants.{AddCharge, AddBand, AddTaxRate, AddCustomerTax, AddTrade, SetStatus, AddHistory}
@@ -147,7 +147,7 @@ abbrev pub tables_with_settlement : SettlementRow → Tables → Tables
 tables_with_settlement r t = record t { settlements = insert_row_by_key settlement_key r t.settlements }
 
 -- The tables `t` with the CASH_MOVE row `r` inserted in key order.
-abbrev pub tables_with_cash_row : MoveRow → Tables → Tables
+abbrev pub tables_with_cash_row : CashRow → Tables → Tables
 tables_with_cash_row r t = record t { moves = insert_row_by_key cash_move_key r t.moves }
 
 -- The tables `t` with the balance of `account` set to `balance` cents. They are unchanged if there
@@ -219,7 +219,7 @@ tables_after_change (AddSummary row) = tables_with_summary (abstract_summary_row
 tables_after_change (SetSummary row) = tables_with_summary_quantity (abstract_summary_row row)
 tables_after_change (RemoveSummary account symbol) = tables_without_summary account symbol
 tables_after_change (AddSettlement row) = tables_with_settlement (abstract_settlement_row row)
-tables_after_change (AddMove row) = tables_with_cash_row (abstract_move_row row)
+tables_after_change (AddMove row) = tables_with_cash_row (abstract_cash_row row)
 tables_after_change (SetBalance account balance) = tables_with_balance account balance
 tables_after_change (SetBrokerTotals broker trades commissions) = tables_with_broker_totals broker trades commissions
 tables_after_change (SetExecutor trade executor) = tables_with_executor_name trade (string_bytes executor)

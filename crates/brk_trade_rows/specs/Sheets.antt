@@ -5,8 +5,8 @@ use Rattle.brk_model.specs.Tables.{Tables}
 use Rattle.brk_ref.specs.Records.{kept_row_with_empty_texts}
 use Rattle.brk_ref.specs.Records.{abstract_broker_row, abstract_customer, abstract_account_row, abstract_permission, abstract_security_row}
 use Rattle.brk_ref.specs.Records.{abstract_last_trade_row, abstract_charge, abstract_band, abstract_tax_rate, abstract_customer_tax}
-use Rattle.brk_trade_rows.specs.Rows.{abstract_trade_row, abstract_history_row, abstract_request_row, abstract_holding_row, abstract_summary_row}
-use Rattle.brk_trade_rows.specs.Rows.{abstract_lot_change_row, abstract_settlement_row, abstract_cash_row, abstract_move_row}
+use Rattle.brk_ref.specs.Rows.{abstract_trade_row, abstract_history_row, abstract_request_row, abstract_holding_row, abstract_summary_row}
+use Rattle.brk_ref.specs.Rows.{abstract_lot_change_row, abstract_settlement_row, abstract_old_cash_row, abstract_cash_row}
 use Rattle.brk_trade_rows.specs.declared.sheets.Sheets.{Sheets}
 
 -- The model's tables with the values of the typed rows `s`. The rows of KEPT have empty texts.
@@ -31,7 +31,7 @@ abstract_sheets s = record {
   summaries = map abstract_summary_row s.summaries.items;
   holding_history = map abstract_lot_change_row s.holding_history.items;
   settlements = map abstract_settlement_row s.settlements.items;
-  cash = map abstract_cash_row s.cash.items;
-  moves = map abstract_move_row s.moves.items;
+  cash = map abstract_old_cash_row s.cash.items;
+  moves = map abstract_cash_row s.moves.items;
   rule = s.rule;
 }

@@ -1,16 +1,8 @@
-use crate::cash_type::CashType;
-use crate::history_row::HistoryRow;
-use crate::holding_row::HoldingRow;
-use crate::lot_change::LotChange;
-use crate::move_row::MoveRow;
-use crate::request_row::RequestRow;
-use crate::settlement_row::SettlementRow;
-use crate::summary_row::SummaryRow;
-use crate::trade_row::TradeRow;
 use brk_money::{Amount, Cents, Day, Id, Price, Stamp, Status};
 use brk_ref::{
-    Account, Band, Broker, Charge, Customer, CustomerTax, Kept, LastTrade, Permission, Security,
-    Symbol, Tax,
+    Account, Band, Broker, CashRow, CashType, Charge, Customer, CustomerTax, HistoryRow,
+    HoldingRow, Kept, LastTrade, LotChange, Permission, RequestRow, Security, SettlementRow,
+    SummaryRow, Symbol, Tax, TradeRow,
 };
 
 /// A change of one row of a table: the row is inserted, updated or deleted.
@@ -84,7 +76,7 @@ pub enum Change {
     /// Inserts the settlement of a completed trade.
     AddSettlement(SettlementRow),
     /// Inserts a cash row of a cash trade, a deposit or a withdrawal (CASH_MOVE).
-    AddMove(MoveRow),
+    AddMove(CashRow),
     /// Sets the balance of an account, in cents.
     SetBalance {
         account: Id,

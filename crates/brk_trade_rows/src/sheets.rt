@@ -1,17 +1,9 @@
 //! Written by tools/generate/tables.py.
-use crate::cash_row::CashRow;
-use crate::history_row::HistoryRow;
-use crate::holding_row::HoldingRow;
-use crate::lot_change::LotChange;
-use crate::move_row::MoveRow;
-use crate::request_row::RequestRow;
-use crate::settlement_row::SettlementRow;
-use crate::summary_row::SummaryRow;
-use crate::trade_row::TradeRow;
 use brk_money::{Day, Stamp};
 use brk_ref::{
-    AccountRow, Band, BrokerRow, Charge, Customer, CustomerTax, Key, LastTrade, Permission,
-    Security, Tax,
+    AccountRow, Band, BrokerRow, CashRow, Charge, Customer, CustomerTax, HistoryRow, HoldingRow,
+    Key, LastTrade, LotChange, OldCashRow, Permission, RequestRow, Security, SettlementRow,
+    SummaryRow, Tax, TradeRow,
 };
 
 /// The rows of all tables of a desk, each list sorted by key, ascending.
@@ -38,8 +30,8 @@ pub struct Sheets {
     pub summaries: Vec<SummaryRow>,
     pub holding_history: Vec<LotChange>,
     pub settlements: Vec<SettlementRow>,
-    pub cash: Vec<CashRow>,
-    pub moves: Vec<MoveRow>,
+    pub cash: Vec<OldCashRow>,
+    pub moves: Vec<CashRow>,
     /// The first day of one-day settlement, if one is set (SR_DAY).
     pub rule: Option<Day>,
 }

@@ -20,7 +20,7 @@ use Rattle.brk_model.specs.LookupView.{is_cash_row_of_trade}
 use Rattle.brk_model.specs.Records.{Security, Trade}
 use Rattle.brk_model.specs.Sheets.{sheets, tables_sorted_by_key}
 use Rattle.brk_model.specs.Step.{base_after_command_unstamped, reply_to_command, step, value_unless_refused}
-use Rattle.brk_model.specs.Tables.{MoveRow, SecurityRow, SettlementRow, Tables, TradeRow, numbered_move_rows, security_row, settlement_row, tables_of_base_in_schema, trade_row}
+use Rattle.brk_model.specs.Tables.{CashRow, SecurityRow, SettlementRow, Tables, TradeRow, numbered_cash_move_rows, security_row, settlement_row, tables_of_base_in_schema, trade_row}
 use Rattle.brk_model.specs.Tests.{first_refusal, stamp_of_next_command, refusal_of_command, checks_of_command}
 use Rattle.brk_model.specs.Updates.{updated_cash_row_name, updated_cash_type, updated_executor_name, selected_trade_ids_of_account}
 use Rattle.brk_model.specs.Updates.{selected_trade_ids_of_symbol, trade_stamp_is_between, base_with_updated_cash_names, base_with_updated_cash_types}
@@ -30,9 +30,9 @@ use Rattle.brk_ref_orders.specs.declared.update.Update as told
 use Rattle.brk_ref_orders.specs.declared.update.Update.TheVariants as update
 use Rattle.brk_trade_rows.specs.Changes.{tables_after_change, tables_after_changes, tables_with_last_stamp}
 use Rattle.brk_trade_rows.specs.Chosen.{first_twenty_completed_cash_trade_rows_of_symbol, first_twenty_completed_trade_rows_of_account}
-use Rattle.brk_trade_rows.specs.Rows.{cash_type_text, abstract_trade_row}
+use Rattle.brk_ref.specs.Rows.{cash_type_text, abstract_trade_row}
 use Rattle.brk_trade_rows.specs.declared.change.Change.{Change}
-use Rattle.brk_trade_rows.specs.declared.trade_row.TradeRow as row
+use Rattle.brk_ref.specs.declared.trade_row.TradeRow as row
 use Rattle.brk_trade_plans.specs.Reference.{later_stamp_check}
 use Rattle.brk_trade_plans.specs.Replies.{abstract_reply}
 use Rattle.brk_trade_plans.specs.Update as planner
@@ -250,7 +250,7 @@ abbrev pub texts_with : Base → (Trade → Bool) → List Posting
 texts_with base p = map (λ t. record (posting_of_trade base.accounts t) { name = text_then base p t }) (cash_trades (completed_trades base)) ++ map posting_of_movement base.movements
 
 pub cash_names_rows : (base : Base) (ids : List ℕ) → sheets (base_with_updated_cash_names ids base)
-    ≡ record (sheets base) { moves = rows_sorted_by_key cash_move_key (numbered_move_rows 1 (postings_sorted_by_stamp (texts_with base (λ t. contains_number t.id ids)))) }
+    ≡ record (sheets base) { moves = rows_sorted_by_key cash_move_key (numbered_cash_move_rows 1 (postings_sorted_by_stamp (texts_with base (λ t. contains_number t.id ids)))) }
 unfolding tables_of_base_in_schema tables_sorted_by_key
 cash_names_rows base ids =
     let p : Trade → Bool = λ t. contains_number t.id ids in
@@ -291,13 +291,13 @@ cash_names_set base symbol first last name cs books is_named read =
     ∙ ap (λ moves. record (sheets base) { moves = moves })
     (each_text (λ (c : CashText). c.trade) (λ (c : CashText). planner.toggled_cash_text_of_trade name c) (sheets base).moves cs
     ∙ rows_through (all_named (λ (c : CashText). c.trade) (λ (c : CashText). planner.toggled_cash_text_of_trade name c) cs) (postings_of_base base)
-    ∙ ap (λ ps. rows_sorted_by_key cash_move_key (numbered_move_rows 1 (postings_sorted_by_stamp ps)))
+    ∙ ap (λ ps. rows_sorted_by_key cash_move_key (numbered_cash_move_rows 1 (postings_sorted_by_stamp ps)))
     (texts_named (λ (c : CashText). c.trade) (λ (c : CashText). planner.toggled_cash_text_of_trade name c) (updated_cash_row_name base) base.accounts (completed_trades base) base.movements cs
     (All-map (cash_trades (completed_trades base)) (λ t own. All-map cs (λ c f same.
     let at : t.id ≡ f.0.id = eqb-true t.id c.trade same ∙ ap (λ (r : CashTextRow). r.0) f.1 in
     let one : trade_row f.0 ≡ trade_row t = same_row base t f.0 at own.0 f.2.0 in
     let text : string_bytes c.name ≡ t.cash_name =
-    some_is _ _ (ap (λ (r : CashTextRow). r.3) f.1 ∙ ap (λ (n : ℕ). option_map (λ (r : MoveRow). r.name) (cash_row_of_trade (sheets base) n)) (sym at) ∙ own.1) in
+    some_is _ _ (ap (λ (r : CashTextRow). r.3) f.1 ∙ ap (λ (n : ℕ). option_map (λ (r : CashRow). r.name) (cash_row_of_trade (sheets base) n)) (sym at) ∙ own.1) in
     let its_symbol : t.symbol ≡ symbol = ap (λ (r : TradeRow). r.symbol) (sym one)
     ∙ same_text f.0.symbol symbol (and_last f.0.is_cash (bytes_eq f.0.symbol symbol) (trade_stamp_is_between first last f.0) f.2.1) in
     let its_name : name ≡ security_name base t.symbol = sym (ap (security_name base) its_symbol ∙ name_is base symbol name is_named) in

@@ -22,7 +22,7 @@ use Rattle.brk_model.specs.Step.{reply_to_command, step}
 use Rattle.brk_model.specs.Tables.{Tables, account_row, tables_of_base_in_schema}
 use Rattle.brk_model.specs.Tests.{RefusalCheck, first_refusal, checks_of_movement, stamp_of_next_command, refusal_of_command, checks_of_command}
 use Rattle.brk_trade_rows.specs.Changes.{tables_after_changes, tables_with_balance, tables_with_last_stamp, tables_with_cash_row, tables_with_one_day_settlement_start}
-use Rattle.brk_trade_rows.specs.Rows.{abstract_move_row}
+use Rattle.brk_ref.specs.Rows.{abstract_cash_row}
 use Rattle.brk_ref_orders.specs.Records.{cash_movement_command, movement_command}
 use Rattle.brk_ref_orders.specs.declared.movement.Direction.{Direction}
 use Rattle.brk_ref_orders.specs.declared.movement.Direction.TheVariants.{Deposit, Withdrawal}
@@ -155,7 +155,7 @@ move_plan_does base m found last now plan k p =
     ((nat_lt greatest_amount (nat_abs (planner.balance_after_movement m found)), Range limit.Balance) ∷ (found.has_all_movements, Range limit.Moves) ∷ later_stamp_check last now ∷ []) p.accepted in
     let number : found.next ≡ length (postings_of_base base) + 1 = k.looked_up.next ∙ ap (λ n. n + 1) (reads_last_move base) in
     let balance : planner.balance_after_movement m found ≡ account_balance_after_movement base (moved m.direction p.stamp m.account m.amount) = balance_read base m found p.stamp k.looked_up there in
-    let row : abstract_move_row p.moves.row ≡ numbered_cash_row_of_movement base (moved m.direction p.stamp m.account m.amount) = p.moves.posted
+    let row : abstract_cash_row p.moves.row ≡ numbered_cash_row_of_movement base (moved m.direction p.stamp m.account m.amount) = p.moves.posted
     ∙ (λ i. record (planner.cash_row_of_movement m found.next p.stamp) { id = number i }) in
     let told : reply_to_movement base (moved m.direction p.stamp m.account m.amount) ≡ abstract_reply plan.reply =
     (λ i. MovedCash p.stamp (sym number i) (sym balance i)) ∙ sym (ap abstract_reply p.moves.replied) in

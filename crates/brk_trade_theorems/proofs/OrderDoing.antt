@@ -33,11 +33,11 @@ use Rattle.brk_trade_rows.specs.Changes.{tables_after_changes, tables_with_histo
 use Rattle.brk_trade.specs.Orders.{EstimatesCheckedOrder, IsOrderPlan, row_changes_of_order, next_trade_id, order_checks, request_row_of_order, terms_of_order, trade_row_of_order, free_trade_id_check}
 use Rattle.brk_trade_plans.specs.Reference.{later_stamp_check}
 use Rattle.brk_trade_plans.specs.Replies.{abstract_estimate, abstract_reply}
-use Rattle.brk_trade_rows.specs.Rows.{abstract_request_row, abstract_trade_row}
+use Rattle.brk_ref.specs.Rows.{abstract_request_row, abstract_trade_row}
 use Rattle.brk_trade.specs.declared.order.OrderPlanFacts.{OrderPlanFacts}
 use Rattle.brk_trade_plans.specs.declared.plan.Plan.{Plan}
-use Rattle.brk_trade_rows.specs.declared.request_row.RequestRow.{RequestRow}
-use Rattle.brk_trade_rows.specs.declared.trade_row.TradeRow.{TradeRow}
+use Rattle.brk_ref.specs.declared.request_row.RequestRow.{RequestRow}
+use Rattle.brk_ref.specs.declared.trade_row.TradeRow.{TradeRow}
 use Rattle.brk_trade_books.specs.Books.{BooksInvariant}
 use Rattle.brk_trade_theorems.specs.OrderPlans.{OrderPositionLotsSatisfy, EstimateFactsMatchTables, OrderFactsMatchTables, PlanOrderPrecondition}
 use Rattle.brk_trade_theorems.specs.Plans.{PlanImplementsCommand}

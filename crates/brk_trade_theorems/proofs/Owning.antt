@@ -11,7 +11,7 @@ use Rattle.brk_model.specs.Lists.{sort_by}
 use Rattle.brk_model.specs.Names.{TradesAreNumberedFrom}
 use Rattle.brk_model.specs.Records.{Movement, Trade}
 use Rattle.brk_model.specs.Sheets.{sheets, tables_sorted_by_key}
-use Rattle.brk_model.specs.Tables.{MoveRow, settlement_row, tables_of_base_in_schema, trade_row}
+use Rattle.brk_model.specs.Tables.{CashRow, settlement_row, tables_of_base_in_schema, trade_row}
 use Rattle.brk_trade_books.proofs.Bools.{numbers_back}
 use Rattle.brk_trade_books.proofs.MoveReading.{rows_posted, turn_filter}
 use Rattle.brk_trade_books.proofs.Numbering.{numbered_after}
@@ -88,7 +88,7 @@ turn_one : (p : Posting) → postings_sorted_by_stamp (p ∷ []) ≡ p ∷ []
 unfolding sort_by
 turn_one p = refl
 
-name_of : (o : Option MoveRow) → option_map (λ r. r.name) o ≡ option_map (λ p. p.name) (option_map posting_of_cash_move_row o)
+name_of : (o : Option CashRow) → option_map (λ r. r.name) o ≡ option_map (λ p. p.name) (option_map posting_of_cash_move_row o)
 name_of None = refl
 name_of (Some r) = refl
 

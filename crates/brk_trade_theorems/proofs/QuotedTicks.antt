@@ -16,9 +16,9 @@ use Rattle.brk_trade_plans.specs.Feed.{SymbolState, row_changes_of_tick_on_state
 use Rattle.brk_trade_plans.specs.Feed.{trades_triggered_by_ticks, is_state_of_symbol, is_request_triggered, last_trade_after_tick, state_after_tick}
 use Rattle.brk_trade_plans.specs.Feed.{states_after_tick, row_changes_of_submissions, trades_triggered_at_price, requests_not_triggered_at_price}
 use Rattle.brk_trade_plans.specs.declared.span.PriceSpan.{PriceSpan}
-use Rattle.brk_trade_rows.specs.Rows.{abstract_request_row}
+use Rattle.brk_ref.specs.Rows.{abstract_request_row}
 use Rattle.brk_trade_rows.specs.declared.change.Change.{Change}
-use Rattle.brk_trade_rows.specs.declared.request_row.RequestRow as request
+use Rattle.brk_ref.specs.declared.request_row.RequestRow as request
 use Rattle.brk_trade_books.specs.TradeReads.{last_trade_row_of_symbol, requests_of_symbol}
 use Rattle.brk_trade_books.specs.Trading.{trade_ids_triggered_by_feed, tables_after_feed, trade_ids_triggered_by_tick, is_triggered_request}
 use Rattle.brk_trade_books.specs.Trading.{tables_after_change_from_pending, last_trade_row_after_tick, tables_with_trades_submitted, tables_after_tick}

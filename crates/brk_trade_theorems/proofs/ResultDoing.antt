@@ -37,16 +37,16 @@ use Rattle.brk_trade_plans.specs.Replies.{abstract_reply}
 use Rattle.brk_trade.specs.Results as planner
 use Rattle.brk_trade.specs.Results.{CompletesExistingTrade, row_changes_of_cash_row, row_changes_of_result, first_cash_type_of_trade, row_changes_of_opened_lot}
 use Rattle.brk_trade.specs.Results.{summary_broker_settlement_changes, row_change_of_summary, row_changes_of_touched_lot, row_changes_of_completed_trade}
-use Rattle.brk_trade_rows.specs.Rows.{cash_type_text, abstract_move_row, abstract_trade_row}
-use Rattle.brk_trade_rows.specs.declared.move_row.MoveRow.{MoveRow}
+use Rattle.brk_ref.specs.Rows.{cash_type_text, abstract_cash_row, abstract_trade_row}
+use Rattle.brk_ref.specs.declared.cash_row.CashRow.{CashRow}
 use Rattle.brk_trade_rows.specs.declared.change.Change.{Change}
 use Rattle.brk_trade_rows.specs.declared.change.Change.TheVariants as change
 use Rattle.brk_trade.specs.declared.outcome.ResultFigures.{ResultFigures}
 use Rattle.brk_trade.specs.declared.result_found.ResultPlanFacts.{ResultPlanFacts}
 use Rattle.brk_trade_plans.specs.declared.plan.Plan.{Plan}
 use Rattle.brk_trade_plans.specs.declared.reply.Reply.TheVariants as reply
-use Rattle.brk_trade_rows.specs.declared.summary_row.SummaryRow as summary
-use Rattle.brk_trade_rows.specs.declared.trade_row.TradeRow as planned
+use Rattle.brk_ref.specs.declared.summary_row.SummaryRow as summary
+use Rattle.brk_ref.specs.declared.trade_row.TradeRow as planned
 use Rattle.brk_trade_books.specs.Books.{BooksInvariant}
 use Rattle.brk_trade_theorems.specs.Plans.{PlanImplementsCommand}
 use Rattle.brk_trade_books.specs.Steps.{IsAcceptedWithEffect, base_after_command}
@@ -277,7 +277,7 @@ sums_made base price last now t found closed stamp k x =
     (tables_with_broker_totals (a.broker i) (a.trades i) (a.commissions i) (summary_row_is base price last now t found closed stamp k x i))
 
 cash_made : (base : Base) (price : ℕ) (last : Option ℕ) (now : ℕ) (t : Trade) (found : ResultPlanFacts) (closed : ClosedLots) (stamp : ℕ) → Planned base price last now t found closed stamp
-    → (cash : Option MoveRow) → option_map abstract_move_row cash ≡ planner.cash_row_of_result found (outcome_planned found price closed stamp).completed → (x : Tables)
+    → (cash : Option CashRow) → option_map abstract_cash_row cash ≡ planner.cash_row_of_result found (outcome_planned found price closed stamp).completed → (x : Tables)
     → tables_after_changes (flat_map (row_changes_of_cash_row found.trade.account (outcome_planned found price closed stamp).completed.balance) (option_to_list cash)) x
     ≡ tables_with_cash_row_if_cash_trade t.is_cash (result_rows_of_trade base stamp price t).cash t.account (result_rows_of_trade base stamp price t).balance x
 unfolding trade_after_completion
@@ -289,10 +289,10 @@ cash_made base price last now t found closed stamp k cash moved x = by_cash t.is
     f : TradeFound base t found
     f = k.found_it
 
-    row : tables.MoveRow
+    row : tables.CashRow
     row = (result_rows_of_trade base stamp price t).cash
 
-    moves : tables.MoveRow
+    moves : tables.CashRow
     moves = record {
       id = length (postings_of_base base) + 1;
       account = t.account;
@@ -316,35 +316,35 @@ cash_made base price last now t found closed stamp k cash moved x = by_cash t.is
       name = trade_type_name (f.row i).kind ++ 32 ∷ decimal (f.row i).qty ++ codes " shares of " ++ security_found base t found f k.three i;
     })) None
 
-    Made : Bool → Option MoveRow → Type 0
+    Made : Bool → Option CashRow → Type 0
     Made b cash = tables_after_changes (flat_map (row_changes_of_cash_row found.trade.account (outcome_planned found price closed stamp).completed.balance) (option_to_list cash)) x
         ≡ tables_with_cash_row_if_cash_trade b row t.account (result_rows_of_trade base stamp price t).balance x
 
-    unsome : (c d : tables.MoveRow) → Some c ≡ Some d → c ≡ d
+    unsome : (c d : tables.CashRow) → Some c ≡ Some d → c ≡ d
     unsome c d e = cc
 
-    by_cash : (b : Bool) → t.is_cash ≡ b → (cash : Option MoveRow)
-        → option_map abstract_move_row cash ≡ cond t.is_cash (Some moves) None
+    by_cash : (b : Bool) → t.is_cash ≡ b → (cash : Option CashRow)
+        → option_map abstract_cash_row cash ≡ cond t.is_cash (Some moves) None
         → Made t.is_cash cash
     by_cash true e None h =
         let j : None ≡ Some moves =
         h ∙ ap (λ b. cond b (Some moves) None) e in
         absurd (cc)
     by_cash true e (Some c) h =
-        let j : Some (abstract_move_row c) ≡ Some moves =
+        let j : Some (abstract_cash_row c) ≡ Some moves =
         h ∙ ap (λ b. cond b (Some moves) None) e in
-        let same : abstract_move_row c ≡ row = unsome (abstract_move_row c) moves j ∙ (λ i. record row { name = sym (name e) i }) in
+        let same : abstract_cash_row c ≡ row = unsome (abstract_cash_row c) moves j ∙ (λ i. record row { name = sym (name e) i }) in
         (λ i. tables_with_balance (f.row i).account (a.balance i) (tables_with_cash_row (same i) x))
         ∙ sym (ap (λ b. tables_with_cash_row_if_cash_trade b row t.account (result_rows_of_trade base stamp price t).balance x) e)
     by_cash false e None h = sym (ap (λ b. tables_with_cash_row_if_cash_trade b row t.account (result_rows_of_trade base stamp price t).balance x) e)
     by_cash false e (Some c) h =
-        let j : Some (abstract_move_row c) ≡ None =
+        let j : Some (abstract_cash_row c) ≡ None =
         h ∙ ap (λ b. cond b (Some moves) None) e in
         absurd (cc)
 
 -- all of them
 changes_made : (base : Base) (price : ℕ) (last : Option ℕ) (now : ℕ) (t : Trade) (found : ResultPlanFacts) (closed : ClosedLots) (stamp : ℕ) → Planned base price last now t found closed stamp
-    → (cash : Option MoveRow) → option_map abstract_move_row cash ≡ planner.cash_row_of_result found (outcome_planned found price closed stamp).completed → (x : Tables)
+    → (cash : Option CashRow) → option_map abstract_cash_row cash ≡ planner.cash_row_of_result found (outcome_planned found price closed stamp).completed → (x : Tables)
     → tables_after_changes (row_changes_of_result found price closed (outcome_planned found price closed stamp) cash) x
     ≡ tables_with_last_stamp stamp (tables_after_result (result_rows_of_trade base stamp price t) x)
 unfolding trade_after_completion

@@ -31,7 +31,7 @@ use Rattle.brk_money.specs.declared.status.Status.TheVariants.{Canceled, Submitt
 use Rattle.brk_money.specs.declared.tax_status.TaxStatus.TheVariants.{Untaxed}
 use Rattle.brk_trade.specs.Outcomes.{settlement_amount_of_result, balance_after_result, commission_of_result, broker_commissions_after_result, due_day_check}
 use Rattle.brk_trade.specs.Outcomes.{result_checks, shares_held_after_trade, tax_of_result}
-use Rattle.brk_trade_rows.specs.Rows.{abstract_trade_row}
+use Rattle.brk_ref.specs.Rows.{abstract_trade_row}
 use Rattle.brk_trade.specs.declared.result_found.ResultAccount.{ResultAccount}
 use Rattle.brk_trade.specs.declared.result_found.ResultPlanFacts.{ResultPlanFacts}
 use Rattle.brk_model.specs.Names.{AccountOfTradeExists, BrokerOfAccountExists, SecurityOfTradeExists}

@@ -23,7 +23,7 @@ use Rattle.brk_money.specs.declared.status.Status.TheVariants.{Submitted}
 use Rattle.brk_trade.specs.Outcomes.{deal_of_trade_row, checks_before_reading_lots, result_checks}
 use Rattle.brk_trade.specs.Results.{AreLotsBeforeTrade, IsResultRefusal, shares_held_before_trade}
 use Rattle.brk_trade.proofs.Results.{first_refuses}
-use Rattle.brk_trade_rows.specs.Rows.{abstract_trade_row}
+use Rattle.brk_ref.specs.Rows.{abstract_trade_row}
 use Rattle.brk_trade.specs.declared.result_found.ResultPlanFacts.{ResultPlanFacts}
 use Rattle.brk_trade_books.specs.Books.{BooksInvariant}
 use Rattle.brk_trade_theorems.specs.ResultPlans.{TradePositionLotsSatisfy, PlanResultPrecondition, PassesFirstResultChecks}

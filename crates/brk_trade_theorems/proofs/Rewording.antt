@@ -13,8 +13,8 @@ use Rattle.brk_model.specs.Shares.{lot_quantity, replay, signed_by_side}
 use Rattle.brk_model.specs.Derived.{Posting, balance_of_account, cash_trades, commission_total_of_broker, deal_of_trade, deals_of_position, trades_of_account}
 use Rattle.brk_model.specs.Derived.{trades_of_broker, trades_of_position, pending_trades, postings_to_account, posting_of_movement, posting_of_trade, postings}
 use Rattle.brk_model.specs.Derived.{postings_sorted_by_stamp, shares_of_position, holding_summary_quantity, trade_count_of_broker}
-use Rattle.brk_model.specs.Tables.{HoldingRow, MoveRow, SettlementRow, SummaryRow, TradeRow, account_row, broker_row, rows_by_position, history_rows}
-use Rattle.brk_model.specs.Tables.{holding_row, holding_history_over_deals, holding_history_rows_of_lot, numbered_move_rows, request_row, settlement_row}
+use Rattle.brk_model.specs.Tables.{HoldingRow, CashRow, SettlementRow, SummaryRow, TradeRow, account_row, broker_row, rows_by_position, history_rows}
+use Rattle.brk_model.specs.Tables.{holding_row, holding_history_over_deals, holding_history_rows_of_lot, numbered_cash_move_rows, request_row, settlement_row}
 use Rattle.brk_model.specs.Tables.{summary_rows, tables_of_base_in_schema, tables_from_completed_trades, trade_row}
 use Rattle.brk_model.specs.Schemas.{third_schema}
 use Rattle.brk_model.specs.Keys.{account_key, broker_key, rows_sorted_by_key, history_key, holding_history_key, holding_key, cash_move_key, request_key, settlement_key, summary_key, trade_key}
@@ -151,8 +151,8 @@ module _ (x y z : Trade → Text) where
   abbrev pub settlements_with : Base → List SettlementRow
   settlements_with base = rows_sorted_by_key settlement_key (map (λ t. record (settlement_row base.accounts base.rule t) { cash_type = y t }) (completed_trades base))
 
-  abbrev pub moves_with : Base → List MoveRow
-  moves_with base = rows_sorted_by_key cash_move_key (numbered_move_rows 1 (postings_sorted_by_stamp (postings_with base.accounts (completed_trades base) base.movements)))
+  abbrev pub moves_with : Base → List CashRow
+  moves_with base = rows_sorted_by_key cash_move_key (numbered_cash_move_rows 1 (postings_sorted_by_stamp (postings_with base.accounts (completed_trades base) base.movements)))
 
   upon : (base : Base) → tables_sorted_by_key (tables_from_completed_trades third_schema (base_reworded base) (map f (completed_trades base)))
       ≡ record (sheets base) { trades = trades_with base; settlements = settlements_with base; moves = moves_with base }
@@ -173,7 +173,7 @@ module _ (x y z : Trade → Text) where
         summaries = rows_sorted_by_key summary_key (summaries_reworded base done i);
         holding_history = rows_sorted_by_key holding_history_key (lot_changes_reworded done i);
         settlements = rows_sorted_by_key settlement_key (settlements_reworded base.accounts base.rule done i);
-        moves = rows_sorted_by_key cash_move_key (numbered_move_rows 1 (postings_sorted_by_stamp (posted_reworded base.accounts done base.movements i)));
+        moves = rows_sorted_by_key cash_move_key (numbered_cash_move_rows 1 (postings_sorted_by_stamp (posted_reworded base.accounts done base.movements i)));
       }
 
   pub tables_reworded : (base : Base)

@@ -9,7 +9,7 @@ use Rattle.brk_model.specs.Lists.{contains_number}
 use Rattle.brk_model.specs.Records.{Trade}
 use Rattle.brk_model.specs.Sheets.{sheets, tables_sorted_by_key}
 use Rattle.brk_model.specs.Step.{base_after_command_unstamped}
-use Rattle.brk_model.specs.Tables.{MoveRow, SettlementRow, TradeRow, numbered_move_rows, settlement_row, tables_of_base_in_schema, trade_row}
+use Rattle.brk_model.specs.Tables.{CashRow, SettlementRow, TradeRow, numbered_cash_move_rows, settlement_row, tables_of_base_in_schema, trade_row}
 use Rattle.brk_model.specs.Tests.{stamp_of_next_command}
 use Rattle.brk_model.specs.Updates.{selected_trade_ids_of_account, selected_trade_ids_of_symbol, base_with_updated_cash_names, base_with_updated_cash_types, base_with_updated_executors}
 use Rattle.brk_trade_rows.specs.Changes.{tables_with_last_stamp}
@@ -67,14 +67,14 @@ texts_alone base now symbol first last =
     let stamp : ℕ = stamp_of_next_command base now in
     let ids : List ℕ = selected_trade_ids_of_symbol base symbol first last in
     let texts : List Posting = texts_with base (λ t. contains_number t.id ids) in
-    let rows : List MoveRow = rows_sorted_by_key cash_move_key (numbered_move_rows 1 (postings_sorted_by_stamp texts)) in
+    let rows : List CashRow = rows_sorted_by_key cash_move_key (numbered_cash_move_rows 1 (postings_sorted_by_stamp texts)) in
     let e : tables_after_command base now (ChangeCashNames symbol first last) ≡ tables_with_last_stamp stamp (record (sheets base) { moves = rows }) =
     whole (base_with_updated_cash_names ids base) stamp _ (cash_names_rows base ids) in
     record {
-      others = e ∙ ap (λ (moves : List MoveRow). tables_with_last_stamp stamp (record (sheets base) { moves = moves })) (sym (ap (λ t. t.moves) e));
+      others = e ∙ ap (λ (moves : List CashRow). tables_with_last_stamp stamp (record (sheets base) { moves = moves })) (sym (ap (λ t. t.moves) e));
       rows = ap (λ t. map cash_row_without_text t.moves) e
           ∙ rows_through (λ trade name. []) texts
-          ∙ ap (λ ps. rows_sorted_by_key cash_move_key (numbered_move_rows 1 (postings_sorted_by_stamp ps)))
+          ∙ ap (λ ps. rows_sorted_by_key cash_move_key (numbered_cash_move_rows 1 (postings_sorted_by_stamp ps)))
           (posted_nameless (λ t. t.executor) (λ t. t.cash_type) (text_then base (λ t. contains_number t.id ids)) base.accounts (completed_trades base) base.movements)
           ∙ sym (rows_through (λ trade name. []) (postings_of_base base));
     }

@@ -9,7 +9,7 @@ use Rattle.brk_model.specs.Keys.{rows_sorted_by_key, cash_move_key}
 use Rattle.brk_model.specs.Lists.{contains_number, update_where}
 use Rattle.brk_model.specs.LookupView.{is_cash_row_of_trade}
 use Rattle.brk_model.specs.Records.{Account, Movement, Trade}
-use Rattle.brk_model.specs.Tables.{MoveRow, cash_move_row, numbered_move_rows}
+use Rattle.brk_model.specs.Tables.{CashRow, cash_move_row, numbered_cash_move_rows}
 use Rattle.brk_trade_books.proofs.Bools.{numbers_back}
 use Rattle.brk_trade_books.proofs.Order.{by_key-map}
 use Rattle.brk_trade_books.proofs.Places.{map-append}
@@ -22,23 +22,23 @@ use Rattle.brk_trade_theorems.proofs.Through.{map-map, sort-map}
 abbrev pub Rename : Type 0
 Rename = Option ℕ → Text → Text
 
-abbrev pub renamed_row : Rename → MoveRow → MoveRow
+abbrev pub renamed_row : Rename → CashRow → CashRow
 renamed_row g r = record r { name = g r.trade r.name }
 
 abbrev pub renamed : Rename → Posting → Posting
 renamed g p = record p { name = g p.trade p.name }
 
-numbered_through : (g : Rename) (n : ℕ) (ps : List Posting) → map (renamed_row g) (numbered_move_rows n ps) ≡ numbered_move_rows n (map (renamed g) ps)
+numbered_through : (g : Rename) (n : ℕ) (ps : List Posting) → map (renamed_row g) (numbered_cash_move_rows n ps) ≡ numbered_cash_move_rows n (map (renamed g) ps)
 numbered_through g n [] = refl
 numbered_through g n (p ∷ ps) = ap (λ rows. cash_move_row n (renamed g p) ∷ rows) (numbered_through g (n + 1) ps)
 
 pub rows_through : (g : Rename) (ps : List Posting)
-    → map (renamed_row g) (rows_sorted_by_key cash_move_key (numbered_move_rows 1 (postings_sorted_by_stamp ps)))
-    ≡ rows_sorted_by_key cash_move_key (numbered_move_rows 1 (postings_sorted_by_stamp (map (renamed g) ps)))
+    → map (renamed_row g) (rows_sorted_by_key cash_move_key (numbered_cash_move_rows 1 (postings_sorted_by_stamp ps)))
+    ≡ rows_sorted_by_key cash_move_key (numbered_cash_move_rows 1 (postings_sorted_by_stamp (map (renamed g) ps)))
 rows_through g ps =
-    sym (by_key-map cash_move_key cash_move_key (renamed_row g) (numbered_move_rows 1 (postings_sorted_by_stamp ps)) (λ r. refl))
+    sym (by_key-map cash_move_key cash_move_key (renamed_row g) (numbered_cash_move_rows 1 (postings_sorted_by_stamp ps)) (λ r. refl))
     ∙ ap (rows_sorted_by_key cash_move_key) (numbered_through g 1 (postings_sorted_by_stamp ps)
-    ∙ ap (numbered_move_rows 1) (sym (sort-map (λ a b. nat_lt a.stamp b.stamp) (λ a b. nat_lt a.stamp b.stamp) (renamed g) ps (λ a b. refl))))
+    ∙ ap (numbered_cash_move_rows 1) (sym (sort-map (λ a b. nat_lt a.stamp b.stamp) (λ a b. nat_lt a.stamp b.stamp) (renamed g) ps (λ a b. refl))))
 
 -- ---- texts that are set, each by its trade
 
@@ -50,18 +50,18 @@ module _ {C : Type 0} (cid : C → ℕ) (new : C → Text) where
   abbrev pub all_named : List C → Rename
   all_named cs trade name = fold (one_named trade) name cs
 
-  abbrev set_text : List MoveRow → C → List MoveRow
+  abbrev set_text : List CashRow → C → List CashRow
   set_text rows c = update_where (is_cash_row_of_trade (cid c)) (λ r. record r { name = new c }) rows
 
-  one_text : (c : C) (r : MoveRow) (b : Bool) → cond b (record r { name = new c }) r ≡ record r { name = cond b (new c) r.name }
+  one_text : (c : C) (r : CashRow) (b : Bool) → cond b (record r { name = new c }) r ≡ record r { name = cond b (new c) r.name }
   one_text c r true = refl
   one_text c r false = refl
 
   -- rows are changed each by itself
-  pub each_text : (rows : List MoveRow) (cs : List C) → fold set_text rows cs ≡ map (renamed_row (all_named cs)) rows
+  pub each_text : (rows : List CashRow) (cs : List C) → fold set_text rows cs ≡ map (renamed_row (all_named cs)) rows
   each_text rows [] = sym (itself rows)
     where
-      itself : (rows : List MoveRow) → map (renamed_row (all_named [])) rows ≡ rows
+      itself : (rows : List CashRow) → map (renamed_row (all_named [])) rows ≡ rows
       itself [] = refl
       itself (r ∷ rows) = ap (λ rs. r ∷ rs) (itself rows)
   each_text rows (c ∷ cs) =
@@ -69,7 +69,7 @@ module _ {C : Type 0} (cid : C → ℕ) (new : C → Text) where
       ∙ map-map (renamed_row (all_named cs)) (λ r. cond (is_cash_row_of_trade (cid c) r) (record r { name = new c }) r) rows
       ∙ same rows
     where
-      same : (rows : List MoveRow) → map (λ r. renamed_row (all_named cs) (cond (is_cash_row_of_trade (cid c) r) (record r { name = new c }) r)) rows ≡ map (renamed_row (all_named (c ∷ cs))) rows
+      same : (rows : List CashRow) → map (λ r. renamed_row (all_named cs) (cond (is_cash_row_of_trade (cid c) r) (record r { name = new c }) r)) rows ≡ map (renamed_row (all_named (c ∷ cs))) rows
       same [] = refl
       same (r ∷ rows) = λ i. renamed_row (all_named cs) (one_text c r (is_cash_row_of_trade (cid c) r) i) ∷ same rows i
 

@@ -9,13 +9,13 @@ use Rattle.brk_model.specs.Commands.{Command}
 use Rattle.brk_model.specs.Joins.{account_row_with_id, security_row_with_symbol, trade_row_with_id}
 use Rattle.brk_model.specs.Sheets.{sheets}
 use Rattle.brk_model.specs.LookupView.{is_cash_row_of_trade}
-use Rattle.brk_model.specs.Tables.{MoveRow, SettlementRow, Tables, TradeRow}
+use Rattle.brk_model.specs.Tables.{CashRow, SettlementRow, Tables, TradeRow}
 use Rattle.brk_model.specs.Tests.{stamp_of_next_command}
 use Rattle.brk_ref_orders.specs.declared.update.Update as told
 use Rattle.brk_ref_orders.specs.declared.update.Update.TheVariants as update
 use Rattle.brk_trade_rows.specs.Changes.{tables_with_last_stamp}
 use Rattle.brk_trade_rows.specs.Chosen.{first_twenty_completed_cash_trade_rows_of_symbol, first_twenty_completed_trade_rows_of_account}
-use Rattle.brk_trade_rows.specs.Rows.{cash_type_text}
+use Rattle.brk_ref.specs.Rows.{cash_type_text}
 use Rattle.brk_trade_plans.specs.declared.corrected.TextUpdate.{TextUpdate}
 use Rattle.brk_trade_plans.specs.declared.corrected.TextUpdate.TheVariants as corrected
 use Rattle.brk_trade_plans.specs.declared.corrected.CashText.{CashText}
@@ -33,7 +33,7 @@ settlement_row_of_trade t trade = find (λ r. r.trade == trade) t.settlements
 
 -- The first row of CASH_MOVE, in the order of the table, of the trade with the id `trade`, or
 -- `None` if there is none.
-abbrev pub cash_row_of_trade : Tables → ℕ → Option MoveRow
+abbrev pub cash_row_of_trade : Tables → ℕ → Option CashRow
 cash_row_of_trade t trade = find (is_cash_row_of_trade trade) t.moves
 
 -- The type of the columns of a trade that a text update of settlements reads: its id, whether it is
@@ -142,11 +142,11 @@ abbrev pub settlement_rows_without_texts : List SettlementRow → List Settlemen
 settlement_rows_without_texts rows = map settlement_row_without_text rows
 
 -- The row `r` of CASH_MOVE with its text (CM_NAME) replaced by the empty text.
-abbrev pub cash_row_without_text : MoveRow → MoveRow
+abbrev pub cash_row_without_text : CashRow → CashRow
 cash_row_without_text r = record r { name = [] }
 
 -- The rows `rows` of CASH_MOVE, each with its text (CM_NAME) replaced by the empty text.
-abbrev pub cash_rows_without_texts : List MoveRow → List MoveRow
+abbrev pub cash_rows_without_texts : List CashRow → List CashRow
 cash_rows_without_texts rows = map cash_row_without_text rows
 
 -- The command, as if `base` accepted it at the clock reading `now`, changes only executor names in

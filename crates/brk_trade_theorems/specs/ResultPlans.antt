@@ -8,10 +8,10 @@ use Rattle.brk_model.specs.Tables.{AccountRow, Tables}
 use Rattle.brk_model.specs.Tests.{first_refusal}
 use Rattle.brk_money.specs.Moments.{greatest_stamp}
 use Rattle.brk_trade.specs.Outcomes.{checks_before_reading_lots}
-use Rattle.brk_trade_rows.specs.Rows.{abstract_trade_row}
+use Rattle.brk_ref.specs.Rows.{abstract_trade_row}
 use Rattle.brk_trade.specs.declared.result_found.ResultAccount.{ResultAccount}
 use Rattle.brk_trade.specs.declared.result_found.ResultPlanFacts.{ResultPlanFacts}
-use Rattle.brk_trade_rows.specs.declared.trade_row.TradeRow.{TradeRow}
+use Rattle.brk_ref.specs.declared.trade_row.TradeRow.{TradeRow}
 use Rattle.brk_trade_books.specs.Books.{BooksInvariant}
 use Rattle.brk_trade_books.specs.OrderReads.{PositionLotsSatisfy, CustomerOfAccountSatisfies}
 use Rattle.brk_trade_books.specs.Reads.{customer_tax_rate_sum}

@@ -15,8 +15,8 @@ use Rattle.brk_ref_orders.specs.declared.tick.Tick.{Tick}
 use Rattle.brk_ref.specs.Records.{abstract_last_trade_row}
 use Rattle.brk_trade_plans.specs.Feed.{SymbolState, is_state_of_symbol, price_span_of_first_symbol}
 use Rattle.brk_trade_plans.specs.declared.span.PriceSpan.{PriceSpan}
-use Rattle.brk_trade_rows.specs.declared.request_row.RequestRow as request
-use Rattle.brk_trade_rows.specs.Rows.{abstract_request_row}
+use Rattle.brk_ref.specs.declared.request_row.RequestRow as request
+use Rattle.brk_ref.specs.Rows.{abstract_request_row}
 use Rattle.brk_trade_books.specs.Books.{BooksInvariant}
 use Rattle.brk_trade_books.specs.TradeReads.{last_trade_row_of_symbol, requests_of_symbol}
 

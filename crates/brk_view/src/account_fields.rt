@@ -1,7 +1,7 @@
 //! The records of the views of accounts.
 
 ghost use Rattle.std.specs.Prelude.{◌≡◌, ◌++◌, IfOk, OnOk, map};
-ghost use Rattle.brk_trade_rows.specs.Rows.{abstract_trade_row};
+ghost use Rattle.brk_ref.specs.Rows.{abstract_trade_row};
 ghost use Rattle.brk_view_rows.specs.Recent as recents;
 ghost use Rattle.brk_view_rows.specs.Status as statuses;
 ghost use Rattle.brk_view_rows.specs.Views.{texts_of_record, texts_of_records};
@@ -9,7 +9,7 @@ ghost use Rattle.brk_view_rows.specs.Worths.{account_worth_record};
 
 use crate::texts::{push_amount, push_number, push_stamp, push_text};
 use brk_money::Wide;
-use brk_trade_rows::{HistoryRow, TradeRow};
+use brk_ref::{HistoryRow, TradeRow};
 use brk_view_rows::recents::Activity;
 use brk_view_rows::statuses::{AccountStatus, TradeStatus};
 use brk_view_rows::worths::AccountWorth;

@@ -1,7 +1,7 @@
 //! The records of trades that are looked up.
 
 ghost use Rattle.std.specs.Prelude.{◌≡◌, ◌++◌, ◌∷◌, [], IfOk, OnOk, flat_map, map, option_map, option_to_list};
-ghost use Rattle.brk_trade_rows.specs.Rows.{abstract_move_row, abstract_settlement_row, abstract_trade_row};
+ghost use Rattle.brk_ref.specs.Rows.{abstract_cash_row, abstract_settlement_row, abstract_trade_row};
 ghost use Rattle.brk_model.specs.LookupView as model;
 ghost use Rattle.brk_view_rows.specs.Lookup.{cash_and_lifo_fields, price_and_cost_fields, records_of_looked_up_trade};
 ghost use Rattle.brk_view_rows.specs.Lookup.{history_status_record, first_five_trade_fields, order_fields_of_trade};
@@ -11,8 +11,7 @@ use crate::texts::{
     push_amount, push_day, push_number, push_optional_price, push_stamp, push_text,
 };
 use brk_money::Wide;
-use brk_ref::{cash_or_margin_word, lifo_or_fifo_word};
-use brk_trade_rows::{MoveRow, SettlementRow, TradeRow};
+use brk_ref::{CashRow, SettlementRow, TradeRow, cash_or_margin_word, lifo_or_fifo_word};
 use brk_view_rows::lookups::{LookedUp, StampedStatus};
 use std::alloc::{AllocError, Global};
 
@@ -105,8 +104,8 @@ fn settlement_texts(alloc: Global, row: SettlementRow) -> Result<Vec<String>, Al
 
 // Returns the record of a cash row: the word `cash`, its stamp, its amount and its text. Fails only
 // if memory runs out.
-fn cash_row_texts(alloc: Global, row: &MoveRow) -> Result<Vec<String>, AllocError>
-    ensures { IfOk result (λ texts. texts_of_record texts ≡ model.cash_record (abstract_move_row row.now)) }
+fn cash_row_texts(alloc: Global, row: &CashRow) -> Result<Vec<String>, AllocError>
+    ensures { IfOk result (λ texts. texts_of_record texts ≡ model.cash_record (abstract_cash_row row.now)) }
 {
     let mut texts = Vec::new(alloc);
     push_text(alloc, &mut texts, "cash")?;
@@ -150,10 +149,10 @@ fn append_settlement_record(
 fn append_cash_record(
     alloc: Global,
     records: &mut Vec<Vec<String>>,
-    row: &Option<MoveRow>,
+    row: &Option<CashRow>,
 ) -> Result<(), AllocError>
     ensures { OnOk result (texts_of_records records.new
-        ≡ texts_of_records records.old ++ map model.cash_record (option_to_list (option_map abstract_move_row row.now))) }
+        ≡ texts_of_records records.old ++ map model.cash_record (option_to_list (option_map abstract_cash_row row.now))) }
 {
     if let Some(row) = row {
         let texts = cash_row_texts(alloc, row)?;

@@ -4,11 +4,11 @@ use Rattle.std.specs.Prelude.{◌&&◌, ◌||◌, ◌==◌, IfSome, Option, Some
 use Rattle.std.specs.Fmt.{signed_decimal}
 use Rattle.std.specs.List.{list_any}
 use Rattle.std.specs.Option.{option_map_or}
-use Rattle.brk_trade_rows.specs.Rows.{abstract_history_row, abstract_trade_row}
-use Rattle.brk_trade_rows.specs.declared.history_row.HistoryRow.{HistoryRow}
-use Rattle.brk_trade_rows.specs.declared.move_row.MoveRow.{MoveRow}
-use Rattle.brk_trade_rows.specs.declared.settlement_row.SettlementRow.{SettlementRow}
-use Rattle.brk_trade_rows.specs.declared.trade_row.TradeRow.{TradeRow}
+use Rattle.brk_ref.specs.Rows.{abstract_history_row, abstract_trade_row}
+use Rattle.brk_ref.specs.declared.history_row.HistoryRow.{HistoryRow}
+use Rattle.brk_ref.specs.declared.cash_row.CashRow.{CashRow}
+use Rattle.brk_ref.specs.declared.settlement_row.SettlementRow.{SettlementRow}
+use Rattle.brk_ref.specs.declared.trade_row.TradeRow.{TradeRow}
 use Rattle.brk_model.specs.Joins.{history_rows_with_trade_id, trade_rows_oldest_first, trade_rows_recent_first, trade_rows_of_account}
 use Rattle.brk_model.specs.Lists.{is_pair_less, sort_by, is_text_less}
 use Rattle.brk_model.specs.LookupView as model
@@ -114,7 +114,7 @@ moments_carried history =
     ∙ sym (map_map stamped_status_of_history_row abstract_history_row (sort_by before history))
     ∙ ap (map stamped_status_of_history_row) (sym (map_sorted before older_status abstract_history_row history (λ a b. refl)))
 
-pub one_carried : (t : Tables) (trade : TradeRow) (settlement : Option SettlementRow) (cash : Option MoveRow) (history : List HistoryRow) (moments : Vec StampedStatus)
+pub one_carried : (t : Tables) (trade : TradeRow) (settlement : Option SettlementRow) (cash : Option CashRow) (history : List HistoryRow) (moments : Vec StampedStatus)
     → moments.items ≡ sort_by is_older_status (map stamped_status_of_typed_history_row history) → AreRowsOfTrade t trade settlement cash history
     → rows_of_looked_up_trade (record { trade = trade; settlement = settlement; cash = cash; history = moments }) ≡ table_rows_of_trade t (abstract_trade_row trade)
 one_carried t trade settlement cash history moments e is = λ i. record {
@@ -141,7 +141,7 @@ pub rows_shown : (t : Tables) (found : List LookedUp) (rows : List tables.TradeR
 rows_shown t found rows e =
     sym (map_map shown_rows rows_of_looked_up_trade found) ∙ ap (map shown_rows) e ∙ map_map shown_rows (table_rows_of_trade t) rows ∙ (λ i. map (λ row. rows_in_shown t row i) rows)
 
-pub one_shown : (t : Tables) (trade : TradeRow) (settlement : Option SettlementRow) (cash : Option MoveRow) (history : List HistoryRow)
+pub one_shown : (t : Tables) (trade : TradeRow) (settlement : Option SettlementRow) (cash : Option CashRow) (history : List HistoryRow)
     (moments : Vec StampedStatus) → moments.items ≡ sort_by is_older_status (map stamped_status_of_typed_history_row history)
     → AreRowsOfTrade t trade settlement cash history
     → records_of_looked_up_trade (record { trade = trade; settlement = settlement; cash = cash; history = moments }) ≡ model.trade_lookup_records t (abstract_trade_row trade)

@@ -1,6 +1,6 @@
 -- The typed rows that a view has, in addition to the texts that it shows.
 use Rattle.std.specs.Prelude.{◌≡◌, ◌&&◌, ◌==◌, ℕ, Bool, List, Option, bytes_eq, filter, map, take}
-use Rattle.brk_trade_rows.specs.Rows.{abstract_trade_row}
+use Rattle.brk_ref.specs.Rows.{abstract_trade_row}
 use Rattle.brk_model.specs.Joins.{trade_rows_oldest_first, trade_rows_recent_first, trade_rows_of_account}
 use Rattle.brk_model.specs.Lists.{contains_number}
 use Rattle.brk_model.specs.LookupView.{row_stamp_is_between}

@@ -1,11 +1,11 @@
 -- The records of trades that are looked up.
 use Rattle.std.specs.Prelude.{◌≡◌, Bool, ◌==◌, nat_lt, List, [], ◌∷◌, ◌++◌, filter, map, codes, decimal, Option, option_map, option_to_list}
 use Rattle.std.specs.Option.{option_map_or}
-use Rattle.brk_trade_rows.specs.Rows.{abstract_history_row, abstract_move_row, abstract_settlement_row, abstract_trade_row}
-use Rattle.brk_trade_rows.specs.declared.history_row.HistoryRow.{HistoryRow}
-use Rattle.brk_trade_rows.specs.declared.move_row.MoveRow.{MoveRow}
-use Rattle.brk_trade_rows.specs.declared.settlement_row.SettlementRow.{SettlementRow}
-use Rattle.brk_trade_rows.specs.declared.trade_row.TradeRow.{TradeRow}
+use Rattle.brk_ref.specs.Rows.{abstract_history_row, abstract_cash_row, abstract_settlement_row, abstract_trade_row}
+use Rattle.brk_ref.specs.declared.history_row.HistoryRow.{HistoryRow}
+use Rattle.brk_ref.specs.declared.cash_row.CashRow.{CashRow}
+use Rattle.brk_ref.specs.declared.settlement_row.SettlementRow.{SettlementRow}
+use Rattle.brk_ref.specs.declared.trade_row.TradeRow.{TradeRow}
 use Rattle.brk_model.specs.Joins.{history_rows_with_trade_id}
 use Rattle.brk_model.specs.Lists.{is_pair_less, sort_by}
 use Rattle.brk_model.specs.LookupView as model
@@ -61,14 +61,14 @@ abbrev pub records_of_looked_up_trade : LookedUp → View
 records_of_looked_up_trade l =
     model.trade_record (abstract_trade_row l.trade)
     ∷ map model.settlement_record (option_to_list (option_map abstract_settlement_row l.settlement))
-    ++ map model.cash_record (option_to_list (option_map abstract_move_row l.cash))
+    ++ map model.cash_record (option_to_list (option_map abstract_cash_row l.cash))
     ++ map history_status_record l.history.items
 
 -- The TRADE row of a trade, its SETTLEMENT and CASH_MOVE rows, and its statuses with their stamps.
 pub record LookedUpRows : Type 0 where
   pub trade : tables.TradeRow
   pub settlements : List tables.SettlementRow
-  pub moves : List tables.MoveRow
+  pub moves : List tables.CashRow
   pub history : List StampedStatus
 
 -- The trade, the settlement and the cash row of the looked-up trade `l`, as rows of the model's
@@ -78,7 +78,7 @@ abbrev pub rows_of_looked_up_trade : LookedUp → LookedUpRows
 rows_of_looked_up_trade l = record {
   trade = abstract_trade_row l.trade;
   settlements = option_to_list (option_map abstract_settlement_row l.settlement);
-  moves = option_to_list (option_map abstract_move_row l.cash);
+  moves = option_to_list (option_map abstract_cash_row l.cash);
   history = l.history.items;
 }
 
@@ -100,7 +100,7 @@ table_rows_of_trade t row = record {
 -- TRADE_HISTORY rows of `trade` in the tables `t`, `history` in the sequence of the table. The
 -- tables therefore have at most one settlement and at most one cash row of `trade`. `None` means
 -- that there is none.
-pub record AreRowsOfTrade (t : Tables) (trade : TradeRow) (settlement : Option SettlementRow) (cash : Option MoveRow) (history : List HistoryRow) : Type 0 where
+pub record AreRowsOfTrade (t : Tables) (trade : TradeRow) (settlement : Option SettlementRow) (cash : Option CashRow) (history : List HistoryRow) : Type 0 where
   pub settlement_rows : option_to_list (option_map abstract_settlement_row settlement) ≡ filter (λ s. s.trade == trade.id) t.settlements
-  pub cash_rows : option_to_list (option_map abstract_move_row cash) ≡ filter (model.is_cash_row_of_trade trade.id) t.moves
+  pub cash_rows : option_to_list (option_map abstract_cash_row cash) ≡ filter (model.is_cash_row_of_trade trade.id) t.moves
   pub history_rows : map abstract_history_row history ≡ history_rows_with_trade_id t trade.id

@@ -1,7 +1,7 @@
 -- The records of the last trades of an account.
 use Rattle.std.specs.Prelude.{Bool, List, [], ◌∷◌, ◌++◌, map, codes, decimal}
-use Rattle.brk_trade_rows.specs.Rows.{abstract_trade_row}
-use Rattle.brk_trade_rows.specs.declared.history_row.HistoryRow.{HistoryRow}
+use Rattle.brk_ref.specs.Rows.{abstract_trade_row}
+use Rattle.brk_ref.specs.declared.history_row.HistoryRow.{HistoryRow}
 use Rattle.brk_model.specs.Lists.{is_pair_less}
 use Rattle.brk_model.specs.Queries as model
 use Rattle.brk_model.specs.Tables.{TradeRow}

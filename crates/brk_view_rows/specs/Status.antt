@@ -1,7 +1,7 @@
 -- The records of an account's parties and trades.
 use Rattle.std.specs.Prelude.{List, [], ◌∷◌, ◌++◌, Option, Some, map, decimal, string_bytes}
-use Rattle.brk_trade_rows.specs.Rows.{abstract_trade_row}
-use Rattle.brk_trade_rows.specs.declared.trade_row.TradeRow.{TradeRow}
+use Rattle.brk_ref.specs.Rows.{abstract_trade_row}
+use Rattle.brk_ref.specs.declared.trade_row.TradeRow.{TradeRow}
 use Rattle.brk_model.specs.Joins.{security_row_with_symbol}
 use Rattle.brk_model.specs.Queries as model
 use Rattle.brk_model.specs.Rows.{nonnegative_cents_text}

@@ -1,7 +1,7 @@
 //! Trades that are looked up, with their settlement, cash row and history.
 
 ghost use Rattle.std.specs.Prelude.{◌≡◌, ◌&&◌, ◌==◌, ℕ, Bool, Err, IfOk, List, OnErr, bytes_eq, filter, flat_map, map, take};
-ghost use Rattle.brk_trade_rows.specs.Rows.{abstract_trade_row};
+ghost use Rattle.brk_ref.specs.Rows.{abstract_trade_row};
 ghost use Rattle.brk_model.specs.Joins.{trade_rows_oldest_first};
 ghost use Rattle.brk_model.specs.Lists.{contains_number, sort_by};
 ghost use Rattle.brk_model.specs.LookupView.{row_stamp_is_between, trade_lookup_records, trade_lookup_view};
@@ -15,7 +15,7 @@ ghost use Rattle.brk_view_rows.specs.declared.view.View.TheVariants as views;
 use crate::ordering::{Ranked, sort_rows_by_rank};
 use crate::view::View;
 use brk_money::{Fault, Stamp, Status};
-use brk_trade_rows::{HistoryRow, MoveRow, SettlementRow, TradeRow};
+use brk_ref::{CashRow, HistoryRow, SettlementRow, TradeRow};
 use std::alloc::Global;
 
 /// A status of a trade and the stamp at which the trade reached it.
@@ -54,7 +54,7 @@ pub struct LookedUp {
     /// The settlement, or `None` if the trade has none.
     pub settlement: Option<SettlementRow>,
     /// The cash row, or `None` if the trade has none.
-    pub cash: Option<MoveRow>,
+    pub cash: Option<CashRow>,
     /// The statuses, the oldest first.
     pub history: Vec<StampedStatus>,
 }
@@ -88,7 +88,7 @@ pub fn create_looked_up_trade(
     alloc: Global,
     trade: TradeRow,
     settlement: Option<SettlementRow>,
-    cash: Option<MoveRow>,
+    cash: Option<CashRow>,
     history: &[HistoryRow],
 ) -> Result<LookedUp, Fault>
     ensures records { IfOk result (λ found. (t : Tables) → AreRowsOfTrade t trade settlement cash history.now

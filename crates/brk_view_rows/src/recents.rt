@@ -2,8 +2,8 @@
 
 ghost use Rattle.std.specs.Prelude.{◌≡◌, ◌++◌, ℕ, Err, IfOk, OnErr, flat_map, map};
 ghost use Rattle.std.specs.Global.{Vec};
-ghost use Rattle.brk_trade_rows.specs.Rows.{abstract_history_row, abstract_trade_row};
-ghost use Rattle.brk_trade_rows.specs.declared.history_row.HistoryRow.{HistoryRow};
+ghost use Rattle.brk_ref.specs.Rows.{abstract_history_row, abstract_trade_row};
+ghost use Rattle.brk_ref.specs.declared.history_row.HistoryRow.{HistoryRow};
 ghost use Rattle.brk_model.specs.Joins.{history_rows_with_trade_id};
 ghost use Rattle.brk_model.specs.Lists.{sort_by};
 ghost use Rattle.brk_model.specs.PositionView.{last_ten_trade_rows, recent_trades_view};
@@ -16,7 +16,7 @@ ghost use Rattle.brk_view_rows.specs.declared.view.View.TheVariants as views;
 use crate::ordering::{Ranked, sort_rows_by_rank};
 use crate::view::View;
 use brk_money::Fault;
-use brk_trade_rows::{HistoryRow, TradeRow};
+use brk_ref::{HistoryRow, TradeRow};
 use std::alloc::Global;
 
 /// The last trades of an account, and all their statuses with stamps.

@@ -9,8 +9,7 @@ ghost use Rattle.brk_view_rows.specs.Views.{records_of_view};
 ghost use Rattle.brk_view_rows.specs.declared.view.View.TheVariants as views;
 
 use crate::view::View;
-use brk_ref::{Name, Security};
-use brk_trade_rows::TradeRow;
+use brk_ref::{Name, Security, TradeRow};
 
 /// A trade with its security.
 #[derive(Drop)]

@@ -6,14 +6,14 @@ ghost use Rattle.brk_model.specs.Sheets.{tables_sorted_by_key};
 ghost use Rattle.brk_model.specs.StatusView.{submitted_trades_view};
 ghost use Rattle.brk_model.specs.Tables.{Tables};
 ghost use Rattle.brk_money.specs.declared.fault.Fault.TheVariants.{Memory};
-ghost use Rattle.brk_trade_rows.specs.Rows.{abstract_trade_row};
+ghost use Rattle.brk_ref.specs.Rows.{abstract_trade_row};
 ghost use Rattle.brk_view_rows.specs.Views.{records_of_view, has_submitted_status, record_of_submitted_row, submitted_trade_record};
 ghost use Rattle.brk_view_rows.specs.declared.view.SubmittedTrade.{SubmittedTrade};
 ghost use Rattle.brk_view_rows.specs.declared.view.View.TheVariants as views;
 
 use crate::view::{SubmittedTrade, View};
 use brk_money::Fault;
-use brk_trade_rows::TradeRow;
+use brk_ref::TradeRow;
 use std::alloc::Global;
 
 // Returns the values of a submitted trade that a view shows: its id, type, symbol, quantity and bid

@@ -3,7 +3,7 @@
 
 ghost use Rattle.std.specs.Prelude.{◌≡◌, ◌≤◌, Err, IfOk, List, OnErr, filter, map, pos, sum_by};
 ghost use Rattle.std.specs.Global.{Vec};
-ghost use Rattle.brk_trade_rows.specs.Rows.{abstract_request_row};
+ghost use Rattle.brk_ref.specs.Rows.{abstract_request_row};
 ghost use Rattle.brk_model.specs.Lists.{sort_by};
 ghost use Rattle.brk_model.specs.Tables.{BrokerRow, Tables};
 ghost use Rattle.brk_model.specs.VolumeView.{is_before_by_volume, broker_volume_view};
@@ -19,8 +19,7 @@ ghost use Rattle.brk_view_rows.specs.declared.volumes.BrokerVolume.{BrokerVolume
 use crate::ordering::{Ranked, sort_rows_by_rank};
 use crate::view::View;
 use brk_money::{Fault, Id, Wide};
-use brk_ref::Name;
-use brk_trade_rows::RequestRow;
+use brk_ref::{Name, RequestRow};
 use std::alloc::Global;
 use std::cmp::Ordering;
 

@@ -16,7 +16,7 @@ use Rattle.brk_model.specs.LookupView.{is_cash_row_of_trade}
 use Rattle.brk_model.specs.Records.{Account, Movement, Trade}
 use Rattle.brk_model.specs.Sheets.{sheets}
 use Rattle.brk_model.specs.Statement.{sorted_cash_rows_of_account}
-use Rattle.brk_model.specs.Tables.{AccountRow, MoveRow, account_row, trade_row}
+use Rattle.brk_model.specs.Tables.{AccountRow, CashRow, account_row, trade_row}
 use Rattle.brk_model_explain.specs.Running.{running_totals}
 use Rattle.brk_model_explain.specs.Trades.{balance_change_of_trade, result_details_of_trade}
 use Rattle.brk_trade_books.specs.Books.{BooksInvariant}
@@ -53,11 +53,11 @@ running_ends f from [] = sym (+ℤ_idr from)
 running_ends f from (x ∷ xs) = last_running f from x xs
 
 pub last_is_balance : (base : Base) (id : ℕ) (r : AccountRow) → BooksInvariant base → account_row_with_id (sheets base) id ≡ Some r
-    → last_number_or_default r.opening (running_totals (λ (row : MoveRow). row.amount) r.opening (sorted_cash_rows_of_account (sheets base) r.id)) ≡ r.balance
+    → last_number_or_default r.opening (running_totals (λ (row : CashRow). row.amount) r.opening (sorted_cash_rows_of_account (sheets base) r.id)) ≡ r.balance
 last_is_balance base id r books e =
-    running_ends (λ (row : MoveRow). row.amount) r.opening (sorted_cash_rows_of_account (sheets base) r.id)
-    ∙ ap (λ z. r.opening +ℤ z) (total_sorted (λ (row : MoveRow). row.amount) (λ a b. nat_lt a.stamp b.stamp) (filter (λ (row : MoveRow). row.account == r.id) (sheets base).moves)
-    ∙ ap (λ (n : ℕ). total_by (λ (row : MoveRow). row.amount) (cash_move_rows_of_account (sheets base) n))
+    running_ends (λ (row : CashRow). row.amount) r.opening (sorted_cash_rows_of_account (sheets base) r.id)
+    ∙ ap (λ z. r.opening +ℤ z) (total_sorted (λ (row : CashRow). row.amount) (λ a b. nat_lt a.stamp b.stamp) (filter (λ (row : CashRow). row.account == r.id) (sheets base).moves)
+    ∙ ap (λ (n : ℕ). total_by (λ (row : CashRow). row.amount) (cash_move_rows_of_account (sheets base) n))
     (eqb-true r.id id (found_passes (λ (a : AccountRow). a.id == id) (sheets base).accounts r e)))
     ∙ sym (balance_sums base id r books e)
   where
@@ -80,17 +80,17 @@ is_to account p = p.account == account
 
 -- the cash rows of an account whose stamps pass a test, and its postings whose stamps do
 cash_sum : (base : Base) (account : ℕ) (test : ℕ → Bool)
-    → total_by (λ (row : MoveRow). row.amount) (filter (λ (row : MoveRow). test row.stamp) (sorted_cash_rows_of_account (sheets base) account))
+    → total_by (λ (row : CashRow). row.amount) (filter (λ (row : CashRow). test row.stamp) (sorted_cash_rows_of_account (sheets base) account))
     ≡ total_by (λ p. p.amount) (filter (λ p. test p.stamp) (filter (is_to account) (postings_of_base base)))
 cash_sum base account test =
-    total_sort (λ (row : MoveRow). row.amount) (λ (row : MoveRow). test row.stamp) (λ a b. nat_lt a.stamp b.stamp) (filter (λ (row : MoveRow). row.account == account) M)
-    ∙ sym (total-map (λ (p : Posting). p.amount) posting_of_cash_move_row (filter (λ (row : MoveRow). test row.stamp) (filter (λ (row : MoveRow). row.account == account) M)))
-    ∙ ap (total_by (λ p. p.amount)) (sym (filter-map E posting_of_cash_move_row (filter (λ (row : MoveRow). row.account == account) M))
+    total_sort (λ (row : CashRow). row.amount) (λ (row : CashRow). test row.stamp) (λ a b. nat_lt a.stamp b.stamp) (filter (λ (row : CashRow). row.account == account) M)
+    ∙ sym (total-map (λ (p : Posting). p.amount) posting_of_cash_move_row (filter (λ (row : CashRow). test row.stamp) (filter (λ (row : CashRow). row.account == account) M)))
+    ∙ ap (total_by (λ p. p.amount)) (sym (filter-map E posting_of_cash_move_row (filter (λ (row : CashRow). row.account == account) M))
     ∙ ap (filter E) (sym (filter-map A posting_of_cash_move_row M) ∙ ap (filter A) (rows_posted base)) ∙ sym (filter-both A E (postings_sorted_by_stamp ps)))
     ∙ total_sort (λ (p : Posting). p.amount) (λ p. A p && E p) (λ a b. nat_lt a.stamp b.stamp) ps
     ∙ ap (total_by (λ p. p.amount)) (filter-both A E ps)
   where
-    M : List MoveRow
+    M : List CashRow
     M = (sheets base).moves
 
     ps : List Posting
@@ -150,7 +150,7 @@ by_its_number base t a =
 
 -- ---- its cash row
 
-amount_or : (o : Option MoveRow) → option_map_or (λ (row : MoveRow). row.amount) o (pos 0) ≡ option_map_or (λ p. p.amount) (option_map posting_of_cash_move_row o) (pos 0)
+amount_or : (o : Option CashRow) → option_map_or (λ (row : CashRow). row.amount) o (pos 0) ≡ option_map_or (λ p. p.amount) (option_map posting_of_cash_move_row o) (pos 0)
 amount_or None = refl
 amount_or (Some row) = refl
 

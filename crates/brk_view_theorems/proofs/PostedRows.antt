@@ -12,7 +12,7 @@ use Rattle.brk_model.specs.Orders.{assets_of_account}
 use Rattle.brk_model.specs.Records.{Movement, Trade}
 use Rattle.brk_model.specs.Sheets.{sheets, tables_sorted_by_key}
 use Rattle.brk_model.specs.Statement.{sorted_cash_rows_of_account}
-use Rattle.brk_model.specs.Tables.{AccountRow, MoveRow, SummaryRow, numbered_move_rows, tables_of_base_in_schema}
+use Rattle.brk_model.specs.Tables.{AccountRow, CashRow, SummaryRow, numbered_cash_move_rows, tables_of_base_in_schema}
 use Rattle.brk_model_explain.specs.AccountLines.{priced_holding, account_cash_rows_by_stamp, market_value_of_holding}
 use Rattle.brk_model_explain.specs.Running.{running_totals}
 use Rattle.brk_trade_books.specs.Books.{BooksInvariant, TradeStampIsAtMostLastStamp, MovementStampIsAtMostLastStamp}
@@ -57,20 +57,20 @@ all_posted base books =
     (All-mapped (λ p. on_some_day p.stamp ≡ true) posting_of_movement base.movements
     (All-map base.movements (λ m e. some_day m.stamp (moved_in_time base.last books.clock m e)) books.movements.early))
 
-all_numbered : (n : ℕ) (ps : List Posting) → AllByRecursion (λ p. on_some_day p.stamp ≡ true) ps → AllByRecursion (λ r. on_some_day r.stamp ≡ true) (numbered_move_rows n ps)
+all_numbered : (n : ℕ) (ps : List Posting) → AllByRecursion (λ p. on_some_day p.stamp ≡ true) ps → AllByRecursion (λ r. on_some_day r.stamp ≡ true) (numbered_cash_move_rows n ps)
 all_numbered n [] h = tt
 all_numbered n (p ∷ ps) h = (h.0, all_numbered (n + 1) ps h.1)
 
-moves_are : (base : Base) → (sheets base).moves ≡ numbered_move_rows 1 (postings_sorted_by_stamp (postings_of_base base))
+moves_are : (base : Base) → (sheets base).moves ≡ numbered_cash_move_rows 1 (postings_sorted_by_stamp (postings_of_base base))
 unfolding tables_of_base_in_schema tables_sorted_by_key
 moves_are base = numbered_stay 1 (postings_sorted_by_stamp (postings_of_base base))
 
 pub all_listed : (base : Base) (account : ℕ) → BooksInvariant base → account_cash_rows_by_stamp (sheets base) account ≡ sorted_cash_rows_of_account (sheets base) account
 all_listed base account books =
-    filter-all (λ (r : MoveRow). on_some_day r.stamp) (sorted_cash_rows_of_account (sheets base) account)
-    (All-sort (λ (r : MoveRow). on_some_day r.stamp ≡ true) (λ a b. nat_lt a.stamp b.stamp) (filter (λ (r : MoveRow). r.account == account) (sheets base).moves)
-    (All-filter (λ (r : MoveRow). on_some_day r.stamp ≡ true) (λ r. r.account == account) (sheets base).moves
-    (subst (AllByRecursion (λ (r : MoveRow). on_some_day r.stamp ≡ true)) (sym (moves_are base))
+    filter-all (λ (r : CashRow). on_some_day r.stamp) (sorted_cash_rows_of_account (sheets base) account)
+    (All-sort (λ (r : CashRow). on_some_day r.stamp ≡ true) (λ a b. nat_lt a.stamp b.stamp) (filter (λ (r : CashRow). r.account == account) (sheets base).moves)
+    (All-filter (λ (r : CashRow). on_some_day r.stamp ≡ true) (λ r. r.account == account) (sheets base).moves
+    (subst (AllByRecursion (λ (r : CashRow). on_some_day r.stamp ≡ true)) (sym (moves_are base))
     (all_numbered 1 (postings_sorted_by_stamp (postings_of_base base)) (All-sort (λ p. on_some_day p.stamp ≡ true) (λ a b. nat_lt a.stamp b.stamp) (postings_of_base base) (all_posted base books))))))
 
 -- ---- the account
@@ -78,7 +78,7 @@ all_listed base account books =
 pub account_as_told : (base : Base) (id : ℕ) (r : AccountRow) → BooksInvariant base → account_row_with_id (sheets base) id ≡ Some r → PrintedAccountMatchesBase base r
 account_as_told base id r books e = record {
   posted = all_listed base r.id books;
-  last = ap (λ rows. last_number_or_default r.opening (running_totals (λ (row : MoveRow). row.amount) r.opening rows)) (all_listed base r.id books) ∙ last_is_balance base id r books e;
+  last = ap (λ rows. last_number_or_default r.opening (running_totals (λ (row : CashRow). row.amount) r.opening rows)) (all_listed base r.id books) ∙ last_is_balance base id r books e;
   assets = ap (λ z. r.balance +ℤ z) (total-map market_value_of_holding (priced_holding (sheets base)) (filter (λ (row : SummaryRow). row.account == r.id) (sheets base).summaries))
       ∙ reads_assets base id r books e ∙ ap (assets_of_account base) (sym same);
 }

@@ -12,7 +12,7 @@ use Rattle.brk_model.specs.LookupView.{is_cash_row_of_trade}
 use Rattle.brk_model.specs.Records.{Account, Movement, Trade}
 use Rattle.brk_model.specs.Sheets.{sheets, tables_sorted_by_key}
 use Rattle.brk_model.specs.Statement.{sorted_cash_rows_of_account}
-use Rattle.brk_model.specs.Tables.{MoveRow, cash_move_row, numbered_move_rows, tables_of_base_in_schema}
+use Rattle.brk_model.specs.Tables.{CashRow, cash_move_row, numbered_cash_move_rows, tables_of_base_in_schema}
 use Rattle.brk_view_theorems.specs.Before.{trades_completed_before_stamp}
 use Rattle.brk_trade_books.proofs.LotReading.{filter-map, filter-swap}
 use Rattle.brk_trade_books.proofs.MoveReading.{rows_posted, stamp_one_way, stamp_splits, turn_filter}
@@ -88,11 +88,11 @@ count_kept s base later q k =
 -- ---- the cash rows before it
 
 pub rows_counted : (base : Base) (account s : ℕ)
-    → length (filter (λ (row : MoveRow). nat_lt row.stamp s) (sorted_cash_rows_of_account (sheets base) account))
+    → length (filter (λ (row : CashRow). nat_lt row.stamp s) (sorted_cash_rows_of_account (sheets base) account))
     ≡ length (filter (λ p. p.account == account) (filter (is_earlier s) (postings_of_base base)))
 rows_counted base account s =
-    ap length (sym (sort_filter (by (λ (row : MoveRow). row.stamp)) R (filter A M) (by_splits (λ (row : MoveRow). row.stamp)) (by_one_way (λ (row : MoveRow). row.stamp))))
-    ∙ length_sort (by (λ (row : MoveRow). row.stamp)) (filter R (filter A M))
+    ap length (sym (sort_filter (by (λ (row : CashRow). row.stamp)) R (filter A M) (by_splits (λ (row : CashRow). row.stamp)) (by_one_way (λ (row : CashRow). row.stamp))))
+    ∙ length_sort (by (λ (row : CashRow). row.stamp)) (filter R (filter A M))
     ∙ sym (length-map posting_of_cash_move_row (filter R (filter A M)))
     ∙ ap length (sym (filter-map (is_earlier s) posting_of_cash_move_row (filter A M))
     ∙ ap (filter (is_earlier s))
@@ -101,13 +101,13 @@ rows_counted base account s =
     ∙ length_sort (λ a b. nat_lt a.stamp b.stamp) (filter (is_earlier s) (filter to (postings_of_base base)))
     ∙ ap length (filter-swap (is_earlier s) to (postings_of_base base))
   where
-    M : List MoveRow
+    M : List CashRow
     M = (sheets base).moves
 
-    A : MoveRow → Bool
+    A : CashRow → Bool
     A row = row.account == account
 
-    R : MoveRow → Bool
+    R : CashRow → Bool
     R row = nat_lt row.stamp s
 
     to : Posting → Bool
@@ -116,14 +116,14 @@ rows_counted base account s =
 -- ---- the number of its own row
 
 find_numbered : (q : Posting → Bool) (n : ℕ) (front : List Posting) (p : Posting) (back : List Posting) → NonePass q front → q p ≡ true
-    → find (λ r. q (posting_of_cash_move_row r)) (numbered_move_rows n (front ++ p ∷ back)) ≡ Some (cash_move_row (n + length front) p)
-find_numbered q n [] p back h e = ap (λ b. cond b (Some (cash_move_row n p)) (find (λ r. q (posting_of_cash_move_row r)) (numbered_move_rows (n + 1) back))) e
+    → find (λ r. q (posting_of_cash_move_row r)) (numbered_cash_move_rows n (front ++ p ∷ back)) ≡ Some (cash_move_row (n + length front) p)
+find_numbered q n [] p back h e = ap (λ b. cond b (Some (cash_move_row n p)) (find (λ r. q (posting_of_cash_move_row r)) (numbered_cash_move_rows (n + 1) back))) e
     ∙ ap (λ (m : ℕ). Some (cash_move_row m p)) (none n)
   where
     none : (n : ℕ) → n ≡ n + 0
     none n = omega arith
 find_numbered q n (x ∷ front) p back h e =
-    ap (λ b. cond b (Some (cash_move_row n x)) (find (λ r. q (posting_of_cash_move_row r)) (numbered_move_rows (n + 1) (front ++ p ∷ back)))) h.0
+    ap (λ b. cond b (Some (cash_move_row n x)) (find (λ r. q (posting_of_cash_move_row r)) (numbered_cash_move_rows (n + 1) (front ++ p ∷ back)))) h.0
     ∙ find_numbered q (n + 1) front p back h.1 e ∙ ap (λ (m : ℕ). Some (cash_move_row m p)) (more n (length front))
   where
     more : (n m : ℕ) → n + 1 + m ≡ n + suc m
@@ -167,7 +167,7 @@ earlier_is m n e f = grind (arith, nat_tests)
 not_itself : (n : ℕ) → nat_lt n n ≡ false
 not_itself n = grind (arith, nat_tests)
 
-moves_are : (base : Base) → (sheets base).moves ≡ numbered_move_rows 1 (postings_sorted_by_stamp (postings_of_base base))
+moves_are : (base : Base) → (sheets base).moves ≡ numbered_cash_move_rows 1 (postings_sorted_by_stamp (postings_of_base base))
 unfolding tables_of_base_in_schema tables_sorted_by_key
 moves_are base = numbered_stay 1 (postings_sorted_by_stamp (postings_of_base base))
 
@@ -181,7 +181,7 @@ number_of : (base : Base) (t : Trade) → Among base t → t.is_cash ≡ true
     ≡ Some (cash_move_row (1 + length (filter (is_earlier (last_status_stamp_of_trade t)) (postings_of_base base))) (posting_of_trade base.accounts t))
 unfolding sort_by
 number_of base t a e =
-    ap (find (is_cash_row_of_trade t.id)) (moves_are base ∙ ap (numbered_move_rows 1) s.stands)
+    ap (find (is_cash_row_of_trade t.id)) (moves_are base ∙ ap (numbered_cash_move_rows 1) s.stands)
     ∙ find_numbered (is_posting_of_trade t.id) 1 s.front p s.back (alone (is_posting_of_trade t.id) s.front p s.back (eq-eqb t.id t.id refl) (by_number)) (eq-eqb t.id t.id refl)
     ∙ ap (λ (n : ℕ). Some (cash_move_row (1 + n) p)) (sym counted)
   where
@@ -230,15 +230,15 @@ number_of base t a e =
         (not_itself (last_status_stamp_of_trade t), sorted_back s.front p s.back in_order) i)
         ∙ append_nil s.front)
 
-no_row : (o : Option MoveRow) → option_map posting_of_cash_move_row o ≡ None → option_map (λ (row : MoveRow). row.id) o ≡ None
+no_row : (o : Option CashRow) → option_map posting_of_cash_move_row o ≡ None → option_map (λ (row : CashRow). row.id) o ≡ None
 no_row None e = refl
 no_row (Some row) e = absurd (cc)
 
 number_is : (base : Base) (t : Trade) → Among base t → (b : Bool) → t.is_cash ≡ b
-    → option_map (λ (row : MoveRow). row.id) (find (is_cash_row_of_trade t.id) (sheets base).moves)
+    → option_map (λ (row : CashRow). row.id) (find (is_cash_row_of_trade t.id) (sheets base).moves)
     ≡ cond b (Some (1 + length (filter (is_earlier (last_status_stamp_of_trade t)) (postings_of_base base)))) None
 unfolding sort_by
-number_is base t a true e = ap (option_map (λ (row : MoveRow). row.id)) (number_of base t a e)
+number_is base t a true e = ap (option_map (λ (row : CashRow). row.id)) (number_of base t a e)
 number_is base t a false e =
     no_row (find (is_cash_row_of_trade t.id) (sheets base).moves)
     (sym (find-map (is_posting_of_trade t.id) posting_of_cash_move_row (sheets base).moves) ∙ ap (find (is_posting_of_trade t.id)) (rows_posted base)
@@ -250,7 +250,7 @@ all_true [] = refl
 all_true (x ∷ xs) = ap (λ ys. x ∷ ys) (all_true xs)
 
 pub number_kept : (base later : Base) (t u : Trade) → Among base t → Among later u → core u ≡ core t → Keeps (last_status_stamp_of_trade t) base later
-    → option_map (λ (row : MoveRow). row.id) (find (is_cash_row_of_trade u.id) (sheets later).moves) ≡ option_map (λ (row : MoveRow). row.id) (find (is_cash_row_of_trade t.id) (sheets base).moves)
+    → option_map (λ (row : CashRow). row.id) (find (is_cash_row_of_trade u.id) (sheets later).moves) ≡ option_map (λ (row : CashRow). row.id) (find (is_cash_row_of_trade t.id) (sheets base).moves)
 number_kept base later t u a a' same k =
     number_is later u a' u.is_cash refl
     ∙ (λ i. cond (same i).is_cash (Some (1 + length (filter (is_earlier (last_status_stamp_of_trade (same i))) (postings_of_base later)))) None)

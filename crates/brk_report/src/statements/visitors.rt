@@ -1,7 +1,7 @@
 //! Visitors that write a line for each record, count the records, and add up their amounts.
 
 ghost use Rattle.std.specs.Prelude.{◌≡◌, ◌++◌, ◌∷◌, [], IfErr, IfOk, nat_lt};
-ghost use Rattle.brk_trade_rows.specs.Rows.{abstract_move_row};
+ghost use Rattle.brk_ref.specs.Rows.{abstract_cash_row};
 ghost use Rattle.brk_money.specs.Spelling.{Text};
 ghost use Rattle.brk_model.specs.Run.{IsCallFault};
 ghost use Rattle.brk_model.specs.Statement.{cash_row_line};
@@ -11,8 +11,8 @@ ghost use Rattle.brk_report_lines.specs.Written.{WritesLines, line_with_line_fee
 use crate::totals::total_plus_amount;
 use brk_desk::Visitor;
 use brk_money::{Fault, Stamp, Wide};
+use brk_ref::{CashRow, HoldingRow};
 use brk_report_lines::{LinesFault, amount_line, cash_row_line, lot_line, write_line};
-use brk_trade_rows::{HoldingRow, MoveRow};
 use std::alloc::Global;
 use std::io::Write;
 
@@ -29,7 +29,7 @@ pub trait Line {
 
 impl Line for HoldingRow {
     ghost use Rattle.brk_model.specs.Statement.{lot_line};
-    ghost use Rattle.brk_trade_rows.specs.Rows.{abstract_holding_row};
+    ghost use Rattle.brk_ref.specs.Rows.{abstract_holding_row};
 
     ghost line = { λ r. lot_line (abstract_holding_row r) };
 
@@ -39,11 +39,11 @@ impl Line for HoldingRow {
     }
 }
 
-impl Line for MoveRow {
+impl Line for CashRow {
     ghost use Rattle.brk_model.specs.Statement.{cash_row_line};
-    ghost use Rattle.brk_trade_rows.specs.Rows.{abstract_move_row};
+    ghost use Rattle.brk_ref.specs.Rows.{abstract_cash_row};
 
-    ghost line = { λ r. cash_row_line (abstract_move_row r) };
+    ghost line = { λ r. cash_row_line (abstract_cash_row r) };
 
     /// Returns the line of the cash row with its line feed. Fails with `Memory` only.
     fn line(&self, alloc: Global) -> Result<Vec<u8>, Fault> {
@@ -52,7 +52,7 @@ impl Line for MoveRow {
 }
 
 // Returns true if the stamp of the cash row is before `first`.
-fn is_before_stamp(item: &MoveRow, first: Stamp) -> bool
+fn is_before_stamp(item: &CashRow, first: Stamp) -> bool
     ensures { result ≡ nat_lt item.now.stamp first }
 {
     item.stamp.get() < first.get()
@@ -81,10 +81,10 @@ pub(crate) fn write_opening_line_unless_written<W: Write>(
 fn write_opening_and_row_lines<W: Write>(
     alloc: Global,
     moved: CashProgress,
-    item: &MoveRow,
+    item: &CashRow,
     writer: &mut W,
 ) -> Result<(), LinesFault>
-    ensures { WritesLines (opening_line_unless_written moved.is_opened moved.total ++ cash_row_line (abstract_move_row item.now)
+    ensures { WritesLines (opening_line_unless_written moved.is_opened moved.total ++ cash_row_line (abstract_cash_row item.now)
         ∷ []) (W.contents writer.old) (W.contents writer.new) result }
 {
     write_opening_line_unless_written(alloc, moved.is_opened, moved.total, writer)?;
@@ -164,11 +164,11 @@ impl<W> CashLineWriter<'_, W> {
     }
 }
 
-impl<W: Write> Visitor<MoveRow, LinesFault> for CashLineWriter<'_, W> {
+impl<W: Write> Visitor<CashRow, LinesFault> for CashLineWriter<'_, W> {
     ghost use Rattle.std.specs.Prelude.{◌≡◌, nat_lt, refl};
     ghost use Rattle.std.proofs.Common.{◌∙◌};
     ghost use Rattle.std.specs.Io.KnownBytes.{Appends};
-    ghost use Rattle.brk_trade_rows.specs.Rows.{abstract_move_row};
+    ghost use Rattle.brk_ref.specs.Rows.{abstract_cash_row};
     ghost use Rattle.brk_model.specs.Statement.{text_of_lines};
     ghost use Rattle.brk_report.specs.CashWalk.{lines_of_cash_row, progress_after_cash_row};
     ghost use Rattle.brk_report_lines.specs.Written.{FailsWithinFirstLines};
@@ -177,11 +177,11 @@ impl<W: Write> Visitor<MoveRow, LinesFault> for CashLineWriter<'_, W> {
 
     ghost leads = { λ p q. q.writer.ghost_name ≡ p.writer.ghost_name };
 
-    ghost takes = { λ p r q. (q.first ≡ p.first) × (q.moved ≡ progress_after_cash_row (nat_lt r.stamp p.first) p.moved (abstract_move_row r))
+    ghost takes = { λ p r q. (q.first ≡ p.first) × (q.moved ≡ progress_after_cash_row (nat_lt r.stamp p.first) p.moved (abstract_cash_row r))
         × Appends (W.contents p.writer.now) (W.contents q.writer.now)
-        (text_of_lines (lines_of_cash_row (nat_lt r.stamp p.first) p.moved (abstract_move_row r))) };
+        (text_of_lines (lines_of_cash_row (nat_lt r.stamp p.first) p.moved (abstract_cash_row r))) };
 
-    ghost stops = { λ p r e q. FailsWithinFirstLines (lines_of_cash_row (nat_lt r.stamp p.first) p.moved (abstract_move_row r))
+    ghost stops = { λ p r e q. FailsWithinFirstLines (lines_of_cash_row (nat_lt r.stamp p.first) p.moved (abstract_cash_row r))
         (W.contents p.writer.now) (W.contents q.writer.now) e };
 
     /// Adds the amount of the cash row to the total, in cents. If the stamp of the row is not
@@ -191,7 +191,7 @@ impl<W: Write> Visitor<MoveRow, LinesFault> for CashLineWriter<'_, W> {
     /// with `Desk(Memory)` and nothing or only the line of the opening amount written, or with
     /// `Write` after a prefix of the lines, perhaps all. The progress (`moved`) is unchanged after
     /// an error (no clause states this).
-    fn visit(&mut self, item: &MoveRow) -> Result<(), LinesFault> {
+    fn visit(&mut self, item: &CashRow) -> Result<(), LinesFault> {
         let total = total_plus_amount(self.moved.total, item.amount)?;
         if is_before_stamp(item, self.first) {
             self.moved.total = total;

@@ -42,13 +42,13 @@ returns-clause-value c =
           law.0 (record {
             no_others = none_left s.cash.items (sym s.cash.ok.0 ∙ eqb-true _ 0 (sym c.is_empty-no_others.ensures ∙ h.0));
             turn =
-                sym c.move_rows_are_numbered_by_stamp-in_turn.ensures ∙ h.1;
+                sym c.cash_move_rows_are_numbered_by_stamp-in_turn.ensures ∙ h.1;
             posted = sym left ∙ c.cash_move_figures_match_trades-posted.ensures.0 h.2;
           })),
       (λ k. let m = law.1 k in
           c.are_all_three_true.ensures.1 (
             c.is_empty-no_others.ensures ∙ eq-eqb _ 0 (s.cash.ok.0 ∙ ap length m.no_others),
-            c.move_rows_are_numbered_by_stamp-in_turn.ensures
+            c.cash_move_rows_are_numbered_by_stamp-in_turn.ensures
                 ∙ m.turn,
             c.cash_move_figures_match_trades-posted.ensures.1 (left ∙ m.posted),
           )),

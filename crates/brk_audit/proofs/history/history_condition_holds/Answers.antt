@@ -2,7 +2,7 @@ use Rattle.std.proofs.Common.{◌≡◌, map, sym, ap, ◌∙◌, subst}
 use Rattle.std.specs.Prelude.{◌↔◌, IsSome}
 use Rattle.std.specs.List.Sorted.{IsPermutation}
 use Rattle.std.proofs.lemmas.List.Sorted.{IsPermutation-map}
-use Rattle.brk_trade_rows.specs.Rows.{abstract_lot_change_row}
+use Rattle.brk_ref.specs.Rows.{abstract_lot_change_row}
 use Rattle.brk_trade_rows.specs.Sheets.{abstract_sheets}
 use Rattle.brk_lots.specs.Chains.{abstract_deal_touch}
 use Rattle.brk_model.specs.Audit.{ConditionHolds, expected_tables}

@@ -1,6 +1,6 @@
 use Rattle.std.proofs.Common.{◌≡◌, ℕ, zero, suc, ◌<◌, List, [], ◌∷◌, length, get_or, map, ap, sym, ◌∙◌, arith}
 use Rattle.std.specs.Prelude.{IsTrue}
-use Rattle.brk_trade_rows.specs.Rows.{abstract_lot_change_row}
+use Rattle.brk_ref.specs.Rows.{abstract_lot_change_row}
 use Rattle.brk_lots.specs.Chains.{abstract_deal_touch}
 use Rattle.brk_audit.proofs.history.lot_changes_equal_rows.Goals as goal
 

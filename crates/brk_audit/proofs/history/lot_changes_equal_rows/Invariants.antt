@@ -1,5 +1,5 @@
 use Rattle.std.proofs.Common.{◌≡◌, map, take}
-use Rattle.brk_trade_rows.specs.Rows.{abstract_lot_change_row}
+use Rattle.brk_ref.specs.Rows.{abstract_lot_change_row}
 use Rattle.brk_lots.specs.Chains.{abstract_deal_touch}
 use Rattle.brk_audit.proofs.history.lot_changes_equal_rows.Given as goal
 

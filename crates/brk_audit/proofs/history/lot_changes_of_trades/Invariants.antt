@@ -1,7 +1,7 @@
 use Rattle.std.proofs.Common.{◌++◌, ◌-◌, ◌≤◌, List, drop, length, map}
 use Rattle.brk_audit.specs.Positions.{AreLotChangesOfTrades}
 use Rattle.brk_lots.specs.Chains.{abstract_deal_touch}
-use Rattle.brk_trade_rows.specs.Rows.{abstract_trade_row}
+use Rattle.brk_ref.specs.Rows.{abstract_trade_row}
 use Rattle.brk_model.specs.Tables.{HoldingHistoryRow}
 use Rattle.brk_audit.proofs.history.lot_changes_of_trades.Given as goal
 

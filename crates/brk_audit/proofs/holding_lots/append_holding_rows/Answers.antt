@@ -1,7 +1,7 @@
 use Rattle.std.proofs.Common.{◌++◌, ◌∙◌, ap, map}
 use Rattle.std.proofs.lemmas.List.{take_all}
 use Rattle.brk_audit.specs.Positions.{holding_row_in_position_of_trade}
-use Rattle.brk_trade_rows.specs.Rows.{abstract_holding_row, abstract_trade_row}
+use Rattle.brk_ref.specs.Rows.{abstract_holding_row, abstract_trade_row}
 use Rattle.brk_lots.specs.Lots.{abstract_lot}
 use Rattle.brk_audit.proofs.holding_lots.append_holding_rows.Goals as goal
 

@@ -1,5 +1,5 @@
 use Rattle.std.proofs.Common.{◌≡◌, map, take}
-use Rattle.brk_trade_rows.specs.Rows.{abstract_holding_row}
+use Rattle.brk_ref.specs.Rows.{abstract_holding_row}
 use Rattle.brk_audit.proofs.holding_lots.are_holding_lists_equal.Given as goal
 
 abbrev pub invariant-loop-i : goal.invariant-loop-i

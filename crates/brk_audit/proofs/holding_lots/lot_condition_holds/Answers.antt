@@ -2,9 +2,9 @@ use Rattle.std.proofs.Common.{rules, ◌≡◌, map, sym, ap, ◌∙◌, subst}
 use Rattle.std.specs.Prelude.{IsSome}
 use Rattle.std.specs.List.Sorted.{IsNonDecreasingBy, IsPermutation}
 use Rattle.std.proofs.lemmas.List.Sorted.{IsNonDecreasingBy-from_sort_by_key, IsPermutation-map}
-use Rattle.brk_trade_rows.specs.Rows.{abstract_holding_row, abstract_trade_row}
+use Rattle.brk_ref.specs.Rows.{abstract_holding_row, abstract_trade_row}
 use Rattle.brk_trade_rows.specs.Sheets.{abstract_sheets}
-use Rattle.brk_trade_rows.specs.declared.holding_row.HoldingRow as code
+use Rattle.brk_ref.specs.declared.holding_row.HoldingRow as code
 use Rattle.brk_model.specs.Audit.{ConditionHolds, expected_tables}
 use Rattle.brk_model.specs.Tables.{HoldingRow, Tables}
 use Rattle.brk_audit_theorems.proofs.FormBack.{All-unmapped}

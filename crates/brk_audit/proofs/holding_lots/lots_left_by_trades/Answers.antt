@@ -1,6 +1,6 @@
 use Rattle.std.proofs.Common.{arith, ◌≡◌, ◌+◌, ◌-◌, ◌++◌, List, [], ◌∷◌, length, drop, take, map, sym, ap, ◌∙◌, subst, append-nil}
 use Rattle.std.proofs.lemmas.List.{append_assoc, drop_all, length-drop, length-take}
-use Rattle.brk_trade_rows.specs.Rows.{abstract_holding_row}
+use Rattle.brk_ref.specs.Rows.{abstract_holding_row}
 use Rattle.brk_lots.specs.declared.lot.Lot.{Lot}
 use Rattle.brk_lots.specs.Deals.{AreDistinctAscendingDeals}
 use Rattle.brk_lots.specs.Position.{IsPosition}

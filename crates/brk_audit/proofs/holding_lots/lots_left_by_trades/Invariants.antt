@@ -1,6 +1,6 @@
 use Rattle.std.proofs.Common.{◌++◌, ◌-◌, ◌≤◌, List, drop, length, map}
 use Rattle.brk_audit.specs.Positions.{AreLotsLeftByTrades}
-use Rattle.brk_trade_rows.specs.Rows.{abstract_holding_row, abstract_trade_row}
+use Rattle.brk_ref.specs.Rows.{abstract_holding_row, abstract_trade_row}
 use Rattle.brk_model.specs.Tables.{HoldingRow}
 use Rattle.brk_audit.proofs.holding_lots.lots_left_by_trades.Given as goal
 

@@ -1,7 +1,7 @@
 use Rattle.std.proofs.Common.{◌≡◌, rules, refl, ◌∙◌, ap, filter, map}
 use Rattle.std.proofs.lemmas.List.{take_all}
 use Rattle.brk_audit_sums.specs.Completed.{is_completed_trade_row}
-use Rattle.brk_trade_rows.specs.Rows.{abstract_trade_row}
+use Rattle.brk_ref.specs.Rows.{abstract_trade_row}
 use Rattle.brk_audit.proofs.Pushed.{kept_more, passed_more}
 use Rattle.brk_audit.proofs.positions.collect_completed_trades.Goals as goal
 use Rattle.brk_audit.proofs.positions.collect_completed_trades.Goals.{then-eq+in_ok-push, else-eq}

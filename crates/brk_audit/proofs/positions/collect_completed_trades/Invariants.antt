@@ -1,6 +1,6 @@
 use Rattle.std.proofs.Common.{◌≡◌, filter, map, take}
 use Rattle.brk_audit_sums.specs.Completed.{is_completed_trade_row}
-use Rattle.brk_trade_rows.specs.Rows.{abstract_trade_row}
+use Rattle.brk_ref.specs.Rows.{abstract_trade_row}
 use Rattle.brk_audit.proofs.positions.collect_completed_trades.Given as goal
 
 abbrev pub invariant-loop-row : goal.invariant-loop-row

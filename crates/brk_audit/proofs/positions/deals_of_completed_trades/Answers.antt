@@ -1,7 +1,7 @@
 use Rattle.std.proofs.Common.{◌∙◌, ap, map}
 use Rattle.std.proofs.lemmas.List.{take_all}
 use Rattle.brk_audit.specs.Positions.{deal_of_completed_row}
-use Rattle.brk_trade_rows.specs.Rows.{abstract_trade_row}
+use Rattle.brk_ref.specs.Rows.{abstract_trade_row}
 use Rattle.brk_lots.specs.Lots.{abstract_deal}
 use Rattle.brk_audit.proofs.Pushed.{pushed_more}
 use Rattle.brk_audit.proofs.positions.deals_of_completed_trades.Goals as goal

@@ -1,6 +1,6 @@
 use Rattle.std.proofs.Common.{◌≡◌, map, take}
 use Rattle.brk_audit.specs.Positions.{deal_of_completed_row}
-use Rattle.brk_trade_rows.specs.Rows.{abstract_trade_row}
+use Rattle.brk_ref.specs.Rows.{abstract_trade_row}
 use Rattle.brk_lots.specs.Lots.{abstract_deal}
 use Rattle.brk_audit.proofs.positions.deals_of_completed_trades.Given as goal
 

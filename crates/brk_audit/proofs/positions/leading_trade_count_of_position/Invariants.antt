@@ -1,7 +1,7 @@
 use Rattle.std.proofs.Common.{◌≡◌, take, true}
 use Rattle.std.specs.List.{AllByRecursion}
 use Rattle.brk_audit.specs.Positions.{has_same_position}
-use Rattle.brk_trade_rows.specs.Rows.{abstract_trade_row}
+use Rattle.brk_ref.specs.Rows.{abstract_trade_row}
 use Rattle.brk_audit.proofs.positions.leading_trade_count_of_position.Given as goal
 
 abbrev pub invariant-loop-i : goal.invariant-loop-i

@@ -2,7 +2,7 @@ use Rattle.std.proofs.Common.{rules}
 use Rattle.std.proofs.lemmas.Fn.{always_returns_same}
 use Rattle.brk_audit.specs.Positions.{is_before_by_position}
 use Rattle.brk_audit.proofs.Places.{place_order}
-use Rattle.brk_trade_rows.specs.Rows.{abstract_trade_row}
+use Rattle.brk_ref.specs.Rows.{abstract_trade_row}
 use Rattle.brk_audit.proofs.positions.sort_trades_by_position.Goals as goal
 
 pub returns-clause-order : goal.returns-clause-order

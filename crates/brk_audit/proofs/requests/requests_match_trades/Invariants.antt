@@ -1,5 +1,5 @@
 use Rattle.std.proofs.Common.{drop, map}
-use Rattle.brk_trade_rows.specs.Rows.{abstract_request_row}
+use Rattle.brk_ref.specs.Rows.{abstract_request_row}
 use Rattle.brk_audit_sums.specs.AccountTerms.{account_broker_in_terms}
 use Rattle.brk_audit_sums.specs.Completed.{is_pending_trade_row}
 use Rattle.brk_audit_sums.specs.Settling.{request_row_of_trade}

@@ -1,5 +1,5 @@
 use Rattle.std.proofs.Common.{drop, map}
-use Rattle.brk_trade_rows.specs.Rows.{abstract_settlement_row}
+use Rattle.brk_ref.specs.Rows.{abstract_settlement_row}
 use Rattle.brk_audit_sums.specs.AccountTerms.{account_tax_status_in_terms}
 use Rattle.brk_audit_sums.specs.Completed.{is_completed_trade_row}
 use Rattle.brk_audit_sums.specs.Settling.{settlement_figures_of_row, settlement_figures_of_trade}

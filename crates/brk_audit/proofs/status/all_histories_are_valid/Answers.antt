@@ -2,7 +2,7 @@ use Rattle.std.proofs.Common.{◌≡◌, ◌+◌, ◌==◌, sym, ◌∙◌, ap, 
 use Rattle.std.specs.Prelude.{◌&&◌}
 use Rattle.std.specs.List.{prefix_len}
 use Rattle.std.proofs.lemmas.List.Sums.{prefix_len-le-length}
-use Rattle.brk_trade_rows.specs.Rows.{abstract_history_row, abstract_trade_row}
+use Rattle.brk_ref.specs.Rows.{abstract_history_row, abstract_trade_row}
 use Rattle.brk_audit.specs.Statuses.{all_histories_are_valid}
 use Rattle.brk_audit.proofs.Walks.{go_more}
 use Rattle.brk_audit.proofs.status.all_histories_are_valid.Goals as goal

@@ -1,5 +1,5 @@
 use Rattle.std.proofs.Common.{◌≡◌, drop, map}
-use Rattle.brk_trade_rows.specs.Rows.{abstract_history_row, abstract_trade_row}
+use Rattle.brk_ref.specs.Rows.{abstract_history_row, abstract_trade_row}
 use Rattle.brk_audit.specs.Statuses.{all_histories_are_valid}
 use Rattle.brk_audit.proofs.status.all_histories_are_valid.Given as goal
 

@@ -3,7 +3,7 @@ use Rattle.std.proofs.lemmas.Bool.{and_from, and_left, and_parts}
 use Rattle.brk_model.specs.Lists.{all_distinct}
 use Rattle.brk_model.specs.Ways.{movement_stamps}
 use Rattle.brk_model.specs.Tables.{Tables}
-use Rattle.brk_trade_rows.specs.Rows.{abstract_history_row, abstract_move_row, abstract_trade_row}
+use Rattle.brk_ref.specs.Rows.{abstract_history_row, abstract_cash_row, abstract_trade_row}
 use Rattle.brk_trade_rows.specs.Sheets.{abstract_sheets}
 use Rattle.brk_audit.specs.Statuses.{all_histories_are_valid, movement_stamps_of_cash_rows, completion_stamps_of_history}
 use Rattle.brk_audit.proofs.StatusLaw.{status_holds}
@@ -27,7 +27,7 @@ returns-clause-value c = λ schema.
     let apart : c.in_ok-apart.apart ≡ all_distinct (completion_stamps_of_history t.history ++ movement_stamps t) =
     c.in_ok-apart.ensures.value
     ∙ (λ i. all_distinct (completion_stamps_of_history (map abstract_history_row (c.deref-3.ensures.value i))
-    ++ movement_stamps_of_cash_rows (map abstract_move_row (c.deref-4.ensures.value i)))) in
+    ++ movement_stamps_of_cash_rows (map abstract_cash_row (c.deref-4.ensures.value i)))) in
     let law = status_holds schema t c.all_histories_are_valid.result c.in_ok-apart.apart c.requires.form go apart in (
       (λ e. law.0 (and_from c.all_histories_are_valid.result c.in_ok-apart.apart c.if-not-all_histories_are_valid.false e)),
       (λ h. (and_parts c.all_histories_are_valid.result c.in_ok-apart.apart (law.1 h)).1),

@@ -3,7 +3,7 @@ use Rattle.std.specs.Prelude.{◌||◌, bytes_eq, codes, decimal}
 use Rattle.brk_money.specs.Kinds.{trade_type_name}
 use Rattle.brk_model.specs.Adopted.{base_of_tables, trade_of_row}
 use Rattle.brk_model.specs.Results.{cash_row_name}
-use Rattle.brk_trade_rows.specs.Rows.{abstract_trade_row}
+use Rattle.brk_ref.specs.Rows.{abstract_trade_row}
 use Rattle.brk_trade_rows.specs.Sheets.{abstract_sheets}
 use Rattle.brk_audit_form.proofs.CashNames.{text_same}
 use Rattle.brk_audit_form.proofs.cash_names.is_cash_text_of_trade.Goals as goal

@@ -5,7 +5,7 @@ use Rattle.brk_model.specs.Audit.{ConditionHolds}
 use Rattle.brk_model.specs.Form.{satisfies_form_condition, has_distinct_tax_ids, is_within_customer_limits, is_well_formed_cash_transaction_row, is_well_formed_cash_move_row, trade_ids_of_cash_rows}
 use Rattle.brk_model.specs.Lists.{all_distinct}
 use Rattle.brk_ref.specs.Records.{abstract_customer}
-use Rattle.brk_trade_rows.specs.Rows.{abstract_cash_row, abstract_move_row}
+use Rattle.brk_ref.specs.Rows.{abstract_old_cash_row, abstract_cash_row}
 use Rattle.brk_trade_rows.specs.Schemas.{abstract_schema}
 use Rattle.brk_trade_rows.specs.Sheets.{abstract_sheets}
 use Rattle.brk_trade_rows.specs.declared.sheets.Sheets.{Sheets}
@@ -19,13 +19,13 @@ abbrev limits : Sheets → Bool
 limits s = list_all (is_within_customer_limits (abstract_sheets s)) (map abstract_customer s.customers.items)
 
 abbrev cash : Sheets → Bool
-cash s = list_all (is_well_formed_cash_transaction_row (abstract_sheets s)) (map abstract_cash_row s.cash.items)
+cash s = list_all (is_well_formed_cash_transaction_row (abstract_sheets s)) (map abstract_old_cash_row s.cash.items)
 
 abbrev moves : Sheets → Bool
-moves s = list_all (is_well_formed_cash_move_row (abstract_sheets s)) (map abstract_move_row s.moves.items)
+moves s = list_all (is_well_formed_cash_move_row (abstract_sheets s)) (map abstract_cash_row s.moves.items)
 
 abbrev owns : Sheets → Bool
-owns s = all_distinct (trade_ids_of_cash_rows (map abstract_move_row s.moves.items))
+owns s = all_distinct (trade_ids_of_cash_rows (map abstract_cash_row s.moves.items))
 
 pub returns-then-not-passes_checks_without_allocation-clause-value : goal.returns-then-not-passes_checks_without_allocation-clause-value
 unfolding ConditionHolds
@@ -87,7 +87,7 @@ returns-clause-value c =
     let second = sym c.in_ok-has_limits.ensures.value ∙ c.if-not-has_limits.false in
     let third = sym c.in_ok-has_cash.ensures.value ∙ c.if-not-has_cash.false in
     let fourth = sym c.in_ok-has_moves.ensures.value ∙ c.if-not-has_moves.false in
-    let same = ap (λ l. all_distinct (trade_ids_of_cash_rows (map abstract_move_row l))) c.deref-2.ensures.value in
+    let same = ap (λ l. all_distinct (trade_ids_of_cash_rows (map abstract_cash_row l))) c.deref-2.ensures.value in
     each_told c.cash_rows_have_distinct_trades.result (satisfies_form_condition schema (abstract_sheets s))
-    (all_distinct (trade_ids_of_cash_rows (map abstract_move_row c.deref-2.result.now))) c.cash_rows_have_distinct_trades.ensures.value
+    (all_distinct (trade_ids_of_cash_rows (map abstract_cash_row c.deref-2.result.now))) c.cash_rows_have_distinct_trades.ensures.value
     (same ∙ sym (λ i. plain i && first i && second i && third i && fourth i && owns s) ∙ form_told schema s)

@@ -1,6 +1,6 @@
 use Rattle.std.proofs.Common.{◌∙◌, ap, map}
 use Rattle.std.proofs.lemmas.List.{take_all}
-use Rattle.brk_trade_rows.specs.Rows.{abstract_summary_row}
+use Rattle.brk_ref.specs.Rows.{abstract_summary_row}
 use Rattle.brk_audit_sums.specs.PositionSums.{posting_with_owned_symbol, share_posting_of_summary}
 use Rattle.brk_audit_sums.proofs.Passed.{pushed_more}
 use Rattle.brk_audit_sums.proofs.summaries.postings_of_summaries.Goals as goal

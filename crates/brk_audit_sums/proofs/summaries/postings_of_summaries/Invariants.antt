@@ -1,5 +1,5 @@
 use Rattle.std.proofs.Common.{◌≡◌, map, take}
-use Rattle.brk_trade_rows.specs.Rows.{abstract_summary_row}
+use Rattle.brk_ref.specs.Rows.{abstract_summary_row}
 use Rattle.brk_audit_sums.specs.PositionSums.{posting_with_owned_symbol, share_posting_of_summary}
 use Rattle.brk_audit_sums.proofs.summaries.postings_of_summaries.Given as goal
 

@@ -1,5 +1,5 @@
 use Rattle.std.proofs.Common.{◌∙◌, ap, map}
-use Rattle.brk_trade_rows.specs.Rows.{abstract_trade_row}
+use Rattle.brk_ref.specs.Rows.{abstract_trade_row}
 use Rattle.brk_audit_sums.specs.PositionSums.{posting_with_owned_symbol, share_posting_of_trade}
 use Rattle.brk_audit_sums.proofs.Postings.{none_more, some_more}
 use Rattle.brk_audit_sums.proofs.summaries.share_postings_of_trades.Goals as goal

@@ -2,12 +2,12 @@ use Rattle.std.proofs.Common.{◌≡◌, false, List, ℤ, ◌∙◌, ap, map, s
 use Rattle.std.specs.BTreeMap.{BTreeMap}
 use Rattle.std.specs.List.{AllByRecursion, filter_map}
 use Rattle.brk_model.specs.Lists.{is_zero}
-use Rattle.brk_trade_rows.specs.Rows.{abstract_summary_row, abstract_trade_row}
+use Rattle.brk_ref.specs.Rows.{abstract_summary_row, abstract_trade_row}
 use Rattle.brk_trade_rows.specs.Sheets.{abstract_sheets}
 use Rattle.brk_trade_rows.specs.declared.sheets.Sheets.{Sheets}
 use Rattle.brk_model.specs.Tables.{Tables}
 use Rattle.brk_audit_sums.specs.PositionSums.{position_cmp, share_posting_of_trade, share_posting_of_summary}
-use Rattle.brk_trade_rows.specs.declared.summary_row.SummaryRow.{SummaryRow}
+use Rattle.brk_ref.specs.declared.summary_row.SummaryRow.{SummaryRow}
 use Rattle.brk_audit_sums.specs.declared.tally.KeyedAmount.{KeyedAmount}
 use Rattle.brk_audit_sums.specs.Tally.{total_amount_at_key}
 use Rattle.brk_audit_sums.proofs.SummaryChecked.{Agree, Place, Tallied, they_agree, they_hold}

@@ -1,6 +1,6 @@
 use Rattle.std.proofs.Common.{◌∙◌, ◌+ℤ◌, ◌==◌, ℤ, Option, ap, find, map, option_map}
 use Rattle.std.specs.Prelude.{bytes_eq}
-use Rattle.brk_trade_rows.specs.Rows.{abstract_summary_row}
+use Rattle.brk_ref.specs.Rows.{abstract_summary_row}
 use Rattle.brk_model.specs.Tables.{SummaryRow, Tables}
 use Rattle.brk_desk_decisions.specs.OrderFactReads.{AreAssetsAndSharesOfAccount}
 use Rattle.brk_store_required.specs.Valuation.{AreValuedSummariesOfAccount}

@@ -3,7 +3,7 @@ use Rattle.brk_money.specs.declared.fault.Fault.{Fault}
 use Rattle.brk_model.specs.Tables.{Tables}
 use Rattle.brk_ref.specs.Records.{abstract_last_trade_row}
 use Rattle.brk_ref.specs.declared.last_trade.LastTrade.{LastTrade}
-use Rattle.brk_trade_rows.specs.Rows.{abstract_request_row}
+use Rattle.brk_ref.specs.Rows.{abstract_request_row}
 use Rattle.brk_trade_plans.specs.declared.quote.Quote.{Quote}
 use Rattle.brk_trade_books.specs.TradeReads.{last_trade_row_of_symbol}
 use Rattle.brk_trade_theorems.proofs.Waiting.{limit_buys, limit_sells, stop_losses}

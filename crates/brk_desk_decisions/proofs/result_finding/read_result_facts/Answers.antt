@@ -2,9 +2,9 @@ use Rattle.std.proofs.Common.{◌≡◌, ◌==◌, None, Option, Some, find, opt
 use Rattle.brk_money.specs.declared.fault.Fault.{Fault}
 use Rattle.brk_model.specs.Tables as tables
 use Rattle.brk_model.specs.Tables.{Tables}
-use Rattle.brk_trade_rows.specs.Rows.{abstract_trade_row}
+use Rattle.brk_ref.specs.Rows.{abstract_trade_row}
 use Rattle.brk_trade.specs.declared.result_found.ResultPlanFacts.{ResultPlanFacts}
-use Rattle.brk_trade_rows.specs.declared.trade_row.TradeRow.{TradeRow}
+use Rattle.brk_ref.specs.declared.trade_row.TradeRow.{TradeRow}
 use Rattle.brk_desk_decisions.specs.ResultFactReads.{AreResultFactsOfTradeWithId, AreResultFactsOfTrade}
 use Rattle.brk_store.proofs.Retelling.{retold}
 use Rattle.brk_store.proofs.Sequences.{failed_after, read_with}

@@ -1,7 +1,7 @@
 use Rattle.std.proofs.Common.{◌≡◌, ◌==◌, ◌∙◌, ap, find, option_map}
 use Rattle.std.specs.Prelude.{◌&&◌, bytes_eq}
 use Rattle.brk_model.specs.Tables.{SummaryRow, Tables}
-use Rattle.brk_trade_rows.specs.Rows.{abstract_summary_row}
+use Rattle.brk_ref.specs.Rows.{abstract_summary_row}
 use Rattle.brk_trade_books.specs.TradeReads.{summary_row_of_position}
 use Rattle.brk_store.proofs.Retelling.{retold}
 use Rattle.brk_desk_decisions.proofs.ResultReading.{number_in}

@@ -4,7 +4,7 @@ use Rattle.std.specs.List.{list_any}
 use Rattle.std.specs.Prelude.{MatchOption, is_none}
 use Rattle.brk_model.specs.Joins.{trade_row_with_id}
 use Rattle.brk_model.specs.Tables.{Tables}
-use Rattle.brk_trade_rows.specs.declared.trade_row.TradeRow.{TradeRow}
+use Rattle.brk_ref.specs.declared.trade_row.TradeRow.{TradeRow}
 use Rattle.brk_ref_orders.specs.declared.update.Update.TheVariants as update
 use Rattle.brk_store.proofs.Sequences.{reads_retold}
 use Rattle.brk_trade_books.specs.TradeReads.{AreTradesWithIds}

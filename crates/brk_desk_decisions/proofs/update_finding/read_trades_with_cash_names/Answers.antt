@@ -5,8 +5,8 @@ use Rattle.brk_money.specs.Spelling.{Text}
 use Rattle.brk_money.specs.declared.fault.Fault.{Fault}
 use Rattle.brk_model.specs.Tables.{Tables}
 use Rattle.brk_trade_rows.specs.Chosen.{first_twenty_completed_cash_trade_rows_of_symbol}
-use Rattle.brk_trade_rows.specs.Rows.{abstract_trade_row}
-use Rattle.brk_trade_rows.specs.declared.trade_row.TradeRow.{TradeRow}
+use Rattle.brk_ref.specs.Rows.{abstract_trade_row}
+use Rattle.brk_ref.specs.declared.trade_row.TradeRow.{TradeRow}
 use Rattle.brk_trade_plans.specs.declared.corrected.CashText.{CashText}
 use Rattle.brk_store.proofs.Retelling.{retold}
 use Rattle.brk_trade_theorems.specs.Corrections.{CashTextsMatchTables, cash_text_row_in_tables, cash_text_row_of_typed_row, cash_row_of_trade}

@@ -1,7 +1,7 @@
 use Rattle.std.proofs.Common.{◌≡◌, Ok, map, take}
 use Rattle.brk_money.specs.declared.fault.Fault.{Fault}
 use Rattle.brk_trade_rows.specs.Chosen.{first_twenty_completed_cash_trade_rows_of_symbol}
-use Rattle.brk_trade_rows.specs.Rows.{abstract_trade_row}
+use Rattle.brk_ref.specs.Rows.{abstract_trade_row}
 use Rattle.brk_store_transactions.specs.Holds.{ReadPost}
 use Rattle.brk_trade_theorems.specs.Corrections.{cash_text_row_in_tables, cash_text_row_of_typed_row}
 use Rattle.brk_desk_decisions.proofs.update_finding.read_trades_with_cash_names.Given as goal

@@ -3,8 +3,8 @@ use Rattle.std.proofs.lemmas.List.{take_all}
 use Rattle.brk_money.specs.declared.fault.Fault.{Fault}
 use Rattle.brk_model.specs.Tables.{Tables}
 use Rattle.brk_trade_rows.specs.Chosen.{first_twenty_completed_trade_rows_of_account}
-use Rattle.brk_trade_rows.specs.Rows.{cash_type_text, abstract_trade_row}
-use Rattle.brk_trade_rows.specs.declared.trade_row.TradeRow.{TradeRow}
+use Rattle.brk_ref.specs.Rows.{cash_type_text, abstract_trade_row}
+use Rattle.brk_ref.specs.declared.trade_row.TradeRow.{TradeRow}
 use Rattle.brk_trade_plans.specs.declared.corrected.SettlementText.{SettlementText}
 use Rattle.brk_store.proofs.Retelling.{retold}
 use Rattle.brk_trade_theorems.specs.Corrections.{SettlementTextsMatchTables, settlement_text_row_in_tables, settlement_text_row_of_typed_row, settlement_row_of_trade}

@@ -1,7 +1,7 @@
 use Rattle.std.proofs.Common.{◌≡◌, ◌==◌, filter, find, map, option_map}
 use Rattle.std.proofs.lemmas.Result.{IfOk-weaker, err_from_is_err_and}
 use Rattle.brk_money.specs.declared.fault.Fault.{Fault}
-use Rattle.brk_trade_rows.specs.Rows.{abstract_history_row, abstract_move_row, abstract_settlement_row, abstract_trade_row}
+use Rattle.brk_ref.specs.Rows.{abstract_history_row, abstract_cash_row, abstract_settlement_row, abstract_trade_row}
 use Rattle.brk_model.specs.LookupView.{is_cash_row_of_trade}
 use Rattle.brk_model.specs.Tables.{HistoryRow, SettlementRow, Tables}
 use Rattle.brk_store.proofs.ReadResults.{decided}
@@ -22,15 +22,15 @@ returns-clause-read g c =
     (HasAllRowsOfTrade (abstract_trade_row trade)) c.create_looked_up_trade.result
     (read_with g.S.Store old c.cash_row.new.self c.history_of_trade.new.self {H = Fault} moved came came
     (λ moved (t : Tables). (option_map abstract_settlement_row settled ≡ find (λ (s : SettlementRow). s.trade == trade.id) t.settlements)
-    × (option_map abstract_move_row moved ≡ find (is_cash_row_of_trade trade.id) t.moves))
+    × (option_map abstract_cash_row moved ≡ find (is_cash_row_of_trade trade.id) t.moves))
     (λ rows (t : Tables). map abstract_history_row rows.items ≡ filter (λ (h : HistoryRow). h.trade == trade.id) t.history)
     (λ rows. AreRelatedRowsOfTrade trade.id settled moved rows.items)
     (λ t k e. (k.0, k.1, e))
     (read_with g.S.Store old c.settlement.new.self c.cash_row.new.self {H = Fault} settled moved moved
     (λ o (t : Tables). option_map abstract_settlement_row o ≡ find (λ (s : SettlementRow). s.trade == trade.id) t.settlements)
-    (λ o (t : Tables). option_map abstract_move_row o ≡ find (is_cash_row_of_trade trade.id) t.moves)
+    (λ o (t : Tables). option_map abstract_cash_row o ≡ find (is_cash_row_of_trade trade.id) t.moves)
     (λ moved (t : Tables). (option_map abstract_settlement_row settled ≡ find (λ (s : SettlementRow). s.trade == trade.id) t.settlements)
-    × (option_map abstract_move_row moved ≡ find (is_cash_row_of_trade trade.id) t.moves))
+    × (option_map abstract_cash_row moved ≡ find (is_cash_row_of_trade trade.id) t.moves))
     (λ t a b. (a, b)) c.in_ok-settlement.ensures.read c.in_ok-cash.ensures.read)
     c.in_ok-history.ensures.read)
     (IfOk-weaker c.create_looked_up_trade.result _ _ (λ found h t k base books sound s. h t (follows trade settled moved came.items t k base books sound s))

@@ -1,6 +1,6 @@
 use Rattle.std.proofs.Common.{◌≡◌, ◌++◌, Ok, length, map, reverse}
 use Rattle.brk_money.specs.declared.fault.Fault.{Fault}
-use Rattle.brk_trade_rows.specs.Rows.{abstract_trade_row}
+use Rattle.brk_ref.specs.Rows.{abstract_trade_row}
 use Rattle.brk_model.specs.Base.{Base}
 use Rattle.brk_model.specs.Sheets.{sheets}
 use Rattle.brk_store.specs.ReadSequences.{ReadSequencePost}

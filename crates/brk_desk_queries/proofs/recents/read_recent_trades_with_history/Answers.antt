@@ -2,9 +2,9 @@ use Rattle.std.proofs.Common.{◌≡◌, ◌==◌, ◌∙◌, ◌+◌, ◌++◌,
 use Rattle.std.specs.Prelude.{flat_map}
 use Rattle.std.proofs.lemmas.List.{take_all}
 use Rattle.brk_money.specs.declared.fault.Fault.{Fault}
-use Rattle.brk_trade_rows.specs.Rows.{abstract_history_row, abstract_trade_row}
-use Rattle.brk_trade_rows.specs.declared.history_row.HistoryRow.{HistoryRow}
-use Rattle.brk_trade_rows.specs.declared.trade_row.TradeRow.{TradeRow}
+use Rattle.brk_ref.specs.Rows.{abstract_history_row, abstract_trade_row}
+use Rattle.brk_ref.specs.declared.history_row.HistoryRow.{HistoryRow}
+use Rattle.brk_ref.specs.declared.trade_row.TradeRow.{TradeRow}
 use Rattle.brk_model.specs.Joins.{history_rows_with_trade_id}
 use Rattle.brk_model.specs.PositionView.{last_ten_trade_rows}
 use Rattle.brk_model.specs.Tables as tables

@@ -1,7 +1,7 @@
 use Rattle.std.proofs.Common.{◌≡◌, Ok, map, take}
 use Rattle.std.specs.Prelude.{flat_map}
 use Rattle.brk_money.specs.declared.fault.Fault.{Fault}
-use Rattle.brk_trade_rows.specs.Rows.{abstract_history_row, abstract_trade_row}
+use Rattle.brk_ref.specs.Rows.{abstract_history_row, abstract_trade_row}
 use Rattle.brk_model.specs.Joins.{history_rows_with_trade_id}
 use Rattle.brk_model.specs.PositionView.{last_ten_trade_rows}
 use Rattle.brk_store_transactions.specs.Holds.{ReadPost}

@@ -1,6 +1,6 @@
 use Rattle.std.proofs.Common.{◌≡◌, Some, find, option_map}
 use Rattle.std.specs.Prelude.{bytes_eq}
-use Rattle.brk_trade_rows.specs.Rows.{abstract_trade_row}
+use Rattle.brk_ref.specs.Rows.{abstract_trade_row}
 use Rattle.brk_model.specs.Tables.{SecurityRow, Tables}
 use Rattle.brk_ref.specs.Records.{abstract_security_row}
 use Rattle.brk_store.proofs.Retelling.{retold}

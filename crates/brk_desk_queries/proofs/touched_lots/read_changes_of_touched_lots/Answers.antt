@@ -1,8 +1,8 @@
 use Rattle.std.proofs.Common.{◌≡◌, ◌==◌, ◌∙◌, ◌++◌, ℕ, List, filter, map, refl, sym, take}
 use Rattle.std.specs.Prelude.{flat_map}
 use Rattle.brk_money.specs.declared.fault.Fault.{Fault}
-use Rattle.brk_trade_rows.specs.Rows.{abstract_lot_change_row}
-use Rattle.brk_trade_rows.specs.declared.lot_change.LotChange.{LotChange}
+use Rattle.brk_ref.specs.Rows.{abstract_lot_change_row}
+use Rattle.brk_ref.specs.declared.lot_change.LotChange.{LotChange}
 use Rattle.brk_model.specs.Lists.{sort_by}
 use Rattle.brk_model.specs.Tables.{HoldingHistoryRow, Tables}
 use Rattle.brk_store.proofs.Retelling.{retold}

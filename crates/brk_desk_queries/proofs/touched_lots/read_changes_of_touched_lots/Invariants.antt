@@ -1,8 +1,8 @@
 use Rattle.std.proofs.Common.{◌≡◌, ◌==◌, ◌++◌, List, Ok, filter, length, map, take}
 use Rattle.std.specs.Prelude.{flat_map}
 use Rattle.brk_money.specs.declared.fault.Fault.{Fault}
-use Rattle.brk_trade_rows.specs.Rows.{abstract_lot_change_row}
-use Rattle.brk_trade_rows.specs.declared.lot_change.LotChange.{LotChange}
+use Rattle.brk_ref.specs.Rows.{abstract_lot_change_row}
+use Rattle.brk_ref.specs.declared.lot_change.LotChange.{LotChange}
 use Rattle.brk_model.specs.Lists.{sort_by}
 use Rattle.brk_store_transactions.specs.Holds.{ReadPost}
 use Rattle.brk_view_rows.specs.Lots.{is_earlier_lot_change}

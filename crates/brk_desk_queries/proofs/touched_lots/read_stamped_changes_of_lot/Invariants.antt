@@ -1,6 +1,6 @@
 use Rattle.std.proofs.Common.{◌≡◌, ◌==◌, Ok, filter, map, take}
 use Rattle.brk_money.specs.declared.fault.Fault.{Fault}
-use Rattle.brk_trade_rows.specs.Rows.{abstract_lot_change_row}
+use Rattle.brk_ref.specs.Rows.{abstract_lot_change_row}
 use Rattle.brk_store_transactions.specs.Holds.{ReadPost}
 use Rattle.brk_view_rows.specs.Lots.{stamped_lot_change}
 use Rattle.brk_desk_queries.proofs.touched_lots.read_stamped_changes_of_lot.Given as goal

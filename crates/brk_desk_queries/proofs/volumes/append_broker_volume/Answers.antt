@@ -1,7 +1,7 @@
 use Rattle.std.proofs.Common.{◌≡◌, ◌∙◌, ◌<◌, ◌++◌, ◌∷◌, [], ap, arith, filter, length, map, pos, refl, sum_by, sym}
 use Rattle.std.proofs.lemmas.Bool.{eqb-true}
 use Rattle.std.proofs.lemmas.List.{append-nil}
-use Rattle.brk_trade_rows.specs.Rows.{abstract_request_row}
+use Rattle.brk_ref.specs.Rows.{abstract_request_row}
 use Rattle.brk_model.specs.Tables.{BrokerRow, Tables}
 use Rattle.brk_ref.specs.Records.{abstract_broker_row}
 use Rattle.brk_store.proofs.Sequences.{reads_retold}

@@ -1,7 +1,7 @@
 use Rattle.std.proofs.Common.{◌≡◌, ◌++◌, Ok, filter, map, take}
 use Rattle.std.specs.Prelude.{bytes_eq}
 use Rattle.brk_money.specs.declared.fault.Fault.{Fault}
-use Rattle.brk_trade_rows.specs.Rows.{abstract_request_row}
+use Rattle.brk_ref.specs.Rows.{abstract_request_row}
 use Rattle.brk_ref.specs.Records.{abstract_broker_row}
 use Rattle.brk_store_transactions.specs.Holds.{ReadPost}
 use Rattle.brk_desk_queries.specs.Volumes.{volumes_of_brokers_in_sector}

@@ -2,8 +2,8 @@ use Rattle.std.proofs.Common.{◌≡◌, ◌∙◌, ◌+◌, ℕ, List, ap, filt
 use Rattle.std.proofs.lemmas.List.{take_all}
 use Rattle.brk_money.specs.Spelling.{Text}
 use Rattle.brk_money.specs.declared.fault.Fault.{Fault}
-use Rattle.brk_trade_rows.specs.Rows.{abstract_request_row}
-use Rattle.brk_trade_rows.specs.declared.request_row.RequestRow.{RequestRow}
+use Rattle.brk_ref.specs.Rows.{abstract_request_row}
+use Rattle.brk_ref.specs.declared.request_row.RequestRow.{RequestRow}
 use Rattle.brk_model.specs.Tables.{Tables}
 use Rattle.brk_store.proofs.Sequences.{no_reads, reads_both, reads_retold}
 use Rattle.brk_desk_queries.specs.Volumes.{is_sector_request_of_broker, requests_with_row_if_of_broker_in_sector}

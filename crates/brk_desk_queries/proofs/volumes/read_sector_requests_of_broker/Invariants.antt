@@ -1,6 +1,6 @@
 use Rattle.std.proofs.Common.{◌≡◌, Ok, filter, map, take}
 use Rattle.brk_money.specs.declared.fault.Fault.{Fault}
-use Rattle.brk_trade_rows.specs.Rows.{abstract_request_row}
+use Rattle.brk_ref.specs.Rows.{abstract_request_row}
 use Rattle.brk_store.specs.ReadSequences.{ReadSequencePost}
 use Rattle.brk_desk_queries.specs.Volumes.{is_sector_request_of_broker}
 use Rattle.brk_desk_queries.proofs.volumes.read_sector_requests_of_broker.Given as goal

@@ -1,7 +1,7 @@
 use Rattle.std.proofs.Common.{◌≡◌, Ok, map, take}
 use Rattle.std.specs.Prelude.{flat_map}
 use Rattle.brk_money.specs.declared.fault.Fault.{Fault}
-use Rattle.brk_trade_rows.specs.Rows.{abstract_request_row}
+use Rattle.brk_ref.specs.Rows.{abstract_request_row}
 use Rattle.brk_store_transactions.specs.Holds.{ReadPost}
 use Rattle.brk_view_rows.specs.Volume as volume
 use Rattle.brk_desk_queries.specs.Volumes.{brokers_of_name_in_sector}

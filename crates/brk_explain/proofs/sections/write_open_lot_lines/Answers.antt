@@ -1,6 +1,6 @@
 use Rattle.std.proofs.Common.{[], ◌∷◌, map, refl, rules, sym, subst}
 use Rattle.std.specs.Io.KnownBytes.{Appends}
-use Rattle.brk_trade_rows.specs.Rows.{abstract_holding_row}
+use Rattle.brk_ref.specs.Rows.{abstract_holding_row}
 use Rattle.brk_model.specs.Statement.{text_of_lines, holding_rows_of_account}
 use Rattle.brk_model_explain.specs.AccountLines.{open_lot_line}
 use Rattle.brk_report_lines.specs.Written.{FailsWithinFirstLines}

@@ -1,6 +1,6 @@
 use Rattle.std.proofs.Common.{ℤ, ◌+ℤ◌, [], ◌∷◌, pos, refl, rules, sym, subst}
 use Rattle.std.specs.Io.KnownBytes.{Appends}
-use Rattle.brk_trade_rows.specs.Rows.{abstract_trade_row}
+use Rattle.brk_ref.specs.Rows.{abstract_trade_row}
 use Rattle.brk_model.specs.Statement.{text_of_lines}
 use Rattle.brk_model.specs.Tables.{TradeRow}
 use Rattle.brk_model_explain.specs.BrokerLines.{trade_commission_line, completed_trades_of_broker}

@@ -1,5 +1,5 @@
 use Rattle.std.proofs.Common.{◌≡◌, ◌++◌, map, take}
-use Rattle.brk_trade_rows.specs.Rows.{abstract_history_row}
+use Rattle.brk_ref.specs.Rows.{abstract_history_row}
 use Rattle.brk_model_explain.specs.TradeLines.{status_change_line}
 use Rattle.brk_model.specs.Statement.{text_of_lines}
 use Rattle.brk_explain_lines.proofs.order_lines.put_status_lines.Given as goal

@@ -1,5 +1,5 @@
 use Rattle.std.proofs.Common.{◌≡◌}
-use Rattle.brk_trade_rows.specs.Rows.{abstract_summary_row}
+use Rattle.brk_ref.specs.Rows.{abstract_summary_row}
 use Rattle.brk_model.specs.Joins.{last_price_in_tables}
 use Rattle.brk_model.specs.Tables.{Tables}
 use Rattle.brk_store.proofs.Retelling.{retold}

@@ -1,7 +1,7 @@
 use Rattle.std.proofs.Common.{◌≡◌, ◌==◌, ◌∙◌, ◌++◌, ◌∷◌, [], ℕ, List, ap, filter, map, reverse, sym}
 use Rattle.brk_money.specs.declared.fault.Fault.{Fault}
-use Rattle.brk_trade_rows.specs.Rows.{abstract_summary_row}
-use Rattle.brk_trade_rows.specs.declared.summary_row.SummaryRow as row
+use Rattle.brk_ref.specs.Rows.{abstract_summary_row}
+use Rattle.brk_ref.specs.declared.summary_row.SummaryRow as row
 use Rattle.brk_model.specs.Tables.{SummaryRow, Tables}
 use Rattle.brk_store.proofs.Retelling.{retold}
 use Rattle.brk_model_explain.specs.AccountLines.{priced_holding, priced_holdings_of_account}

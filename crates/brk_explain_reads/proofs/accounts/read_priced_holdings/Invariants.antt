@@ -1,6 +1,6 @@
 use Rattle.std.proofs.Common.{◌≡◌, ◌++◌, Ok, length, map, reverse}
 use Rattle.brk_money.specs.declared.fault.Fault.{Fault}
-use Rattle.brk_trade_rows.specs.Rows.{abstract_summary_row}
+use Rattle.brk_ref.specs.Rows.{abstract_summary_row}
 use Rattle.brk_store_transactions.specs.Holds.{ReadPost}
 use Rattle.brk_model_explain.specs.AccountLines.{priced_holding, priced_holdings_of_account}
 use Rattle.brk_explain_rows.specs.Details.{abstract_priced_holding}

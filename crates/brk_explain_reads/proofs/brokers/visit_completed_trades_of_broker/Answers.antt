@@ -1,7 +1,7 @@
 use Rattle.std.proofs.Common.{◌≡◌, ◌∙◌, ◌==◌, filter, map, rules, subst}
 use Rattle.std.specs.List.{list_any}
-use Rattle.brk_trade_rows.specs.Rows.{abstract_trade_row}
-use Rattle.brk_trade_rows.specs.declared.trade_row.TradeRow as trade
+use Rattle.brk_ref.specs.Rows.{abstract_trade_row}
+use Rattle.brk_ref.specs.declared.trade_row.TradeRow as trade
 use Rattle.brk_model.specs.Tables.{AccountRow, Tables, TradeRow}
 use Rattle.brk_model_explain.specs.BrokerLines.{broker_of_account_or_zero, completed_trades_of_broker}
 use Rattle.brk_store.specs.Walked.{WalkPost, completed_trades_by_stamp}

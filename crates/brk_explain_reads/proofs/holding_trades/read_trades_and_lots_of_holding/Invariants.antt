@@ -1,7 +1,7 @@
 use Rattle.std.proofs.Common.{◌≡◌, Ok, Some, map, take}
 use Rattle.std.specs.Prelude.{flat_map, option_to_list}
 use Rattle.brk_money.specs.declared.fault.Fault.{Fault}
-use Rattle.brk_trade_rows.specs.Rows.{abstract_trade_row}
+use Rattle.brk_ref.specs.Rows.{abstract_trade_row}
 use Rattle.brk_model.specs.Joins.{trade_row_with_id}
 use Rattle.brk_store_transactions.specs.Holds.{ReadPost}
 use Rattle.brk_explain_rows.specs.Details.{abstract_lot_details}

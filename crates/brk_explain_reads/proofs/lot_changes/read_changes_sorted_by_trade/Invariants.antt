@@ -1,6 +1,6 @@
 use Rattle.std.proofs.Common.{◌≡◌, ◌==◌, Ok, filter, map, take}
 use Rattle.brk_money.specs.declared.fault.Fault.{Fault}
-use Rattle.brk_trade_rows.specs.Rows as rows
+use Rattle.brk_ref.specs.Rows as rows
 use Rattle.brk_store_transactions.specs.Holds.{ReadPost}
 use Rattle.brk_model_explain.specs.Holdings.{recorded_lot_change}
 use Rattle.brk_explain_rows.specs.Details.{abstract_priced_lot_change}

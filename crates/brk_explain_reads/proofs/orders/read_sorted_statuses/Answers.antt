@@ -1,7 +1,7 @@
 use Rattle.std.proofs.Common.{◌≡◌, ◌==◌, ◌∙◌, ap, filter, map, refl, sym}
 use Rattle.std.specs.Prelude.{nat_lt}
-use Rattle.brk_trade_rows.specs.Rows.{abstract_history_row}
-use Rattle.brk_trade_rows.specs.declared.history_row.HistoryRow as row
+use Rattle.brk_ref.specs.Rows.{abstract_history_row}
+use Rattle.brk_ref.specs.declared.history_row.HistoryRow as row
 use Rattle.brk_model.specs.Lists.{sort_by}
 use Rattle.brk_model.specs.Tables.{HistoryRow, Tables}
 use Rattle.brk_store.proofs.Retelling.{retold}

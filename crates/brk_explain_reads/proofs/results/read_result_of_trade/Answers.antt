@@ -1,5 +1,5 @@
 use Rattle.brk_money.specs.declared.fault.Fault.{Fault}
-use Rattle.brk_trade_rows.specs.Rows.{abstract_trade_row}
+use Rattle.brk_ref.specs.Rows.{abstract_trade_row}
 use Rattle.brk_model.specs.Tables.{Tables}
 use Rattle.brk_explain_reads.specs.Found.{AreTradeLotsInClosingOrder, AreTaxRatesAndBand, IsCashSumBeforeStamp, IsResultOfOrder, IsSettlementAndCashOfTrade}
 use Rattle.brk_store.proofs.Sequences.{read_with, none_read}

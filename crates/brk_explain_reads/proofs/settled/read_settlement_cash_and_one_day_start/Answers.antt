@@ -1,7 +1,7 @@
 use Rattle.std.proofs.Common.{◌≡◌, ◌==◌, Some, ap, find, option_map, sym}
 use Rattle.std.specs.Prelude.{unwrap_or}
 use Rattle.brk_money.specs.declared.fault.Fault.{Fault}
-use Rattle.brk_trade_rows.specs.Rows.{abstract_move_row, abstract_settlement_row}
+use Rattle.brk_ref.specs.Rows.{abstract_cash_row, abstract_settlement_row}
 use Rattle.brk_model.specs.LookupView.{is_cash_row_of_trade}
 use Rattle.brk_model.specs.Tables.{SettlementRow, Tables}
 use Rattle.brk_model_explain.specs.Trades.{zero_settlement_row}
@@ -23,15 +23,15 @@ returns-clause-read g c =
     let settled : SettlementAndCash = record { settlement = settlement; cash = cash; rule = rule } in
     read_with g.S.Store old c.cash_row.new.self c.one_day_settlement_start.new.self {H = Fault} cash rule settled
     (λ cash (t : Tables). (find (λ (s : SettlementRow). s.trade == trade) t.settlements ≡ Some (abstract_settlement_row settlement))
-    × (option_map abstract_move_row cash ≡ find (is_cash_row_of_trade trade) t.moves))
+    × (option_map abstract_cash_row cash ≡ find (is_cash_row_of_trade trade) t.moves))
     (λ rule (t : Tables). rule ≡ t.rule)
     (λ settled (t : Tables). IsSettlementAndCashOfTrade t trade settled)
     (λ t k e. (sym (ap (λ o. unwrap_or o zero_settlement_row) k.0), k.1, e))
     (read_with g.S.Store old c.require_settlement.new.store c.cash_row.new.self {H = Fault} settlement cash cash
     (λ settlement (t : Tables). find (λ (s : SettlementRow). s.trade == trade) t.settlements ≡ Some (abstract_settlement_row settlement))
-    (λ cash (t : Tables). option_map abstract_move_row cash ≡ find (is_cash_row_of_trade trade) t.moves)
+    (λ cash (t : Tables). option_map abstract_cash_row cash ≡ find (is_cash_row_of_trade trade) t.moves)
     (λ cash (t : Tables). (find (λ (s : SettlementRow). s.trade == trade) t.settlements ≡ Some (abstract_settlement_row settlement))
-    × (option_map abstract_move_row cash ≡ find (is_cash_row_of_trade trade) t.moves))
+    × (option_map abstract_cash_row cash ≡ find (is_cash_row_of_trade trade) t.moves))
     (λ t a b. (a, b)) c.in_ok-settlement.ensures.read c.in_ok-cash.ensures.read)
     c.in_ok-rule.ensures.read
 

@@ -1,6 +1,6 @@
 use Rattle.std.proofs.Common.{◌≡◌, ◌==◌, ◌∙◌, Option, Some, ap, find, map, option_map, sym}
 use Rattle.brk_money.specs.declared.fault.Fault.{Fault}
-use Rattle.brk_trade_rows.specs.Rows.{abstract_trade_row}
+use Rattle.brk_ref.specs.Rows.{abstract_trade_row}
 use Rattle.brk_model.specs.Records.{Customer}
 use Rattle.brk_model.specs.Tables.{Tables}
 use Rattle.brk_ref.specs.Records.{abstract_band, abstract_customer, abstract_security_row, abstract_tax_rate}

@@ -1,7 +1,7 @@
 use Rattle.std.proofs.Common.{◌≡◌, ◌∙◌, List, ◌∷◌, ◌++◌, ap, flat_map, map, of_z, rules, sym, to_z, w64}
 use Rattle.std.proofs.lemmas.Grind.{flat_map-append}
 use Rattle.std.proofs.lemmas.List.{append_assoc}
-use Rattle.brk_trade_rows.specs.Rows.{abstract_trade_row}
+use Rattle.brk_ref.specs.Rows.{abstract_trade_row}
 use Rattle.brk_money.specs.Spelling.{Text}
 use Rattle.brk_model_explain.specs.HoldingLines.{lot_columns_header, holding_trade_lines, holding_total_lines, holding_lines_from_trades_and_lots, holding_header_lines, lot_history_lines}
 use Rattle.brk_explain_rows.specs.Details.{abstract_lot_details}

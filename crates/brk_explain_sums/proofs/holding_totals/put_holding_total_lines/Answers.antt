@@ -2,7 +2,7 @@ use Rattle.std.proofs.Common.{◌≡◌, ◌∙◌, List, [], ◌∷◌, ◌++�
 use Rattle.std.proofs.lemmas.Grind.{flat_map-append}
 use Rattle.std.proofs.lemmas.List.{append_assoc, length-map}
 use Rattle.brk_money.specs.Spelling.{Text}
-use Rattle.brk_trade_rows.specs.Rows.{abstract_trade_row}
+use Rattle.brk_ref.specs.Rows.{abstract_trade_row}
 use Rattle.brk_model_explain.specs.HoldingLines.{holding_counts_line, holding_total_lines, purchase_sale_gain_and_cost_lines, holding_value_lines}
 use Rattle.brk_model_explain.specs.Holdings.{count_of_lot_changes, remaining_cost_of_lots, realised_gain_of_lots, lots_not_fully_closed, total_purchase_value, negated_total_sale_value}
 use Rattle.brk_explain_rows.specs.Details.{abstract_lot_details}

@@ -1,7 +1,7 @@
 use Rattle.std.proofs.Common.{◌≡◌, ◌∙◌, ◌+ℤ◌, ℤ, List, [], ◌∷◌, ◌++◌, ap, map, of_z, pos, rules, sym, take, to_z, w64}
 use Rattle.std.proofs.lemmas.Grind.{flat_map-append}
 use Rattle.brk_money.specs.Spelling.{Text}
-use Rattle.brk_trade_rows.specs.Rows.{abstract_trade_row}
+use Rattle.brk_ref.specs.Rows.{abstract_trade_row}
 use Rattle.brk_model_explain.specs.HoldingLines.{holding_trade_line, holding_trade_lines}
 use Rattle.brk_model_explain.specs.Holdings.{signed_quantity_of_trade}
 use Rattle.brk_model.specs.Statement.{text_of_lines}

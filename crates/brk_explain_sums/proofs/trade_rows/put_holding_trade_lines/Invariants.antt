@@ -1,5 +1,5 @@
 use Rattle.std.proofs.Common.{◌≡◌, ◌++◌, map, pos, take}
-use Rattle.brk_trade_rows.specs.Rows.{abstract_trade_row}
+use Rattle.brk_ref.specs.Rows.{abstract_trade_row}
 use Rattle.brk_model_explain.specs.HoldingLines.{holding_trade_lines}
 use Rattle.brk_model_explain.specs.Holdings.{signed_quantity_of_trade}
 use Rattle.brk_model.specs.Statement.{text_of_lines}

@@ -1,5 +1,5 @@
 use Rattle.std.proofs.Common.{◌≡◌, ◌∙◌, ◌+ℤ◌, ℤ, ap, cond, int_lt, map, pos, sym, take}
-use Rattle.brk_trade_rows.specs.Rows.{abstract_trade_row}
+use Rattle.brk_ref.specs.Rows.{abstract_trade_row}
 use Rattle.brk_model_explain.specs.Holdings as holdings
 use Rattle.brk_model_explain.specs.Holdings.{signed_value_of_trade}
 use Rattle.brk_model.specs.Tables.{TradeRow}

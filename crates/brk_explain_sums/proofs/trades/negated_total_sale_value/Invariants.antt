@@ -1,5 +1,5 @@
 use Rattle.std.proofs.Common.{◌≡◌, map, take}
-use Rattle.brk_trade_rows.specs.Rows.{abstract_trade_row}
+use Rattle.brk_ref.specs.Rows.{abstract_trade_row}
 use Rattle.brk_model_explain.specs.Holdings as holdings
 use Rattle.brk_explain_sums.proofs.trades.negated_total_sale_value.Given as goal
 

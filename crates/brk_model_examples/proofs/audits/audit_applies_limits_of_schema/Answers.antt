@@ -1,10 +1,10 @@
 use Rattle.std.proofs.Common.{◌≡◌, Bool, true, false, ℕ, List, refl, inl, inr, ap, length, arith}
-use Rattle.brk_model.specs.Tables.{CashRow}
+use Rattle.brk_model.specs.Tables.{OldCashRow}
 use Rattle.brk_model_examples.proofs.OnLiterals.{model_on_literals}
 use Rattle.brk_model_examples.proofs.audits.audit_applies_limits_of_schema.Goals as goal
 
 -- how many rows there are, by which two tables differ
-left : List CashRow → ℕ
+left : List OldCashRow → ℕ
 left rows = length rows
 
 -- The two numbers are equal.

@@ -1,10 +1,10 @@
 use Rattle.std.proofs.Common.{◌≡◌, Bool, true, false, ℕ, List, [], ◌∷◌, refl, inl, inr, ap, arith}
-use Rattle.brk_model.specs.Tables.{MoveRow}
+use Rattle.brk_model.specs.Tables.{CashRow}
 use Rattle.brk_model_examples.proofs.OnLiterals.{model_on_literals}
 use Rattle.brk_model_examples.proofs.audits.audit_fails_for_invalid_movement_rows.Goals as goal
 
 -- the stamp of the first row, by which two tables differ
-first_stamp : List MoveRow → ℕ
+first_stamp : List CashRow → ℕ
 first_stamp [] = 0
 first_stamp (row ∷ rows) = row.stamp
 

@@ -1,6 +1,6 @@
 use Rattle.std.proofs.Common.{◌≡◌, Bool, true, false, ℕ, ℤ, List, [], ◌∷◌, length, refl, inl, inr, ap, arith}
 use Rattle.std.specs.Prelude.{nat_abs}
-use Rattle.brk_model.specs.Tables.{RequestRow, HoldingRow, HoldingHistoryRow, SummaryRow, SettlementRow, CashRow, MoveRow}
+use Rattle.brk_model.specs.Tables.{RequestRow, HoldingRow, HoldingHistoryRow, SummaryRow, SettlementRow, OldCashRow, CashRow}
 use Rattle.brk_model_examples.proofs.OnLiterals.{model_on_literals}
 use Rattle.brk_model_examples.proofs.audits.audit_returns_first_failed_condition.Goals as goal
 
@@ -39,11 +39,11 @@ settled : List SettlementRow → ℕ
 settled [] = 0
 settled (row ∷ rows) = nat_abs row.amount
 
-moved : List MoveRow → ℕ
+moved : List CashRow → ℕ
 moved [] = 0
 moved (row ∷ rows) = nat_abs row.amount
 
-first_id : List MoveRow → ℕ
+first_id : List CashRow → ℕ
 first_id [] = 0
 first_id (row ∷ rows) = row.id
 
@@ -51,7 +51,7 @@ first_due : List SettlementRow → ℕ
 first_due [] = 0
 first_due (row ∷ rows) = row.due_day
 
-left : List CashRow → ℕ
+left : List OldCashRow → ℕ
 left rows = length rows
 
 -- The two numbers are equal.

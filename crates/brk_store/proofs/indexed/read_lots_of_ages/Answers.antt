@@ -1,7 +1,7 @@
 use Rattle.std.proofs.Common.{◌≡◌, ◌∙◌, ◌+◌, ◌∷◌, ◌++◌, ℕ, [], Ok, Some, ap, arith, drop, map, refl, slice_get, sym, take}
 use Rattle.std.proofs.lemmas.Result.{err_from_is_err_and}
 use Rattle.brk_money.specs.declared.fault.Fault.{Fault}
-use Rattle.brk_trade_rows.specs.Rows.{abstract_holding_row}
+use Rattle.brk_ref.specs.Rows.{abstract_holding_row}
 use Rattle.brk_store_lots.specs.Ages.{in_closing_order, lot_of_age}
 use Rattle.brk_model.specs.Tables.{Tables}
 use Rattle.brk_store.specs.Indexed.{HasRowOfEachAge}

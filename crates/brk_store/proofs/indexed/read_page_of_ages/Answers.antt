@@ -1,5 +1,5 @@
 use Rattle.std.proofs.Common.{◌≡◌, ◌∙◌, [], Some, ap, map, sym}
-use Rattle.brk_trade_rows.specs.Rows.{abstract_holding_row}
+use Rattle.brk_ref.specs.Rows.{abstract_holding_row}
 use Rattle.brk_store_lots.specs.Ages.{lot_of_age}
 use Rattle.brk_model.specs.Tables.{Tables}
 use Rattle.brk_store.specs.Indexed.{HasRowOfEachAge}

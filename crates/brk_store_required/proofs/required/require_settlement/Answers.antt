@@ -1,6 +1,6 @@
 use Rattle.std.proofs.Common.{◌≡◌, ◌==◌, Some, find, option_map, sym}
 use Rattle.brk_model.specs.Tables.{SettlementRow, Tables}
-use Rattle.brk_trade_rows.specs.Rows.{abstract_settlement_row}
+use Rattle.brk_ref.specs.Rows.{abstract_settlement_row}
 use Rattle.brk_store.proofs.Retelling.{retold}
 use Rattle.brk_store_required.proofs.required.require_settlement.Goals as goal
 

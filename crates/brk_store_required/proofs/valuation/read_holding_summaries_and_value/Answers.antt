@@ -4,8 +4,8 @@ use Rattle.brk_money.specs.declared.fault.Fault.{Fault}
 use Rattle.brk_model.specs.Lists.{total_by}
 use Rattle.brk_model.specs.Tables as tables
 use Rattle.brk_model.specs.Tables.{Tables}
-use Rattle.brk_trade_rows.specs.Rows.{abstract_summary_row}
-use Rattle.brk_trade_rows.specs.declared.summary_row.SummaryRow.{SummaryRow}
+use Rattle.brk_ref.specs.Rows.{abstract_summary_row}
+use Rattle.brk_ref.specs.declared.summary_row.SummaryRow.{SummaryRow}
 use Rattle.brk_store_required.specs.Valuation.{AreValuedSummariesOfAccount, market_value_of_summary}
 use Rattle.brk_store_required.specs.declared.valuation.ValuedSummaries.{ValuedSummaries}
 use Rattle.brk_store.proofs.Retelling.{retold}

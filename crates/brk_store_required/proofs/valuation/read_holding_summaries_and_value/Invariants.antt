@@ -1,7 +1,7 @@
 use Rattle.std.proofs.Common.{◌≡◌, ◌==◌, Ok, filter, map, take}
 use Rattle.brk_money.specs.declared.fault.Fault.{Fault}
 use Rattle.brk_model.specs.Lists.{total_by}
-use Rattle.brk_trade_rows.specs.Rows.{abstract_summary_row}
+use Rattle.brk_ref.specs.Rows.{abstract_summary_row}
 use Rattle.brk_store_transactions.specs.Holds.{ReadPost}
 use Rattle.brk_store_required.specs.Valuation.{market_value_of_summary}
 use Rattle.brk_store_required.proofs.valuation.read_holding_summaries_and_value.Given as goal

@@ -3,7 +3,7 @@ use Rattle.sqlite_value.specs.declared.value.Value.TheVariants.{Text as Words}
 use Rattle.sqlite.specs.Held.{state}
 use Rattle.brk_tables_sql.specs.Model.{ExecutesStatement}
 use Rattle.brk_tables_sql.proofs.Inside.{step_weaker}
-use Rattle.brk_trade_rows.specs.Rows.{abstract_move_row}
+use Rattle.brk_ref.specs.Rows.{abstract_cash_row}
 use Rattle.brk_tables_cash.proofs.AddMove
 use Rattle.brk_tables_cash.proofs.CashWrites.{adds_move, params_are}
 use Rattle.brk_tables_cash.proofs.moves.add_cash_row.Goals as goal
@@ -12,9 +12,9 @@ pub returns-clause-step : goal.returns-clause-step
 returns-clause-step g c =
     let old = state g.S.Store c.args.tx.now.conn.now in
     let new = state g.S.Store c.execute_statement.new.tx.conn.now in
-    let same = params_are (abstract_move_row c.args.row.now) _ _ _ _ _ _ c.cash_row_id_as_parameter.ensures c.id_as_parameter.ensures
+    let same = params_are (abstract_cash_row c.args.row.now) _ _ _ _ _ _ c.cash_row_id_as_parameter.ensures c.id_as_parameter.ensures
     c.optional_id_as_parameter.ensures c.stamp_as_parameter.ensures c.cents_as_parameter.ensures
     (c.text_as_parameter.ensures ∙ ap Words c.as_str.ensures.value) in
     step_weaker old new c.execute_statement.result _ _
-    (λ _ ran. adds_move old new (abstract_move_row c.args.row.now) (subst (λ params. ExecutesStatement AddMove.statement params old new) same ran))
+    (λ _ ran. adds_move old new (abstract_cash_row c.args.row.now) (subst (λ params. ExecutesStatement AddMove.statement params old new) same ran))
     c.execute_statement.ensures.step

@@ -3,7 +3,7 @@ use Rattle.std.proofs.lemmas.Bool.Decides.{nat_tests}
 use Rattle.std.proofs.lemmas.List.{length-drop, length-map}
 use Rattle.sqlite.specs.Held.{state}
 use Rattle.brk_model.specs.Limits.{greatest_id}
-use Rattle.brk_model.specs.Tables.{MoveRow}
+use Rattle.brk_model.specs.Tables.{CashRow}
 use Rattle.brk_tables_sql.specs.Model.{IsUnchangedAndSatisfies, SelectsRows}
 use Rattle.brk_tables_sql.proofs.Inside.{step_read}
 use Rattle.brk_tables_schema.specs.Cells.{natural_as_value, move_cells}
@@ -30,13 +30,13 @@ returns-clause-step g c =
     let new = state g.S.Store c.select_rows.new.tx.conn.now in
     let rows = c.in_ok-rows.rows in
     step_read old new rows (Ok (not c.is_empty.result)) (λ shown. SelectsRows MovementBehind.statement (natural_as_value 999999999999 ∷ []) shown.items)
-    (λ all. IsUnchangedAndSatisfies desk_tables (λ t. all ≡ nat_le greatest_id (length (filter (λ (r : MoveRow). is_none r.trade) t.moves))))
+    (λ all. IsUnchangedAndSatisfies desk_tables (λ t. all ≡ nat_le greatest_id (length (filter (λ (r : CashRow). is_none r.trade) t.moves))))
     (λ all is s.
     let told : not c.is_empty.result ≡ all = cc in (
       s.2,
       s.1,
       λ t tree h.
-          let movements = filter (λ (r : MoveRow). is_none r.trade) t.moves in
+          let movements = filter (λ (r : CashRow). is_none r.trade) t.moves in
           let many : length rows.items ≡ length (take 1 (drop 999999999999 movements)) = ap length (tells_movement old new 999999999999 rows.items s.0 t tree h)
           ∙ length-map (take 1 (drop 999999999999 movements)) move_cells in
           let none : c.is_empty.result ≡ (length rows.items == 0) = search rules in

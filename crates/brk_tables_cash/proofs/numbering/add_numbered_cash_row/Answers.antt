@@ -4,7 +4,7 @@ use Rattle.sqlite.specs.Held.{state}
 use Rattle.brk_money.specs.declared.fault.Fault.{Fault}
 use Rattle.brk_model.specs.Joins.{trade_row_with_id}
 use Rattle.brk_trade_rows.specs.Changes.{tables_with_cash_row}
-use Rattle.brk_trade_rows.specs.Rows.{abstract_cash_row}
+use Rattle.brk_ref.specs.Rows.{abstract_old_cash_row}
 use Rattle.brk_tables_sql.specs.Desk.{ChangesTablesBy}
 use Rattle.brk_tables_sql.specs.Model.{IsTransactionStep, IsUnchangedAndSatisfies}
 use Rattle.brk_tables_sql.proofs.Inside.{step_then}
@@ -15,7 +15,7 @@ use Rattle.brk_tables_cash.proofs.numbering.add_numbered_cash_row.Goals as goal
 
 pub returns-clause-step : goal.returns-clause-step
 returns-clause-step g c =
-    let row = abstract_cash_row c.args.row.now in
+    let row = abstract_old_cash_row c.args.row.now in
     let id = c.args.id in
     let account = c.in-Some.account in
     let a = state g.S.Store c.args.tx.now.conn.now in

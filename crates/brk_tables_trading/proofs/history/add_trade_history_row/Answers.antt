@@ -1,6 +1,6 @@
 use Rattle.sqlite.specs.Held.{state}
 use Rattle.brk_tables_sql.proofs.Inside.{step_weaker}
-use Rattle.brk_trade_rows.specs.Rows.{abstract_history_row}
+use Rattle.brk_ref.specs.Rows.{abstract_history_row}
 use Rattle.brk_tables_trading.proofs.Writes.{adds_history}
 use Rattle.brk_tables_trading.proofs.history.add_trade_history_row.Goals as goal
 

@@ -5,7 +5,7 @@ use Rattle.brk_model.specs.Tables.{SummaryRow}
 use Rattle.brk_tables_sql.proofs.Answer.{look_all}
 use Rattle.brk_tables_schema.specs.Cells.{summary_cells}
 use Rattle.brk_tables_schema.specs.Desk.{desk_tables}
-use Rattle.brk_trade_rows.specs.Rows.{abstract_summary_row}
+use Rattle.brk_ref.specs.Rows.{abstract_summary_row}
 use Rattle.brk_tables_schema.proofs.TradingBack.{summary_back, summary_is_back}
 use Rattle.brk_tables_trading.proofs.Holding.{tells_summaries}
 use Rattle.brk_tables_trading.proofs.SummariesOf

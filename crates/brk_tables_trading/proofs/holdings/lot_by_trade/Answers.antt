@@ -6,7 +6,7 @@ use Rattle.brk_model.specs.Tables.{HoldingRow}
 use Rattle.brk_tables_sql.proofs.Answer.{look_first}
 use Rattle.brk_tables_schema.specs.Cells.{holding_cells}
 use Rattle.brk_tables_schema.specs.Desk.{desk_tables}
-use Rattle.brk_trade_rows.specs.Rows.{abstract_holding_row}
+use Rattle.brk_ref.specs.Rows.{abstract_holding_row}
 use Rattle.brk_tables_schema.proofs.TradingBack.{holding_back, holding_is_back}
 use Rattle.brk_tables_trading.proofs.LotByTrade
 use Rattle.brk_tables_trading.proofs.LotByTrade.{plain}

@@ -4,7 +4,7 @@ use Rattle.sqlite.specs.Held.{state}
 use Rattle.brk_tables_sql.proofs.Answer.{look_all}
 use Rattle.brk_tables_schema.specs.Cells.{holding_cells}
 use Rattle.brk_tables_schema.specs.Desk.{desk_tables}
-use Rattle.brk_trade_rows.specs.Rows.{abstract_holding_row}
+use Rattle.brk_ref.specs.Rows.{abstract_holding_row}
 use Rattle.brk_tables_trading.specs.Pages.{position_lots_by_age, page_after_skipped}
 use Rattle.brk_tables_schema.proofs.TradingBack.{holding_back, holding_is_back}
 use Rattle.brk_tables_trading.proofs.Holding.{tells_newest}

@@ -7,7 +7,7 @@ use Rattle.brk_model.specs.Tables.{RequestRow}
 use Rattle.brk_tables_sql.proofs.Answer.{look_all}
 use Rattle.brk_tables_schema.specs.Cells.{natural_as_value, request_cells}
 use Rattle.brk_tables_schema.specs.Desk.{desk_tables}
-use Rattle.brk_trade_rows.specs.Rows.{abstract_request_row}
+use Rattle.brk_ref.specs.Rows.{abstract_request_row}
 use Rattle.brk_tables_schema.proofs.TradingBack.{request_back, request_is_back}
 use Rattle.brk_tables_trading.proofs.RequestsBelow
 use Rattle.brk_tables_trading.proofs.RequestsBelow.{plain}

@@ -1,6 +1,6 @@
 use Rattle.sqlite.specs.Held.{state}
 use Rattle.brk_tables_sql.proofs.Inside.{step_weaker}
-use Rattle.brk_trade_rows.specs.Rows.{abstract_settlement_row}
+use Rattle.brk_ref.specs.Rows.{abstract_settlement_row}
 use Rattle.brk_tables_trading.proofs.HoldingWrites.{adds_settlement}
 use Rattle.brk_tables_trading.proofs.settlements.add_settlement.Goals as goal
 

@@ -2,7 +2,7 @@ use Rattle.std.proofs.Common.{rules, w64}
 use Rattle.std.proofs.lemmas.Int.{to_z-of_z}
 use Rattle.sqlite.specs.Held.{state}
 use Rattle.brk_tables_sql.proofs.Inside.{step_weaker}
-use Rattle.brk_trade_rows.specs.Rows.{abstract_summary_row}
+use Rattle.brk_ref.specs.Rows.{abstract_summary_row}
 use Rattle.brk_tables_trading.proofs.HoldingWrites.{adds_summary}
 use Rattle.brk_tables_trading.proofs.summaries.add_holding_summary.Goals as goal
 

@@ -4,7 +4,7 @@ use Rattle.brk_model.specs.Tables.{HistoryRow}
 use Rattle.brk_tables_sql.proofs.Answer.{look_all}
 use Rattle.brk_tables_schema.specs.Cells.{natural_as_value, history_cells}
 use Rattle.brk_tables_schema.specs.Desk.{desk_tables}
-use Rattle.brk_trade_rows.specs.Rows.{abstract_history_row}
+use Rattle.brk_ref.specs.Rows.{abstract_history_row}
 use Rattle.brk_tables_schema.proofs.TradingBack.{history_back, history_is_back}
 use Rattle.brk_tables_trading.proofs.HistoryOf
 use Rattle.brk_tables_trading.proofs.HistoryOf.{plain}

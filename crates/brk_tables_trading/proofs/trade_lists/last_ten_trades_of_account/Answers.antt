@@ -4,7 +4,7 @@ use Rattle.brk_model.specs.Joins.{trade_rows_recent_first, trade_rows_of_account
 use Rattle.brk_tables_sql.proofs.Answer.{look_all}
 use Rattle.brk_tables_schema.specs.Cells.{natural_as_value, trade_cells}
 use Rattle.brk_tables_schema.specs.Desk.{desk_tables}
-use Rattle.brk_trade_rows.specs.Rows.{abstract_trade_row}
+use Rattle.brk_ref.specs.Rows.{abstract_trade_row}
 use Rattle.brk_tables_schema.proofs.TradingBack.{trade_back, trade_is_back}
 use Rattle.brk_tables_trading.proofs.LastTenOfAccount
 use Rattle.brk_tables_trading.proofs.LastTenOfAccount.{plain}

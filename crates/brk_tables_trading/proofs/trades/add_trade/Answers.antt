@@ -3,7 +3,7 @@ use Rattle.sqlite_value.specs.declared.value.Value.TheVariants.{Text as Words}
 use Rattle.sqlite.specs.Held.{state}
 use Rattle.brk_tables_sql.specs.Model.{ExecutesStatement}
 use Rattle.brk_tables_sql.proofs.Inside.{step_weaker}
-use Rattle.brk_trade_rows.specs.Rows.{abstract_trade_row}
+use Rattle.brk_ref.specs.Rows.{abstract_trade_row}
 use Rattle.brk_tables_trading.proofs.AddTrade
 use Rattle.brk_tables_schema.proofs.TradeCells.{params_are}
 use Rattle.brk_tables_trading.proofs.Writes.{adds_trade}

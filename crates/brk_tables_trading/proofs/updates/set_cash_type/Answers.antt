@@ -1,5 +1,5 @@
 use Rattle.sqlite.specs.Held.{state}
-use Rattle.brk_trade_rows.specs.Rows.{cash_type_text}
+use Rattle.brk_ref.specs.Rows.{cash_type_text}
 use Rattle.brk_tables_sql.proofs.Inside.{step_weaker}
 use Rattle.brk_tables_trading.proofs.UpdateWrites.{sets_cash_type}
 use Rattle.brk_tables_trading.proofs.updates.set_cash_type.Goals as goal

@@ -6,7 +6,7 @@ use Rattle.brk_model.specs.Tables.{SettlementRow}
 use Rattle.brk_tables_sql.proofs.Answer.{look_first}
 use Rattle.brk_tables_schema.specs.Cells.{settlement_cells}
 use Rattle.brk_tables_schema.specs.Desk.{desk_tables}
-use Rattle.brk_trade_rows.specs.Rows.{abstract_settlement_row}
+use Rattle.brk_ref.specs.Rows.{abstract_settlement_row}
 use Rattle.brk_tables_trading.proofs.SettlementByTrade
 use Rattle.brk_tables_trading.proofs.SettlementByTrade.{plain}
 use Rattle.brk_tables_schema.proofs.TradingBack.{settlement_back, settlement_is_back}

@@ -4,7 +4,7 @@ use Rattle.brk_model.specs.Tables.{Tables}
 use Rattle.brk_tables_sql.proofs.Answer.{look_all}
 use Rattle.brk_tables_schema.specs.Cells.{request_cells}
 use Rattle.brk_tables_schema.specs.Desk.{desk_tables}
-use Rattle.brk_trade_rows.specs.Rows.{abstract_request_row}
+use Rattle.brk_ref.specs.Rows.{abstract_request_row}
 use Rattle.brk_tables_schema.proofs.TradingBack.{request_back, request_is_back}
 use Rattle.brk_tables_views.proofs.ListReads.{tells_requests}
 use Rattle.brk_tables_views.proofs.RequestsByTrade

@@ -1,7 +1,7 @@
 use Rattle.std.proofs.Common.{[], ◌∷◌, rules}
 use Rattle.sqlite.specs.Held.{state}
 use Rattle.brk_tables_schema.specs.Cells.{natural_as_value, move_cells}
-use Rattle.brk_trade_rows.specs.Rows.{abstract_move_row}
+use Rattle.brk_ref.specs.Rows.{abstract_cash_row}
 use Rattle.brk_tables_views.specs.Lists.{account_cash_rows_between}
 use Rattle.brk_tables_views.proofs.CashBetween
 use Rattle.brk_tables_schema.proofs.Back.{move_back, move_is_back}
@@ -16,7 +16,7 @@ pub returns-clause-walked : goal.returns-clause-walked
 returns-clause-walked g c =
     let old = c.args.conn.now in
     let new = c.walk_query_rows.new.conn in
-    walks abstract_move_row move_cells move_back move_is_back g.S.Store old new (account_cash_rows_between c.args.account c.args.from c.args.to)
+    walks abstract_cash_row move_cells move_back move_is_back g.S.Store old new (account_cash_rows_between c.args.account c.args.from c.args.to)
     g.V.Visitor.takes g.V.Visitor.stops _ _ _ CashBetween.statement
     (natural_as_value c.args.account ∷ natural_as_value c.args.from ∷ natural_as_value c.args.to ∷ [])
     (tells_cash_between (state g.S.Store old) (state g.S.Store old) c.args.account c.args.from c.args.to)

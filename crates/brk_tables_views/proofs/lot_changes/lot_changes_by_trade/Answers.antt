@@ -4,7 +4,7 @@ use Rattle.brk_model.specs.Tables.{HoldingHistoryRow}
 use Rattle.brk_tables_sql.proofs.Answer.{look_all}
 use Rattle.brk_tables_schema.specs.Cells.{natural_as_value, holding_history_cells}
 use Rattle.brk_tables_schema.specs.Desk.{desk_tables}
-use Rattle.brk_trade_rows.specs.Rows.{abstract_lot_change_row}
+use Rattle.brk_ref.specs.Rows.{abstract_lot_change_row}
 use Rattle.brk_tables_schema.proofs.TradingBack.{holding_history_back, holding_history_is_back}
 use Rattle.brk_tables_views.proofs.ListReads.{tells_changes_by}
 use Rattle.brk_tables_views.proofs.ChangesBy

@@ -1,7 +1,7 @@
 use Rattle.std.proofs.Common.{[], ◌∷◌, rules}
 use Rattle.sqlite.specs.Held.{state}
 use Rattle.brk_tables_schema.specs.Cells.{natural_as_value, holding_cells}
-use Rattle.brk_trade_rows.specs.Rows.{abstract_holding_row}
+use Rattle.brk_ref.specs.Rows.{abstract_holding_row}
 use Rattle.brk_tables_schema.proofs.TradingBack.{holding_back, holding_is_back}
 use Rattle.brk_tables_views.specs.Lists.{account_lots_by_symbol}
 use Rattle.brk_tables_views.proofs.LotsBySymbol

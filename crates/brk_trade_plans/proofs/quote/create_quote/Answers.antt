@@ -1,6 +1,6 @@
 use Rattle.std.proofs.Common.{rules}
 use Rattle.std.proofs.lemmas.List.Sorted.{IsNonDecreasingBy-from_sort_by_key}
-use Rattle.brk_trade_rows.specs.declared.request_row.RequestRow.{RequestRow}
+use Rattle.brk_ref.specs.declared.request_row.RequestRow.{RequestRow}
 use Rattle.brk_trade_plans.proofs.quote.create_quote.Goals as goal
 
 pub returns-clause-order : goal.returns-clause-order

@@ -1,5 +1,5 @@
 use Rattle.std.proofs.Common.{◌∙◌, ap}
-use Rattle.brk_trade_rows.specs.Rows.{abstract_trade_row}
+use Rattle.brk_ref.specs.Rows.{abstract_trade_row}
 use Rattle.brk_view_rows.specs.Recent.{recent_trade_record}
 use Rattle.brk_view_rows.specs.Views.{texts_of_record}
 use Rattle.brk_view.proofs.OneMore.{one_more_mapped_twice}

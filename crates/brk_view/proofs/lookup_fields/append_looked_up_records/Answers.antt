@@ -1,6 +1,6 @@
 use Rattle.std.proofs.Common.{◌∙◌, ◌++◌, ap, map, option_map}
 use Rattle.std.specs.Prelude.{option_to_list}
-use Rattle.brk_trade_rows.specs.Rows.{abstract_move_row, abstract_settlement_row, abstract_trade_row}
+use Rattle.brk_ref.specs.Rows.{abstract_cash_row, abstract_settlement_row, abstract_trade_row}
 use Rattle.brk_model.specs.LookupView as model
 use Rattle.brk_model.specs.Queries.{View}
 use Rattle.brk_view_rows.specs.Lookup.{history_status_record}
@@ -12,7 +12,7 @@ pub returns : goal.returns
 returns c =
     let found = c.args.found.now in
     let settlement : View = map model.settlement_record (option_to_list (option_map abstract_settlement_row found.settlement)) in
-    let cash : View = map model.cash_record (option_to_list (option_map abstract_move_row found.cash)) in
+    let cash : View = map model.cash_record (option_to_list (option_map abstract_cash_row found.cash)) in
     let moments : View = map history_status_record found.history.items in
     c.in_ok-append_history_records.ensures
     ∙ ap (λ rows. texts_of_records c.append_cash_record.new.records ++ map history_status_record rows) c.deref.ensures.value

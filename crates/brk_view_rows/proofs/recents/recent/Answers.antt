@@ -1,5 +1,5 @@
 use Rattle.std.proofs.Common.{◌∙◌, ◌++◌, ap, map, refl}
-use Rattle.brk_trade_rows.specs.Rows.{abstract_trade_row}
+use Rattle.brk_ref.specs.Rows.{abstract_trade_row}
 use Rattle.brk_view_rows.specs.Recent.{recent_status_record, recent_trade_record}
 use Rattle.brk_view_rows.proofs.Shown.{recent_shown}
 use Rattle.brk_view_rows.proofs.recents.recent.Goals as goal

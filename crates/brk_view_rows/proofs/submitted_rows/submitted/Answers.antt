@@ -1,6 +1,6 @@
 use Rattle.std.proofs.Common.{◌∙◌, ap, map, refl}
 use Rattle.std.proofs.lemmas.List.{take_all}
-use Rattle.brk_trade_rows.specs.Rows.{abstract_trade_row}
+use Rattle.brk_ref.specs.Rows.{abstract_trade_row}
 use Rattle.brk_view_rows.specs.Views.{record_of_submitted_row}
 use Rattle.brk_view_rows.proofs.ById.{shown_of_sheets}
 use Rattle.brk_view_rows.proofs.submitted_rows.submitted.Goals as goal

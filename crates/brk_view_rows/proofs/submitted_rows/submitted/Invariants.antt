@@ -1,5 +1,5 @@
 use Rattle.std.proofs.Common.{◌≡◌, map, take}
-use Rattle.brk_trade_rows.specs.Rows.{abstract_trade_row}
+use Rattle.brk_ref.specs.Rows.{abstract_trade_row}
 use Rattle.brk_view_rows.specs.Views.{record_of_submitted_row, submitted_trade_record}
 use Rattle.brk_view_rows.proofs.submitted_rows.submitted.Given as goal
 

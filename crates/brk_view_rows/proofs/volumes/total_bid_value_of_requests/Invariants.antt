@@ -1,6 +1,6 @@
 use Rattle.std.proofs.Common.{◌≡◌, ◌*◌, ◌≤◌, map, take}
 use Rattle.std.specs.Prelude.{sum_by}
-use Rattle.brk_trade_rows.specs.Rows.{abstract_request_row}
+use Rattle.brk_ref.specs.Rows.{abstract_request_row}
 use Rattle.brk_view_rows.specs.Volume.{request_value_at_bid}
 use Rattle.brk_view_rows.proofs.volumes.total_bid_value_of_requests.Given as goal
 

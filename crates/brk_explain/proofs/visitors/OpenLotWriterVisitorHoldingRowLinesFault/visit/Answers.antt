@@ -1,5 +1,5 @@
 use Rattle.std.proofs.Common.{[], ◌∷◌, refl, inr}
-use Rattle.brk_trade_rows.specs.Rows.{abstract_holding_row}
+use Rattle.brk_ref.specs.Rows.{abstract_holding_row}
 use Rattle.brk_model_explain.specs.AccountLines.{open_lot_line}
 use Rattle.brk_report.proofs.Handing.{on_err, wants}
 use Rattle.brk_report_lines.specs.Written.{FailsWithinLines}

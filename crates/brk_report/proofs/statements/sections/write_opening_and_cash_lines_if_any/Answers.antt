@@ -1,7 +1,7 @@
 use Rattle.std.proofs.Common.{◌∙◌, ℕ, ℤ, Err, Ok, arith, rules, sym, subst}
 use Rattle.sqlite.specs.Held.{state}
 use Rattle.sqlite.specs.State.{HasCleanDisk}
-use Rattle.brk_trade_rows.specs.Rows.{abstract_move_row}
+use Rattle.brk_ref.specs.Rows.{abstract_cash_row}
 use Rattle.brk_model.specs.Tables.{Tables}
 use Rattle.brk_io.specs.declared.report_fault.LinesFault.{LinesFault}
 use Rattle.brk_store_transactions.specs.Holds.{HoldsRows}
@@ -46,6 +46,6 @@ returns-in-Err-clause-written g c =
 
 pub returns-in-Err-clause-fault : goal.returns-in-Err-clause-fault
 returns-in-Err-clause-fault g c =
-    known_end g.S.Store _ _ abstract_move_row (cash_rows_in_span c.args.account c.nearest.result c.args.last) _ _ _ _ c.visit_cash_rows.result c.visit_cash_rows.ensures.walked
+    known_end g.S.Store _ _ abstract_cash_row (cash_rows_in_span c.args.account c.nearest.result c.args.last) _ _ _ _ c.visit_cash_rows.result c.visit_cash_rows.ensures.walked
     (λ (p : CashLineWriter g.row.W.Denot) x e (q : CashLineWriter g.row.W.Denot) h. first_broken _ (g.W.Write.contents p.writer.now) (g.W.Write.contents q.writer.now) e h)
     c.in-Err.stop c.in-Err.is c.fault_from_walk_error.result c.fault_from_walk_error.ensures

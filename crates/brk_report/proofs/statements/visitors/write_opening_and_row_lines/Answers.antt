@@ -1,5 +1,5 @@
 use Rattle.std.proofs.Common.{[], ◌∷◌}
-use Rattle.brk_trade_rows.specs.Rows.{abstract_move_row}
+use Rattle.brk_ref.specs.Rows.{abstract_cash_row}
 use Rattle.brk_model.specs.Statement.{cash_row_line}
 use Rattle.brk_report.specs.CashWalk.{opening_line_unless_written}
 use Rattle.brk_report_lines.proofs.Composed.{breaks_before}
@@ -9,11 +9,11 @@ use Rattle.brk_report.proofs.statements.visitors.write_opening_and_row_lines.Goa
 pub returns-in_err-write_opening_line_unless_written : goal.returns-in_err-write_opening_line_unless_written
 returns-in_err-write_opening_line_unless_written g c =
     breaks_as _ _ _ _ _ c.from_residual.ensures.1
-    (breaks_before (opening_line_unless_written c.args.moved.is_opened c.args.moved.total) (cash_row_line (abstract_move_row c.args.item.now) ∷ []) _ _ _
+    (breaks_before (opening_line_unless_written c.args.moved.is_opened c.args.moved.total) (cash_row_line (abstract_cash_row c.args.item.now) ∷ []) _ _ _
     c.in_err-write_opening_line_unless_written.ensures)
 
 pub returns : goal.returns
 returns g c =
-    let line = cash_row_line (abstract_move_row c.args.item.now) in
+    let line = cash_row_line (abstract_cash_row c.args.item.now) in
     behind (opening_line_unless_written c.args.moved.is_opened c.args.moved.total) (line ∷ []) _ _ _ _ c.in_ok-write_opening_line_unless_written.ensures
     (c.write_line.ensures.written line c.line.ensures.line c.line.ensures.fault)

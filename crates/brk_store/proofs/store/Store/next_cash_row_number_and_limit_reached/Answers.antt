@@ -1,7 +1,7 @@
 use Rattle.std.proofs.Common.{◌≡◌, ◌+◌, ◌<◌, ℕ, Bool, false, filter, is_none, length, nat_le}
 use Rattle.sqlite.specs.Held.{state}
 use Rattle.brk_model.specs.Limits.{greatest_id}
-use Rattle.brk_model.specs.Tables.{MoveRow, Tables}
+use Rattle.brk_model.specs.Tables.{CashRow, Tables}
 use Rattle.brk_trade_books.specs.TradeReads.{last_cash_row_number_or_zero}
 use Rattle.brk_store.proofs.Counting.{too_few}
 use Rattle.brk_store.proofs.Retelling.{retold_of}
@@ -12,7 +12,7 @@ abbrev IsNext : ℕ → Tables → Type 0
 IsNext next t = next ≡ last_cash_row_number_or_zero t + 1
 
 abbrev AreAll : Bool → Tables → Type 0
-AreAll all t = all ≡ nat_le greatest_id (length (filter (λ (r : MoveRow). is_none r.trade) t.moves))
+AreAll all t = all ≡ nat_le greatest_id (length (filter (λ (r : CashRow). is_none r.trade) t.moves))
 
 abbrev AreNextAndAll : ℕ × Bool → Tables → Type 0
 AreNextAndAll number t = IsNext number.0 t × AreAll number.1 t

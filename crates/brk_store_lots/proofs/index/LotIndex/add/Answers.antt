@@ -1,6 +1,6 @@
 use Rattle.std.proofs.Common.{◌≡◌, ◌∙◌, None, rules, nat_eq}
 use Rattle.std.specs.HashMap.{get}
-use Rattle.brk_trade_rows.specs.Rows.{abstract_holding_row}
+use Rattle.brk_ref.specs.Rows.{abstract_holding_row}
 use Rattle.brk_store_lots.specs.Ages.{lots_at}
 use Rattle.brk_store_lots.proofs.Indexing.{index_with_lot}
 use Rattle.brk_store_lots.proofs.index.LotIndex.add.Goals as goal

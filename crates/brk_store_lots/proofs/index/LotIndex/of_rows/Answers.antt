@@ -1,5 +1,5 @@
 use Rattle.std.proofs.Common.{arith, map, take}
-use Rattle.brk_trade_rows.specs.Rows.{abstract_holding_row}
+use Rattle.brk_ref.specs.Rows.{abstract_holding_row}
 use Rattle.brk_store_lots.proofs.Changing.{row_added}
 use Rattle.brk_store_lots.proofs.index.LotIndex.of_rows.Goals as goal
 

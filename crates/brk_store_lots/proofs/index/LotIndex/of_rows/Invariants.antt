@@ -1,5 +1,5 @@
 use Rattle.std.proofs.Common.{map, take}
-use Rattle.brk_trade_rows.specs.Rows.{abstract_holding_row}
+use Rattle.brk_ref.specs.Rows.{abstract_holding_row}
 use Rattle.brk_store_lots.specs.Ages.{IsIndexOf}
 use Rattle.brk_store_lots.proofs.index.LotIndex.of_rows.Given as goal
 

@@ -1,7 +1,7 @@
 use Rattle.std.proofs.Common.{Result, Ok, Err, OnOk, IfErr, ℕ, List, rules, Bor}
 use Rattle.std.specs.Fn.{Mut}
 use Rattle.brk_lots.specs.declared.lot.Lot.{Lot}
-use Rattle.brk_trade_rows.specs.declared.holding_row.HoldingRow.{HoldingRow}
+use Rattle.brk_ref.specs.declared.holding_row.HoldingRow.{HoldingRow}
 use Rattle.brk_tables_views.specs.Calling.{IsClosureCallWithLot}
 use Rattle.brk_tables_views.proofs.calling.LotClosureVisitorVisitorHoldingRow.visit.Goals as goal
 

@@ -1,5 +1,5 @@
 use Rattle.std.proofs.Common.{refl}
-use Rattle.brk_trade_rows.proofs.cash_type.CashType.text.Goals as goal
+use Rattle.brk_ref.proofs.cash_type.CashType.text.Goals as goal
 
 pub returns-in-CashAccount : goal.returns-in-CashAccount
 returns-in-CashAccount c = rw c.in-CashAccount.is refl

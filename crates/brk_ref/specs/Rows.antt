@@ -2,18 +2,18 @@
 use Rattle.std.specs.Prelude.{List, [], ◌∷◌, codes, string_bytes}
 use Rattle.brk_money.specs.Spelling.{Text}
 use Rattle.brk_model.specs.Keys.{KeyPart, number, rows_sorted_by_key}
-use Rattle.brk_model.specs.Tables.{TradeRow, HistoryRow, RequestRow, HoldingRow, SummaryRow, HoldingHistoryRow, SettlementRow, CashRow, MoveRow}
-use Rattle.brk_trade_rows.specs.declared.trade_row.TradeRow as trade
-use Rattle.brk_trade_rows.specs.declared.history_row.HistoryRow as history
-use Rattle.brk_trade_rows.specs.declared.request_row.RequestRow as request
-use Rattle.brk_trade_rows.specs.declared.holding_row.HoldingRow as holding
-use Rattle.brk_trade_rows.specs.declared.summary_row.SummaryRow as summary
-use Rattle.brk_trade_rows.specs.declared.lot_change.LotChange as lot_change
-use Rattle.brk_trade_rows.specs.declared.settlement_row.SettlementRow as settlement
-use Rattle.brk_trade_rows.specs.declared.cash_row.CashRow as cash
-use Rattle.brk_trade_rows.specs.declared.move_row.MoveRow as move
-use Rattle.brk_trade_rows.specs.declared.cash_type.CashType.{CashType}
-use Rattle.brk_trade_rows.specs.declared.cash_type.CashType.TheVariants.{CashAccount, Cash, Margin, MarginAccount}
+use Rattle.brk_model.specs.Tables.{TradeRow, HistoryRow, RequestRow, HoldingRow, SummaryRow, HoldingHistoryRow, SettlementRow, OldCashRow, CashRow}
+use Rattle.brk_ref.specs.declared.trade_row.TradeRow as trade
+use Rattle.brk_ref.specs.declared.history_row.HistoryRow as history
+use Rattle.brk_ref.specs.declared.request_row.RequestRow as request
+use Rattle.brk_ref.specs.declared.holding_row.HoldingRow as holding
+use Rattle.brk_ref.specs.declared.summary_row.SummaryRow as summary
+use Rattle.brk_ref.specs.declared.lot_change.LotChange as lot_change
+use Rattle.brk_ref.specs.declared.settlement_row.SettlementRow as settlement
+use Rattle.brk_ref.specs.declared.old_cash_row.OldCashRow as cash
+use Rattle.brk_ref.specs.declared.cash_row.CashRow as move
+use Rattle.brk_ref.specs.declared.cash_type.CashType.{CashType}
+use Rattle.brk_ref.specs.declared.cash_type.CashType.TheVariants.{CashAccount, Cash, Margin, MarginAccount}
 
 -- The model's TRADE row with the values of the typed row `r`.
 abbrev pub abstract_trade_row : trade.TradeRow → TradeRow
@@ -67,12 +67,12 @@ abbrev pub abstract_settlement_row : settlement.SettlementRow → SettlementRow
 abstract_settlement_row r = record { trade = r.trade; cash_type = cash_type_text r.cash_type; due_day = r.due_day; amount = r.amount }
 
 -- The model's CASH_TRANSACTION row (schema 1) with the values of the typed row `r`.
-abbrev pub abstract_cash_row : cash.CashRow → CashRow
-abstract_cash_row r = record { trade = r.trade; stamp = r.stamp; amount = r.amount; name = string_bytes r.name }
+abbrev pub abstract_old_cash_row : cash.OldCashRow → OldCashRow
+abstract_old_cash_row r = record { trade = r.trade; stamp = r.stamp; amount = r.amount; name = string_bytes r.name }
 
 -- The model's CASH_MOVE row with the values of the typed row `r`.
-abbrev pub abstract_move_row : move.MoveRow → MoveRow
-abstract_move_row r = record { id = r.id; account = r.account; trade = r.trade; stamp = r.stamp; amount = r.amount; name = string_bytes r.name }
+abbrev pub abstract_cash_row : move.CashRow → CashRow
+abstract_cash_row r = record { id = r.id; account = r.account; trade = r.trade; stamp = r.stamp; amount = r.amount; name = string_bytes r.name }
 
 -- The key by which lots are sorted by age: the stamp at which the lot `r` was opened, then the
 -- trade that opened it.

@@ -2,8 +2,9 @@ ghost use Rattle.std.specs.Prelude.{◌≡◌};
 ghost use Rattle.brk_money.specs.Kinds.{is_same_trade_status};
 ghost use Rattle.brk_money.specs.declared.status.Status.TheVariants.{Submitted};
 
+use crate::charge_amount::ChargeAmount;
+use crate::symbol::Symbol;
 use brk_money::{Amount, Id, Price, Qty, Stamp, Status, TradeType};
-use brk_ref::{ChargeAmount, Symbol};
 
 /// A trade in its current status (a row of TRADE). It has a price once it is completed. Its stamp
 /// equals that of its current status.

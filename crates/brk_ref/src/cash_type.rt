@@ -1,5 +1,5 @@
 ghost use Rattle.std.specs.Prelude.{◌≡◌};
-ghost use Rattle.brk_trade_rows.specs.Rows.{cash_type_text};
+ghost use Rattle.brk_ref.specs.Rows.{cash_type_text};
 
 /// The settlement text of a trade (SE_CASH_TYPE). A trade settles in cash or on margin, and each
 /// has two texts, which a text update exchanges.

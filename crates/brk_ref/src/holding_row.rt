@@ -1,5 +1,5 @@
+use crate::symbol::Symbol;
 use brk_money::{Id, Price, Stamp};
-use brk_ref::Symbol;
 
 /// A lot: the remaining shares that a trade opened (a row of HOLDING).
 ///

@@ -1,5 +1,5 @@
+use crate::symbol::Symbol;
 use brk_money::Id;
-use brk_ref::Symbol;
 
 /// The number of shares of a security that an account holds in all, below 0 if they were sold short
 /// (a row of HOLDING_SUMMARY).

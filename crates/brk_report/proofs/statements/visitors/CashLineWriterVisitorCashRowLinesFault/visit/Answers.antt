@@ -1,6 +1,6 @@
 use Rattle.std.proofs.Common.{◌≡◌, ◌+◌, ◌∙◌, ℤ, true, false, ap, refl, rules, sym}
 use Rattle.std.specs.Prelude.{nat_lt}
-use Rattle.brk_trade_rows.specs.Rows.{abstract_move_row}
+use Rattle.brk_ref.specs.Rows.{abstract_cash_row}
 use Rattle.brk_money.specs.declared.fault.Fault.TheVariants as fault
 use Rattle.brk_report_lines.specs.Written.{FailsWithinFirstLines}
 use Rattle.brk_io.specs.declared.report_fault.LinesFault.TheVariants.{Desk}
@@ -10,14 +10,14 @@ use Rattle.brk_report.specs.declared.statements.visitors.CashProgress.{CashProgr
 use Rattle.brk_report.proofs.CashWalked.{none_first}
 use Rattle.brk_report.proofs.Handing.{on_err}
 use Rattle.brk_report.proofs.Section.{weaker}
-use Rattle.brk_report.proofs.statements.visitors.CashLineWriterVisitorMoveRowLinesFault.visit.Goals as goal
+use Rattle.brk_report.proofs.statements.visitors.CashLineWriterVisitorCashRowLinesFault.visit.Goals as goal
 
 pub returns-in_err-total-clause-stops : goal.returns-in_err-total-clause-stops
 returns-in_err-total-clause-stops g c =
     let self = c.args.self.now in
     let item = c.args.item.now in
     let is : c.in_err-total.field-0.0 ≡ Desk fault.Store = let same = c.in_err-total.ensures.fault in cc in
-    on_err (FailsWithinFirstLines (lines_of_cash_row (nat_lt item.stamp self.first) self.moved (abstract_move_row item)) _ _) _ _ c.from_residual.ensures.1 (none_first _ _ _ is)
+    on_err (FailsWithinFirstLines (lines_of_cash_row (nat_lt item.stamp self.first) self.moved (abstract_cash_row item)) _ _) _ _ c.from_residual.ensures.1 (none_first _ _ _ is)
 
 pub returns-then-is_before_stamp-clause-takes : goal.returns-then-is_before_stamp-clause-takes
 returns-then-is_before_stamp-clause-takes g c =
@@ -35,7 +35,7 @@ returns-in_err-write_opening_and_row_lines-clause-stops g c =
     let self = c.args.self.now in
     let item = c.args.item.now in
     let late : nat_lt item.stamp self.first ≡ false = sym c.is_before_stamp.ensures ∙ c.if-is_before_stamp.false in
-    on_err (FailsWithinFirstLines (lines_of_cash_row (nat_lt item.stamp self.first) self.moved (abstract_move_row item)) _ _) _ _ c.from_residual-in_err-write_opening_and_row_lines.ensures.1
+    on_err (FailsWithinFirstLines (lines_of_cash_row (nat_lt item.stamp self.first) self.moved (abstract_cash_row item)) _ _) _ _ c.from_residual-in_err-write_opening_and_row_lines.ensures.1
     (rw late (weaker _ _ _ _ c.in_err-write_opening_and_row_lines.ensures))
 
 pub returns-clause-takes : goal.returns-clause-takes

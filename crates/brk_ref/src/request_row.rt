@@ -1,5 +1,5 @@
+use crate::symbol::Symbol;
 use brk_money::{Id, Price, Qty, TradeType};
-use brk_ref::Symbol;
 
 /// The request of a pending trade (a row of TRADE_REQUEST).
 #[derive(Drop)]
