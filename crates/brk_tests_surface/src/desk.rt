@@ -55,20 +55,34 @@ fn answer_to_command<S: Alter>(
     format_answer(alloc, &answer)
 }
 
+// Checks the text of the answer to a command under a key, if there is one. Fails if it differs, if
+// the desk fails, and if memory runs out.
+fn expect_answer<S: Alter>(
+    alloc: Global,
+    desk: &mut Desk<S>,
+    command: &Command,
+    key: Option<&Key>,
+    wanted: &str,
+) -> Result<(), Fail> {
+    let told = answer_to_command(alloc, desk, command, key)?;
+    expect(told.as_str() == wanted, told)
+}
+
 // Checks that a command is accepted under its key, repeated under it, and refused without it
-// because its broker exists, and that its stored row is that of its fields. Fails if not, if the
-// desk fails, and if memory runs out.
+// because its broker exists. Fails if not, if the desk fails, and if memory runs out.
 fn expect_answers<S: Alter>(alloc: Global, desk: &mut Desk<S>) -> Result<(), Fail> {
     let command = new_broker(alloc)?;
     let key = first_key(alloc)?;
-    let row = row_text(alloc, &command)?;
-    expect(row.as_str() == "broker\x1f2\x1fCy", "another row")?;
-    let first = answer_to_command(alloc, desk, &command, Some(&key))?;
-    expect(first.as_str() == "ok,1709251200022", first)?;
-    let second = answer_to_command(alloc, desk, &command, Some(&key))?;
-    expect(second.as_str() == "again,1709251200022", second)?;
-    let third = answer_to_command(alloc, desk, &command, None)?;
-    expect(third.as_str() == "no,15", third)
+    expect_answer(alloc, desk, &command, Some(&key), "ok,1709251200022")?;
+    expect_answer(alloc, desk, &command, Some(&key), "again,1709251200022")?;
+    expect_answer(alloc, desk, &command, None, "no,15")
+}
+
+// Checks that the row of a command that is stored is that of its fields. Fails if not, and if
+// memory runs out.
+fn expect_stored_row(alloc: Global) -> Result<(), Fail> {
+    let row = row_text(alloc, &new_broker(alloc)?)?;
+    expect(row.as_str() == "broker\x1f2\x1fCy", "another row")
 }
 
 // Returns the view of a query. Fails if the query is refused, if the desk fails, and if memory runs
@@ -173,5 +187,6 @@ fn expect_desk_after_trades<S: Alter + Drop>(
 /// Checks the public names of brk_desk: commands under keys, queries, runs, the head of a
 /// statement, walks and the audit. Fails if an answer differs, and if memory runs out.
 pub fn surface_of_brk_desk(alloc: Global) -> Result<(), Fail> {
+    expect_stored_row(alloc)?;
     expect_desk_after_trades(alloc, open_in_memory(alloc))
 }

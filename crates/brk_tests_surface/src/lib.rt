@@ -16,7 +16,6 @@ mod report;
 mod sockets;
 mod store;
 mod tables;
-mod trade;
 mod view;
 
 use std::test::Fail;
@@ -29,7 +28,6 @@ pub fn run_test(rt: &HostRuntime, name: &str) -> Option<Result<(), Fail>> {
         "surface_of_brk_money" => money::surface_of_brk_money(alloc),
         "surface_of_brk_ref" => reference::surface_of_brk_ref(alloc),
         "surface_of_brk_lots" => lots::surface_of_brk_lots(alloc),
-        "surface_of_brk_trade" => trade::surface_of_brk_trade(alloc),
         "surface_of_brk_view" => view::surface_of_brk_view(alloc),
         "surface_of_brk_audit" => audit::surface_of_brk_audit(alloc),
         "surface_of_brk_tables" => tables::surface_of_brk_tables(alloc),

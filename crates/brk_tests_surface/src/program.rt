@@ -59,9 +59,9 @@ fn job_of_line(alloc: Global, line: &str) -> Result<Job, Fail> {
 // Checks the jobs of four command lines. Fails if one differs, and if memory runs out.
 fn expect_jobs(alloc: Global) -> Result<(), Fail> {
     match job_of_line(alloc, "brk|batch|--at|0")? {
-        Job::Batch { db, at: Some(at) } => {
+        Job::Batch { db, at } => {
             expect(db.is_none(), "a file")?;
-            expect_equal(at.get(), 0)?;
+            expect_equal(at.ok_or("no time")?.get(), 0)?;
         }
         _ => Err("no batch")?,
     }
@@ -85,10 +85,13 @@ fn expect_jobs(alloc: Global) -> Result<(), Fail> {
     match job_of_line(alloc, "brk|serve|--port|8080")? {
         Job::Serve {
             port,
-            db: None,
-            at: None,
+            db,
+            at,
             streams,
-        } => expect_equal((port, streams), (8_080, 1)),
+        } => {
+            expect(db.is_none() && at.is_none(), "a file or a time")?;
+            expect_equal((port, streams), (8_080, 1))
+        }
         _ => Err("no service")?,
     }
 }
