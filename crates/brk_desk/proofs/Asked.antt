@@ -12,9 +12,9 @@ use Rattle.brk_model.specs.Sheets.{sheets}
 use Rattle.brk_model.specs.Tables.{Tables}
 use Rattle.brk_view_rows.specs.Carried.{HasRowsOfQuery}
 use Rattle.brk_view_rows.specs.declared.view.View.{View}
-use Rattle.brk_tables_sql.proofs.Inside.{clean_before}
 use Rattle.brk_store_transactions.specs.Audited.{Represents}
 use Rattle.brk_store_transactions.specs.Holds.{HoldsRows, ReadPost}
+use Rattle.brk_store_transactions.proofs.States.{clean_before}
 use Rattle.brk_desk_queries.specs.QueryResults.{AnswersQueryAsModel}
 use Rattle.brk_desk.specs.CallPosts.{AskPost}
 use Rattle.brk_desk.proofs.Seen.{still_kept}

@@ -24,7 +24,6 @@ use Rattle.brk_model.specs.Run.{IsCallFault}
 use Rattle.brk_model.specs.Keyed.{answer_and_base_of_step, base_with_stored_reply, keyed_step, answer_and_base_of_retry}
 use Rattle.brk_trade_rows.specs.Changes.{tables_after_changes}
 use Rattle.brk_trade_plans.specs.declared.plan.Plan.{Plan}
-use Rattle.brk_tables_sql.proofs.Inside.{clean_before}
 use Rattle.brk_trade_plans.specs.Replies.{abstract_reply}
 use Rattle.brk_trade_books.specs.Books.{BooksInvariant}
 use Rattle.brk_trade_theorems.specs.Decisions.{DecidesCommand}
@@ -35,6 +34,7 @@ use Rattle.brk_audit_theorems.specs.InForm.{MeetsAuditFormats, IsWellFormedKey}
 use Rattle.brk_audit_theorems.specs.Sound.{AuditInvariant}
 use Rattle.brk_audit_theorems.proofs.SoundSteps.{keyed_sound}
 use Rattle.brk_store_transactions.specs.Holds.{IsDiskContentOfRows, HoldsRows, ApplyPost, ReadPost}
+use Rattle.brk_store_transactions.proofs.States.{clean_before}
 use Rattle.brk_store.proofs.Sequences.{none_then, same_then}
 use Rattle.brk_desk.specs.CommandAnswers.{CommandAnswer, IsDoneResult, model_answer}
 use Rattle.brk_desk.specs.Booked.{CommandPost, IsDiskContentAfterCommand, base_after_keyed_command}

@@ -8,7 +8,6 @@ pub mod Promise
 pub mod Reopened
 pub mod Made
 pub mod UpgradedRows
-pub mod Defined
 pub mod UpgradeRecovery
 pub mod Seen
 pub mod RowTexts

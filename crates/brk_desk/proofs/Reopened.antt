@@ -12,13 +12,13 @@ use Rattle.brk_model.specs.Form.{has_utf8_texts}
 use Rattle.brk_model.specs.Records.{Key}
 use Rattle.brk_model.specs.Sheets.{sheets}
 use Rattle.brk_model.specs.Tables.{Tables}
-use Rattle.brk_tables_sql.proofs.Inside.{clean_before}
 use Rattle.brk_trade_books.proofs.Steps.{empty_books, empty_rows}
 use Rattle.brk_audit_theorems.proofs.SoundRuns.{keyed_both}
 use Rattle.brk_audit_theorems.proofs.SoundSteps.{empty_sound}
 use Rattle.brk_store_transactions.specs.Audited.{AdoptPost, AuditPost, Represents, IsConsistent}
 use Rattle.brk_store_transactions.specs.Holds.{IsDiskContentOfRows, CreatePost, CrashStatesSatisfy}
 use Rattle.brk_store_transactions.proofs.Found.{found_again}
+use Rattle.brk_store_transactions.proofs.States.{clean_before}
 use Rattle.brk_store_transactions.proofs.Taking.{sound_books_pass, third_audited}
 use Rattle.brk_desk.specs.Answers.{model_outcome}
 use Rattle.brk_desk.specs.Commands.{model_call}

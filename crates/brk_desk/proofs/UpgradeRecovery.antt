@@ -3,10 +3,7 @@ use Rattle.std.proofs.Common.{◌≡◌, ◌∙◌, inl, inr, Option, Some, None
 use Rattle.std.specs.Prelude.{OnOk}
 use Rattle.sqlite_trees.specs.declared.store.Store.{Ghosts}
 use Rattle.sqlite_trees.specs.Tree.{Trees}
-use Rattle.sqlite_trees.specs.Objects.{catalog_tree}
-use Rattle.sqlite_catalog.specs.Listing.{Lists}
-use Rattle.sqlite_catalog.proofs.ReadLemmas.{lists_once}
-use Rattle.sqlite.specs.Effect.{Database, IsDatabase}
+use Rattle.sqlite.specs.Effect.{Database}
 use Rattle.sqlite.specs.Held.{Held, state}
 use Rattle.sqlite.specs.State.{HasCleanDisk}
 use Rattle.brk_money.specs.declared.fault.Condition.{Condition}
@@ -20,24 +17,14 @@ use Rattle.brk_model.specs.Tables.{Tables}
 use Rattle.brk_trade_rows.specs.Schemas.{abstract_schema}
 use Rattle.brk_trade_rows.specs.declared.schema.Schema as known
 use Rattle.brk_trade_rows.specs.declared.schema.Schema.TheVariants.{Third}
-use Rattle.brk_tables_sql.proofs.Inside.{clean_before}
-use Rattle.brk_tables_schema.specs.Made.{HasDeskTables}
-use Rattle.brk_tables_scan.proofs.Defined.{desk_is_there}
-use Rattle.brk_tables.proofs.OneTables.{one_schema}
 use Rattle.brk_store_transactions.specs.Audited.{StoresRowsWithAuditResult, IsDatabaseAuditResult, AdoptPost, ConnectionTablesWithDeskNamesAreDeskTables, AuditAnswerSatisfies, IsConsistent}
 use Rattle.brk_store_transactions.specs.Holds.{IsDiskContentOfRows}
-use Rattle.brk_store_transactions.proofs.Schemas.{third_rows}
+use Rattle.brk_store_transactions.proofs.Defined.{defined_whole}
+use Rattle.brk_store_transactions.proofs.States.{clean_before, content_of_third_rows, same_audited_rows, same_database, third_schema_there, upgraded_rows_there}
 use Rattle.brk_store_transactions.proofs.Taking.{one_answer}
 use Rattle.brk_desk.specs.Reopening.{RepresentsAuditedRowsDurably, IsNewConnectionToDiskContent, AdoptsBaseWithoutDamage, IsNewConnectionAfterCrash, FindsBaseWithoutDamage, RepresentsDurableBase}
-use Rattle.brk_desk.proofs.Defined.{defined_whole}
 use Rattle.brk_desk.proofs.UpgradedRows.{are_upgraded}
 use Rattle.brk_desk.proofs.Reopened.{RecoversOnlyLastCommit, audited_stands, leaves_alone, taken_over}
-
--- two sound readings of the same trees are one database
-same_database : (db other : Database) → IsDatabase db → IsDatabase other → db.trees ≡ other.trees → db ≡ other
-same_database db other sound found same =
-    let schema : db.schema ≡ other.schema = lists_once (db.trees catalog_tree) db.schema other.schema sound.lists (subst (λ (l : Trees). Lists (l catalog_tree) other.schema) (sym same) found.lists) in
-    λ i. record { schema = schema i; trees = same i }
 
 -- the books of rows that passed can be kept
 rows_can_be : (schema : known.Schema) (rows : Tables) (db : Database) → StoresRowsWithAuditResult (abstract_schema schema) rows db None → IsConsistent (base_of_tables rows)
@@ -61,18 +48,16 @@ module _ {S : Type 0} (g : Ghosts S) (settled : RecoversOnlyLastCommit g) where
     -- of a desk of the third schema
     third_stands : (rows : Tables) → StoresRowsWithAuditResult third_schema rows (state g conn).now None → RepresentsDurableBase g store (base_of_tables rows)
     third_stands rows a =
-        let there : HasDeskTables (sheets (base_of_tables rows)) (state g conn).now =
-        subst (λ (t : Tables). HasDeskTables t (state g conn).now) (are_upgraded Third rows a.2 a.1).tables (third_rows rows (state g conn).now a.0) in
-        audited_stands g settled trees conn store (Ok tt) opened (adopted.audited defined (λ _ _. desk_is_there third_schema rows (state g conn).now a.0)) clean (base_of_tables rows)
-        (rows_can_be Third rows (state g conn).now a) ((state g conn).now, there, sym (opened.connected.same before))
+        audited_stands g settled trees conn store (Ok tt) opened (adopted.audited defined (third_schema_there g conn rows a)) clean (base_of_tables rows)
+        (rows_can_be Third rows (state g conn).now a)
+        (content_of_third_rows rows (sheets (base_of_tables rows)) (state g conn).now trees a (are_upgraded Third rows a.2 a.1).tables (opened.connected.same before))
 
     -- of rows that were upgraded, which are committed
     moved_stands : (schema : known.Schema) (rows : Tables) → StoresRowsWithAuditResult (abstract_schema schema) rows (state g conn).now None
         → IsTrue (state g store).is_open → RepresentsDurableBase g store (base_of_tables rows)
     moved_stands schema rows a on =
         let m = adopted.upgraded clean on defined in
-        let same : rows ≡ m.0.1 = (one_schema schema m.0.0 rows m.0.1 (state g conn).now a.0 m.0.2.0).1 in
-        let there : HasDeskTables (sheets (base_of_tables rows)) (state g store).now = subst (λ (t : Tables). HasDeskTables (sheets (base_of_tables t)) (state g store).now) (sym same) m.0.3 in
+        let there = upgraded_rows_there schema rows (state g conn).now (state g store).now a m.0 in
         let can = rows_can_be schema rows (state g conn).now a in
         record {
           represented = record { rows = λ _ _. there; consistent = can };
@@ -83,7 +68,7 @@ module _ {S : Type 0} (g : Ghosts S) (settled : RecoversOnlyLastCommit g) where
     adopted_stands schema rows a = elim (adopted.open_after_upgrade clean defined) [
       | inl third ↦
           let told = (adopted.audited defined third).answered clean (λ c on. defined c on Third) in
-          let same : told.0 ≡ rows = (one_schema Third schema told.0 rows (state g conn).now told.1.0 a.0).1 in
+          let same : told.0 ≡ rows = same_audited_rows Third schema told.0 rows (state g conn).now told.1 a in
           subst (λ (t : Tables). RepresentsDurableBase g store (base_of_tables t)) same (third_stands told.0 told.1)
       | inr on ↦ moved_stands schema rows a on
     ]
@@ -145,5 +130,5 @@ module _ {S : Type 0} (g : Ghosts S) (settled : RecoversOnlyLastCommit g) where
     upgrade_taken_over =
         elim ((adopted.survives (λ _ _. defined_whole (abstract_schema schema) rows (state g first).now answered.0)).crash clean again.0 again.1) [
           | inl was ↦ upgraded_again (leaves_alone g settled trees first opened was_clean again.0 was)
-          | inr m ↦ upgraded_already (base_of_tables m.1) (ap base_of_tables (one_schema m.0 schema m.1 rows (state g first).now m.3.0 answered.0).1) m.4
+          | inr m ↦ upgraded_already (base_of_tables m.1) (ap base_of_tables (same_audited_rows m.0 schema m.1 rows (state g first).now m.3 answered)) m.4
         ]

@@ -4,7 +4,6 @@ use Rattle.std.specs.Prelude.{bytes_eq, flat_map, is_some, nat_lt, option_to_lis
 use Rattle.std.specs.List.{AllByRecursion}
 use Rattle.std.proofs.lemmas.Bool.Decides.{nat_tests}
 use Rattle.std.proofs.lemmas.List.{append-nil, append_assoc}
-use Rattle.sqlite.specs.Effect.{Database}
 use Rattle.brk_trade_books.proofs.LotReading.{All-sort}
 use Rattle.brk_trade_books.proofs.Same.{All-filter}
 use Rattle.brk_money.specs.Spelling.{Text}
@@ -13,10 +12,9 @@ use Rattle.brk_money.specs.declared.status.Status.TheVariants.{Completed}
 use Rattle.brk_model.specs.Joins.{trade_rows_oldest_first, trade_row_with_id}
 use Rattle.brk_model.specs.Lists.{sort_by_key}
 use Rattle.brk_model.specs.Tables.{HoldingHistoryRow, Tables, TradeRow}
-use Rattle.brk_tables_schema.specs.Made.{HasDeskTables}
 use Rattle.brk_model_explain.specs.Holdings.{LotDetails, completed_trades_in_symbol, lot_with_changes_by_others, lots_opened_in_symbol}
 use Rattle.brk_model_explain.specs.Trades.{has_completed_status, opened_lot_row}
-use Rattle.brk_store.proofs.WalkedLists.{IsStrictlyAscendingBy, oldest_same, trades_climb}
+use Rattle.brk_store.proofs.WalkedLists.{IsStrictlyAscendingBy, oldest_same}
 use Rattle.brk_explain_reads.specs.HoldingParts.{lot_if_opened, lot_opened_by_trade}
 use Rattle.brk_explain_reads.proofs.Each.{filter_same}
 
@@ -96,16 +94,14 @@ lots_back t (u ∷ rows) h =
     ∙ ap (λ ls. option_to_list (lot_if_opened (opened_lot_row t u.id) (Some (lot_with_changes_by_others t u))) ++ ls) (lots_back t rows h.1)
     ∙ lot_kept (lot_with_changes_by_others t) u (filter (λ (r : TradeRow). is_some (opened_lot_row t r.id)) rows) (opened_lot_row t u.id)
 
-module _ (t : Tables) (db : Database) (has : HasDeskTables t db) (account : ℕ) (symbol : Text) where
+module _ (t : Tables) (climb : IsStrictlyAscendingBy (λ (r : TradeRow). r.id) t.trades) (account : ℕ) (symbol : Text) where
   pub done_known : flat_map (λ id. option_to_list (trade_row_with_id t id)) (held_ids t account symbol) ≡ completed_trades_in_symbol t account symbol
   done_known =
-      let climb = trades_climb t db has in
       ap (flat_map (λ id. option_to_list (trade_row_with_id t id))) (held_ids_are t account symbol climb)
       ∙ rows_back t (completed_trades_in_symbol t account symbol) (done_found t account symbol climb)
 
   pub lots_known : flat_map (λ id. option_to_list (lot_opened_by_trade t id)) (held_ids t account symbol) ≡ lots_opened_in_symbol t account symbol
   lots_known =
-      let climb = trades_climb t db has in
       ap (flat_map (λ id. option_to_list (lot_opened_by_trade t id))) (held_ids_are t account symbol climb)
       ∙ lots_back t (completed_trades_in_symbol t account symbol) (done_found t account symbol climb)
 

@@ -7,13 +7,11 @@ use Rattle.std.specs.Option.{option_map_or}
 use Rattle.std.proofs.lemmas.Bool.Decides.{nat_tests}
 use Rattle.std.proofs.lemmas.List.Elements.{filter-append}
 use Rattle.sqlite_trees.specs.declared.store.Store.{Ghosts}
-use Rattle.sqlite.specs.Effect.{Database}
 use Rattle.sqlite.specs.Held.{Held, state}
 use Rattle.sqlite.specs.State.{HasCleanDisk}
 use Rattle.brk_money.specs.declared.fault.Fault.{Fault}
 use Rattle.brk_model.specs.Run.{IsCallFault}
 use Rattle.brk_model.specs.Tables.{AccountRow, Tables, TradeRow}
-use Rattle.brk_tables_schema.specs.Made.{HasDeskTables}
 use Rattle.brk_tables_views.specs.Walk.{IsWalkError}
 use Rattle.brk_tables_views.specs.Walks.{TableWalkEndsEarly, TakesListSatisfying}
 use Rattle.brk_tables_views.specs.declared.walking.WalkError.{WalkError}
@@ -72,9 +70,11 @@ among_is broker x low (a ∷ rows) h =
     ∙ sym (found_or broker a (find (λ (r : AccountRow). r.id == x) rows) (a.id == x))
 
 -- an account is among those that were found where it is of the broker
-pub accounts_known : (t : Tables) (db : Database) → HasDeskTables t db → (broker : ℕ) → 1 ≤ broker → (ids : List ℕ) → ids ≡ map (λ (a : AccountRow). a.id) (accounts_with_broker t broker)
+pub accounts_known : {S : Type 0} (g : Ghosts S) (store : Held S) → HasCleanDisk (state g store) → IsTrue (state g store).is_open → (t : Tables) → HoldsRows g store t
+    → (broker : ℕ) → 1 ≤ broker → (ids : List ℕ) → ids ≡ map (λ (a : AccountRow). a.id) (accounts_with_broker t broker)
     → (x : ℕ) → list_any (λ i. i == x) ids ≡ (broker_of_account_or_zero t x == broker)
-accounts_known t db has broker low ids e x = ap (list_any (λ i. i == x)) e ∙ among_is broker x low t.accounts (accounts_climb t db has)
+accounts_known g store clean on t holds broker low ids e x =
+    ap (list_any (λ i. i == x)) e ∙ among_is broker x low t.accounts (accounts_climb t (state g store).now (holds clean on))
 
 pub trades_picked : (broker : ℕ) (t : Tables) → filter (λ (u : TradeRow). broker_of_account_or_zero t u.account == broker) (completed_trades_by_stamp t) ≡ completed_trades_of_broker t broker
 trades_picked broker t = completed_filter (λ (u : TradeRow). broker_of_account_or_zero t u.account == broker) t
@@ -149,12 +149,13 @@ module _ {S A X M V W E : Type 0} (g : Ghosts S) (old mid new : Held S) (of : X 
 
   module _ {Y F : Type 0} (before after : W) (result : Result (Unit {0}) (WalkError E)) (w : WalkPost g mid new of all TakesOn StopsOn before after result)
       (y : Y) (Q : Y → Tables → Type 0) (first : ReadPost {E = F} g old mid (Ok y) Q) (pick : Tables → M → Bool)
-      (passes : (t : Tables) → HasDeskTables t (state g old).now → Q y t → (x : X) → test (keep before) x ≡ pick t (of x)) (picked : (t : Tables) → filter (pick t) (all t) ≡ list t) where
+      (passes : HasCleanDisk (state g old) → IsTrue (state g old).is_open → (t : Tables) → HoldsRows g old t → Q y t → (x : X) → test (keep before) x ≡ pick t (of x))
+      (picked : (t : Tables) → filter (pick t) (all t) ≡ list t) where
     kept_on : IsUnchangedByReads g mid new
     kept_on = record { same_rows = w.same_rows; unchanged_if_open = w.unchanged_if_open; survives = w.survives }
 
     passes_at : HasCleanDisk (state g mid) → (t : Tables) → HoldsRows g old t → (x : X) → test (keep before) x ≡ pick t (of x)
-    passes_at clean t holds = passes t (holds (disk_was_clean_before_reads old mid (single_read_changes_nothing old mid (Ok y) Q first) clean) (first.was_open clean)) (first.answered clean t holds)
+    passes_at clean t holds = passes (disk_was_clean_before_reads old mid (single_read_changes_nothing old mid (Ok y) Q first) clean) (first.was_open clean) t holds (first.answered clean t holds)
 
     all_on : HasCleanDisk (state g mid) → (xs : List X) → EqualsStoredList g mid all (map of xs) → EqualsStoredList g old list (map of (filter (test (keep before)) xs))
     all_on clean xs h t holds = map_kept of (test (keep before)) (pick t) (passes_at clean t holds) xs ∙ ap (filter (pick t)) (h t (first.same_rows t holds)) ∙ picked t

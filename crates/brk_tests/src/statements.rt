@@ -1,4 +1,4 @@
-//! Tests of statements: their amounts, writers that fail, and the walks over cash rows and lots.
+//! Tests of statements: writers that fail, and the walks over cash rows and lots.
 
 use crate::desks::{
     Step, desk_with_reference_data, expect, expect_batch_result, open_in_memory, write_statement,
@@ -6,9 +6,8 @@ use crate::desks::{
 use crate::faulty::Narrow;
 use brk_desk::Desk;
 use brk_lots::Lot;
-use brk_money::{Day, Fault, Id, Stamp, Wide, parse_day};
+use brk_money::{Day, Fault, Id, Stamp, parse_day};
 use brk_report::ReportFault;
-use brk_report_lines::amount_line;
 use brk_trade_rows::MoveRow;
 use sqlite::{Alter, Connection};
 use std::alloc::Global;
@@ -34,47 +33,8 @@ pub fn account_and_days(account: u64, from: &str, to: &str) -> Result<Asked, Fai
     }
 }
 
-// Words and amounts in cents, each with the line of both.
-const AMOUNTS: [(&str, i128, &str); 6] = [
-    ("Opening", 0, "Opening                      0.00\n"),
-    ("Closing", -1, "Closing                     -0.01\n"),
-    (
-        "Holdings",
-        123_456_789_012_345_678_901,
-        "Holdings   1234567890123456789.01\n",
-    ),
-    (
-        "Holdings",
-        -12_345_678_901_234_567_890,
-        "Holdings   -123456789012345678.90\n",
-    ),
-    (
-        "Holdings",
-        1_234_567_890_123_456_789_012,
-        "Holdings   12345678901234567890.12\n",
-    ),
-    (
-        "Holdings",
-        -1_234_567_890_123_456_789_012_345,
-        "Holdings   -12345678901234567890123.45\n",
-    ),
-];
-
-/// Checks that `amount_line` returns the wanted line of each word and amount of `AMOUNTS`, in which
-/// an amount wider than its column is printed whole.
-pub fn wide_amounts_are_printed_whole(alloc: Global) -> Result<(), Fail> {
-    for (word, cents, wanted) in AMOUNTS {
-        let line = amount_line(alloc, word, Wide::new(cents))?;
-        expect(
-            line.as_slice() == wanted.as_bytes(),
-            format_args!("{cents} cents"),
-        )?;
-    }
-    Ok(())
-}
-
-// Two purchases and a sale of a part.
-const BOUGHT: Step = Step {
+/// Two purchases and a sale of a part.
+pub const BOUGHT: Step = Step {
     batch: b"batch,T\n\
         order,100,TMB,ABC,100,,cash,fifo,Ann,Lee,T10\n\
         result,1,10.10\n\
@@ -92,8 +52,8 @@ const BOUGHT: Step = Step {
         end,6,0,0\n",
 };
 
-// The statement of account 100 for March 2024 after these trades.
-const WANTED: &str = "Statement of account 100\n\
+/// The statement of account 100 for March 2024 after these trades.
+pub const WANTED: &str = "Statement of account 100\n\
     Main\n\
     From 2024-03-01 to 2024-03-31\n\
     Opening                  10000.00\n\

@@ -10,7 +10,6 @@ mod files;
 mod listing;
 mod records;
 mod replay;
-mod sockets;
 mod table_list;
 mod tests;
 

@@ -2,26 +2,43 @@
 
 use crate::failed::OutOfMemory;
 use crate::replay::append_output_line;
-use crate::sockets::socket_streams_share_one_desk;
+use std::alloc::Global;
 use std::process::Termination;
 use std::test::Fail;
 
-// Runs the test `name`: the test over sockets, or a test of `brk_tests_unit` or of `brk_tests`.
-// Returns `None` if no test has this name, and otherwise the result of the test.
-fn run_test(rt: &HostRuntime, name: &str) -> Option<Result<(), Fail>> {
-    match name {
-        "socket_streams_share_one_desk" => Some(socket_streams_share_one_desk(rt)),
-        _ => match brk_tests_unit::run_test(rt, name) {
-            None => brk_tests::run_test(rt.alloc(), name),
-            tested => tested,
-        },
+// Runs the test `name` of `brk_tests_unit` or of `brk_tests_interfaces`. Returns `None` if no test of
+// these crates has this name, and otherwise the result of the test.
+fn run_test_without_database(rt: &HostRuntime, name: &str) -> Option<Result<(), Fail>> {
+    match brk_tests_unit::run_test(rt.alloc(), name) {
+        None => brk_tests_interfaces::run_test(rt, name),
+        tested => tested,
     }
 }
 
-/// Runs the test `name`: the test over sockets, or a test of `brk_tests_unit` or of `brk_tests`.
-/// Appends the output line `ok` if the test succeeds, and `! no such test` if no test has this
-/// name. If the test fails, writes its failure to standard error, ignoring a failure to write, and
-/// appends `failed`. Fails only if memory runs out.
+// Runs the test `name` of `brk_tests` or of `brk_tests_files`. Returns `None` if no test of these
+// crates has this name, and otherwise the result of the test.
+fn run_test_over_desks(alloc: Global, name: &str) -> Option<Result<(), Fail>> {
+    match brk_tests::run_test(alloc, name) {
+        None => brk_tests_files::run_test(alloc, name),
+        tested => tested,
+    }
+}
+
+// Runs the test `name` of one of the five crates of tests. Returns `None` if no test has this name,
+// and otherwise the result of the test.
+fn run_test(rt: &HostRuntime, name: &str) -> Option<Result<(), Fail>> {
+    match brk_tests_surface::run_test(rt, name) {
+        None => match run_test_without_database(rt, name) {
+            None => run_test_over_desks(rt.alloc(), name),
+            tested => tested,
+        },
+        tested => tested,
+    }
+}
+
+/// Runs the test `name` (`run_test`). Appends the output line `ok` if the test succeeds, and `! no
+/// such test` if no test has this name. If the test fails, writes its failure to standard error,
+/// ignoring a failure to write, and appends `failed`. Fails only if memory runs out.
 pub fn execute_test_command(
     rt: &HostRuntime,
     out: &mut String,

@@ -17,7 +17,7 @@ fn format_planned_reply(alloc: Global, planned: &Result<Plan, Refusal>) -> Resul
 /// Checks that a plan is made or refused, and that its reply, or `no,` and the refusal, is the text
 /// `wanted` (`format_planned_reply`). Fails with both texts if not. Fails also if `planned` is a
 /// fault, and if memory runs out.
-pub(crate) fn expect_planned_reply(
+pub fn expect_planned_reply(
     alloc: Global,
     planned: Result<Result<Plan, Refusal>, Fault>,
     wanted: &str,

@@ -13,9 +13,9 @@ use brk_trade::{
 use std::alloc::Global;
 use std::test::Fail;
 
-// Returns a list with one quote, of ABC at 10.00, without pending orders, of which 100 more shares
-// may be traded up to the limit of the volume. Fails only if memory runs out.
-fn one_quote_100_shares_below_volume_limit(alloc: Global) -> Result<Vec<Quote>, Fail> {
+/// Returns a list with one quote, of ABC at 10.00, without pending orders, of which 100 more shares
+/// may be traded up to the limit of the volume. Fails only if memory runs out.
+pub fn one_quote_100_shares_below_volume_limit(alloc: Global) -> Result<Vec<Quote>, Fail> {
     let price = Price::new(1_000).ok_or("price")?;
     let volume = Volume::new(99_999_999_999_999_900).ok_or("volume")?;
     let last = LastTrade {
@@ -61,12 +61,12 @@ pub fn a_feed_beyond_volume_limit_is_refused(alloc: Global) -> Result<(), Fail> 
     Ok(())
 }
 
-// Returns the facts of the tables on which the plan for a purchase of ABC depends: an account of
-// the broker 1 with the tax status `Withheld`, an executor who is permitted, a last price of 10.00,
-// a charge of 5.00, a commission rate of one percent, tax rates of 20 percent in all, assets of
-// 10000.00, no shares held, and `trades` as the last trade id, or no trade if it is not within the
-// limits of an id. Does not fail, because all of its constants are within their limits.
-fn purchase_facts(trades: u64) -> Result<OrderPlanFacts, Fail> {
+/// Returns the facts of the tables on which the plan for a purchase of ABC depends: an account of
+/// the broker 1 with the tax status `Withheld`, an executor who is permitted, a last price of
+/// 10.00, a charge of 5.00, a commission rate of one percent, tax rates of 20 percent in all,
+/// assets of 10000.00, no shares held, and `trades` as the last trade id, or no trade if it is not
+/// within the limits of an id. Does not fail, because all of its constants are within their limits.
+pub fn purchase_facts(trades: u64) -> Result<OrderPlanFacts, Fail> {
     let account = OrderAccount {
         broker: Id::new(1).ok_or("broker")?,
         tax_status: TaxStatus::Withheld,
@@ -84,8 +84,8 @@ fn purchase_facts(trades: u64) -> Result<OrderPlanFacts, Fail> {
     })
 }
 
-// The fields of an order for 100 shares of ABC at the market.
-const PURCHASE: [&[u8]; 10] = [
+/// The fields of an order for 100 shares of ABC at the market.
+pub const PURCHASE: [&[u8]; 10] = [
     b"100", b"TMB", b"ABC", b"100", b"", b"cash", b"fifo", b"Ann", b"Lee", b"T10",
 ];
 

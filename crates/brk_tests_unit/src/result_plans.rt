@@ -11,11 +11,11 @@ use brk_trade::{
 use std::alloc::Global;
 use std::test::Fail;
 
-// A trade of ABC before its result: its type, quantity, cash or margin, status and commission rate
-// in hundredths of a percent, the shares held, the balance and the broker's commissions in cents,
-// and the last stamp in milliseconds.
+/// A trade of ABC before its result: its type, quantity, cash or margin, status and commission rate
+/// in hundredths of a percent, the shares held, the balance and the broker's commissions in cents,
+/// and the last stamp in milliseconds.
 #[derive(Clone, Copy)]
-struct Case {
+pub struct Case {
     kind: TradeType,
     qty: u32,
     is_cash: bool,
@@ -27,9 +27,9 @@ struct Case {
     last: i64,
 }
 
-// The case of a submitted cash purchase of 100 shares at a balance of 10000.00, with a commission
-// rate of one percent, without shares held and without earlier commissions.
-const SUBMITTED_CASH_PURCHASE: Case = Case {
+/// The case of a submitted cash purchase of 100 shares at a balance of 10000.00, with a commission
+/// rate of one percent, without shares held and without earlier commissions.
+pub const SUBMITTED_CASH_PURCHASE: Case = Case {
     kind: TradeType::MarketBuy,
     qty: 100,
     is_cash: true,
@@ -41,10 +41,10 @@ const SUBMITTED_CASH_PURCHASE: Case = Case {
     last: 1_709_251_200_016,
 };
 
-// Returns the TRADE row of the trade of a case, with the id 1, the account 100, a bid of 10.00, a
-// charge of 5.00, a commission of 10.00, a tax of 0 and no price, which closes the oldest lots
-// first. Fails if the quantity is not within its limits, and if memory runs out.
-fn trade_row_of_case(alloc: Global, case: &Case) -> Result<TradeRow, Fail> {
+/// Returns the TRADE row of the trade of a case, with the id 1, the account 100, a bid of 10.00, a
+/// charge of 5.00, a commission of 10.00, a tax of 0 and no price, which closes the oldest lots
+/// first. Fails if the quantity is not within its limits, and if memory runs out.
+pub fn trade_row_of_case(alloc: Global, case: &Case) -> Result<TradeRow, Fail> {
     let id = Id::new(1).ok_or("trade")?;
     let qty = Qty::new(case.qty).ok_or("quantity")?;
     let bid = Price::new(1_000).ok_or("bid")?;
@@ -92,11 +92,11 @@ fn broker_totals_of_case(case: &Case) -> Result<BrokerTotals, Fail> {
     })
 }
 
-// Returns the facts of the tables on which the plan for the result of a case depends, with tax
-// rates of 20 percent in all, no first day of one-day settlement, and 1 as the number of the next
-// cash row. Fails if the quantity, the rate, the balance or the commissions of the case are not
-// within their limits, and if memory runs out; the shares held are not checked.
-fn result_facts(alloc: Global, case: &Case) -> Result<ResultPlanFacts, Fail> {
+/// Returns the facts of the tables on which the plan for the result of a case depends, with tax
+/// rates of 20 percent in all, no first day of one-day settlement, and 1 as the number of the next
+/// cash row. Fails if the quantity, the rate, the balance or the commissions of the case are not
+/// within their limits, and if memory runs out; the shares held are not checked.
+pub fn result_facts(alloc: Global, case: &Case) -> Result<ResultPlanFacts, Fail> {
     let rate = match case.rate {
         Some(rate) => Some(Rate::new(rate).ok_or("rate")?),
         None => None,

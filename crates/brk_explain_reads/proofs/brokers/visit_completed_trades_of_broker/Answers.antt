@@ -27,7 +27,8 @@ returns-clause-walked g c =
     c.in-Ok.accounts (λ all (t : Tables). all.items ≡ map (λ (a : AccountRow). a.id) (filter (λ (a : AccountRow). a.broker == c.args.broker) t.accounts))
     (rw c.in-Ok.is at c.broker_account_ids.ensures.read)
     (λ t (u : TradeRow). broker_of_account_or_zero t u.account == c.args.broker)
-    (λ t has e r. accounts_known t _ has c.args.broker c.get-least.ensures.low c.as_slice.result.now (c.as_slice.ensures.value ∙ e) r.account) (trades_picked c.args.broker))
+    (λ clean on t holds e r. accounts_known g.S.Store c.args.store.now clean on t holds c.args.broker c.get-least.ensures.low c.as_slice.result.now (c.as_slice.ensures.value ∙ e) r.account)
+    (trades_picked c.args.broker))
 
 pub returns-clause-ready : goal.returns-clause-ready
 returns-clause-ready g c = subst g.V.Visitor.ready (search (rules, c.visit_completed_trades.ensures.leads.0)) c.visit_completed_trades.ensures.ready

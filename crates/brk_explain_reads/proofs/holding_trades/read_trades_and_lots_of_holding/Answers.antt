@@ -9,6 +9,7 @@ use Rattle.brk_trade_rows.specs.declared.trade_row.TradeRow as trade
 use Rattle.brk_model.specs.Joins.{trade_row_with_id}
 use Rattle.brk_model.specs.Tables.{Tables}
 use Rattle.brk_store.proofs.Retelling.{retold, retold_of}
+use Rattle.brk_store.proofs.WalkedLists.{trades_climb}
 use Rattle.brk_model_explain.specs.Holdings as model
 use Rattle.brk_explain_rows.specs.Details.{abstract_lot_details}
 use Rattle.brk_explain_rows.specs.declared.holding_details.LotDetails.{LotDetails}
@@ -72,8 +73,8 @@ returns-clause-read g c =
     (λ held (t : Tables). AreTradesAndLotsOfHolding t account symbol held)
     (λ t has p. (
       one_by_one (trade_row_with_id t) ids (map abstract_trade_row held.done.items) (map_map Some abstract_trade_row held.done.items ∙ p.1 ∙ ap (map (trade_row_with_id t)) all)
-          ∙ ap (flat_map (λ id. option_to_list (trade_row_with_id t id))) p.0 ∙ done_known t (state g.S.Store c.args.store.now).now has account symbol,
-      p.2 ∙ ap (found_lots t) (all ∙ p.0) ∙ lots_known t (state g.S.Store c.args.store.now).now has account symbol,
+          ∙ ap (flat_map (λ id. option_to_list (trade_row_with_id t id))) p.0 ∙ done_known t (trades_climb t (state g.S.Store c.args.store.now).now has) account symbol,
+      p.2 ∙ ap (found_lots t) (all ∙ p.0) ∙ lots_known t (trades_climb t (state g.S.Store c.args.store.now).now has) account symbol,
     ))
     c.loop-id.invariant
 

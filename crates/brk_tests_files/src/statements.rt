@@ -1,13 +1,13 @@
 //! Test of a disk that fails within a statement, at each of its calls: whole first lines are
 //! written, and never the last one.
 
-use crate::desks::expect;
-use crate::files::jobs::{Ended, Job, Observation, Task};
-use crate::files::machine::{
+use crate::jobs::{Ended, Job, Observation, Task};
+use crate::machine::{
     Held, MachineCrash, Sent, options_with_cached_pages, perform_job_until_crash,
     run_batch_until_crash,
 };
-use crate::statements::account_and_days;
+use brk_tests::desks::expect;
+use brk_tests::statements::account_and_days;
 use std::alloc::Global;
 use std::test::Fail;
 

@@ -1,6 +1,6 @@
-use crate::expect::expect;
 use brk_cli_args::{Job, UsageFault, read_words};
 use brk_money::Stamp;
+use brk_tests_unit::expect::expect;
 use std::alloc::{AllocError, Global};
 use std::test::Fail;
 
@@ -74,9 +74,9 @@ fn format_job(alloc: Global, job: &Job) -> Result<String, AllocError> {
     }
 }
 
-// Returns the words of a command line, which are separated by `|`: the name of the program and its
-// arguments. Fails only if memory runs out.
-fn words_of_command_line(alloc: Global, line: &str) -> Result<Vec<String>, AllocError> {
+/// Returns the words of a command line, which are separated by `|`: the name of the program and its
+/// arguments. Fails only if memory runs out.
+pub fn words_of_command_line(alloc: Global, line: &str) -> Result<Vec<String>, AllocError> {
     let mut all = Vec::new(alloc);
     for word in line.split('|') {
         all.push(String::from_str(alloc, word)?)?;

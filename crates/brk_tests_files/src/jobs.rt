@@ -1,16 +1,16 @@
 //! Jobs on the database of a connection to any disk, and what is observed of them.
 
-use crate::desks::{
-    connection_of_desk, create_store, run_batch_of_reader, serve_stream_of_reader, write_statement,
-};
-use crate::statements::Asked;
-use crate::tables::read_all_tables;
 use brk_desk::Desk;
 use brk_http::ServeFault;
 use brk_import::{BatchFault, Counts};
 use brk_money::{Condition, Fault};
 use brk_report::ReportFault;
 use brk_store::Store;
+use brk_tests::desks::{
+    connection_of_desk, create_store, run_batch_of_reader, serve_stream_of_reader, write_statement,
+};
+use brk_tests::statements::Asked;
+use brk_tests::tables::read_all_tables;
 use sqlite::{Alter, Connection};
 use std::alloc::Global;
 

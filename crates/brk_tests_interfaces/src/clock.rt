@@ -1,8 +1,8 @@
 //! Tests of the program's clock.
 
-use crate::expect::expect_equal;
 use brk_cli_exit::brk_io::{Clock, ProgramClock};
 use brk_money::Stamp;
+use brk_tests_unit::expect::expect_equal;
 use std::io::{self, ErrorKind};
 use std::rt;
 use std::test::Fail;

@@ -2,15 +2,15 @@ ghost use Rattle.std.specs.Prelude.{◌≡◌, ◌==◌, ℕ, Ok, Err, codes, le
 ghost use Rattle.brk_money.specs.declared.refusal.Limit.TheVariants as limits;
 ghost use Rattle.brk_money.specs.declared.refusal.Refusal.TheVariants as refusals;
 ghost use Rattle.brk_model.specs.Commands.{Again, Booked, Done, Refused};
-ghost use Rattle.brk_tests_unit.specs.declared.batches.Asked.{Asked};
-ghost use Rattle.brk_tests_unit.specs.declared.batches.Asked.TheVariants as asks;
+ghost use Rattle.brk_tests_interfaces.specs.declared.batches.Asked.{Asked};
+ghost use Rattle.brk_tests_interfaces.specs.declared.batches.Asked.TheVariants as asks;
 
-use crate::expect::{expect, expect_equal};
 use brk_import_engine::{
     BatchFault, Clock, Counts, FaultKind, MAXIMUM_INPUT_BYTES, Rows, execute_batch_on_desk,
 };
 use brk_money::{Fault, Limit, Planned, Refusal, Stamp};
 use brk_ref::{Answer, Key};
+use brk_tests_unit::expect::{expect, expect_equal};
 use std::alloc::{AllocError, Global};
 use std::io;
 use std::io::{Read, Write};

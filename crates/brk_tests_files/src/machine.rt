@@ -1,8 +1,8 @@
 //! A machine with the two files of a desk in memory: it crashes at a call of one of them, loses or
 //! stores the bytes that were not synced, and restarts.
 
-use crate::files::jobs::{Ended, Job, Observation, Task, perform_job};
-use crate::worked::SET;
+use crate::jobs::{Ended, Job, Observation, Task, perform_job};
+use brk_tests::worked::SET;
 use sqlite::{Connection, FileStore, Files, Options};
 use sqlite_disk::{Crash, Disk, Fuse, Memory};
 use std::alloc::{AllocError, Global};

@@ -2,15 +2,15 @@
 //! and of the database file, while a store is created, while it executes a batch, and while a desk
 //! of schema 1 or 2 is upgraded.
 
-use crate::cuts::{ROWS, all_lines_of_retry};
-use crate::desks::{connection_of_desk, desk_with_reference_data, open_in_memory};
-use crate::files::jobs::{Observation, Task, perform_observed_task};
-use crate::files::machine::{
+use crate::jobs::{Observation, Task, perform_observed_task};
+use crate::machine::{
     File, Held, MachineCrash, Sent, files_after_sql, files_with_reference_data,
     run_batch_until_crash,
 };
-use crate::worked;
-use crate::worked::{
+use brk_tests::cuts::{ROWS, all_lines_of_retry};
+use brk_tests::desks::{connection_of_desk, desk_with_reference_data, open_in_memory};
+use brk_tests::worked;
+use brk_tests::worked::{
     LAST_FIRST_LINES, LAST_FIRST_ROWS, SET, SET_LINES, format_batch, lines_of_retry,
 };
 use sqlite::{Alter, Connection};

@@ -1,11 +1,11 @@
 //! Tests of streams of requests: in pieces, with heads of each length, and over a store that fails.
 
-use crate::desks::{desk_with_reference_data, expect, open_in_memory, serve_stream_of_reader};
-use crate::faulty::Failing;
-use crate::files::jobs::{Ended, Job, Observation, Task};
-use crate::files::machine::{Held, MachineCrash, Sent, perform_job_until_crash};
+use crate::jobs::{Ended, Job, Observation, Task};
+use crate::machine::{Held, MachineCrash, Sent, perform_job_until_crash};
 use brk_desk::Desk;
 use brk_http::ServeFault;
+use brk_tests::desks::{desk_with_reference_data, expect, open_in_memory, serve_stream_of_reader};
+use brk_tests::faulty::Failing;
 use sqlite::{Alter, Connection, Options};
 use std::alloc::{AllocError, Global};
 use std::test::Fail;

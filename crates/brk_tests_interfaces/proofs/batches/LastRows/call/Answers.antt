@@ -2,8 +2,8 @@ use Rattle.std.proofs.Common.{◌≡◌, ℕ, Bool, true, false, rules, refl, ap
 use Rattle.std.specs.Prelude.{nat_abs}
 use Rattle.brk_model.specs.Commands.{Answer, Booked, Done}
 use Rattle.brk_import_engine.specs.Answers.{RepresentsDurably}
-use Rattle.brk_tests_unit.specs.declared.batches.Last.{Last}
-use Rattle.brk_tests_unit.proofs.batches.LastRows.call.Goals as goal
+use Rattle.brk_tests_interfaces.specs.declared.batches.Last.{Last}
+use Rattle.brk_tests_interfaces.proofs.batches.LastRows.call.Goals as goal
 
 -- nothing is asked of a stop
 stands_by : (sure : Bool) (desk : Last) → RepresentsDurably (λ (d : Last) (b : ℕ). b ≡ d.moment) (λ _ _ _. Unit {0}) sure desk desk.moment

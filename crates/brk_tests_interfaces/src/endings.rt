@@ -1,9 +1,9 @@
-use crate::expect::expect_equal;
 use brk_cli_args::UsageFault;
 use brk_cli_exit::brk_io::{BatchFault, FaultKind, ReportFault};
 use brk_cli_exit::{Ending, end_with};
 use brk_http_engine::{FaultKind as StreamFault, ServeFault};
 use brk_money::{Condition, Fault, Refusal};
+use brk_tests_unit::expect::expect_equal;
 use std::alloc::Global;
 use std::io;
 use std::io::Write;
@@ -14,9 +14,9 @@ fn ending_of_batch_fault(kind: FaultKind) -> Ending {
     Ending::Batch(BatchFault { rows: 3, kind })
 }
 
-// Checks that `end_with` returns the exit status `status` for an ending, and that it writes exactly
-// the text `text` to its error stream. Fails with both statuses and texts if not.
-fn expect_status_and_line(
+/// Checks that `end_with` returns the exit status `status` for an ending, and that it writes
+/// exactly the text `text` to its error stream. Fails with both statuses and texts if not.
+pub fn expect_status_and_line(
     alloc: Global,
     ending: Ending,
     status: u8,

@@ -1,0 +1,111 @@
+//! Tests of the calls of the database file that a sale makes: the sale of one share of 100 lots
+//! makes no more than the sale of one share of a single lot.
+
+use crate::jobs::{Job, Task};
+use crate::machine::{
+    Held, MachineCrash, Sent, files_with_reference_data, options_with_cached_pages,
+    perform_job_until_crash, run_batch_until_crash,
+};
+use brk_tests::desks::expect;
+use brk_tests::worked::{append_end_record, append_purchase};
+use std::alloc::Global;
+use std::test::Fail;
+
+// The number of lots of account 100.
+const LOTS_AT_DESK: u64 = 100;
+
+// Returns the text of a batch that adds account 101, and buys two shares of ABC at 10.00
+// `LOTS_AT_DESK` times for account 100 and then once for account 101, with the trade ids from 1 on.
+// Fails only if memory runs out.
+fn batch_of_purchases_of_two_shares(alloc: Global) -> Result<String, Fail> {
+    let mut batch = String::from_str(alloc, "batch,P\naccount,101,10,1,Side,1,10000.00\n")?;
+    for n in 1..=LOTS_AT_DESK {
+        append_purchase(&mut batch, 100, 2, n)?;
+    }
+    append_purchase(&mut batch, 101, 2, LOTS_AT_DESK + 1)?;
+    append_end_record(&mut batch, 2 * LOTS_AT_DESK + 3)?;
+    Ok(batch)
+}
+
+// Returns the files of a desk on which account 100 has `LOTS_AT_DESK` lots of two shares and
+// account 101 has one. Fails if a row of the purchases is not accepted or memory runs out.
+fn files_with_hundred_lots(alloc: Global) -> Result<Held, Fail> {
+    let set = files_with_reference_data(alloc)?;
+    let batch = batch_of_purchases_of_two_shares(alloc)?;
+    let Sent { seen, held, .. } = run_batch_until_crash(
+        alloc,
+        &set,
+        MachineCrash::NEVER,
+        batch.as_bytes(),
+    )?;
+    if !seen.lines.ends_with(b"end,203,0,0\n") {
+        return Err("the purchases")?;
+    }
+    Ok(held)
+}
+
+// Returns the text of a batch with the order of a sale of `shares` shares of ABC of an account and
+// its result at 10.00. The sale is the first trade after those of
+// `batch_of_purchases_of_two_shares`, and closes the first lots first. Fails only if memory runs
+// out.
+fn batch_of_one_sale(alloc: Global, account: u64, shares: u64) -> Result<String, Fail> {
+    let trade = LOTS_AT_DESK + 2;
+    Ok(format!(in alloc;
+        "batch,S\norder,{account},TMS,ABC,{shares},,cash,fifo,Ann,Lee,T10\nresult,{trade},10.00\nend,2\n"
+    )?)
+}
+
+// Returns true if a desk in the files `held`, whose database file accepts `calls` calls and fails
+// at each later call, accepts the order and the result of the sale of `shares` shares of an
+// account. The desk caches only one page of those that it reads. Fails only if memory runs out.
+fn is_sale_complete_within_calls(
+    alloc: Global,
+    held: &Held,
+    account: u64,
+    shares: u64,
+    calls: u64,
+) -> Result<bool, Fail> {
+    let batch = batch_of_one_sale(alloc, account, shares)?;
+    let Sent { seen, .. } = perform_job_until_crash(
+        alloc,
+        held,
+        MachineCrash::after_database_calls(calls),
+        options_with_cached_pages(1),
+        Job::Desk(Task::Batch),
+        batch.as_bytes(),
+    )?;
+    Ok(seen.lines.ends_with(b"end,2,0,0\n"))
+}
+
+// Returns the least number of calls of the database file, from 1 on, with which the sale of one
+// share of an account completes, or 8,192 if it does not complete with fewer. Supposes that the
+// sale completes with each greater number too. Fails only if memory runs out.
+fn least_calls_of_sale(alloc: Global, held: &Held, account: u64) -> Result<u64, Fail> {
+    let mut most = 0u64;
+    for bit in [4_096, 2_048, 1_024, 512, 256, 128, 64, 32, 16, 8, 4, 2, 1] {
+        let more = most.saturating_add(bit);
+        if !is_sale_complete_within_calls(alloc, held, account, 1, more)? {
+            most = more;
+        }
+    }
+    Ok(most.saturating_add(1))
+}
+
+/// Checks that the sale of one share needs no more calls of the database file with 100 lots than
+/// with one lot, and that the sale of 33 shares of the 100 lots needs more.
+pub fn calls_of_a_sale_do_not_grow_with_lots(alloc: Global) -> Result<(), Fail> {
+    let held = files_with_hundred_lots(alloc)?;
+    let calls = least_calls_of_sale(alloc, &held, 101)?;
+    expect(
+        is_sale_complete_within_calls(alloc, &held, 101, 1, calls)?,
+        format_args!("one lot, {calls} calls"),
+    )?;
+    expect(
+        is_sale_complete_within_calls(alloc, &held, 100, 1, calls)?,
+        format_args!("100 lots, {calls} calls"),
+    )?;
+    expect(
+        !is_sale_complete_within_calls(alloc, &held, 100, 33, calls)?,
+        format_args!("33 of 100 lots, {calls} calls"),
+    )
+}

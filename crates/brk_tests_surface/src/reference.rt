@@ -1,0 +1,154 @@
+use brk_money::{Planned, Qty, Rate, TaxRate};
+use brk_ref::{
+    Account, Band, BatchName, Broker, Charge, Customer, CustomerTax, Executor, Kept, Key, Listing,
+    Permission, RowNumber, Security, Tax, band_for, check_account, check_band, check_broker,
+    check_charge, check_customer, check_customer_tax, check_permission, check_security, check_tax,
+    overlaps, permitted, tax_sum,
+};
+use brk_tests_unit::expect::{expect_equal, expect_text};
+use std::alloc::Global;
+use std::test::Fail;
+
+// The fields of a broker.
+const BROKER: [&[u8]; 2] = [b"1", b"Bo"];
+
+// The fields of a customer.
+const CUSTOMER: [&[u8]; 5] = [b"10", b"1", b"T10", b"Lee", b"Ann"];
+
+// The fields of an account.
+const ACCOUNT: [&[u8]; 6] = [b"100", b"10", b"1", b"Main", b"1", b"10000.00"];
+
+// The fields of a security and its price.
+const SECURITY: [&[u8]; 5] = [b"ABC", b"Acme", b"NYSE", b"Tech", b"10.00"];
+
+// The fields of a charge.
+const CHARGE: [&[u8]; 3] = [b"TMB", b"1", b"5.00"];
+
+// The fields of a commission band.
+const BAND: [&[u8]; 6] = [b"1", b"TMB", b"NYSE", b"1", b"999999", b"100"];
+
+// The fields of a band that has the last quantity of `BAND` alone.
+const LAST_BAND: [&[u8]; 6] = [b"1", b"TMB", b"NYSE", b"999999", b"999999", b"50"];
+
+// The fields of a tax rate of 20 percent.
+const TAX: [&[u8]; 3] = [b"1", b"State", b"20000"];
+
+// The fields of a tax rate of 80.001 percent.
+const LARGE_TAX: [&[u8]; 3] = [b"2", b"Fed", b"80001"];
+
+// The fields of a tax of a customer.
+const CUSTOMER_TAX: [&[u8]; 2] = [b"10", b"1"];
+
+// Checks that the fields of a broker, a customer and an account are parsed to their records. Fails
+// if not, and if memory runs out.
+fn expect_people(alloc: Global) -> Result<(), Fail> {
+    let checked: Planned<Broker> = check_broker(alloc, &BROKER);
+    let Broker { id, name } = checked??;
+    expect_equal(id.get(), 1)?;
+    expect_text(name.as_str(), "Bo")?;
+    let customer: Customer = check_customer(alloc, &CUSTOMER)??;
+    expect_equal((customer.id.get(), customer.tier.get()), (10, 1))?;
+    expect_text(customer.last_name.as_str(), "Lee")?;
+    let account: Account = check_account(alloc, &ACCOUNT)??;
+    expect_equal(
+        (account.customer.get(), account.opening.get()),
+        (10, 1_000_000),
+    )
+}
+
+// Checks that the fields of a security, a charge, a tax rate and a customer's tax are parsed to
+// their records. Fails if not, and if memory runs out.
+fn expect_markets(alloc: Global) -> Result<(), Fail> {
+    let Listing { security, price } = check_security(alloc, &SECURITY)??;
+    let Security { symbol, sector, .. } = security;
+    expect_text(symbol.as_str(), "ABC")?;
+    expect_text(sector.as_str(), "Tech")?;
+    expect_equal(price.get(), 1_000)?;
+    let charge: Charge = check_charge(&CHARGE)?;
+    expect_equal(charge.amount.get(), 500)?;
+    let CustomerTax { customer, tax } = check_customer_tax(&CUSTOMER_TAX)?;
+    expect_equal((customer.get(), tax.get()), (10, 1))
+}
+
+// Checks that a band has its rate for 100 shares, that a band overlaps with its last quantity, and
+// that tax rates of 20 percent are summed, but not with one of 80.001 percent. Fails if not, and if
+// memory runs out.
+fn expect_rates(alloc: Global) -> Result<(), Fail> {
+    let band: Band = check_band(alloc, &BAND)??;
+    let last = check_band(alloc, &LAST_BAND)??;
+    let qty = Qty::new(100).ok_or("quantity")?;
+    let bands = [band];
+    expect_equal(band_for(&bands, qty), Rate::new(100))?;
+    expect_equal(overlaps(&bands, &last), true)?;
+    let state: Tax = check_tax(alloc, &TAX)??;
+    expect_equal(tax_sum(&[state]), TaxRate::new(20_000))?;
+    let taxes = [check_tax(alloc, &TAX)??, check_tax(alloc, &LARGE_TAX)??];
+    expect_equal(tax_sum(&taxes), None)
+}
+
+// Returns the permission of account 100 for Ann Lee with this tax id. Fails if the tax id is
+// malformed, and if memory runs out.
+fn permission_with_tax_id(alloc: Global, tax_id: &[u8]) -> Result<Permission, Fail> {
+    let fields: [&[u8]; 5] = [b"100", b"0000", tax_id, b"Lee", b"Ann"];
+    Ok(check_permission(alloc, &fields)??)
+}
+
+// Returns the executor Ann Lee with this tax id. Fails if the tax id is malformed, and if memory
+// runs out.
+fn executor_with_tax_id(alloc: Global, tax_id: &[u8]) -> Result<Executor, Fail> {
+    let Permission {
+        tax_id,
+        last_name,
+        first_name,
+        ..
+    } = permission_with_tax_id(alloc, tax_id)?;
+    Ok(Executor {
+        first_name,
+        last_name,
+        tax_id,
+    })
+}
+
+// Checks that a customer is permitted without a permission, and that an executor with another tax
+// id is permitted only with one. Fails if not, and if memory runs out.
+fn expect_permitted_executors(alloc: Global) -> Result<(), Fail> {
+    let customer = check_customer(alloc, &CUSTOMER)??;
+    let own = executor_with_tax_id(alloc, b"T10")?;
+    let other = executor_with_tax_id(alloc, b"T11")?;
+    let permissions = [permission_with_tax_id(alloc, b"T11")?];
+    expect_equal(permitted(&customer, &[], &own), true)?;
+    expect_equal(permitted(&customer, &[], &other), false)?;
+    expect_equal(permitted(&customer, &permissions, &other), true)
+}
+
+// Checks that a stored reply has the key, the row and the line that it was made of. Fails if not,
+// and if memory runs out.
+fn expect_kept_reply(alloc: Global) -> Result<(), Fail> {
+    let batch = BatchName::parse(alloc, b"A")?.ok_or("batch name")?;
+    let n = RowNumber::new(1).ok_or("number of a row")?;
+    let kept = Kept {
+        key: Key { batch, n },
+        row_text: String::from_str(alloc, "broker\x1f1\x1fBo")?,
+        line: String::from_str(alloc, "1709251200000")?,
+    };
+    let Kept {
+        key: Key { batch, n },
+        row_text,
+        line,
+    } = kept;
+    expect_text(batch.as_str(), "A")?;
+    expect_equal(n.get(), 1)?;
+    expect_text(row_text.as_str(), "broker\x1f1\x1fBo")?;
+    expect_text(line.as_str(), "1709251200000")
+}
+
+/// Checks the public names of brk_ref: the records and the parsers of their fields, which executor
+/// is permitted, the rate of a quantity, bands that overlap, and the sum of tax rates. Fails if an
+/// answer differs, and if memory runs out.
+pub fn surface_of_brk_ref(alloc: Global) -> Result<(), Fail> {
+    expect_people(alloc)?;
+    expect_markets(alloc)?;
+    expect_rates(alloc)?;
+    expect_permitted_executors(alloc)?;
+    expect_kept_reply(alloc)
+}
