@@ -1,0 +1,24 @@
+-- The accounts with a balance below zero at the end of a day, and since when.
+-- Options: --day --account --customer --broker
+WITH COUNTED AS (
+    SELECT ACCOUNT, CASH_ROW, STAMP, DAY, BALANCE
+    FROM ASKED JOIN CASH
+    WHERE STAMP <= UNTIL
+), AT_END AS (
+    SELECT ACCOUNT, NAME, CUSTOMER, BROKER,
+        ifnull((SELECT BALANCE FROM COUNTED WHERE COUNTED.ACCOUNT = CHOSEN.ACCOUNT
+                ORDER BY CASH_ROW DESC LIMIT 1), OPENING) AS BALANCE,
+        (SELECT max(CASH_ROW) FROM COUNTED WHERE COUNTED.ACCOUNT = CHOSEN.ACCOUNT AND BALANCE >= 0) AS LAST_ABOVE,
+        OPENING
+    FROM CHOSEN
+)
+SELECT ACCOUNT, NAME, CUSTOMER, C_L_NAME AS LAST, C_F_NAME AS FIRST, BROKER,
+    amount_text(BALANCE) AS BALANCE, time_text(SINCE) AS SINCE, AS_OF - SINCE / 86400000 AS DAYS
+FROM ASKED JOIN (
+    -- the cash row after the last one that left the balance at 0 or above it; none if it was below 0 from the opening on
+    SELECT AT_END.*, (SELECT min(STAMP) FROM COUNTED WHERE COUNTED.ACCOUNT = AT_END.ACCOUNT
+        AND CASH_ROW > ifnull(LAST_ABOVE, CASE WHEN OPENING >= 0 THEN 0 END)) AS SINCE
+    FROM AT_END
+    WHERE BALANCE < 0)
+    JOIN CUSTOMER ON C_ID = CUSTOMER
+ORDER BY ACCOUNT;
