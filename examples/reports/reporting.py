@@ -48,6 +48,13 @@ class OutputFailed(Exception):
     """Standard output failed: a part may be printed."""
 
 
+def whole(number):
+    """Returns a number of SQL. SQL makes a float of a product that exceeds 64 bits: that is refused."""
+    if not isinstance(number, int):
+        raise TypeError(number)
+    return number
+
+
 class AmountSum:
     """amount_sum(CENTS): the exact sum of any number of amounts, as a text. It is empty if one of them
     is null, which stands for an amount that is not known. Of no amount it is null."""
@@ -59,7 +66,7 @@ class AmountSum:
         if cents is None:
             self.is_known = False
         else:
-            self.cents += cents
+            self.cents += whole(cents)
 
     def finalize(self):
         return amount_text(self.cents) if self.is_known else ""
@@ -71,13 +78,13 @@ def time_text(stamp):
     return moment.isoformat(sep=" ", timespec="milliseconds")
 
 
-def of_null(text_of):
-    """The function of SQL that a function is: null of null."""
-    return lambda number: None if number is None else text_of(number)
+def of_sql(text_of):
+    """Returns a function of a number as a function of SQL, which is null for null."""
+    return lambda number: None if number is None else text_of(whole(number))
 
 
 def why(path, error):
-    """Says what an error of sqlite3 means of a file."""
+    """Says what an error means that came while a file was read."""
     text = str(error)
     if "locked" in text:
         return f"{path} is in use: a run of brk or brk serve holds it. Try again when it has ended, or take the newest copy"
@@ -102,10 +109,10 @@ def opened(path):
                 number = "without a row of DESK" if desk is None else f"of schema {desk[0]}, and not {desk_books.SCHEMA}"
                 raise Refused(f"{path} is {number}; brk audit upgrades a file of an older schema")
             for name, text_of in (("amount_text", amount_text), ("day_text", day_text), ("time_text", time_text)):
-                conn.create_function(name, 1, of_null(text_of), deterministic=True)
+                conn.create_function(name, 1, of_sql(text_of), deterministic=True)
             conn.create_aggregate("amount_sum", 1, AmountSum)
             yield conn
-    except sqlite3.Error as error:
+    except (OSError, sqlite3.Error) as error:
         raise Refused(why(path, error)) from None
 
 
@@ -267,7 +274,7 @@ def run(name, main):
     message."""
     try:
         return main()
-    except Refused as reason:
+    except (Refused, OSError) as reason:
         print(f"{name}: nothing was printed: {reason}", file=sys.stderr)
         return NOTHING_PRINTED
     except OutputFailed as failed:
