@@ -4,7 +4,7 @@
 
 A script reads a copy, which examples/desk_books.py makes in a temporary folder and deletes; the desk's
 file is only read. Numbers are whole: cents, shares, days since 1970-01-01 and milliseconds since then.
-Only their texts have a point. It needs Python 3.9 and nothing else.
+Only their texts have a point. It needs Python 3.9 with SQLite 3.37, and nothing else.
 """
 
 import contextlib
@@ -27,6 +27,8 @@ from desk_books import DAY_MS, amount_text, day_text  # noqa: E402
 
 # exit statuses
 DONE, NOTHING_PRINTED, OUTPUT_FAILED, DIFFERS = 0, 1, 3, 5
+# the first version that reads the tables of a desk
+LEAST_SQLITE = (3, 37)
 LAST_DAY = (datetime.date.max - datetime.date(1970, 1, 1)).days
 MOST_ID = 1_000_000_000_000
 # the tables that have the values of options
@@ -100,6 +102,8 @@ def why(path, error):
 @contextlib.contextmanager
 def opened(path):
     """Opens a copy of a desk's file for SQL, and deletes it at the end."""
+    if sqlite3.sqlite_version_info < LEAST_SQLITE:
+        raise Refused(f"Python has SQLite {sqlite3.sqlite_version}, and {'.'.join(map(str, LEAST_SQLITE))} is needed")
     if not os.path.isfile(path) or not os.path.getsize(path):
         raise Refused(f"no desk: {path} is missing or empty")
     try:
