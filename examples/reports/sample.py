@@ -43,9 +43,9 @@ SOURCES = """
     CREATE TEMP TABLE SOURCE AS SELECT CAST(K_LINE AS INTEGER) AS STAMP, K_BATCH AS BATCH, K_N AS ROW FROM KEPT;
     CREATE INDEX temp.SOURCE_STAMP ON SOURCE (STAMP);
 """
-# the first two columns are the id and the amount, without its sign
+# of each population its id, and a query whose first two columns are the id and the amount, without its sign
 POPULATIONS = {
-    "trades": """
+    "trades": ("TRADE", """
         SELECT TRADE, abs(SETTLEMENT) AS SIZE, time_text(C.STAMP) AS COMPLETED, ACCOUNT, CUSTOMER, BROKER,
             TYPE, SYMBOL, SHARES, amount_text(PRICE) AS PRICE, amount_text(COMMISSION) AS COMMISSION,
             amount_text(TAX) AS TAX, amount_text(SETTLEMENT) AS SETTLEMENT,
@@ -55,15 +55,13 @@ POPULATIONS = {
             LEFT JOIN SOURCE AS PLACED
                 ON PLACED.STAMP = (SELECT min(TH_DTS) FROM TRADE_HISTORY WHERE TH_T_ID = TRADE)
         WHERE DAY BETWEEN FIRST_DAY AND LAST_DAY
-        ORDER BY TRADE
-    """,
-    "movements": """
+    """),
+    "movements": ("CASH_ROW", """
         SELECT CASH_ROW, abs(AMOUNT) AS SIZE, time_text(C.STAMP) AS POSTED, ACCOUNT, CUSTOMER, BROKER, NAME,
             amount_text(AMOUNT) AS AMOUNT, BATCH, ROW
         FROM ASKED JOIN CASH AS C LEFT JOIN SOURCE ON SOURCE.STAMP = C.STAMP
         WHERE TRADE IS NULL AND DAY BETWEEN FIRST_DAY AND LAST_DAY
-        ORDER BY CASH_ROW
-    """,
+    """),
 }
 
 
@@ -120,19 +118,22 @@ def main():
         reporting.require(conn, given.file, chosen)
         reporting.choose(conn, **chosen, **reporting.period_of(words, given))
         conn.executescript(SOURCES)
-        cursor = conn.execute(POPULATIONS[given.of])
+        key, population = POPULATIONS[given.of]
+        items = conn.execute(f"SELECT {key}, SIZE FROM ({population}) ORDER BY {key}").fetchall()
+        if not items:
+            raise Refused(f"{given.file} has no {given.of} there")
+        if any(size is None for _, size in items):
+            raise Refused("a completed trade has no settlement: run brk audit")
+        draw, method = (by_amount, "by amount") if given.by_amount else (by_chance, "by chance")
+        drawn = [(items[place][0], hits) for place, hits in draw(items, given.seed, given.count)]
+        conn.execute("CREATE TEMP TABLE DRAWN (ID INTEGER PRIMARY KEY)")
+        conn.executemany("INSERT INTO DRAWN VALUES (?)", [(one,) for one, _ in drawn])
+        cursor = conn.execute(f"SELECT * FROM ({population}) WHERE {key} IN (SELECT ID FROM DRAWN)")
         heads = [column[0] for column in cursor.description]
-        items = cursor.fetchall()
+        found = {row[0]: row[2:] for row in cursor}
         (last,) = conn.execute("SELECT D_LAST FROM DESK").fetchone()
-    if not items:
-        raise Refused(f"{given.file} has no {given.of} there")
-    draw, method = (by_amount, "by amount") if given.by_amount else (by_chance, "by chance")
-    total = amount_text(sum(item[1] for item in items))
-    common = (given.seed, method, len(items), total, last)
-    rows = []
-    for place, (item, hits) in enumerate(draw(items, given.seed, given.count), 1):
-        one, _, *rest = items[item]
-        rows.append((*common, place, hits, one, *rest))
+    common = (given.seed, method, len(items), amount_text(sum(item[1] for item in items)), last)
+    rows = [(*common, place, hits, one, *found[one]) for place, (one, hits) in enumerate(drawn, 1)]
     if given.count > len(items) and not given.by_amount:
         print(f"sample.py: the population has {len(items)} items, and all are in the sample", file=sys.stderr)
     reporting.print_csv(("SEED", "METHOD", "POPULATION", "AMOUNT_OF_ALL", "LAST_STAMP", "PLACE", "HITS", heads[0], *heads[2:]), rows)
