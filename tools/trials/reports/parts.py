@@ -1,9 +1,10 @@
 """Parts of reports together, reports as of earlier days, and control totals."""
 
+import collections
 import subprocess
 import sys
 
-from desks import DAY_MS, LATE, PEERS, REPORTS, cents_of, date_of, day_of, facts_of, total
+from desks import DAY_MS, FIRST, LATE, OFFSETS, PEERS, REPORTS, cents_of, date_of, day_of, facts_of, total
 
 PERIODS = ("orders", "trades", "gains", "cash", "cash_by_day", "settlements", "settlements_by_day")
 MOMENTS = ("accounts", "customers", "settled_cash", "positions_by_account", "positions_by_symbol", "lots", "pending", "submitted", "overdrawn")
@@ -67,6 +68,29 @@ def as_of(desk):
         desk.tell(f"{name} as of the last day", desk.report(name, "--day", max(days)), desk.report(name))
 
 
+def at_midnight(desk):
+    """Reports as of the day that ended within a batch: what has a time of this day or an earlier one."""
+    day = date_of(FIRST + OFFSETS[LATE] * DAY_MS)
+    balances = {row["ACCOUNT"]: cents_of(row["OPENING"]) for row in desk.report("accounts")}
+    for row in desk.report("cash"):
+        balances[row["ACCOUNT"]] += cents_of(row["AMOUNT"]) if row["POSTED"][:10] <= day else 0
+    told = {row["ACCOUNT"]: cents_of(row["BALANCE"]) for row in desk.report("accounts", "--day", day)}
+    desk.tell("accounts at midnight: cash", told, balances)
+    shares = collections.Counter()
+    for row in desk.report("trades"):
+        shares[row["ACCOUNT"], row["SYMBOL"]] += int(row["SHARES"]) if row["COMPLETED"][:10] <= day else 0
+    told = {(row["ACCOUNT"], row["SYMBOL"]): int(row["SHARES"]) for row in desk.report("positions_by_account", "--day", day)}
+    desk.tell("positions at midnight: trades", told, {key: number for key, number in shares.items() if number})
+    last = {}
+    for trade, lines in desk.trades.items():
+        for _, its_day, _, status, *_ in (line.split() for line in lines if line.startswith("Status ")):
+            if its_day <= day:
+                last[str(trade)] = status
+    for word, name in (("PNDG", "pending"), ("SBMT", "submitted")):
+        told = [row["TRADE"] for row in desk.report(name, "--day", day)]
+        desk.tell(f"{name} at midnight: explain trade", told, [trade for trade, status in last.items() if status == word])
+
+
 def totals(desk):
     """Control totals: they are those of other reports, and differ where a row was changed."""
     rows = {row["TOTAL"]: row for row in desk.report("totals")}
@@ -107,4 +131,4 @@ def totals(desk):
         desk.tell(f"totals: {sql}", (status, set(names) <= set(differing), "run brk audit" in errors), (5, True, True))
 
 
-ALL = (parts, as_of, totals)
+ALL = (parts, as_of, at_midnight, totals)
