@@ -160,7 +160,9 @@ class Desk:
             moment = FIRST + offset * DAY_MS + self.draw.randrange(DAY_MS - 10000)
             if number == LATE:
                 moment = FIRST + (offset + 1) * DAY_MS - 20
-            self.send(f"DAY-{number}", moment, market.day(number))
+            # the last batches begin with a row that is refused
+            refused = [["cancel", 999999]] if number > LATE else []
+            self.send(f"DAY-{number}", moment, [*refused, *market.day(number)])
             self.keep(number)
 
     def send(self, name, moment, rows):
