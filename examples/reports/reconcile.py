@@ -22,7 +22,11 @@ the trades that are due on DAY or before. It prints
 | TRADED | the shares of the trades that were completed on DAY or before, as HOLDING_SUMMARY had them |
 | UNSETTLED | TRADED less SETTLED |
 | TRADES | the trades that were completed on DAY or before and are due later |
-| MAY_BE | of a break: `trade date` if CUSTODIAN is TRADED; `early` and trades of which each alone, delivered before its due day, makes the difference; `late` and trades, due in the seven days up to DAY, of which each alone, not yet delivered, makes it |
+| MAY_BE | what may explain a break |
+
+MAY_BE is `trade date` if CUSTODIAN is TRADED. Otherwise it is `early` with the trades of which each
+alone, delivered before its due day, makes the difference, and `late` with those, due in the seven days
+up to DAY, of which each alone, not yet delivered, makes it.
 
 Exit status: 0 if all match; 5 if there is a break; 1 if nothing was printed; 2 if the arguments are
 wrong; 3 if standard output failed. FILE is read as by examples/reports/report.
