@@ -1,0 +1,16 @@
+-- The cash of each account on each day of a period on which it had cash rows.
+-- Options: --day --from --to --account --customer --broker
+SELECT day_text(DAY) AS DAY, ACCOUNT, CUSTOMER, BROKER, count(*) AS CASH_ROWS,
+    amount_text(OPENING) AS OPENING,
+    ifnull(amount_sum(AMOUNT) FILTER (WHERE TRADE IS NOT NULL), '0.00') AS TRADES,
+    ifnull(amount_sum(AMOUNT) FILTER (WHERE TRADE IS NULL AND AMOUNT > 0), '0.00') AS DEPOSITS,
+    ifnull(amount_sum(AMOUNT) FILTER (WHERE TRADE IS NULL AND AMOUNT < 0), '0.00') AS WITHDRAWALS,
+    amount_text(CLOSING) AS CLOSING
+FROM ASKED JOIN (
+    SELECT *, first_value(BALANCE - AMOUNT) OVER OF_DAY AS OPENING, last_value(BALANCE) OVER OF_DAY AS CLOSING
+    FROM CASH
+    WINDOW OF_DAY AS (PARTITION BY ACCOUNT, DAY ORDER BY CASH_ROW
+                      ROWS BETWEEN UNBOUNDED PRECEDING AND UNBOUNDED FOLLOWING))
+WHERE DAY BETWEEN FIRST_DAY AND LAST_DAY
+GROUP BY DAY, ACCOUNT
+ORDER BY DAY, ACCOUNT;
