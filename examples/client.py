@@ -13,8 +13,10 @@ It ends with 1 if a row cannot be sent.
 import argparse
 import sys
 
-import desk_client
-from desk_client import amount, row
+sys.dont_write_bytecode = True
+
+import desk_client  # noqa: E402
+from desk_client import amount, row  # noqa: E402
 
 BATCH = "CLIENT-1"
 ANN = {"FIRST": 'Ann "Nan"', "LAST": "Lee", "TAXID": "T10"}

@@ -361,6 +361,8 @@ class Http:
             # a body of bytes is sent with its length; one of an iterator would be chunked, and refused
             self.stream.request("POST", target, json.dumps(texts).encode())
             reply = self.stream.getresponse()
+            if reply.getheader("Content-Length") is None:
+                raise ConnectionError("the reply is cut")
             (word, value), = json.loads(reply.read()).items()
         except (ValueError, AttributeError) as error:
             self.close()
