@@ -54,6 +54,9 @@ MOST_REQUESTS = 1000
 REPLY_SECONDS = 120
 MOST_BODY_BYTES = 65_536
 MOST_BATCH_BYTES = 67_108_864
+# how many trades a lookup has
+MOST_TRADES = 20
+LAST_STAMP = 253_402_300_799_999
 BATCH = re.compile(r"[A-Za-z0-9._-]{1,40}")
 WHOLE = re.compile(r"0|[1-9][0-9]*")
 AMOUNT = re.compile(r"-?(?:0|[1-9][0-9]*)\.[0-9]{2}")
@@ -553,6 +556,24 @@ class Client:
         if word == "error":
             raise NotSent(f"{view}: {value}")
         return value
+
+    def lookup(self, view, key, first=0, last=LAST_STAMP):
+        """Yields the records of each trade of `accounttrades` or `symboltrades`, oldest first, also beyond the twenty of one view.
+        Raises ClientError if more than twenty trades share a stamp: their ids are in the reply to the feed that gave it to them."""
+        seen = set()
+        while True:
+            trades = []
+            for record in self.ask(view, key, first, last):
+                trades += [[]] if record[0] == "trade" else []
+                trades[-1].append(record)
+            fresh = [records for records in trades if records[0][1] not in seen]
+            yield from fresh
+            if len(trades) < MOST_TRADES:
+                return
+            if not fresh:
+                raise ClientError(f"{view} {key}: more than {MOST_TRADES} trades of the stamp {first}")
+            seen.update(records[0][1] for records in fresh)
+            first = trades[-1][0][2]
 
     def submitted(self):
         """The submitted trades: Trade, type, symbol, quantity, price asked for."""
