@@ -82,7 +82,7 @@ class KeyUsed(ClientError):
 
 
 class Refused(ClientError):
-    """A query was refused."""
+    """A query was refused, or a field was asked of a row that was refused."""
 
     def __init__(self, fields):
         super().__init__(words_of(fields))
@@ -215,10 +215,10 @@ class Reply:
         return self.word != "no"
 
     def __getitem__(self, name):
-        """A field of an accepted row by its name in docs/formats/rows.md, such as `T_ID` or `SE_AMT`. Fields that a later program adds
-        are at the end, and have no name here."""
+        """A field of an accepted row by its name in docs/formats/rows.md, such as `T_ID` or `SE_AMT`; of a refused row it raises
+        Refused. Fields that a later program adds are at the end, and have no name here."""
         if not self.accepted:
-            raise KeyError(f"the row was refused with {words_of(self.fields)}")
+            raise Refused(self.fields)
         for place, line in enumerate(REPLIES[self.kind]):
             if line["field"] == name:
                 return self.fields[place] if line["occurs"] == "1" else self.fields[place:]
