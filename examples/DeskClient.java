@@ -451,6 +451,8 @@ public final class DeskClient implements AutoCloseable {
         final Map<String, TreeMap<Long, List<String>>> batches = new LinkedHashMap<>();
         final Map<String, TreeMap<Long, Reply>> replies = new HashMap<>();
         final Map<String, Long> readings = new HashMap<>();
+        // the numbers of the rows that have no reply
+        final Map<String, TreeSet<Long>> open = new LinkedHashMap<>();
         private final FileChannel file;
 
         Journal(Path path) throws IOException, ClientException {
@@ -502,11 +504,16 @@ public final class DeskClient implements AutoCloseable {
                 readings.put(batch, Long.parseLong((String) entry.get(3)));
                 for (Object row : entry.subList(4, entry.size())) {
                     batches.computeIfAbsent(batch, name -> new TreeMap<>()).put(number, texts(row));
+                    open.computeIfAbsent(batch, name -> new TreeSet<>()).add(number);
                     replies.computeIfAbsent(batch, name -> new TreeMap<>()).remove(number++);
                 }
             } else if (what.equals("reply")) {
                 String kind = batches.get(batch).get(number).get(0);
                 replies.get(batch).put(number, new Reply(kind, (String) entry.get(3), texts(entry.subList(4, entry.size()))));
+                open.get(batch).remove(number);
+                if (open.get(batch).isEmpty()) {
+                    open.remove(batch);
+                }
             } else {
                 throw new IOException(what);
             }
@@ -545,9 +552,7 @@ public final class DeskClient implements AutoCloseable {
 
         /** The numbers of the rows of a batch that have no reply. */
         List<Long> pending(String batch) {
-            Set<Long> numbers = new TreeSet<>(batches.getOrDefault(batch, new TreeMap<>()).keySet());
-            numbers.removeAll(replies.getOrDefault(batch, new TreeMap<>()).keySet());
-            return List.copyOf(numbers);
+            return List.copyOf(open.getOrDefault(batch, new TreeSet<>()));
         }
 
         @Override
@@ -606,9 +611,9 @@ public final class DeskClient implements AutoCloseable {
             }
         }
 
-        abstract void require(Collection<List<String>> rows) throws ClientException;
+        abstract void require(Collection<List<String>> stored, Collection<List<String>> rows) throws ClientException;
 
-        abstract void deliver(String batch, TreeMap<Long, List<String>> rows, List<Long> numbers, Set<Long> refused, long reading, Taker taker)
+        abstract void deliver(String batch, TreeMap<Long, List<String>> rows, List<Long> numbers, Map<Long, Reply> replies, long reading, Taker taker)
                 throws IOException, ClientException;
 
         abstract Map.Entry<String, Object> ask(String view, List<String> arguments) throws ClientException;
@@ -630,7 +635,7 @@ public final class DeskClient implements AutoCloseable {
         }
 
         @Override
-        void require(Collection<List<String>> rows) {}
+        void require(Collection<List<String>> stored, Collection<List<String>> rows) {}
 
         private Map.Entry<String, Object> once(String target, List<String> texts) throws IOException, ClientException {
             try {
@@ -714,7 +719,7 @@ public final class DeskClient implements AutoCloseable {
         }
 
         @Override
-        void deliver(String batch, TreeMap<Long, List<String>> rows, List<Long> numbers, Set<Long> refused, long reading, Taker taker)
+        void deliver(String batch, TreeMap<Long, List<String>> rows, List<Long> numbers, Map<Long, Reply> replies, long reading, Taker taker)
                 throws IOException, ClientException {
             for (long number : numbers) {
                 var found = patiently(() -> once("/rows/" + batch + "/" + number, rows.get(number)));
@@ -786,9 +791,11 @@ public final class DeskClient implements AutoCloseable {
         }
 
         @Override
-        void require(Collection<List<String>> rows) throws ClientException {
+        void require(Collection<List<String>> stored, Collection<List<String>> rows) throws ClientException {
             requireFile();
-            if (batchText("A".repeat(40), rows).length > MOST_BATCH_BYTES) {
+            var all = new ArrayList<List<String>>(stored);
+            all.addAll(rows);
+            if (batchText("A".repeat(40), all).length > MOST_BATCH_BYTES) {
                 throw new ClientException("the batch has more than " + MOST_BATCH_BYTES + " bytes: begin another one");
             }
         }
@@ -822,10 +829,10 @@ public final class DeskClient implements AutoCloseable {
 
         /** The whole batch is sent, with `none` in place of each row that was refused before, so that it is not executed now. */
         @Override
-        void deliver(String batch, TreeMap<Long, List<String>> rows, List<Long> numbers, Set<Long> refused, long reading, Taker taker)
+        void deliver(String batch, TreeMap<Long, List<String>> rows, List<Long> numbers, Map<Long, Reply> replies, long reading, Taker taker)
                 throws IOException, ClientException {
             var sent = new ArrayList<List<String>>();
-            rows.forEach((number, row) -> sent.add(refused.contains(number) ? List.of("none") : row));
+            rows.forEach((number, row) -> sent.add(replies.containsKey(number) && !replies.get(number).accepted() ? List.of("none") : row));
             byte[] text = batchText(batch, sent);
             taker.take(patiently(() -> lines(text, sent.size(), Set.copyOf(numbers), reading)), isFirst);
         }
@@ -894,18 +901,14 @@ public final class DeskClient implements AutoCloseable {
             throw new IllegalArgumentException("no name of a batch: " + batch);
         }
         rows.forEach(DeskClient::requireTexts);
-        for (String name : journal.batches.keySet()) {
-            if (!journal.pending(name).isEmpty()) {
-                throw new ClientException("rows without a reply: " + name + ": resume first");
-            }
+        if (!journal.open.isEmpty()) {
+            throw new ClientException("rows without a reply: " + String.join(", ", journal.open.keySet()) + ": resume first");
         }
         if (rows.isEmpty()) {
             return List.of();
         }
         TreeMap<Long, List<String>> stored = journal.batches.getOrDefault(batch, new TreeMap<>());
-        var all = new ArrayList<List<String>>(stored.values());
-        all.addAll(rows);
-        desk.require(all);
+        desk.require(stored.values(), rows);
         long first = stored.isEmpty() ? 1 : stored.lastKey() + 1;
         journal.store(batch, first, now.getAsLong(), rows);
         var numbers = new ArrayList<Long>();
@@ -937,13 +940,11 @@ public final class DeskClient implements AutoCloseable {
     /** Sends all rows that have no reply, and returns their replies by batch and number, such as DAY-1,7. */
     public Map<String, Reply> resume() throws IOException, ClientException {
         var found = new LinkedHashMap<String, Reply>();
-        for (String batch : List.copyOf(journal.batches.keySet())) {
+        for (String batch : List.copyOf(journal.open.keySet())) {
             List<Long> numbers = journal.pending(batch);
-            if (!numbers.isEmpty()) {
-                List<Reply> replies = deliver(batch, numbers, false);
-                for (int at = 0; at < numbers.size(); at++) {
-                    found.put(batch + "," + numbers.get(at), replies.get(at));
-                }
+            List<Reply> replies = deliver(batch, numbers, false);
+            for (int at = 0; at < numbers.size(); at++) {
+                found.put(batch + "," + numbers.get(at), replies.get(at));
             }
         }
         return found;
@@ -988,14 +989,8 @@ public final class DeskClient implements AutoCloseable {
     }
 
     private List<Reply> deliver(String batch, List<Long> numbers, boolean isNew) throws IOException, ClientException {
-        var refused = new TreeSet<Long>();
-        journal.replies.getOrDefault(batch, new TreeMap<>()).forEach((number, reply) -> {
-            if (!reply.accepted()) {
-                refused.add(number);
-            }
-        });
         var used = new ArrayList<Long>();
-        desk.deliver(batch, journal.batches.get(batch), numbers, refused, journal.readings.get(batch), (answers, isFirst) -> {
+        desk.deliver(batch, journal.batches.get(batch), numbers, journal.replies.get(batch), journal.readings.get(batch), (answers, isFirst) -> {
             journal.store(batch, answers);
             for (Answer answer : answers) {
                 boolean isOther = answer.word.equals("no") && answer.fields.get(0).equals("19");

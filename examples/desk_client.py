@@ -24,7 +24,8 @@ it sends the rows of the journal that have no reply, and prints each as BATCH,N,
 
 Http(port) sends to `brk serve`; File(path) runs `brk batch` and `brk ask` on a file that exists and is not empty, while no service
 holds it. Both book under the same keys, so a journal may be continued with the other one. BRK names the program; without it `brk` on
-PATH is taken, and then ../brk. A journal belongs to one program at a time and to one desk. Its lines are JSON lists of texts:
+PATH is taken, and then ../brk. A journal belongs to one program at a time and to one desk. Once each of its rows has a reply, another
+one may be begun, with other names of batches. Its lines are JSON lists of texts:
 
     ["rows", BATCH, N, MS, [FIELD, ..], ..]        stored at the clock reading MS, from row N on
     ["reply", BATCH, N, "ok", FIELD, ..]
@@ -260,8 +261,9 @@ class Journal:
             folder = os.open(os.path.dirname(os.path.abspath(self.path)), os.O_RDONLY)
             os.fsync(folder)
             os.close(folder)
-        # by batch: each row by its number, the replies by theirs, and the clock reading of the last rows
-        self.batches, self.replies, self.readings = {}, {}, {}
+        # by batch: each row by its number, from 1 on, the replies by theirs, the clock reading of the last rows, and the
+        # numbers of the rows that have no reply
+        self.batches, self.replies, self.readings, self.open = {}, {}, {}, {}
         content = self.file.read()
         whole = content[: content.rfind(b"\n") + 1]
         for number, line in enumerate(whole.splitlines(), 1):
@@ -281,11 +283,15 @@ class Journal:
             self.readings[batch] = int(reading)
             for number, fields in enumerate(rows, int(first)):
                 self.batches.setdefault(batch, {})[number] = fields
-                self.replies.get(batch, {}).pop(number, None)
+                self.replies.setdefault(batch, {}).pop(number, None)
+                self.open.setdefault(batch, set()).add(number)
         elif what == "reply":
             word, *fields = rest
             kind = self.batches[batch][int(first)][0]
-            self.replies.setdefault(batch, {})[int(first)] = Reply(kind, word, fields)
+            self.replies[batch][int(first)] = Reply(kind, word, fields)
+            self.open[batch].discard(int(first))
+            if not self.open[batch]:
+                del self.open[batch]
         else:
             raise ValueError(what)
 
@@ -306,7 +312,7 @@ class Journal:
 
     def pending(self, batch):
         """The numbers of the rows of a batch that have no reply."""
-        return [number for number in sorted(self.batches.get(batch, {})) if number not in self.replies.get(batch, {})]
+        return sorted(self.open.get(batch, ()))
 
     def close(self):
         self.file.close()
@@ -343,7 +349,7 @@ class Http:
         self.port, self.patience = port, patience
         self.stream, self.left = None, 0
 
-    def require(self, rows):
+    def require(self, stored, rows):
         """Any number of rows can be sent, also while the desk is away."""
 
     def post(self, target, texts):
@@ -385,7 +391,7 @@ class Http:
             self.stream.close()
         self.stream, self.left = None, 0
 
-    def deliver(self, batch, rows, numbers, refused, reading):
+    def deliver(self, batch, rows, numbers, replies, reading):
         """Yields the replies to the rows with these numbers, each a list of number, word and fields, and whether the desk was reached
         for the first time."""
         for number in numbers:
@@ -418,10 +424,10 @@ class File:
     def __init__(self, path, patience=None, new=False):
         self.path, self.patience, self.new = os.fspath(path), patience, new
 
-    def require(self, rows):
+    def require(self, stored, rows):
         """Raises an error if the file is no desk, or if the rows are too many for a batch, which brk would cut."""
         self.require_file()
-        if len(batch_text("A" * 40, rows)) > MOST_BATCH_BYTES:
+        if len(batch_text("A" * 40, [*stored, *rows])) > MOST_BATCH_BYTES:
             raise ValueError(f"the batch has more than {MOST_BATCH_BYTES} bytes: begin another one")
 
     def require_file(self):
@@ -443,10 +449,11 @@ class File:
             raise NotSent(f"{self.path}: {message}")
         return done.returncode, done.stdout, message
 
-    def deliver(self, batch, rows, numbers, refused, reading):
+    def deliver(self, batch, rows, numbers, replies, reading):
         """Yields the replies to the rows with these numbers, all at once. The whole batch is sent, with `none` in place of each row that
         was refused before, so that it is not executed now."""
-        sent = [["none"] if number in refused else rows[number] for number in range(1, max(rows) + 1)]
+        refused = {number for number, reply in replies.items() if not reply.accepted}
+        sent = [["none"] if number in refused else rows[number] for number in range(1, len(rows) + 1)]
         text = batch_text(batch, sent)
         yield patiently(self.patience, lambda: self.lines(text, set(numbers), len(sent), reading), self.path)
 
@@ -500,13 +507,13 @@ class Client:
         rows = [[*fields] for fields in rows]
         for fields in rows:
             require_texts(fields)
-        if unknown := [name for name in self.journal.batches if self.journal.pending(name)]:
-            raise ClientError(f"rows without a reply: {', '.join(unknown)}: resume first")
+        if self.journal.open:
+            raise ClientError(f"rows without a reply: {', '.join(self.journal.open)}: resume first")
         if not rows:
             return []
         stored = self.journal.batches.get(batch, {})
-        self.desk.require([*stored.values(), *rows])
-        first = max(stored, default=0) + 1
+        self.desk.require(stored.values(), rows)
+        first = len(stored) + 1
         self.journal.rows(batch, first, self.now(), rows)
         return self.deliver(batch, range(first, first + len(rows)), is_new=True)
 
@@ -526,23 +533,22 @@ class Client:
     def resume(self):
         """Sends all rows that have no reply, and returns their replies by batch and number."""
         found = {}
-        for batch in list(self.journal.batches):
+        for batch in list(self.journal.open):
             numbers = self.journal.pending(batch)
-            for number, reply in zip(numbers, self.deliver(batch, numbers, is_new=False) if numbers else []):
+            for number, reply in zip(numbers, self.deliver(batch, numbers, is_new=False)):
                 found[batch, number] = reply
         return found
 
     def deliver(self, batch, numbers, is_new):
         """Sends stored rows. No new row is answered `again` when it reaches the desk for the first time, and none is refused with 19,
         unless another sender used its key."""
-        rows, used = self.journal.batches[batch], []
-        refused = {number for number, reply in self.journal.replies.get(batch, {}).items() if not reply.accepted}
-        for replies, is_first in self.desk.deliver(batch, rows, list(numbers), refused, self.journal.readings[batch]):
+        rows, stored, used = self.journal.batches[batch], self.journal.replies[batch], []
+        for replies, is_first in self.desk.deliver(batch, rows, list(numbers), stored, self.journal.readings[batch]):
             self.journal.reply(batch, replies)
             used += [number for number, word, fields in replies if (word == "again" and is_new and is_first) or (word, fields[0]) == ("no", "19")]
         if used:
             raise KeyUsed(f"{batch}: rows that another sender booked under this name, and that are not booked now: {used}")
-        return [self.journal.replies[batch][number] for number in numbers]
+        return [stored[number] for number in numbers]
 
     def reply(self, batch, number):
         """The stored reply to a row, or none."""
