@@ -17,12 +17,13 @@ import argparse
 import csv
 import io
 import os
-import pathlib
-import shutil
 import subprocess
 import sys
 
-TOP = pathlib.Path(__file__).resolve().parent.parent
+sys.dont_write_bytecode = True
+
+from desk_client import batch_text, program  # noqa: E402
+
 NAMES_A_TRADE = ("result", "cancel")
 
 
@@ -72,9 +73,7 @@ def with_trades(rows, trades, before):
 
 def send(brk, words, name, rows):
     """Sends a part; returns the fields of its lines."""
-    text = io.StringIO(newline="")
-    csv.writer(text, lineterminator="\n").writerows([["batch", name], *rows, ["end", len(rows)]])
-    done = subprocess.run([brk, "batch", *words], input=text.getvalue().encode(), stdout=subprocess.PIPE)
+    done = subprocess.run([brk, "batch", *words], input=batch_text(name, rows), stdout=subprocess.PIPE)
     # a line is complete once its line feed is there
     whole, _, _ = done.stdout.rpartition(b"\n")
     return done.returncode, [line.split(",") for line in whole.decode("ascii").splitlines()]
@@ -89,7 +88,7 @@ def main():
     given = words.parse_args()
     if not given.new and not (os.path.isfile(given.db) and os.path.getsize(given.db)):
         fail(1, f"{given.db}: no desk there; --new makes one")
-    brk = given.brk or os.environ.get("BRK") or shutil.which("brk") or str(TOP / "brk")
+    brk = given.brk or program()
     options = ["--db", given.db, *(["--at", given.at] if given.at else [])]
     name, rows = batch_read(sys.stdin.buffer.read().decode("utf-8-sig"))
     trades, counts, before = [], [0, 0, 0], 0

@@ -10,11 +10,13 @@ all eleven views. It sends a result under the id that the reply to its order has
 """
 
 import csv
-import http.client
-import json
 import pathlib
 import shlex
 import sys
+
+sys.dont_write_bytecode = True
+
+import desk_client  # noqa: E402
 
 DAY = pathlib.Path(__file__).resolve().parent / "day.csv"
 
@@ -42,18 +44,15 @@ QUERIES = [
 ]
 
 
-def send(stream, target, texts):
+def send(desk, target, texts):
     """The reply to a request: its word, and what it tells."""
-    # A body of bytes has its length told; one of an iterator would be chunked, and refused.
-    stream.request("POST", target, json.dumps(texts).encode())
-    reply = stream.getresponse()
-    told = json.loads(reply.read())
-    if reply.status not in (200, 409):
-        sys.exit(f"{target}: {reply.status} {told['error']}")
-    return next(iter(told.items()))
+    word, told = desk.post(target, texts)
+    if word == "error":
+        sys.exit(f"views: {target}: {told}")
+    return word, told
 
 
-def book(stream):
+def book(desk):
     """Books the day; a row that was booked before is answered again, and acts no more. In the file N in `result,N` is the
     N-th order of the day; the row has the id that the reply to this order has."""
     with open(DAY, newline="") as file:
@@ -62,17 +61,17 @@ def book(stream):
     for number, row in enumerate(rows, start=1):
         if row[0] == "result":
             row[1] = trades[int(row[1]) - 1] or sys.exit(f"row {number}: its order was refused")
-        word, told = send(stream, f"/rows/{header[1]}/{number}", row)
+        word, told = send(desk, f"/rows/{header[1]}/{number}", row)
         if row[0] == "order":
             trades.append("" if word == "no" else told[1])
         counts[word] += 1
     print(", ".join(f"{count} {word}" for word, count in counts.items()))
 
 
-def show(stream, view, arguments):
+def show(desk, view, arguments):
     """Asks for a view, and prints its records in columns."""
     print(f"\n{shlex.join([view, *arguments])}")
-    word, told = send(stream, f"/ask/{view}", arguments)
+    word, told = send(desk, f"/ask/{view}", arguments)
     if word == "no":
         print(f"  refused with {told[0]}")
         return
@@ -87,14 +86,18 @@ def show(stream, view, arguments):
 
 def main():
     port = int(sys.argv[1]) if len(sys.argv) > 1 else 8123
-    stream = http.client.HTTPConnection("127.0.0.1", port, timeout=60)
-    if len(sys.argv) > 2:
-        show(stream, sys.argv[2], sys.argv[3:])
-    else:
-        book(stream)
-        for view, *arguments in QUERIES:
-            show(stream, view, arguments)
-    stream.close()
+    desk = desk_client.Http(port, patience=5)
+    try:
+        if len(sys.argv) > 2:
+            show(desk, sys.argv[2], sys.argv[3:])
+        else:
+            book(desk)
+            for view, *arguments in QUERIES:
+                show(desk, view, arguments)
+    except desk_client.ClientError as error:
+        sys.exit(f"views: {error}")
+    finally:
+        desk.close()
 
 
 if __name__ == "__main__":

@@ -9,14 +9,13 @@ when it ends itself. What is booked on the page is booked. Before it starts, it 
 view shows: openings, deposits, withdrawals, the settlement day, tax rates, bands and names. With --port it asks a desk
 that runs already, and the page says what is missing. It prints the address of the page; Control-C ends it. If it is
 killed by SIGKILL, `brk serve` goes on and holds the file. It needs Python 3.9 and the files beside it,
-examples/http_client.py and examples/desk_books.py. docs/PAGE.md describes the page and says what is safe.
+examples/desk_client.py with its tables and examples/desk_books.py. docs/PAGE.md describes the page and says what is safe.
 """
 
 import argparse
 import array
 import datetime
 import hmac
-import http.client
 import http.server
 import json
 import os
@@ -39,7 +38,7 @@ TOP = HERE.parent.parent
 sys.path.insert(0, str(HERE.parent))
 
 import desk_books  # noqa: E402
-import http_client  # noqa: E402
+import desk_client  # noqa: E402
 
 KINDS = {".html": "text/html", ".css": "text/css", ".js": "text/javascript", ".svg": "image/svg+xml"}
 FILES = {path.name: KINDS[path.suffix] for path in HERE.iterdir() if path.suffix in KINDS}
@@ -139,7 +138,7 @@ class Relay:
     other programs have their turn."""
 
     def __init__(self, port, service=None):
-        self.desk, self.service = http_client.Desk(port), service
+        self.desk, self.service = desk_client.Http(port, patience=0), service
         self.lock, self.last = threading.Lock(), time.monotonic()
         threading.Thread(target=self.close_idle, daemon=True).start()
 
@@ -150,8 +149,9 @@ class Relay:
             try:
                 if self.service is not None:
                     self.service.ensure()
-                return self.desk.send(target, texts)
-            except (OSError, http.client.HTTPException, ValueError) as error:
+                word, value = self.desk.post(target, texts)
+                return {word: value}
+            except (OSError, desk_client.ClientError) as error:
                 self.desk.close()
                 why = getattr(error, "strerror", None) or str(error) or type(error).__name__
                 raise Unreachable(why) from error

@@ -6,7 +6,7 @@ import re
 import signal
 import time
 
-import http_client
+import desk_client
 from books import LAST_TRADE
 from derived import EXPLAINED, expected_texts, shown_derivation, wanted_derivation
 from forms import fill_order
@@ -30,12 +30,12 @@ def streams(trial):
     })()"""
     )
     trial.tell("2,100 requests in a row, more than two streams take", told, ["view"])
-    desk = http_client.Desk(trial.program.desk_port)
+    desk = desk_client.Http(trial.program.desk_port, patience=0)
     time.sleep(2)
     trial.tell(
         "another program has its turn while the page is open",
-        list(desk.send("/rows", ["deposit", "100", "12.34"])),
-        ["ok"],
+        desk.post("/rows", ["deposit", "100", "12.34"])[0],
+        "ok",
     )
     desk.close()
     trial.show("account/100")

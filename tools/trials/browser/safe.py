@@ -93,7 +93,7 @@ def doors(trial):
         ("from another site, by the browser's word", 403, {"Sec_Fetch_Site": "cross-site", **own}),
         ("for the first page with another host", 403, {"method": "GET", "target": "/", "host": [evil]}),
         ("for the program's own text", 404, {"method": "GET", "target": "/desk_page.py"}),
-        ("for a file above the folder", 404, {"method": "GET", "target": "/../http_client.py"}),
+        ("for a file above the folder", 404, {"method": "GET", "target": "/../desk_client.py"}),
         (
             "for a row of a kind that the page does not send",
             404,
