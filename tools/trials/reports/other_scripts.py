@@ -49,6 +49,32 @@ def custodians(desk):
                 desk.tell(f"reconcile {day}: a list by trade date", {row["MAY_BE"] for row in rows if row["RESULT"] == "break"}, {"trade date"})
 
 
+def causes(desk):
+    """A trade that was delivered early, and one that is late, make a break that names it."""
+    path = desk.trial.folder / "list.csv"
+    signed = {trade: int(facts["Shares"]) * (1 if facts["Type"] in ("TMB", "TLB") else -1) for trade, facts in desk.facts.items()}
+    for trade in desk.draw.sample(desk.completed, 6):
+        facts = desk.facts[trade]
+        key = facts["Account"], facts["Security"]
+        for word, day, sign in (("early", facts["Completed on"], 1), ("late", facts["Due on"], -1)):
+            settled, traded = collections.Counter(), collections.Counter()
+            for other in desk.completed:
+                its = desk.facts[other]
+                settled[its["Account"], its["Security"]] += signed[other] if its["Due on"] <= day else 0
+                traded[its["Account"], its["Security"]] += signed[other] if its["Completed on"] <= day else 0
+            settled[key] += sign * signed[trade]
+            listed(path, ["account", "symbol", "shares"], settled)
+            status, rows, _ = desk.trial.script("reconcile.py", desk.path, path, "--day", day)
+            breaks = [(row["ACCOUNT"], row["SYMBOL"]) for row in rows if row["RESULT"] == "break"]
+            desk.tell(f"reconcile {day}: {word} {trade}", (status, breaks), (5, [key]))
+            told = [row["MAY_BE"] for row in rows if row["RESULT"] == "break"][0]
+            if settled[key] == traded[key]:
+                desk.tell(f"reconcile {day}: {word} {trade}: by trade date", told, "trade date")
+            else:
+                ids = [part.split()[1:] for part in told.split("; ") if part.startswith(word)]
+                desk.tell(f"reconcile {day}: {word} {trade}: it is named", [str(trade) in one for one in ids], [True])
+
+
 def listed(path, heads, shares):
     """Writes a custodian's list; some lines are split in two."""
     with open(path, "w", newline="") as file:
@@ -173,4 +199,4 @@ def traced(desk, rows):
         desk.tell(f"sample: the result of trade {row['TRADE']}", ["result", row["TRADE"], row["PRICE"]], [str(field) for field in result])
 
 
-ALL = (custodians, fills, samples)
+ALL = (custodians, causes, fills, samples)
