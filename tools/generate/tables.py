@@ -1224,7 +1224,7 @@ def all_tables_code():
     out = f"""//! The reads of all tables: each table is read and decoded, and its raw rows are dropped, before
 //! the next is read.
 
-ghost use Rattle.std.specs.Prelude.{{◌≡◌, IfErr}};
+ghost use Rattle.std.specs.Prelude.{{◌≡◌, IfErr, IfOk}};
 ghost use Rattle.brk_model.specs.Run.{{IsCallFault}};
 ghost use Rattle.brk_trade_rows.specs.Schemas.{{abstract_schema}};
 ghost use Rattle.brk_tables_sql.specs.Model.{{IsConnectionStep}};
@@ -1241,7 +1241,7 @@ use std::alloc::Global;
     out += ''.join(read_group(word, field, tables) for word, field, _, tables in groups())
     schema = lambda word: 'schema, ' if word in ('DeskBrokerAndCustomer', 'LaterSchema') else ''
     out += f"""
-{remark('Returns the decoded rows of the tables of `schema`, each list sorted by key, ascending: of KEPT the keys alone, of DESK the last stamp, and of SETTLE_RULE the first day of one-day settlement, or `None` for a stamp or a day that is not stored. Returns no rows and no day of a table that `schema` lacks. If a table has a malformed row, DESK not exactly one row with the number of `schema`, or SETTLE_RULE two rows or more, sets `are_well_formed` of the decoder to false and returns no value of this table. If the function returns a value, the database was open and is unchanged. Fails with `Memory` or `Store` only.', '///')}
+{remark('Returns `schema` and the decoded rows of its tables, each list sorted by key, ascending: of KEPT the keys alone, of DESK the last stamp, and of SETTLE_RULE the first day of one-day settlement, or `None` for a stamp or a day that is not stored. Returns no rows and no day of a table that `schema` lacks. If a table has a malformed row, DESK not exactly one row with the number of `schema`, or SETTLE_RULE two rows or more, sets `are_well_formed` of the decoder to false and returns no value of this table. If the function returns a value, the database was open and is unchanged. Fails with `Memory` or `Store` only.', '///')}
 pub(crate) fn read_all_tables<S: Alter>(
     tx: &mut Transaction<'_, S>,
     alloc: Global,
@@ -1251,9 +1251,11 @@ pub(crate) fn read_all_tables<S: Alter>(
     {SAME_REFERENCE}
     ensures step {{ IsConnectionStep S.Store tx.old tx.new result
         (λ sheets. ReadsAndDecodesDeskTables (abstract_schema schema) decoder.old.are_well_formed decoder.new.are_well_formed sheets) }}
+    ensures of_schema {{ IfOk result (λ sheets. sheets.schema ≡ schema) }}
     ensures fault {{ IfErr result IsCallFault }}
 {{
 {''.join(f'    let {field} = {group_function("read", word)}(tx, alloc, {schema(word)}decoder)?;{chr(10)}' for word, field, _ in GROUPS)}    Ok(Sheets {{
+        schema,
 {''.join(f'        {sheet_field(d)}: {field}.{sheet_field(d)},{chr(10)}' for _, field, _, tables in groups() for d in tables)}    }})
 }}
 """
@@ -1451,6 +1453,7 @@ use Rattle.std.proofs.Common.{{◌≡◌, ◌∙◌, map}}
 use Rattle.brk_tables_sql.proofs.Order.{{map_twice}}
 use Rattle.brk_model.specs.Schemas.{{Schema}}
 {meanings()}
+use Rattle.brk_trade_rows.specs.declared.schema.Schema as known
 use Rattle.brk_trade_rows.specs.declared.sheets.Sheets.{{Sheets}}
 use Rattle.brk_tables_schema.specs.Cells.{{{cells}}}
 use Rattle.brk_tables_schema.specs.Desk.{{DeskTable, encoded_row, rows_of_table_in_schema, {WHICHES}}}
@@ -1459,15 +1462,15 @@ use Rattle.brk_tables_scan.specs.Decoded.{{DecodesSheets, {', '.join(f'Decodes{g
 use Rattle.brk_tables_scan.specs.Raw.{{RawSheets, raw_rows_of_table}}
 {declared('Sheets')}
 
-module _ {sheets} where
+module _ (schema : known.Schema) {sheets} where
   abbrev pub sheets : Sheets
-  sheets = record {{ {'; '.join(f'{sheet_field(d)} = {v}.{sheet_field(d)}' for _, _, v, tables in groups() for d in tables)} }}
+  sheets = record {{ schema = schema; {'; '.join(f'{sheet_field(d)} = {v}.{sheet_field(d)}' for _, _, v, tables in groups() for d in tables)} }}
 
-module _ {sheets} (desk : Schema) (raw : RawSheets) {are} where
-  each : (w : DeskTable) → map (encoded_row w) (rows_of_table_in_schema desk w (tables_with_whole_kept_rows is_f.kept.0 (sheets {' '.join(v for _, _, v in GROUPS)}))) ≡ raw_rows_of_table raw w
+module _ (schema : known.Schema) {sheets} (desk : Schema) (raw : RawSheets) {are} where
+  each : (w : DeskTable) → map (encoded_row w) (rows_of_table_in_schema desk w (tables_with_whole_kept_rows is_f.kept.0 (sheets schema {' '.join(v for _, _, v in GROUPS)}))) ≡ raw_rows_of_table raw w
 {chr(10).join(f'  each {d[2]} = {encodes(d, v)}' for _, _, v, tables in groups() for d in tables)}
 
-  pub are_sheets : DecodesSheets desk (sheets {' '.join(v for _, _, v in GROUPS)}) raw
+  pub are_sheets : DecodesSheets desk (sheets schema {' '.join(v for _, _, v in GROUPS)}) raw
   are_sheets = record {{ whole = is_f.kept.0; keys = is_f.kept.2; encoded = each }}
 """
     save('crates/brk_tables_scan/proofs/Sheeted.antt', out)
@@ -1497,12 +1500,15 @@ def sheets_code():
     told = {'desk_row': 'The stamp of the last accepted command.', 'kept': 'The keys of the rows of KEPT. The texts of these rows are no part of the sheets.', 'rule': 'The first day of one-day settlement, if one is set (SR_DAY).'}
     kind = lambda d: VALUES[d[0]][0] if d[0] in VALUES else f'Vec<{sheet_type(d)}>'
     fields = ''.join((remark(told[d[0]], '    ///') + '\n' if d[0] in told else '') + f'    pub {sheet_field(d)}: {kind(d)},\n' for d in DATA)
-    text = f"""use brk_money::{{Day, Stamp}};
+    text = f"""use crate::schema::Schema;
+use brk_money::{{Day, Stamp}};
 use brk_ref::{{{', '.join(types)}}};
 
 /// The rows of all tables of a desk, each list sorted by key, ascending.
 #[derive(Drop)]
 pub struct Sheets {{
+    /// The schema that the tables have.
+    pub schema: Schema,
 {fields}}}
 """
     save('crates/brk_trade_rows/src/sheets.rt', text)

@@ -16,24 +16,20 @@ use brk_audit_sums::commissions::commission_condition_holds;
 use brk_audit_sums::counts::count_condition_holds;
 use brk_audit_sums::summaries::summary_condition_holds;
 use brk_money::{Condition, Fault};
-use brk_trade_rows::{Schema, Sheets};
+use brk_trade_rows::Sheets;
 use std::alloc::Global;
 
-/// Returns the first condition of `schema` that the rows of `sheets` fail, in the order `Form`,
+/// Returns the first condition of the schema of `sheets` that its rows fail, in the order `Form`,
 /// `Status`, `Requests`, `Lots`, `History`, `Summary`, `Count`, `Commission`, `Settlement`, `Cash`,
 /// `Balance`, or `None` if they pass the audit.
 ///
 /// Fails with `Memory` only.
 #[tactic(auto, using(crate::proofs::Chain::form_held, crate::proofs::Chain::statuses_held))]
-pub fn audit_rows(
-    alloc: Global,
-    schema: Schema,
-    sheets: &Sheets,
-) -> Result<Option<Condition>, Fault>
-    ensures condition { IfOk result (λ answer. IsAuditResult (abstract_schema schema) (abstract_sheets sheets.now) answer) }
+pub fn audit_rows(alloc: Global, sheets: &Sheets) -> Result<Option<Condition>, Fault>
+    ensures condition { IfOk result (λ answer. IsAuditResult (abstract_schema sheets.now.schema) (abstract_sheets sheets.now) answer) }
     ensures fault { IfErr result (λ fault. fault ≡ Memory) }
 {
-    if !form_condition_holds(alloc, schema, sheets)? {
+    if !form_condition_holds(alloc, sheets.schema, sheets)? {
         return Ok(Some(Condition::Form));
     }
     if !status_condition_holds(alloc, sheets)? {
@@ -60,7 +56,7 @@ pub fn audit_rows(
     if !settlement_condition_holds(alloc, sheets)? {
         return Ok(Some(Condition::Settlement));
     }
-    if !cash_condition_holds(alloc, schema, sheets)? {
+    if !cash_condition_holds(alloc, sheets.schema, sheets)? {
         return Ok(Some(Condition::Cash));
     }
     if !balance_condition_holds(alloc, sheets)? {

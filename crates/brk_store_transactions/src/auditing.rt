@@ -37,7 +37,7 @@ pub(crate) fn audit_rows_of_schema<S: Alter>(
 {
     match read_typed_rows_of_schema(tx, alloc, schema)? {
         None => Ok(Some(Condition::Form)),
-        Some(sheets) => audit_rows(alloc, schema, &sheets),
+        Some(sheets) => audit_rows(alloc, &sheets),
     }
 }
 

@@ -2,6 +2,7 @@
 use Rattle.std.proofs.Common.{◌≡◌, Bool, List, Ok, true, refl, sym, subst, ◌∙◌}
 use Rattle.sqlite_value.specs.Order.{Row}
 use Rattle.brk_model.specs.Schemas.{Schema}
+use Rattle.brk_trade_rows.specs.declared.schema.Schema as known
 use Rattle.brk_trade_rows.specs.declared.sheets.Sheets.{Sheets}
 use Rattle.sqlite.specs.State.{State}
 use Rattle.brk_money.specs.declared.fault.Fault.{Fault}
@@ -29,10 +30,11 @@ use Rattle.brk_tables_scan.proofs.Continued.{continues_six}
 use Rattle.brk_tables_scan.proofs.Four.{stays_then, shown_before}
 use Rattle.brk_tables_scan.proofs.Sheeted.{sheets, are_sheets}
 
-module _ (desk : Schema) (a b c d e f g : State) (n0 n1 n2 n3 n4 n5 n6 : Bool) (first : DeskBrokerAndCustomerSheets) (accounts : AccountAndSecuritySheets)
-    (rates : ChargeAndRateSheets) (trades : TradeAndHoldingSheets) (last : SummaryHistoryAndCashSheets) (later : LaterSchemaSheets) where
+module _ (schema : known.Schema) (desk : Schema) (a b c d e f g : State) (n0 n1 n2 n3 n4 n5 n6 : Bool) (first : DeskBrokerAndCustomerSheets)
+    (accounts : AccountAndSecuritySheets) (rates : ChargeAndRateSheets) (trades : TradeAndHoldingSheets) (last : SummaryHistoryAndCashSheets)
+    (later : LaterSchemaSheets) where
   abbrev all : Sheets
-  all = sheets first accounts rates trades last later
+  all = sheets schema first accounts rates trades last later
 
   module _ (in_first : ReadsDeskBrokerAndCustomerTables desk n0 n1 first a b) (in_accounts : ReadsAccountAndSecurityTables n1 n2 accounts b c)
       (in_rates : ReadsChargeAndRateTables n2 n3 rates c d) (in_trades : ReadsTradeAndHoldingTables n3 n4 trades d e)
@@ -98,7 +100,7 @@ module _ (desk : Schema) (a b c d e f g : State) (n0 n1 n2 n3 n4 n5 n6 : Bool) (
           (DecodesDeskBrokerAndCustomerTables desk first raw.first) (DecodesAccountAndSecurityTables accounts raw.accounts)
           (DecodesChargeAndRateTables rates raw.rates) (DecodesTradeAndHoldingTables trades raw.trades) (DecodesSummaryHistoryAndCashTables last raw.last)
           (DecodesLaterSchemaTables later raw.later) (DecodesSheets desk all raw)
-          (are_sheets first accounts rates trades last later desk raw)
+          (are_sheets schema first accounts rates trades last later desk raw)
           in_first.decoded in_accounts.decoded in_rates.decoded in_trades.decoded in_last.decoded in_later.decoded;
     }
 

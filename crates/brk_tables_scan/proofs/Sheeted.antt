@@ -7,6 +7,7 @@ use Rattle.brk_ref.specs.Records.{abstract_kept_row, abstract_broker_row, abstra
 use Rattle.brk_ref.specs.Records.{abstract_last_trade_row, abstract_charge, abstract_band, abstract_tax_rate, abstract_customer_tax}
 use Rattle.brk_ref.specs.Rows.{abstract_trade_row, abstract_history_row, abstract_request_row, abstract_holding_row, abstract_summary_row}
 use Rattle.brk_ref.specs.Rows.{abstract_lot_change_row, abstract_settlement_row, abstract_old_cash_row, abstract_cash_row}
+use Rattle.brk_trade_rows.specs.declared.schema.Schema as known
 use Rattle.brk_trade_rows.specs.declared.sheets.Sheets.{Sheets}
 use Rattle.brk_tables_schema.specs.Cells.{kept_cells, broker_cells, customer_cells, account_cells, permission_cells, security_cells, last_trade_cells}
 use Rattle.brk_tables_schema.specs.Cells.{charge_cells, band_cells, tax_rate_cells, customer_tax_cells, trade_cells, history_cells, request_cells}
@@ -25,41 +26,43 @@ use Rattle.brk_tables_scan.specs.declared.all_tables.TradeAndHoldingSheets.{Trad
 use Rattle.brk_tables_scan.specs.declared.all_tables.SummaryHistoryAndCashSheets.{SummaryHistoryAndCashSheets}
 use Rattle.brk_tables_scan.specs.declared.all_tables.LaterSchemaSheets.{LaterSchemaSheets}
 
-module _ (f : DeskBrokerAndCustomerSheets) (a : AccountAndSecuritySheets) (r : ChargeAndRateSheets) (t : TradeAndHoldingSheets) (l : SummaryHistoryAndCashSheets) (n : LaterSchemaSheets) where
+module _ (schema : known.Schema) (f : DeskBrokerAndCustomerSheets) (a : AccountAndSecuritySheets) (r : ChargeAndRateSheets) (t : TradeAndHoldingSheets)
+    (l : SummaryHistoryAndCashSheets) (n : LaterSchemaSheets) where
   abbrev pub sheets : Sheets
   sheets = record {
+    schema = schema;
     last = f.last;
     kept = f.kept;
     brokers = f.brokers;
     customers = f.customers;
     accounts = a.accounts;
-    permissions = a.permissions;
-    securities =
-        a.securities;
+    permissions =
+        a.permissions;
+    securities = a.securities;
     last_trades = a.last_trades;
     charges = r.charges;
     bands = r.bands;
     tax_rates = r.tax_rates;
-    customer_taxes = r.customer_taxes;
-    trades =
-        t.trades;
+    customer_taxes =
+        r.customer_taxes;
+    trades = t.trades;
     history = t.history;
     requests = t.requests;
     holdings = t.holdings;
     summaries = l.summaries;
-    holding_history = l.holding_history;
-    settlements =
-        l.settlements;
+    holding_history =
+        l.holding_history;
+    settlements = l.settlements;
     cash = l.cash;
     moves = n.moves;
     rule = n.rule;
   }
 
-module _ (f : DeskBrokerAndCustomerSheets) (a : AccountAndSecuritySheets) (r : ChargeAndRateSheets) (t : TradeAndHoldingSheets)
+module _ (schema : known.Schema) (f : DeskBrokerAndCustomerSheets) (a : AccountAndSecuritySheets) (r : ChargeAndRateSheets) (t : TradeAndHoldingSheets)
     (l : SummaryHistoryAndCashSheets) (n : LaterSchemaSheets) (desk : Schema) (raw : RawSheets) (is_f : DecodesDeskBrokerAndCustomerTables desk f raw.first)
     (is_a : DecodesAccountAndSecurityTables a raw.accounts) (is_r : DecodesChargeAndRateTables r raw.rates) (is_t : DecodesTradeAndHoldingTables t raw.trades)
     (is_l : DecodesSummaryHistoryAndCashTables l raw.last) (is_n : DecodesLaterSchemaTables n raw.later) where
-  each : (w : DeskTable) → map (encoded_row w) (rows_of_table_in_schema desk w (tables_with_whole_kept_rows is_f.kept.0 (sheets f a r t l n))) ≡ raw_rows_of_table raw w
+  each : (w : DeskTable) → map (encoded_row w) (rows_of_table_in_schema desk w (tables_with_whole_kept_rows is_f.kept.0 (sheets schema f a r t l n))) ≡ raw_rows_of_table raw w
   each TheDesk = is_f.desk
   each KeptRows = map_twice kept_cells abstract_kept_row is_f.kept.0 ∙ is_f.kept.1
   each Brokers = map_twice broker_cells abstract_broker_row f.brokers.items ∙ is_f.brokers
@@ -83,5 +86,5 @@ module _ (f : DeskBrokerAndCustomerSheets) (a : AccountAndSecuritySheets) (r : C
   each CashMoves = map_twice move_cells abstract_cash_row n.moves.items ∙ is_n.moves
   each SettleRules = is_n.rule
 
-  pub are_sheets : DecodesSheets desk (sheets f a r t l n) raw
+  pub are_sheets : DecodesSheets desk (sheets schema f a r t l n) raw
   are_sheets = record { whole = is_f.kept.0; keys = is_f.kept.2; encoded = each }

@@ -2,7 +2,7 @@
 //! The reads of all tables: each table is read and decoded, and its raw rows are dropped, before
 //! the next is read.
 
-ghost use Rattle.std.specs.Prelude.{◌≡◌, IfErr};
+ghost use Rattle.std.specs.Prelude.{◌≡◌, IfErr, IfOk};
 ghost use Rattle.brk_model.specs.Run.{IsCallFault};
 ghost use Rattle.brk_trade_rows.specs.Schemas.{abstract_schema};
 ghost use Rattle.brk_tables_sql.specs.Model.{IsConnectionStep};
@@ -235,7 +235,7 @@ fn read_later_schema_tables<S: Alter>(
     Ok(LaterSchemaSheets { moves, rule })
 }
 
-/// Returns the decoded rows of the tables of `schema`, each list sorted by key, ascending: of KEPT
+/// Returns `schema` and the decoded rows of its tables, each list sorted by key, ascending: of KEPT
 /// the keys alone, of DESK the last stamp, and of SETTLE_RULE the first day of one-day settlement,
 /// or `None` for a stamp or a day that is not stored. Returns no rows and no day of a table that
 /// `schema` lacks. If a table has a malformed row, DESK not exactly one row with the number of
@@ -251,6 +251,7 @@ pub(crate) fn read_all_tables<S: Alter>(
     ensures same_reference { tx.new.conn.ghost_name ≡ tx.old.conn.ghost_name }
     ensures step { IsConnectionStep S.Store tx.old tx.new result
         (λ sheets. ReadsAndDecodesDeskTables (abstract_schema schema) decoder.old.are_well_formed decoder.new.are_well_formed sheets) }
+    ensures of_schema { IfOk result (λ sheets. sheets.schema ≡ schema) }
     ensures fault { IfErr result IsCallFault }
 {
     let first = read_desk_broker_and_customer_tables(tx, alloc, schema, decoder)?;
@@ -260,6 +261,7 @@ pub(crate) fn read_all_tables<S: Alter>(
     let last = read_summary_history_and_cash_tables(tx, alloc, decoder)?;
     let later = read_later_schema_tables(tx, alloc, schema, decoder)?;
     Ok(Sheets {
+        schema,
         last: first.last,
         kept: first.kept,
         brokers: first.brokers,

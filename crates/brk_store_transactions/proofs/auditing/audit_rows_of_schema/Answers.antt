@@ -12,4 +12,5 @@ pub returns-in-Some-clause-step : goal.returns-in-Some-clause-step
 returns-in-Some-clause-step g c =
     let before = state g.S.Store c.args.tx.now.conn.now in
     let after = state g.S.Store c.read_typed_rows_of_schema.new.tx.conn.now in
-    rows_told c.args.schema before after c.in-Some.sheets c.audit_rows.result (rw c.in-Some.is at c.in_ok-read_typed_rows_of_schema.ensures.step) c.audit_rows.ensures.condition
+    rows_told c.args.schema before after c.in-Some.sheets c.audit_rows.result
+    (rw c.in-Some.is at c.in_ok-read_typed_rows_of_schema.ensures.of_schema) (rw c.in-Some.is at c.in_ok-read_typed_rows_of_schema.ensures.step) c.audit_rows.ensures.condition

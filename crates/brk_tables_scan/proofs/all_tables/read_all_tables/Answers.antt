@@ -38,7 +38,8 @@ returns-in_err-later-clause-step g c =
 
 pub returns-clause-step : goal.returns-clause-step
 returns-clause-step g c =
-    reads_desk (abstract_schema c.args.schema) (state g.S.Store c.args.tx.now.conn.now) (state g.S.Store c.read_desk_broker_and_customer_tables.new.tx.conn.now)
+    reads_desk c.args.schema (abstract_schema c.args.schema)
+    (state g.S.Store c.args.tx.now.conn.now) (state g.S.Store c.read_desk_broker_and_customer_tables.new.tx.conn.now)
     (state g.S.Store c.read_account_and_security_tables.new.tx.conn.now) (state g.S.Store c.read_charge_and_rate_tables.new.tx.conn.now)
     (state g.S.Store c.read_trade_and_holding_tables.new.tx.conn.now) (state g.S.Store c.read_summary_history_and_cash_tables.new.tx.conn.now)
     (state g.S.Store c.read_later_schema_tables.new.tx.conn.now)
