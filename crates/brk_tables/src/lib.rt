@@ -28,6 +28,9 @@ pub use brk_tables_reference::{
     customer_by_tax_id, customer_tax_by_customer_and_tax, permission_by_account_and_tax_id,
     security_by_symbol, tax_rate_by_id, taxes_of_customer,
 };
+pub use brk_tables_scan::{
+    database_has_schema, has_some_desk_table, read_typed_rows_of_schema, rows,
+};
 pub use brk_tables_schema::{add_kept_row, kept_row_by_key, last_stamp, set_last_stamp};
 pub use brk_tables_trading::{
     add_holding_summary, add_lot, add_lot_change, add_request, add_settlement, add_trade,

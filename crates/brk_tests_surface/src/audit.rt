@@ -15,6 +15,7 @@ fn rows_of_one_broker(alloc: Global, trades: i64) -> Result<Sheets, Fail> {
         commissions: 0,
     };
     Ok(Sheets {
+        schema: Schema::Third,
         last: None,
         kept: Vec::new(alloc),
         brokers: vec![in alloc; row]?,
@@ -45,10 +46,7 @@ fn rows_of_one_broker(alloc: Global, trades: i64) -> Result<Sheets, Fail> {
 /// memory runs out.
 pub fn surface_of_brk_audit(alloc: Global) -> Result<(), Fail> {
     let sheets = rows_of_one_broker(alloc, 0)?;
-    expect_equal(audit_rows(alloc, Schema::Third, &sheets)?, None)?;
+    expect_equal(audit_rows(alloc, &sheets)?, None)?;
     let sheets = rows_of_one_broker(alloc, 1)?;
-    expect_equal(
-        audit_rows(alloc, Schema::Third, &sheets)?,
-        Some(Condition::Count),
-    )
+    expect_equal(audit_rows(alloc, &sheets)?, Some(Condition::Count))
 }
