@@ -1,8 +1,8 @@
 use crate::store::{add_amount, add_shares, store_after_trades};
 use crate::view::expect_records;
 use brk_desk::{
-    Answer, Call, Command, CommandAnswer, Desk, Head, Key, Outcome, Query, View, line_text,
-    parse_query, parse_row, row_text, view_fields,
+    Answer, Call, Command, Desk, Head, Key, Outcome, Query, View, line_text, parse_query,
+    parse_row, row_text, view_fields,
 };
 use brk_lots::Lot;
 use brk_money::{Fault, Id, Stamp};
@@ -32,7 +32,7 @@ fn first_key(alloc: Global) -> Result<Key, Fail> {
 
 // Returns the text of an answer: `ok,` and the line of the reply, `again,` and the stored line, or
 // `no,` and the refusal. Fails only if memory runs out.
-fn format_answer(alloc: Global, answer: &CommandAnswer) -> Result<String, Fail> {
+fn format_answer(alloc: Global, answer: &Answer) -> Result<String, Fail> {
     match answer {
         Answer::Done(reply) => {
             let line = line_text(alloc, reply)?;

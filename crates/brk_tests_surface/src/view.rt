@@ -4,9 +4,9 @@ use brk_tests_unit::expect::expect_text;
 use brk_tests_unit::result_plans::{SUBMITTED_CASH_PURCHASE, trade_row_of_case};
 use brk_trade::{Amount, CashRow, CashType, HistoryRow, LotChange, SettlementRow, TradeRow};
 use brk_view::{
-    AccountStatus, AccountWorth, BrokerVolume, LookedUp, LotTouch, TouchedLots, View,
+    AccountStatus, AccountWorth, BrokerVolume, LookedUp, LotTouch, TouchedLots, TradeStatus, View,
     broker_volume, create_looked_up_trade, lookup_account, lookup_ids, lookup_lots, lookup_symbol,
-    position, recent, status, submitted, trade_with_security, view_fields,
+    position, recent, status, submitted, view_fields,
 };
 use std::alloc::Global;
 use std::test::Fail;
@@ -106,7 +106,10 @@ fn expect_status_of_account(alloc: Global) -> Result<(), Fail> {
     let fields: [&[u8]; 5] = [b"ABC", b"Acme", b"NYSE", b"Tech", b"10.00"];
     let Listing { security, .. } = check_security(alloc, &fields)??;
     let (last_name, first_name, broker) = names(alloc)?;
-    let trade = trade_with_security(completed_purchase(alloc)?, security);
+    let trade = TradeStatus {
+        trade: completed_purchase(alloc)?,
+        security,
+    };
     let view = status(AccountStatus {
         last_name,
         first_name,
