@@ -30,7 +30,7 @@ const PAGE_SIZE: usize = 16;
 
 // A desk with at most so many lots reads a page by a scan of HOLDING, which then takes less time than
 // up to 16 reads by key.
-const MOST_SCANNED_LOTS: usize = 256;
+const MOST_SCANNED_LOTS: usize = 128;
 
 /// Returns the index after row changes, or `None` if it could not be kept.
 pub(crate) fn index_after_changes(index: Option<LotIndex>, changes: &[Change]) -> Option<LotIndex>
