@@ -21,7 +21,7 @@ use std::net::TcpStream;
 ///
 /// Whatever the result, the desk changes only by a sequence of its calls, for which the promises of
 /// `Desk::run` hold, also for a crash.
-pub fn serve_on<L: Listener<Stream = TcpStream>, C: Clock, S: Alter>(
+pub fn serve_listener<L: Listener<Stream = TcpStream>, C: Clock, S: Alter>(
     alloc: Global,
     listener: &mut L,
     streams: u32,

@@ -22,7 +22,7 @@ pub trait Listener {
         ensures { accepts self.old result self.new };
 }
 
-impl Listener for TcpListener {
+impl Listener for &TcpListener {
     type Stream = TcpStream;
 
     /// Waits for the next TCP stream, accepts it and returns it. Fails with `Aborted` if the peer

@@ -1,7 +1,8 @@
 //! The test of streams over sockets of this machine, in one process.
 
+use brk_cli_exit::Ending;
+use brk_cli_jobs::serve_on;
 use brk_desk::Desk;
-use brk_http::{ListenFault, serve_on};
 use brk_tests::{Still, expect, new_desk, open_in_memory};
 use sqlite::{Alter, Connection};
 use std::alloc::Global;
@@ -97,13 +98,13 @@ pub(crate) fn expect_peer_replies(
 }
 
 // Serves `streams` streams of the listener on a desk at 2024-03-01 00:00 UTC, in sequence, by
-// `serve_on`. Fails with the fault of `serve_on`.
+// `serve_on`. Fails with the ending of `serve_on`.
 fn serve_at_first_timestamp<S: Alter>(
     alloc: Global,
-    listener: &mut TcpListener,
+    listener: &TcpListener,
     streams: u32,
     desk: &mut Desk<S>,
-) -> Result<(), ListenFault> {
+) -> Result<(), Ending> {
     serve_on(
         alloc,
         listener,
@@ -121,16 +122,16 @@ fn serve_at_first_timestamp<S: Alter>(
 fn expect_streams_served_on_desk<S: Alter + Drop>(
     alloc: Global,
     conn: Option<Connection<S>>,
-    listener: &mut TcpListener,
+    listener: &TcpListener,
     waiting: Vec<(TcpStream, &'static str)>,
 ) -> Result<(), Fail> {
     let mut desk = new_desk(conn)?;
     let served = serve_at_first_timestamp(alloc, listener, 6, &mut desk);
-    expect(served == Ok(()), "six streams")?;
+    expect(served.is_ok(), "six streams")?;
     expect_peer_replies(alloc, waiting)?;
     listener.set_nonblocking(true)?;
     let served = serve_at_first_timestamp(alloc, listener, 1, &mut desk);
-    expect(served == Err(ListenFault::Net), "no stream")
+    expect(matches!(&served, Err(Ending::Net)), "no stream")
 }
 
 /// Checks that six streams over sockets are served in sequence on one desk, that the peers that
@@ -139,7 +140,7 @@ fn expect_streams_served_on_desk<S: Alter + Drop>(
 /// created, or if memory runs out.
 pub fn socket_streams_share_one_desk(rt: &HostRuntime) -> Result<(), Fail> {
     let alloc = rt.alloc();
-    let mut listener = TcpListener::bind(rt, ("127.0.0.1", 0))?;
+    let listener = TcpListener::bind(rt, ("127.0.0.1", 0))?;
     let waiting = connect_all_peers_and_send(rt, &listener)?;
-    expect_streams_served_on_desk(alloc, open_in_memory(alloc), &mut listener, waiting)
+    expect_streams_served_on_desk(alloc, open_in_memory(alloc), &listener, waiting)
 }

@@ -2,7 +2,7 @@ use Rattle.brk_desk.proofs.Made.{not_run, run_then}
 use Rattle.brk_desk.specs.Runs.{IsSomeDeskRun}
 use Rattle.brk_http.specs.Served.{DeskServesStream}
 use Rattle.brk_http_engine.proofs.Taking.{listens_by}
-use Rattle.brk_http.proofs.listening.serve_on.Goals as goal
+use Rattle.brk_http.proofs.listening.serve_listener.Goals as goal
 
 pub returns-clause-served : goal.returns-clause-served
 returns-clause-served g c =
