@@ -1,4 +1,4 @@
-"""Reads the edits of crates/CRATE/must-fail, wrong_bodies/CRATE and controls/CRATE, for tools/trials/try_wrong_bodies and tools/trials/try_controls.
+"""Reads the edits of crates/CRATE/must-fail, mutants/wrong/CRATE and mutants/controls/CRATE, for tools/trials/mutants.
 
 `fault_of` says why an edit can no longer be applied, or which name of a new text has no meaning where the edit puts it, so that the edited
 text cannot be compiled. It does not find each such name: it knows no types, and a name counts as known if it occurs elsewhere, a variable
@@ -31,6 +31,12 @@ def pairs(path):
             elif line.startswith('new:'):
                 found[-1][2] = line[len('new:'):].removeprefix(' ')
     return found
+
+
+def clauses(path):
+    """The clauses that an edit names, any of which may be the one that rejects it."""
+    found = [re.fullmatch(r'(?:# )?clause: (\S+)\s*', line) for line in read(path).split('\n')]
+    return [it[1] for it in found if it]
 
 
 def blank(text):

@@ -1,4 +1,4 @@
-"""Tries edits of a crate several at a time, for tools/trials/try_wrong_bodies and tools/trials/try_controls: each check has at most one edit of each function.
+"""Tries edits of a crate several at a time, for tools/trials/mutants: each check has at most one edit of each function.
 
 A function is proved by its own body and the contracts of what it calls, so an edit of another function changes nothing in its proof. The
 controls of a crate are tried by one check from nothing, which has to succeed; what it proved is the base of the checks that follow. A check
