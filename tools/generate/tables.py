@@ -174,7 +174,7 @@ def test_lemmas(t, tests, shown, found_first):
             out.append('found')
     return out
 
-HEAD = '''-- Written by tools/generate/tables.py: what {what} means.
+HEAD = '''-- Written by tools/generate/tables.py: the meaning of {what}.
 use Rattle.std.proofs.Common.{{◌≡◌, ◌⊎◌, ℕ, ◌-◌, pos, negsuc, List, [], ◌∷◌, ◌++◌, codes, map, true, false, Option, None, Some, Ok, Err, refl, slice_get}}
 use Rattle.sqlite_value.specs.declared.keys.Collation.TheVariants.{{Binary}}
 use Rattle.sqlite.specs.declared.types.Value.TheVariants.{{Null, Int, Text}}
@@ -709,7 +709,7 @@ abbrev pub existence_probe_text : DeskTable → List ℕ
 existence_probe_text w = codes "DELETE FROM " ++ table_name w
 """
     save('crates/brk_tables_schema/specs/Texts.antt', out)
-    probe = 'Returns the text of the statement that deletes all rows of the table. A look-up by name\n    /// compiles it, without executing it, to test whether a table of this name exists.'
+    probe = 'Returns a DELETE of all rows of the table. A look-up compiles it, and never executes it, to\n    /// test whether a table of this name exists.'
     def function(name, what, contract, text):
         return f"""
     /// {what}
@@ -732,7 +732,7 @@ pub enum Table {{
 {chr(10).join(f'    /// {d[1]}{chr(10)}    {d[2]},' for d in DATA)}
 }}
 
-impl Table {{{function('create_table_text', 'Returns the CREATE TABLE statement of the table, with its columns, keys and foreign keys.', 'create_table_text', create_text)}{function('existence_probe_text', probe, 'existence_probe_text', lambda d: f'DELETE FROM {d[1]}')}}}
+impl Table {{{function('create_table_text', 'Returns the CREATE TABLE statement of the table.', 'create_table_text', create_text)}{function('existence_probe_text', probe, 'existence_probe_text', lambda d: f'DELETE FROM {d[1]}')}}}
 """
     for name, what, tables in by_schema():
         out += f"""
@@ -742,7 +742,7 @@ pub const {name.upper()}: [Table; {len(tables)}] = [{', '.join(f'Table::{d[2]}' 
     save('crates/brk_tables_schema/src/table.rt', out)
 
 def probing():
-    out = f"""-- Written by tools/generate/tables.py: what preparing a statement on a table shows of it.
+    out = f"""-- Written by tools/generate/tables.py: the result of preparing a statement on a table.
 use Rattle.std.proofs.Common.{{◌≡◌, ℕ, List, codes, Bool, refl}}
 use Rattle.sqlite_schema.specs.declared.schema.Schema.{{Schema}}
 use Rattle.sqlite.specs.Listing.{{listing_schema}}
@@ -785,7 +785,7 @@ def star_text(d):
     return f'SELECT * FROM {d[1]}'
 
 def stars():
-    out = f"""-- Written by tools/generate/tables.py: what preparing a statement that shows all columns of a table tells of them.
+    out = f"""-- Written by tools/generate/tables.py: the columns of a table, from preparing a statement that selects all of them.
 use Rattle.std.proofs.Common.{{◌≡◌, ℕ, List, codes, map, Some, Ok, refl, slice_get}}
 use Rattle.sqlite_schema.specs.declared.schema.Schema.{{Schema}}
 use Rattle.sqlite_schema.specs.declared.schema.Table.{{Table}}
@@ -810,8 +810,7 @@ def column_names():
     names = lambda d: ', '.join(f'"{c}"' for c, _, _, _ in d[7])
     if [d[0] for d in DATA[-len(LATER):]] != list(LATER):
         sys.exit('tools/generate/tables.py: the tables of later schemas are not the last ones, in the order of the schemas')
-    out = f"""//! Written by tools/generate/tables.py: for each table a statement that selects all of its columns, and the
-//! names of these columns, in order.
+    out = f"""//! Written by tools/generate/tables.py: the columns of each table.
 
 {remark('For each table, those of later schemas last: the statement that selects all of its columns, and their names, in order.', '///')}
 pub(crate) const COLUMNS_OF_ALL_TABLES: [(&str, &[&str]); {len(DATA)}] = [
@@ -1005,7 +1004,7 @@ def cell_at(d, c, row):
 
 def whole():
     """What the read of each whole table shows of it"""
-    out = f"""-- Written by tools/generate/tables.py: what the read of each whole table shows.
+    out = f"""-- Written by tools/generate/tables.py: the result of the read of each whole table.
 use Rattle.std.proofs.Common.{{◌≡◌, List, [], pos, refl}}
 use Rattle.sqlite_value.specs.declared.value.Value.TheVariants.{{Int, Text as Words}}
 use Rattle.sqlite_value.specs.Order.{{Row, column}}
@@ -1032,8 +1031,7 @@ pub {d[0]}_shown : (old new : State) (rows : List Row) → Shown {n}.statement [
 
 # The tables in groups of four, as they are read and decoded; the last group is of the tables that later schemas add. Of each the
 # word its types begin with, its field, and its variable in proofs.
-GROUPS = [('DeskBrokerAndCustomer', 'first', 'f'), ('AccountAndSecurity', 'accounts', 'a'), ('ChargeAndRate', 'rates', 'r'), ('TradeAndHolding', 'trades', 't'),
-          ('SummaryHistoryAndCash', 'last', 'l'), ('LaterSchema', 'later', 'n')]
+GROUPS = [('Owner', 'owners', 'o'), ('Listing', 'listings', 'a'), ('Terms', 'terms', 'r'), ('Trade', 'trades', 't'), ('Booking', 'bookings', 'l'), ('Later', 'later', 'n')]
 
 # the types of rows whose name in code is another
 RUST = {'SecurityRow': 'Security', 'LastTradeRow': 'LastTrade', 'TaxRate': 'Tax', 'HoldingHistoryRow': 'LotChange'}
@@ -1043,8 +1041,8 @@ MEANINGS = {'kept': 'kept_row', 'holding_history': 'lot_change_row'}
 
 # the tables of at most one row, which the sheets hold as a value: its type, how code decodes it, its rows, and whether they have their form
 VALUES = {
-    'desk_row': ('Option<Stamp>', 'decode_last_stamp(schema, ', 'desk_rows schema sheets.last', 'has_one_valid_desk_row desk raw.desk'),
-    'rule': ('Option<Day>', 'decode_one_day_settlement_start(', 'rule_rows sheets.rule', 'has_at_most_one_valid_rule_row raw.rule'),
+    'desk_row': ('Option<Stamp>', 'decode_last_stamp(schema, ', 'desk_rows schema sheets.last', 'has_one_valid_desk_row desk raw.desk.items'),
+    'rule': ('Option<Day>', 'decode_rule(', 'rule_rows sheets.rule', 'has_at_most_one_valid_rule_row raw.rule.items'),
 }
 
 # the functions that read whole tables, where their names do not follow from the table's
@@ -1106,8 +1104,8 @@ def all_of(words):
     return f'{", ".join(words[:-1])} and {words[-1]}'
 
 def group_function(verb, word):
-    """The function that reads or decodes a group"""
-    return f'{verb}_{words_of(word)}_tables'
+    """The function that reads or decodes the raw rows of a group"""
+    return f'{verb}_{words_of(word)}_rows'
 
 def rows_name(d):
     """The function that reads a whole table, in every schema"""
@@ -1116,11 +1114,9 @@ def rows_name(d):
 def read_whole(d):
     """The function that reads one whole table"""
     columns, keys = ', '.join(c[0] for c in d[7]), ', '.join(key_columns(d))
-    mark, kind = ('//', 'fn') if d[0] in LATER else ('///', 'pub fn')
-    about = remark(f'Returns all rows of {d[1]}, sorted by key, ascending. If the function returns a value, the database was open and is unchanged. Fails with `Store` only.', mark)
-    head = f'{about}\n{kind}'
+    kind = 'fn' if d[0] in LATER else 'pub fn'
     return f"""
-{head} {rows_name(d)}<S: Alter>(tx: &mut Transaction<'_, S>) -> Result<Vec<Row>, Fault>
+{kind} {rows_name(d)}<S: Alter>(tx: &mut Transaction<'_, S>) -> Result<Vec<Row>, Fault>
     {SAME_REFERENCE}
     ensures step {{ ReadsAllRows S.Store tx.old tx.new result {d[2]} }}
     {STORE_FAULT}
@@ -1136,7 +1132,7 @@ def read_whole(d):
 def read_later_table(d):
     """The function that reads a table which not every schema has"""
     return f"""
-{remark(f'Returns all rows of {d[1]}, sorted by key, ascending, or no rows if `schema` lacks the table. If the function returns a value, the database is unchanged. Fails with `Store` only.', '///')}
+/// Returns no rows if `schema` lacks the table.
 pub fn {rows_name(d)}_in_schema<S: Alter>(
     tx: &mut Transaction<'_, S>,
     alloc: Global,
@@ -1174,45 +1170,67 @@ use std::alloc::Global;
     out += ''.join(read_whole(d) for d in DATA) + ''.join(read_later_table(d) for d in DATA if d[0] in LATER)
     save('crates/brk_tables_scan/src/rows.rt', out)
 
+BY_SCHEMA = ('Owner', 'Later')
+
 def reading(d):
-    """The code that reads and decodes a whole table"""
-    rows = f'{rows_name(d)}_in_schema(tx, alloc, schema)' if d[0] in LATER else f'{rows_name(d)}(tx)'
+    """The code that reads a whole table into raw rows"""
+    rows = f'{rows_name(d)}_in_schema(tx, alloc, schema)?' if d[0] in LATER else f'{rows_name(d)}(tx)?'
+    return f'decoder.decode_kept_keys(alloc, {rows})?' if d[0] == 'kept' else rows
+
+def decoding(d):
+    """The code that decodes the raw rows of a table"""
+    rows = f'raw.{raw_field(d)}'
     if d[0] in VALUES:
-        return f'decoder.{VALUES[d[0]][1]}{rows}?)?'
-    return f'decoder.decode_kept_keys(alloc, {rows}?)?' if d[0] == 'kept' else f'decoder.decode_read_result(alloc, {rows})?'
+        return f'decoder.{VALUES[d[0]][1]}{rows})?'
+    return f'decoder.decode(alloc, {rows})?'
 
 def read_group(word, field, tables):
-    """The typed rows of a group, and the function that reads and decodes them"""
-    by_schema = word in ('DeskBrokerAndCustomer', 'LaterSchema')
-    schema, of_schema = ('    schema: Schema,\n', '(abstract_schema schema) ') if by_schema else ('', '')
+    """The raw and the typed rows of a group, the function that reads the raw rows, and the one that decodes them"""
+    of_read = '(abstract_schema schema) ' if word == 'Later' else ''
+    of_decoded = '(abstract_schema schema) ' if word == 'Owner' else ''
+    schema = lambda wanted: '    schema: Schema,\n' if word == wanted else ''
+    shows = 'ReadsOwnerTables decoder.old.are_well_formed decoder.new.are_well_formed raw' if word == 'Owner' else f'Shows{word}Tables {of_read}raw'
+    fault = 'ensures fault { IfErr result IsCallFault }' if word == 'Owner' else STORE_FAULT
+    more = {'Owner': '    alloc: Global,\n    decoder: &mut Decoder,\n', 'Later': '    alloc: Global,\n    schema: Schema,\n'}.get(word, '')
+    raws = ''.join(f'    {raw_field(d)}: Vec<{"Key" if d[0] == "kept" else "Row"}>,\n' for d in tables)
     types = ''.join(f'    {sheet_field(d)}: {VALUES[d[0]][0] if d[0] in VALUES else f"Vec<{sheet_type(d)}>"},\n' for d in tables)
-    reads = ''.join(f'    let {sheet_field(d)} = {reading(d)};\n' for d in tables)
-    fields = ''.join(f'        {sheet_field(d)},\n' for d in tables)
-    returned = {'DeskBrokerAndCustomer': 'Returns the last stamp in DESK, or `None` if none is stored, the keys of the rows of KEPT, and the decoded rows of BROKER and CUSTOMER, each list sorted by key, ascending.',
-                'LaterSchema': 'Returns the decoded rows of CASH_MOVE, sorted by key, ascending, and the first day of one-day settlement in SETTLE_RULE, or `None` if it has no row. Returns no rows and no day of a table that `schema` lacks.'}
-    shown = returned.get(word, f'Returns the decoded rows of {named(tables)}, each list sorted by key, ascending.')
-    counted = {'DeskBrokerAndCustomer': ', or DESK not exactly one row with the number of `schema`,', 'LaterSchema': ', or SETTLE_RULE two rows or more,'}.get(word, ',')
-    what = 'value' if by_schema else 'rows'
-    malformed = f'If a table has a malformed row{counted} sets `are_well_formed` of the decoder to false and returns no {what} of this table.'
-    unchanged = 'If the function returns a value, the database is unchanged.' if word == 'LaterSchema' else 'If the function returns a value, the database was open and is unchanged.'
+    reads = ''.join(f'    let {raw_field(d)} = {reading(d)};\n' for d in tables)
+    raw_fields = ''.join(f'        {raw_field(d)},\n' for d in tables)
+    decodes = ''.join(f'    let {sheet_field(d)} = {decoding(d)};\n' for d in tables if d[0] != 'kept')
+    fields = ''.join(f'        {sheet_field(d)}: raw.kept,\n' if d[0] == 'kept' else f'        {sheet_field(d)},\n' for d in tables)
+    but_kept = ', of KEPT the keys' if word == 'Owner' else ''
     return f"""
+{remark(f'The raw rows of {named(tables)}{but_kept}.', '///')}
+#[derive(Drop)]
+pub struct {word}Rows {{
+{raws}}}
+
+fn {group_function('read', word)}<S: Alter>(
+    tx: &mut Transaction<'_, S>,
+{more}) -> Result<{word}Rows, Fault>
+    {SAME_REFERENCE}
+    ensures step {{ IsConnectionStep S.Store tx.old tx.new result (λ raw. {shows}) }}
+    {fault}
+{{
+{reads}    Ok({word}Rows {{
+{raw_fields}    }})
+}}
+
 {remark(f'The typed rows of {named(tables)}.', '///')}
 #[derive(Drop)]
 pub struct {word}Sheets {{
 {types}}}
 
-{remark(f'{shown} {malformed} {unchanged} Fails with `Memory` or `Store` only.', '//')}
-fn {group_function('read', word)}<S: Alter>(
-    tx: &mut Transaction<'_, S>,
+fn {group_function('decode', word)}(
     alloc: Global,
-{schema}    decoder: &mut Decoder,
+{schema('Owner')}    raw: {word}Rows,
+    decoder: &mut Decoder,
 ) -> Result<{word}Sheets, Fault>
-    {SAME_REFERENCE}
-    ensures step {{ IsConnectionStep S.Store tx.old tx.new result
-        (λ sheets. Reads{word}Tables {of_schema}decoder.old.are_well_formed decoder.new.are_well_formed sheets) }}
-    ensures fault {{ IfErr result IsCallFault }}
+    ensures decoded {{ IfOk result (λ sheets. ContinuesDecoding decoder.old.are_well_formed decoder.new.are_well_formed
+        (are_{words_of(word)}_rows_well_formed {of_decoded}raw) (Decodes{word}Tables {of_decoded}sheets raw)) }}
+    ensures fault {{ OnErr result (result ≡ Err Memory) }}
 {{
-{reads}    Ok({word}Sheets {{
+{decodes}    Ok({word}Sheets {{
 {fields}    }})
 }}
 """
@@ -1221,27 +1239,72 @@ def all_tables_code():
     """The reads of all tables in code"""
     types = ', '.join(sorted(sheet_type(d) for d in DATA if d[0] not in VALUES))
     reads = sorted(f'{rows_name(d)}_in_schema' if d[0] in LATER else rows_name(d) for d in DATA)
-    out = f"""//! The reads of all tables: each table is read and decoded, and its raw rows are dropped, before
-//! the next is read.
+    wells = ', '.join(f'are_{words_of(word)}_rows_well_formed' for word, _, _ in GROUPS)
+    out = f"""//! The reads of all tables: first all rows are read, and then decoded, table by table; the raw rows
+//! of a table are dropped as they are decoded. Of KEPT, whose texts are long and of which an audit
+//! checks only that they are UTF-8, the keys alone are kept as it is read. If a table has a malformed row, DESK not
+//! exactly one row with the number of the schema, or SETTLE_RULE two rows or more,
+//! `are_well_formed` of the decoder is false, and there are no typed rows of this table.
 
-ghost use Rattle.std.specs.Prelude.{{◌≡◌, IfErr}};
+ghost use Rattle.std.specs.Prelude.{{◌≡◌, Err, IfErr, IfOk, OnErr}};
+ghost use Rattle.brk_money.specs.declared.fault.Fault.TheVariants.{{Memory, Store}};
 ghost use Rattle.brk_model.specs.Run.{{IsCallFault}};
 ghost use Rattle.brk_trade_rows.specs.Schemas.{{abstract_schema}};
 ghost use Rattle.brk_tables_sql.specs.Model.{{IsConnectionStep}};
-ghost use Rattle.brk_tables_scan.specs.Decoded.{{{', '.join(f'Reads{group[0]}Tables' for group in GROUPS)}, ReadsAndDecodesDeskTables}};
+ghost use Rattle.brk_tables_scan.specs.Raw.{{{', '.join(f'Shows{group[0]}Tables' for group in GROUPS[1:])}}};
+ghost use Rattle.brk_tables_scan.specs.Decoded.{{{wells}, are_raw_rows_well_formed}};
+ghost use Rattle.brk_tables_scan.specs.Decoded.{{{', '.join(f'Decodes{group[0]}Tables' for group in GROUPS)}, DecodesRows}};
+ghost use Rattle.brk_tables_scan.specs.Decoded.{{ContinuesDecoding, ReadsOwnerTables, ReadsRawSheets, ReadsAndDecodesDeskTables}};
 
 use crate::decoder::Decoder;
 use crate::rows::{{{', '.join(reads)}}};
 use brk_money::{{Day, Fault, Stamp}};
 use brk_ref::{{{types}}};
 use brk_trade_rows::{{Schema, Sheets}};
-use sqlite::{{Alter, Transaction}};
+use sqlite::{{Alter, Row, Transaction}};
 use std::alloc::Global;
 """
     out += ''.join(read_group(word, field, tables) for word, field, _, tables in groups())
-    schema = lambda word: 'schema, ' if word in ('DeskBrokerAndCustomer', 'LaterSchema') else ''
+    more = lambda word: {'Owner': ', alloc, decoder', 'Later': ', alloc, schema'}.get(word, '')
+    owner = lambda word: 'schema, ' if word == 'Owner' else ''
     out += f"""
-{remark('Returns the decoded rows of the tables of `schema`, each list sorted by key, ascending: of KEPT the keys alone, of DESK the last stamp, and of SETTLE_RULE the first day of one-day settlement, or `None` for a stamp or a day that is not stored. Returns no rows and no day of a table that `schema` lacks. If a table has a malformed row, DESK not exactly one row with the number of `schema`, or SETTLE_RULE two rows or more, sets `are_well_formed` of the decoder to false and returns no value of this table. If the function returns a value, the database was open and is unchanged. Fails with `Memory` or `Store` only.', '///')}
+/// The raw rows of all tables of a desk.
+#[derive(Drop)]
+pub struct RawSheets {{
+{''.join(f'    {field}: {word}Rows,{chr(10)}' for word, field, _ in GROUPS)}}}
+
+fn read_raw_sheets<S: Alter>(
+    tx: &mut Transaction<'_, S>,
+    alloc: Global,
+    schema: Schema,
+    decoder: &mut Decoder,
+) -> Result<RawSheets, Fault>
+    {SAME_REFERENCE}
+    ensures step {{ IsConnectionStep S.Store tx.old tx.new result
+        (λ raw. ReadsRawSheets (abstract_schema schema) decoder.old.are_well_formed decoder.new.are_well_formed raw) }}
+    ensures fault {{ IfErr result IsCallFault }}
+{{
+{''.join(f'    let {field} = {group_function("read", word)}(tx{more(word)})?;{chr(10)}' for word, field, _ in GROUPS)}    Ok(RawSheets {{
+{''.join(f'        {field},{chr(10)}' for _, field, _ in GROUPS)}    }})
+}}
+
+fn decode_raw_sheets(
+    alloc: Global,
+    schema: Schema,
+    raw: RawSheets,
+    decoder: &mut Decoder,
+) -> Result<Sheets, Fault>
+    ensures decoded {{ IfOk result (λ sheets. ContinuesDecoding decoder.old.are_well_formed decoder.new.are_well_formed
+        (are_raw_rows_well_formed (abstract_schema schema) raw) (DecodesRows (abstract_schema schema) sheets raw)) }}
+    ensures of_schema {{ IfOk result (λ sheets. sheets.schema ≡ schema) }}
+    ensures fault {{ OnErr result (result ≡ Err Memory) }}
+{{
+{''.join(f'    let {field} = {group_function("decode", word)}(alloc, {owner(word)}raw.{field}, decoder)?;{chr(10)}' for word, field, _ in GROUPS)}    Ok(Sheets {{
+        schema,
+{''.join(f'        {sheet_field(d)}: {field}.{sheet_field(d)},{chr(10)}' for _, field, _, tables in groups() for d in tables)}    }})
+}}
+
+{remark('Returns the decoded rows of all tables of `schema`, each list sorted by key, ascending: of KEPT the keys alone, of DESK the last stamp, and of SETTLE_RULE the first day of one-day settlement.', '///')}
 pub(crate) fn read_all_tables<S: Alter>(
     tx: &mut Transaction<'_, S>,
     alloc: Global,
@@ -1251,10 +1314,12 @@ pub(crate) fn read_all_tables<S: Alter>(
     {SAME_REFERENCE}
     ensures step {{ IsConnectionStep S.Store tx.old tx.new result
         (λ sheets. ReadsAndDecodesDeskTables (abstract_schema schema) decoder.old.are_well_formed decoder.new.are_well_formed sheets) }}
+    ensures of_schema {{ IfOk result (λ sheets. sheets.schema ≡ schema) }}
     ensures fault {{ IfErr result IsCallFault }}
 {{
-{''.join(f'    let {field} = {group_function("read", word)}(tx, alloc, {schema(word)}decoder)?;{chr(10)}' for word, field, _ in GROUPS)}    Ok(Sheets {{
-{''.join(f'        {sheet_field(d)}: {field}.{sheet_field(d)},{chr(10)}' for _, field, _, tables in groups() for d in tables)}    }})
+    let raw = read_raw_sheets(tx, alloc, schema, decoder)?;
+    let sheets = decode_raw_sheets(alloc, schema, raw, decoder)?;
+    Ok(sheets)
 }}
 """
     save('crates/brk_tables_scan/src/all_tables.rt', out)
@@ -1269,30 +1334,18 @@ def meanings(*but):
     return f"""use Rattle.brk_ref.specs.Records.{{{names('Records')}}}
 use Rattle.brk_ref.specs.Rows.{{{names('Rows')}}}"""
 
-def raw_record(word, tables):
-    """The raw rows of a group"""
-    fields = '\n'.join(f'  pub {raw_field(d)} : List Row' for d in tables)
-    return f"""
-{remark(f'The raw rows of {named(tables)}.')}
-pub record {word}Rows : Type 0 where
-{fields}
-"""
-
 def raw_spec():
     """What the reads of all tables show"""
-    out = f"""-- The raw rows of all tables, as the reads return them: SQL values that are not yet decoded. In the
--- code only the raw rows of one table are in memory at a time.
+    out = f"""-- The raw rows of all tables, as the reads return them: SQL values that are not yet decoded. Of KEPT
+-- the code keeps the keys alone, so its raw rows stand beside those of the other tables.
 use Rattle.std.specs.Prelude.{{◌≡◌, List, IsTrue}}
 use Rattle.sqlite_value.specs.Order.{{Row}}
 use Rattle.sqlite.specs.State.{{State}}
 use Rattle.brk_tables_schema.specs.Desk.{{DeskTable, {WHICHES}}}
 use Rattle.brk_model.specs.Schemas.{{Schema}}
 use Rattle.brk_tables_scan.specs.Whole.{{ShowsAllRows, ShowsRowsIfInSchema}}
-
-{''.join(raw_record(word, tables) for word, _, _, tables in groups())}
--- The raw rows of all tables of a desk.
-pub record RawSheets : Type 0 where
-{chr(10).join(f'  pub {field} : {word}Rows' for word, field, _ in GROUPS)}
+use Rattle.brk_tables_scan.specs.declared.all_tables.RawSheets.{{RawSheets}}
+{declared('Rows')}
 
 -- The database was open in the state `old`, and its contents are unchanged in `new`.
 abbrev pub IsUnchangedAndOpen : State → State → Type 0
@@ -1308,67 +1361,62 @@ pub record ShowsFourTables (first second third fourth : DeskTable) (a b c d : Li
   pub three : ShowsAllRows third c old.now
   pub four : ShowsAllRows fourth d old.now
 """
-    for word, _, _, tables in groups()[:-1]:
+    for word, _, _, tables in groups()[1:-1]:
         out += f"""
 {remark(f'The database was open, the reads changed nothing, and the raw rows are all rows of {named(tables)} (`ShowsAllRows`). The clause on a table is vacuous if the database does not define it as a desk does.')}
 abbrev pub Shows{word}Tables : {word}Rows → State → State → Type 0
-Shows{word}Tables raw = ShowsFourTables {' '.join(d[2] for d in tables)} {' '.join(f'raw.{raw_field(d)}' for d in tables)}
+Shows{word}Tables raw = ShowsFourTables {' '.join(d[2] for d in tables)} {' '.join(f'raw.{raw_field(d)}.items' for d in tables)}
 """
     out += f"""
--- The reads changed nothing, and the raw rows are all rows of CASH_MOVE and SETTLE_RULE, or none of
--- a table that the schema `desk` does not have (`ShowsRowsIfInSchema`). The clause on a table is
--- vacuous if the database does not define it as a desk does.
-pub record ShowsLaterSchemaTables (desk : Schema) (raw : LaterSchemaRows) (old new : State) : Type 0 where
+-- The reads changed nothing. The lists `a` and `b` are all rows of CASH_MOVE and SETTLE_RULE, or
+-- none of a table that the schema `desk` does not have (`ShowsRowsIfInSchema`). The clause on a
+-- table is vacuous if the database does not define it as a desk does.
+pub record ShowsTwoLaterTables (desk : Schema) (a b : List Row) (old new : State) : Type 0 where
   pub same : new.now ≡ old.now
-{chr(10).join(f'  pub {raw_field(d)} : ShowsRowsIfInSchema desk {d[2]} raw.{raw_field(d)} old.now' for d in groups()[-1][3])}
+  pub moves : ShowsRowsIfInSchema desk CashMoves a old.now
+  pub rule : ShowsRowsIfInSchema desk SettleRules b old.now
 
--- The raw rows of one table in `raw`, the raw rows of all tables.
-abbrev pub raw_rows_of_table : RawSheets → DeskTable → List Row
-{chr(10).join(f'raw_rows_of_table raw {d[2]} = raw.{field}.{raw_field(d)}' for _, field, _, tables in groups() for d in tables)}
+-- The reads changed nothing, and the raw rows are all rows of CASH_MOVE and SETTLE_RULE, or none of
+-- a table that the schema `desk` does not have (`ShowsTwoLaterTables`). The clause on a table is
+-- vacuous if the database does not define it as a desk does.
+abbrev pub ShowsLaterTables : Schema → LaterRows → State → State → Type 0
+ShowsLaterTables desk raw = ShowsTwoLaterTables desk raw.moves.items raw.rule.items
+
+-- The raw rows of one table: `kept` of KEPT, and those in `raw` of the others.
+abbrev pub raw_rows_of_table : List Row → RawSheets → DeskTable → List Row
+{chr(10).join(f'raw_rows_of_table kept raw {d[2]} = ' + ('kept' if d[0] == 'kept' else f'raw.{field}.{raw_field(d)}.items') for _, field, _, tables in groups() for d in tables)}
+
+-- The database was open, and its contents are unchanged. The raw rows are all rows of each table of
+-- the schema `desk`, and none of other tables (`ShowsRowsIfInSchema`). The clause on a table is
+-- vacuous if the database does not define it as a desk does.
+pub record ShowsAllTables (desk : Schema) (kept : List Row) (raw : RawSheets) (a b : State) : Type 0 where
+  pub stays : IsUnchangedAndOpen a b
+  pub shown : (w : DeskTable) → ShowsRowsIfInSchema desk w (raw_rows_of_table kept raw w) a.now
 """
     save('crates/brk_tables_scan/specs/Raw.antt', out)
 
 def decoded_group(word, field, tables):
     """That the sheets of a group are its rows in types, and whether these have their forms"""
-    first = word == 'DeskBrokerAndCustomer'
-    counted = {'DeskBrokerAndCustomer': ', and there is exactly one row of DESK, with the number of the schema `desk`.', 'LaterSchema': ', and there is at most one row of SETTLE_RULE.'}.get(word, '.')
+    first = word == 'Owner'
+    counted = {'Owner': ', and there is exactly one row of DESK, with the number of the schema `desk`.', 'Later': ', and there is at most one row of SETTLE_RULE.'}.get(word, '.')
     rows = lambda d: VALUES[d[0]][2] if d[0] in VALUES else f'sheets.{sheet_field(d)}.items'
     shown = lambda d: f'{d[0]}_cells' if d[0] in VALUES else f'(λ r. {d[0]}_cells ({record_meaning(d)} r))'
     of = lambda d: f'({rows(d)})' if d[0] in VALUES else rows(d)
-    form = lambda d: VALUES[d[0]][3] if d[0] in VALUES else f'list_all (passes_all_cell_checks {d[0]}_column_cell_checks) raw.{raw_field(d)}'
+    form = lambda d: VALUES[d[0]][3] if d[0] in VALUES else f'list_all (passes_all_cell_checks {d[0]}_column_cell_checks) raw.{raw_field(d)}.items'
     is_kept = lambda d: d[0] == 'kept'
-    decodes = lambda d: f'AreKeysOfRawRows {of(d)} raw.{raw_field(d)}' if is_kept(d) else f'map {shown(d)} {of(d)} ≡ raw.{raw_field(d)}'
+    decodes = lambda d: 'sheets.kept ≡ raw.kept' if is_kept(d) else f'map {shown(d)} {of(d)} ≡ raw.{raw_field(d)}.items'
     fields = '\n'.join(f'  pub {raw_field(d)} : {decodes(d)}' for d in tables)
-    but_texts = ', but for the texts of KEPT' if any(map(is_kept, tables)) else ''
-    number = {'DeskBrokerAndCustomer': ' DESK has exactly one row, with the id 1 and the number of `schema`.', 'LaterSchema': ' SETTLE_RULE has one row if `sheets` has a first day of one-day settlement, otherwise none.'}.get(word, '')
+    unkept = [d for d in tables if not is_kept(d)]
+    keys = ' The keys of KEPT stay as they are.' if len(unkept) < len(tables) else ''
+    number = {'Owner': ' DESK has exactly one row, with the id 1 and the number of `schema`.', 'Later': ' SETTLE_RULE has one row if `sheets` has a first day of one-day settlement, otherwise none.'}.get(word, '')
     return f"""
-{remark(f'The raw rows of {named(tables)} are, in order, the encodings of the typed rows `sheets`{but_texts}.{number}')}
+{remark(f'The raw rows of {named(unkept)} are, in order, the encodings of the typed rows `sheets`.{keys}{number}')}
 pub record Decodes{word}Tables {'(schema : Schema) ' if first else ''}(sheets : {word}Sheets) (raw : {word}Rows) : Type 0 where
 {fields}
 
-{remark(f'True if each raw row of {named(tables)} has exactly the columns of its table, each well-formed (`passes_all_cell_checks`)' + counted)}
+{remark(f'True if each raw row of {named(unkept)} has exactly the columns of its table, each well-formed (`passes_all_cell_checks`)' + counted)}
 abbrev pub are_{words_of(word)}_rows_well_formed : {'Schema → ' if first else ''}{word}Rows → Bool
-{folded(f'are_{words_of(word)}_rows_well_formed ' + ('desk ' if first else '') + 'raw =', [form(d) for d in tables], '&&')}
-"""
-
-def reads_group(word, field, tables):
-    """What the reads of a group show and decode"""
-    desk = '(desk : Schema) ' if word in ('DeskBrokerAndCustomer', 'LaterSchema') else ''
-    first, later = 'desk ' if word == 'DeskBrokerAndCustomer' else '', 'desk ' if word == 'LaterSchema' else ''
-    but_texts = ', but for the texts of KEPT' if word == 'DeskBrokerAndCustomer' else ''
-    none = ', or none of a table that the schema `desk` does not have' if word == 'LaterSchema' else ''
-    counted = {'DeskBrokerAndCustomer': ', a row is malformed, or DESK does not have exactly one row, with the number of the schema `desk`', 'LaterSchema': ', a row is malformed, or SETTLE_RULE has two rows or more'}
-    false = f'If `new` is false, `old` was false{counted.get(word, " or a row is malformed")}.'
-    true = f'If the flag `new` after the decoding is true, the flag `old` before it was true, and the typed rows `sheets` are the decoded rows{but_texts}.'
-    opened = '' if word == 'LaterSchema' else ' from an open database'
-    shows = '`ShowsRowsIfInSchema`' if word == 'LaterSchema' else '`ShowsAllRows`'
-    told = f'The reads, from the state `a` to the state `b`, return all rows of {named(tables)}{opened}{none} ({shows}), and leave the contents of the database unchanged. {true} {false} The clause on the rows of a table is vacuous if the database does not define it as a desk does.'
-    return f"""
-{remark(told)}
-pub record Reads{word}Tables {desk}(old new : Bool) (sheets : {word}Sheets) (a b : State) : Type 0 where
-  pub raw : {word}Rows
-  pub shown : Shows{word}Tables {later}raw a b
-  pub decoded : ContinuesDecoding old new (are_{words_of(word)}_rows_well_formed {first}raw) (Decodes{word}Tables {first}sheets raw)
+{folded(f'are_{words_of(word)}_rows_well_formed ' + ('desk ' if first else '') + 'raw =', [form(d) for d in unkept], '&&')}
 """
 
 def decoded_spec():
@@ -1378,6 +1426,7 @@ def decoded_spec():
 -- well-formed.
 use Rattle.std.specs.Prelude.{{◌≡◌, ◌⊎◌, Bool, true, false, ◌&&◌, List, map}}
 use Rattle.std.specs.List.{{list_all}}
+use Rattle.sqlite_value.specs.Order.{{Row}}
 use Rattle.sqlite.specs.State.{{State}}
 use Rattle.brk_model.specs.Schemas.{{Schema}}
 {meanings('abstract_kept_row')}
@@ -1385,31 +1434,46 @@ use Rattle.brk_ref.specs.Records.{{abstract_key}}
 use Rattle.brk_ref.specs.declared.key.Kept as typed
 use Rattle.brk_trade_rows.specs.declared.sheets.Sheets.{{Sheets}}
 use Rattle.brk_tables_schema.specs.Cells.{{{', '.join(d[0] + '_cells' for d in DATA if d[0] != 'kept')}}}
-use Rattle.brk_tables_schema.specs.Desk.{{DeskTable, desk_rows, rule_rows, encoded_row, rows_of_table_in_schema}}
+use Rattle.brk_tables_schema.specs.Desk.{{DeskTable, TheDesk, KeptRows, Brokers, Customers, desk_rows, rule_rows, encoded_row, rows_of_table_in_schema}}
 use Rattle.brk_tables_schema.specs.Formed.{{passes_all_cell_checks, {forms}}}
 use Rattle.brk_tables_scan.specs.KeptKeys.{{AreKeysOfRawRows, keys_of_kept_rows, tables_with_whole_kept_rows}}
-use Rattle.brk_tables_scan.specs.Whole.{{ShowsRowsIfInSchema}}
-use Rattle.brk_tables_scan.specs.Raw.{{{', '.join(f'{word}Rows' for word, _, _ in GROUPS)}, RawSheets, raw_rows_of_table, IsUnchangedAndOpen, {', '.join(f'Shows{word}Tables' for word, _, _ in GROUPS)}}}
+use Rattle.brk_tables_scan.specs.Raw.{{ShowsAllTables, ShowsFourTables, raw_rows_of_table}}
+use Rattle.brk_tables_scan.specs.declared.all_tables.RawSheets.{{RawSheets}}
+{declared('Rows')}
 {declared('Sheets')}
 """
     out += ''.join(decoded_group(word, field, tables) for word, field, _, tables in groups())
-    desk = lambda word: 'desk ' if word == 'DeskBrokerAndCustomer' else ''
+    desk = lambda word: 'desk ' if word == 'Owner' else ''
     out += f"""
--- True if each raw row of each table has exactly the columns of its table, each well-formed
+-- True if each raw row of each table but KEPT has exactly the columns of its table, each well-formed
 -- (`passes_all_cell_checks`), there is exactly one row of DESK, with the number of the schema
 -- `desk`, and there is at most one row of SETTLE_RULE.
-abbrev pub are_raw_sheets_well_formed : Schema → RawSheets → Bool
-{folded('are_raw_sheets_well_formed desk raw =', [f'are_{words_of(word)}_rows_well_formed {desk(word)}raw.{field}' for word, field, _ in GROUPS], '&&')}
+abbrev pub are_raw_rows_well_formed : Schema → RawSheets → Bool
+{folded('are_raw_rows_well_formed desk raw =', [f'are_{words_of(word)}_rows_well_formed {desk(word)}raw.{field}' for word, field, _ in GROUPS], '&&')}
+
+-- True if each row of KEPT has exactly the columns of its table, each well-formed.
+abbrev pub are_kept_rows_well_formed : List Row → Bool
+are_kept_rows_well_formed kept = list_all (passes_all_cell_checks kept_column_cell_checks) kept
+
+-- True if the raw rows of each table are well-formed: `kept` of KEPT (`are_kept_rows_well_formed`),
+-- and those in `raw` of the others (`are_raw_rows_well_formed`).
+abbrev pub are_raw_sheets_well_formed : Schema → List Row → RawSheets → Bool
+are_raw_sheets_well_formed desk kept raw = are_kept_rows_well_formed kept && are_raw_rows_well_formed desk raw
 
 -- The raw rows of each table are, in order, the encodings of the typed rows `sheets`. Of KEPT,
 -- `sheets` has the keys alone: the raw rows of KEPT are, in order, the encodings of `whole`, typed
 -- rows with these keys and any texts. DESK has exactly one row, with the id 1 and the number of the
 -- schema `desk`. SETTLE_RULE has one row if `sheets` has a first day of one-day settlement,
 -- otherwise none.
-pub record DecodesSheets (desk : Schema) (sheets : Sheets) (raw : RawSheets) : Type 0 where
+pub record DecodesSheets (desk : Schema) (kept : List Row) (sheets : Sheets) (raw : RawSheets) : Type 0 where
   pub whole : List typed.Kept
   pub keys : keys_of_kept_rows whole ≡ map abstract_key sheets.kept.items
-  pub encoded : (w : DeskTable) → map (encoded_row w) (rows_of_table_in_schema desk w (tables_with_whole_kept_rows whole sheets)) ≡ raw_rows_of_table raw w
+  pub encoded : (w : DeskTable) → map (encoded_row w) (rows_of_table_in_schema desk w (tables_with_whole_kept_rows whole sheets)) ≡ raw_rows_of_table kept raw w
+
+-- The raw rows of each table but KEPT are, in order, the encodings of the typed rows `sheets`, and
+-- with any rows of KEPT that have the keys in `raw` they are so of each table (`DecodesSheets`).
+abbrev pub DecodesRows : Schema → Sheets → RawSheets → Type 0
+DecodesRows desk sheets raw = (kept : List Row) → AreKeysOfRawRows raw.owners.kept.items kept → DecodesSheets desk kept sheets raw
 
 -- A step of a decoding of raw rows, with a flag that is `old` before the step and `new` after it.
 -- `Decodes` states that the step decodes its rows; `are_well_formed` is true if these are
@@ -1423,7 +1487,24 @@ pub record ContinuesDecoding (old new are_well_formed : Bool) (Decodes : Type 0)
   -- If the flag is false after the step, it was false before it, or the rows of the step are not
   -- well-formed.
   pub form : new ≡ false → (old ≡ false) ⊎ (are_well_formed ≡ false)
-{''.join(reads_group(word, field, tables) for word, field, _, tables in groups())}
+
+-- The reads, from the state `a` to the state `b`, return all rows of DESK, BROKER and CUSTOMER, and
+-- the keys of `kept`, all rows of KEPT, from an open database (`ShowsAllRows`), and leave its
+-- contents unchanged. The flag is `old` before the keys are decoded and `new` after it. The clause
+-- on the rows of a table is vacuous if the database does not define it as a desk does.
+pub record ReadsOwnerTables (old new : Bool) (raw : OwnerRows) (a b : State) : Type 0 where
+  pub kept : List Row
+  pub shown : ShowsFourTables TheDesk KeptRows Brokers Customers raw.desk.items kept raw.brokers.items raw.customers.items a b
+  pub keys : ContinuesDecoding old new (are_kept_rows_well_formed kept) (AreKeysOfRawRows raw.kept.items kept)
+
+-- The reads, from the state `a` to the state `b`, return all rows of each table of the schema
+-- `desk`, of KEPT the keys of the rows `kept` (`ShowsAllTables`). The flag is `old` before the keys
+-- are decoded and `new` after it.
+pub record ReadsRawSheets (desk : Schema) (old new : Bool) (raw : RawSheets) (a b : State) : Type 0 where
+  pub kept : List Row
+  pub read : ShowsAllTables desk kept raw a b
+  pub keys : ContinuesDecoding old new (are_kept_rows_well_formed kept) (AreKeysOfRawRows raw.owners.kept.items kept)
+
 -- The reads, from the state `a` to the state `b`, return all rows of each table of the schema
 -- `desk`, and none of other tables (`ShowsRowsIfInSchema`). The database was open, and its contents
 -- are unchanged. If the flag `new` after the decoding is true, the flag `old` before it was true,
@@ -1431,44 +1512,51 @@ pub record ContinuesDecoding (old new are_well_formed : Bool) (Decodes : Type 0)
 -- `old` was false or the rows are malformed (`are_raw_sheets_well_formed`). The clause on the rows
 -- of a table is vacuous if the database does not define it as a desk does.
 pub record ReadsAndDecodesDeskTables (desk : Schema) (old new : Bool) (sheets : Sheets) (a b : State) : Type 0 where
+  pub kept : List Row
   pub raw : RawSheets
-  pub stays : IsUnchangedAndOpen a b
-  pub shown : (w : DeskTable) → ShowsRowsIfInSchema desk w (raw_rows_of_table raw w) a.now
-  pub decoded : ContinuesDecoding old new (are_raw_sheets_well_formed desk raw) (DecodesSheets desk sheets raw)
+  pub read : ShowsAllTables desk kept raw a b
+  pub decoded : ContinuesDecoding old new (are_raw_sheets_well_formed desk kept raw) (DecodesSheets desk kept sheets raw)
 """
     save('crates/brk_tables_scan/specs/Decoded.antt', out)
 
 def sheeted():
     """That the rows in types are the sheets"""
     cells = ', '.join(f'{d[0]}_cells' for d in DATA if d[0] not in VALUES)
-    desk = lambda word: 'desk ' if word == 'DeskBrokerAndCustomer' else ''
+    desk = lambda word: 'desk ' if word == 'Owner' else ''
     sheets = ' '.join(f'({v} : {word}Sheets)' for word, _, v in GROUPS)
     are = ' '.join(f'(is_{v} : Decodes{word}Tables {desk(word)}{v} raw.{field})' for word, field, v in GROUPS)
     twice = lambda d, v: '' if d[0] in VALUES else f'map_twice {d[0]}_cells {record_meaning(d)} {v}.{sheet_field(d)}.items ∙ '
-    encodes = lambda d, v: f'map_twice kept_cells {record_meaning(d)} is_{v}.kept.0 ∙ is_{v}.kept.1' if d[0] == 'kept' else f'{twice(d, v)}is_{v}.{raw_field(d)}'
+    encodes = lambda d, v: f'map_twice kept_cells {record_meaning(d)} keys.0 ∙ keys.1' if d[0] == 'kept' else f'{twice(d, v)}is_{v}.{raw_field(d)}'
     out = f"""-- The typed rows of all tables are the sheets.
-use Rattle.std.proofs.Common.{{◌≡◌, ◌∙◌, map}}
+use Rattle.std.proofs.Common.{{◌≡◌, ◌∙◌, List, ap, map, sym}}
+use Rattle.std.specs.Global.{{Vec}}
+use Rattle.sqlite_value.specs.Order.{{Row}}
+use Rattle.brk_ref.specs.Records.{{abstract_key}}
+use Rattle.brk_ref.specs.declared.key.Key.{{Key}}
 use Rattle.brk_tables_sql.proofs.Order.{{map_twice}}
 use Rattle.brk_model.specs.Schemas.{{Schema}}
 {meanings()}
+use Rattle.brk_trade_rows.specs.declared.schema.Schema as known
 use Rattle.brk_trade_rows.specs.declared.sheets.Sheets.{{Sheets}}
 use Rattle.brk_tables_schema.specs.Cells.{{{cells}}}
 use Rattle.brk_tables_schema.specs.Desk.{{DeskTable, encoded_row, rows_of_table_in_schema, {WHICHES}}}
-use Rattle.brk_tables_scan.specs.KeptKeys.{{tables_with_whole_kept_rows}}
+use Rattle.brk_tables_scan.specs.KeptKeys.{{AreKeysOfRawRows, tables_with_whole_kept_rows}}
 use Rattle.brk_tables_scan.specs.Decoded.{{DecodesSheets, {', '.join(f'Decodes{group[0]}Tables' for group in GROUPS)}}}
-use Rattle.brk_tables_scan.specs.Raw.{{RawSheets, raw_rows_of_table}}
+use Rattle.brk_tables_scan.specs.Raw.{{raw_rows_of_table}}
+use Rattle.brk_tables_scan.specs.declared.all_tables.RawSheets.{{RawSheets}}
 {declared('Sheets')}
 
-module _ {sheets} where
+module _ (schema : known.Schema) {sheets} where
   abbrev pub sheets : Sheets
-  sheets = record {{ {'; '.join(f'{sheet_field(d)} = {v}.{sheet_field(d)}' for _, _, v, tables in groups() for d in tables)} }}
+  sheets = record {{ schema = schema; {'; '.join(f'{sheet_field(d)} = {v}.{sheet_field(d)}' for _, _, v, tables in groups() for d in tables)} }}
 
-module _ {sheets} (desk : Schema) (raw : RawSheets) {are} where
-  each : (w : DeskTable) → map (encoded_row w) (rows_of_table_in_schema desk w (tables_with_whole_kept_rows is_f.kept.0 (sheets {' '.join(v for _, _, v in GROUPS)}))) ≡ raw_rows_of_table raw w
+module _ (schema : known.Schema) {sheets} (desk : Schema) (raw : RawSheets) {are}
+    (kept : List Row) (keys : AreKeysOfRawRows raw.owners.kept.items kept) where
+  each : (w : DeskTable) → map (encoded_row w) (rows_of_table_in_schema desk w (tables_with_whole_kept_rows keys.0 (sheets schema {' '.join(v for _, _, v in GROUPS)}))) ≡ raw_rows_of_table kept raw w
 {chr(10).join(f'  each {d[2]} = {encodes(d, v)}' for _, _, v, tables in groups() for d in tables)}
 
-  pub are_sheets : DecodesSheets desk (sheets {' '.join(v for _, _, v in GROUPS)}) raw
-  are_sheets = record {{ whole = is_f.kept.0; keys = is_f.kept.2; encoded = each }}
+  pub are_sheets : DecodesSheets desk kept (sheets schema {' '.join(v for _, _, v in GROUPS)}) raw
+  are_sheets = record {{ whole = keys.0; keys = keys.2 ∙ ap (λ (k : Vec Key). map abstract_key k.items) (sym is_o.kept); encoded = each }}
 """
     save('crates/brk_tables_scan/proofs/Sheeted.antt', out)
 
@@ -1497,12 +1585,15 @@ def sheets_code():
     told = {'desk_row': 'The stamp of the last accepted command.', 'kept': 'The keys of the rows of KEPT. The texts of these rows are no part of the sheets.', 'rule': 'The first day of one-day settlement, if one is set (SR_DAY).'}
     kind = lambda d: VALUES[d[0]][0] if d[0] in VALUES else f'Vec<{sheet_type(d)}>'
     fields = ''.join((remark(told[d[0]], '    ///') + '\n' if d[0] in told else '') + f'    pub {sheet_field(d)}: {kind(d)},\n' for d in DATA)
-    text = f"""use brk_money::{{Day, Stamp}};
+    text = f"""use crate::schema::Schema;
+use brk_money::{{Day, Stamp}};
 use brk_ref::{{{', '.join(types)}}};
 
 /// The rows of all tables of a desk, each list sorted by key, ascending.
 #[derive(Drop)]
 pub struct Sheets {{
+    /// The schema that the tables have.
+    pub schema: Schema,
 {fields}}}
 """
     save('crates/brk_trade_rows/src/sheets.rt', text)

@@ -9,7 +9,7 @@ ghost use Rattle.brk_view_rows.specs.Views.{records_of_view};
 
 use crate::form::Form;
 use crate::heads::header_records;
-use crate::rows::{format_csv_rows, format_json_line};
+use crate::rows::{format_csv_rows, json_line};
 use brk_desk::{Desk, Query, View, parse_query, view_fields};
 use brk_io::write_all_bytes;
 use brk_money::Fault;
@@ -18,9 +18,6 @@ use sqlite::Alter;
 use std::alloc::Global;
 use std::io::Write;
 
-// Returns the text of a query's view: as one line of JSON if `form.json` is true, otherwise as CSV
-// rows, and with the names of its fields first if `form.heads` is true and the view is `customer`,
-// `taxid`, `submitted`, `estimate` or `volume`. Fails with `Memory` only.
 fn format_view(alloc: Global, query: &Query, view: &View, form: Form) -> Result<Vec<u8>, Fault>
     ensures text { IfOk result (λ text. text.items ≡ printed_view_text form (abstract_query query.now) (records_of_view view.now)) }
     ensures fault { OnErr result (result ≡ Err Memory) }
@@ -33,18 +30,13 @@ fn format_view(alloc: Global, query: &Query, view: &View, form: Form) -> Result<
     let mut shown = view_fields(alloc, view)?;
     records.append(&mut shown)?;
     if form.json {
-        Ok(format_json_line(alloc, &records)?)
+        Ok(json_line(alloc, &records)?)
     } else {
         Ok(format_csv_rows(alloc, &records)?)
     }
 }
 
-// Writes the text of a query's view: as JSON if `form.json` is true, otherwise as CSV, and with the
-// names of its fields first if `form.heads` is true and the view is `customer`, `taxid`,
-// `submitted`, `estimate` or `volume`.
-//
-// Fails with `Desk(Memory)` and nothing written, or with `Write` after a prefix of the text,
-// perhaps empty or all of it.
+// Formats the whole text first, so that nothing is written if memory runs out.
 fn write_view<W: Write>(
     alloc: Global,
     query: &Query,
@@ -64,17 +56,7 @@ fn write_view<W: Write>(
     }
 }
 
-// Executes a query on the desk, and writes its view: as JSON if `form.json` is true, otherwise as
-// CSV, and with the names of its fields first if `form.heads` is true and the view is `customer`,
-// `taxid`, `submitted`, `estimate` or `volume`.
-//
-// Fails with `Refused` and the refusal of the query, or with `Desk(Memory)` or `Desk(Store)`, and
-// nothing is then written; or with `Write` after a prefix of the text, perhaps empty or all of it.
-// `Desk(Store)` may also mean that a row that another row requires does not exist, that the tax
-// rates of a customer total more than the greatest tax rate, that a lot has no shares, that the
-// number of lots read exceeds 32 bits, or that a sum overflows or exceeds its limit. If the
-// database is still open, it is unchanged, whatever the result.
-fn execute_query_and_write_view<W: Write, S: Alter>(
+fn write_view_of<W: Write, S: Alter>(
     alloc: Global,
     desk: &mut Desk<S>,
     query: &Query,
@@ -91,25 +73,14 @@ fn execute_query_and_write_view<W: Write, S: Alter>(
 }
 
 /// Parses a query from the name of a view and its arguments, executes it on the desk, and writes
-/// its view: as JSON if `form.json` is true, otherwise as CSV, and with the names of its fields
-/// first if `form.heads` is true and the view is `customer`, `taxid`, `submitted`, `estimate` or
-/// `volume`.
+/// its view in the format `form`.
 ///
-/// Fails with `Refused` and the refusal of the parser if the texts are no query: 20 (`TooMany`) for
-/// more than 20 different trade ids or broker names, if the arguments are otherwise well-formed and
-/// no trade id is repeated; 8 (`BadQty`), 9 (`BadPrice`) or 7 (`BadType`), the first that applies,
-/// for the quantity, price or type of an order whose other fields are well-formed; or 18
-/// (`BadText`) for an unknown view, a repeated trade id, or another malformed argument or wrong
-/// number of arguments. Fails otherwise with `Refused` and the refusal of the query, if the desk
-/// refuses it; or with `Desk(Memory)` or `Desk(Store)`. `Desk(Store)` may also mean that a row that
-/// another row requires does not exist, that the tax rates of a customer total more than the
-/// greatest tax rate, that a lot has no shares, that the number of lots read exceeds 32 bits, or
-/// that a sum overflows or exceeds its limit. In these cases nothing is written. Fails with `Write`
-/// after a prefix of the text, perhaps empty or all of it. If the database is still open, it is
-/// unchanged, whatever the result.
-///
-/// A crash after the call exposes only states that a crash before the call could expose.
-pub fn parse_query_and_write_view<W: Write, S: Alter>(
+/// Fails with `Refused` and the refusal of the parser (20, 8, 9, 7 or 18, see `parse_query`) or of
+/// the desk, or with `Desk(Memory)` or `Desk(Store)`, and nothing is then written. `Desk(Store)`
+/// may also mean that a row that another row requires does not exist, or that a sum exceeds its
+/// limit. Fails with `Write` after a prefix of the text, perhaps empty or all of it. The call
+/// leaves an open database unchanged and adds nothing to what a crash may expose.
+pub fn write_asked<W: Write, S: Alter>(
     alloc: Global,
     desk: &mut Desk<S>,
     view: &str,
@@ -121,7 +92,7 @@ pub fn parse_query_and_write_view<W: Write, S: Alter>(
         (W.contents writer.old) (W.contents writer.new) result }
 {
     match parse_query(alloc, view, arguments) {
-        Ok(Ok(query)) => execute_query_and_write_view(alloc, desk, &query, form, writer),
+        Ok(Ok(query)) => write_view_of(alloc, desk, &query, form, writer),
         Ok(Err(refusal)) => Err(ReportFault::Refused(refusal)),
         Err(fault) => Err(ReportFault::Desk(fault)),
     }

@@ -7,10 +7,8 @@ ghost use Rattle.brk_view_rows.specs.Views.{texts_of_record, texts_of_records};
 use brk_desk::Query;
 use std::alloc::{AllocError, Global};
 
-// Returns the names of the fields of a query's view, in order, if the view is `customer`, `taxid`,
-// `submitted`, `estimate` or `volume`, and otherwise an empty list: the records of the other views
-// have different fields.
-fn view_field_names(query: &Query) -> &'static [&'static str]
+// The list is empty for a view whose records differ in their fields.
+fn field_names(query: &Query) -> &'static [&'static str]
     ensures { texts_of_fields result.now ≡ field_names_of_view (abstract_query query.now) }
 {
     match query {
@@ -33,7 +31,6 @@ fn view_field_names(query: &Query) -> &'static [&'static str]
     }
 }
 
-// Returns owned copies of the names, in order. Fails only if memory runs out.
 fn copy_names(alloc: Global, names: &[&str]) -> Result<Vec<String>, AllocError>
     ensures { IfOk result (λ owned. texts_of_record owned ≡ texts_of_fields names.now) }
 {
@@ -44,14 +41,13 @@ fn copy_names(alloc: Global, names: &[&str]) -> Result<Vec<String>, AllocError>
     Ok(owned)
 }
 
-/// Returns a list with one record, whose fields are the names of the fields of a query's view, if
-/// the view is `customer`, `taxid`, `submitted`, `estimate` or `volume`; otherwise, as the records
-/// of the other views have different fields, an empty list. Fails only if memory runs out.
+/// Returns one record with the names of the view's fields, or none if its records differ in their
+/// fields.
 pub fn header_records(alloc: Global, query: &Query) -> Result<Vec<Vec<String>>, AllocError>
     ensures { IfOk result (λ heads. texts_of_records heads ≡ field_name_records (abstract_query query.now)) }
 {
     let mut heads = Vec::new(alloc);
-    let names = view_field_names(query);
+    let names = field_names(query);
     if !names.is_empty() {
         heads.push(copy_names(alloc, names)?)?;
     }

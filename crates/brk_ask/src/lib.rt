@@ -6,5 +6,5 @@ pub mod form;
 mod heads;
 mod rows;
 
-pub use asking::parse_query_and_write_view;
+pub use asking::write_asked;
 pub use form::Form;

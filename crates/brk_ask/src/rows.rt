@@ -3,16 +3,15 @@ ghost use Rattle.brk_ask.specs.Printed.{json_line_text, csv_text};
 ghost use Rattle.brk_view_rows.specs.Views.{texts_of_record};
 ghost use Rattle.csv.specs.Writing.{default_writer, row_text};
 
-use brk_http_engine::json_text_of_view;
-use brk_ref::borrow_bytes_of_texts;
+use brk_http_engine::json_view;
+use brk_ref::borrow_texts;
 use csv::WriterBuilder;
 use std::alloc::{AllocError, Global};
 
-// Returns a record as a row of CSV, with its line feed. Fails only if memory runs out.
 fn format_csv_row(alloc: Global, texts: &[String]) -> Result<Vec<u8>, AllocError>
     ensures { IfOk result (λ row. row.items ≡ row_text default_writer (map string_bytes texts.now)) }
 {
-    let fields = borrow_bytes_of_texts(alloc, texts)?;
+    let fields = borrow_texts(alloc, texts)?;
     let mut writer = WriterBuilder::new().from_writer(Vec::new(alloc));
     match writer.write_fields(&fields) {
         Ok(()) => {}
@@ -24,8 +23,7 @@ fn format_csv_row(alloc: Global, texts: &[String]) -> Result<Vec<u8>, AllocError
     }
 }
 
-/// Returns the records as rows of CSV, in order, each with its line feed. Fails only if memory runs
-/// out.
+/// Returns the records as rows of CSV, in order, each with its line feed.
 pub fn format_csv_rows(alloc: Global, records: &[Vec<String>]) -> Result<Vec<u8>, AllocError>
     ensures { IfOk result (λ text. text.items ≡ csv_text (map texts_of_record records.now)) }
 {
@@ -37,12 +35,11 @@ pub fn format_csv_rows(alloc: Global, records: &[Vec<String>]) -> Result<Vec<u8>
     Ok(text)
 }
 
-/// Returns the records as one line of JSON, `{"view":[["TEXT",..],..]}`, with its line feed. Fails
-/// only if memory runs out.
-pub fn format_json_line(alloc: Global, records: &[Vec<String>]) -> Result<Vec<u8>, AllocError>
+/// Returns the records as one line of JSON, `{"view":[["TEXT",..],..]}`, with its line feed.
+pub fn json_line(alloc: Global, records: &[Vec<String>]) -> Result<Vec<u8>, AllocError>
     ensures { IfOk result (λ text. text.items ≡ json_line_text (map texts_of_record records.now)) }
 {
-    let told = json_text_of_view(alloc, records)?;
+    let told = json_view(alloc, records)?;
     let mut text = Vec::new(alloc);
     text.extend_from_slice(told.as_str().as_bytes())?;
     text.push(b'\n')?;

@@ -1,4 +1,4 @@
--- Rows that are told of trades, walked beside the trades.
+-- Rows derived from trades, walked beside the trades.
 use Rattle.std.proofs.Common.{◌≡◌, Bool, List, map, filter}
 use Rattle.std.specs.Prelude.{◌↔◌}
 use Rattle.brk_model.specs.Tables.{TradeRow}

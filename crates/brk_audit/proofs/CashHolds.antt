@@ -1,4 +1,4 @@
--- The condition on cash rows that are numbered, as its walks over the rows tell it.
+-- The condition `Cash` on numbered rows, from the walks over the rows.
 use Rattle.std.proofs.Common.{◌≡◌, ℕ, List, [], ◌∷◌, refl, sym, ◌∙◌, ap, arith, length, subst, map, filter, true}
 use Rattle.std.specs.Prelude.{◌↔◌}
 use Rattle.std.specs.BTreeMap.{BTreeMap}

@@ -1,4 +1,4 @@
--- The condition on cash rows that are numbered: they are the postings of the base in turn.
+-- The condition `Cash` on numbered rows: they are the postings of the base in order.
 use Rattle.std.proofs.Common.{◌≡◌, ℕ, ◌+◌, ◌<◌, ◌≤◌, ◌==◌, Bool, true, false, cond, not, List, [], ◌∷◌, ◌++◌, refl, sym, ◌∙◌, ap, map, filter, arith, Option, Some, None}
 use Rattle.std.specs.Prelude.{⊤, ◌&&◌, ◌||◌, find, is_none, nat_le, nat_lt, option_map, option_to_list, bytes_eq}
 use Rattle.std.specs.Option.{option_map_or}

@@ -1,4 +1,4 @@
--- What the conditions before give to those after.
+-- The premises that `Form` and `Status` give to the conditions after them.
 use Rattle.brk_money.specs.declared.fault.Condition.TheVariants.{Form, Status}
 use Rattle.std.proofs.Common.{◌≡◌, Bool, true, false, sym, ◌∙◌}
 use Rattle.std.specs.Prelude.{◌↔◌, IsTrue}

@@ -1,4 +1,4 @@
--- What does not depend on the schema of the tables that a base gives.
+-- The tables of a base that do not depend on the schema.
 use Rattle.std.proofs.Common.{◌≡◌, refl}
 use Rattle.brk_model.specs.Base.{Base}
 use Rattle.brk_model.specs.Schemas.{Schema}

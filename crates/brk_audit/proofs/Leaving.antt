@@ -1,5 +1,5 @@
--- The lots that completed trades leave, position by position, are those of the tables of their
--- base.
+-- The lots that remain after the completed trades, position by position, are the lots in the tables
+-- of their base.
 use Rattle.std.proofs.Common.{◌≡◌, ℕ, ◌+◌, ◌==◌, ◌&&◌, Bool, true, false, cond, List, [], ◌∷◌, ◌++◌, refl, sym, ap, ◌∙◌, map, filter, arith, inl, inr}
 use Rattle.std.specs.Prelude.{bytes_eq}
 use Rattle.std.specs.List.{AllByRecursion, list_any, sum_by}

@@ -1,5 +1,5 @@
--- The lots of a database's trades: what form and statuses give to a replay, and when its lots are
--- those of the tables.
+-- The lots of the trades of a database: `Form` and `Status` permit their replay, and `Lots` holds
+-- exactly if its lots are those of the tables.
 use Rattle.std.proofs.Common.{◌≡◌, ℕ, zero, suc, ◌<◌, ◌≤◌, ◌==◌, ◌&&◌, ◌||◌, not, Bool, true, false, cond, List, [], ◌∷◌, refl, sym, ap, ◌∙◌, subst, map}
 use Rattle.std.proofs.Common.{filter, length, get_or, arith, inl, inr, Option, Some, None, Bor}
 use Rattle.std.specs.Prelude.{bytes_eq, nat_lt, nat_le, IsSome}

@@ -1,4 +1,4 @@
--- What completed trades did to lots, position by position, is the history of lots of their base.
+-- The lot changes of completed trades, position by position, are the history of lots of their base.
 use Rattle.std.proofs.Common.{◌≡◌, ℕ, ◌+◌, ◌==◌, ◌&&◌, Bool, true, false, cond, List, [], ◌∷◌, ◌++◌, refl, sym, ap, ◌∙◌, subst, map, filter, arith, inl, inr}
 use Rattle.std.specs.Prelude.{◌↔◌, flat_map}
 use Rattle.std.specs.Bool.{Decides}

@@ -1,4 +1,4 @@
--- What deals do to lots, summed up deal by deal and lot by lot.
+-- Sums of lot changes, deal by deal and lot by lot.
 use Rattle.std.proofs.Common.{◌≡◌, ◌≢◌, ℕ, zero, suc, ◌+◌, ◌*◌, ◌≤◌, ◌==◌, Bool, true, false, not, cond, List, [], ◌∷◌, ◌++◌, refl, sym, ap, ◌∙◌, map, filter, reverse, arith, inl, inr, pos, ◌-ℤ◌}
 use Rattle.std.specs.Prelude.{⊤}
 use Rattle.std.specs.List.{AllByRecursion, sum_by}

@@ -1,4 +1,4 @@
--- The order of completed trades, by position and moment.
+-- The order of completed trades by position and stamp.
 use Rattle.std.proofs.Common.{◌≡◌, ◌≢◌, ℕ, zero, suc, ◌≤◌, List, [], ◌∷◌, ◌++◌, Bool, true, false, not, ◌&&◌, ◌||◌, ◌==◌, Ordering, Less, Equal, Greater}
 use Rattle.std.proofs.Common.{nat_cmp, map, drop, refl, sym, ◌∙◌, arith, eq-eqb, eqb-true}
 use Rattle.std.specs.Prelude.{nat_lt, bytes_eq}

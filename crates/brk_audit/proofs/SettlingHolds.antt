@@ -1,4 +1,4 @@
--- The conditions on requests, settlements and cash rows, as their walks over the rows tell them.
+-- The conditions `Requests`, `Settlement` and `Cash`, from the walks over the rows.
 use Rattle.std.proofs.Common.{◌≡◌, ℕ, ◌==◌, true, false, List, [], ◌∷◌, refl, length, arith, sym, ◌∙◌, ap, map, filter}
 use Rattle.std.specs.Prelude.{◌↔◌, ◌||◌, is_none}
 use Rattle.std.specs.BTreeMap.{BTreeMap}

@@ -1,4 +1,4 @@
--- The condition on statuses is one on the history alone, walked beside the trades.
+-- The condition `Status`, as a walk over the history beside the trades.
 use Rattle.std.proofs.Common.{◌≡◌, ℕ, ◌+◌, ◌==◌, Bool, true, false, cond, List, [], ◌∷◌, ◌++◌, refl, sym, ◌∙◌, ap, take, drop, length, arith}
 use Rattle.std.specs.Prelude.{◌&&◌, flat_map}
 use Rattle.std.specs.List.{AllByRecursion, list_all, prefix_len}

@@ -1,5 +1,5 @@
--- A trade's statuses are right just where its rows of the history, by the codes of their statuses,
--- are a way.
+-- The statuses of a trade are valid exactly if its rows of TRADE_HISTORY, sorted by the code of the
+-- status, are a valid sequence.
 use Rattle.std.proofs.Common.{◌≡◌, ℕ, ◌<◌, ◌==◌, Bool, true, false, List, [], ◌∷◌, refl, sym, ◌∙◌, ap, map, arith}
 use Rattle.std.specs.Prelude.{◌&&◌, ◌||◌, not, nat_lt}
 use Rattle.std.specs.List.{AllByRecursion}
@@ -21,7 +21,7 @@ use Rattle.brk_audit_theorems.proofs.Members.{sorted_each}
 use Rattle.brk_audit_theorems.proofs.Marks.{no_more_ways}
 use Rattle.brk_audit_theorems.proofs.AdoptedHistory.{own_rows}
 use Rattle.brk_model_theorems.proofs.Conjunctions.{parts3}
-use Rattle.brk_audit.specs.Statuses.{is_valid_history, has_status_and_stamp_of_row}
+use Rattle.brk_audit.specs.Statuses.{is_valid_history, has_last_change}
 
 false_true : {A : Type 0} → false ≡ true → A
 false_true e = absurd (cc)
@@ -56,28 +56,28 @@ put_three a b c e f g = rw e (rw f (rw g refl))
 
 -- ---- from marks that are a way to rows
 
-one_goes : (r : TradeRow) (id : ℕ) (s : Status) (x : ℕ) → is_valid_status_sequence (s ∷ []) ≡ true → has_status_and_stamp_of_row r (at id s x) ≡ true → is_valid_history r (at id s x ∷ []) ≡ true
+one_goes : (r : TradeRow) (id : ℕ) (s : Status) (x : ℕ) → is_valid_status_sequence (s ∷ []) ≡ true → has_last_change r (at id s x) ≡ true → is_valid_history r (at id s x ∷ []) ≡ true
 one_goes r id Submitted x w l = l
 one_goes r id Pending x w l = l
 one_goes r id _ x w l = false_true w
 
-two_go : (r : TradeRow) (id : ℕ) (s u : Status) (x y : ℕ) → is_valid_status_sequence (s ∷ u ∷ []) ≡ true → nat_lt x y ≡ true → has_status_and_stamp_of_row r (at id u y) ≡ true
+two_go : (r : TradeRow) (id : ℕ) (s u : Status) (x y : ℕ) → is_valid_status_sequence (s ∷ u ∷ []) ≡ true → nat_lt x y ≡ true → has_last_change r (at id u y) ≡ true
     → is_valid_history r (rows_sorted_by_key history_key (at id s x ∷ at id u y ∷ [])) ≡ true
 two_go r id Submitted Completed x y w l e =
-    ap (is_valid_history r) (put_over (at id Submitted x) (at id Completed y) (by_code id Completed Submitted y x)) ∙ and_from (nat_lt x y) (has_status_and_stamp_of_row r (at id Completed y)) l e
+    ap (is_valid_history r) (put_over (at id Submitted x) (at id Completed y) (by_code id Completed Submitted y x)) ∙ and_from (nat_lt x y) (has_last_change r (at id Completed y)) l e
 two_go r id Pending Canceled x y w l e =
-    ap (is_valid_history r) (put_over (at id Pending x) (at id Canceled y) (by_code id Canceled Pending y x)) ∙ and_from (nat_lt x y) (has_status_and_stamp_of_row r (at id Canceled y)) l e
+    ap (is_valid_history r) (put_over (at id Pending x) (at id Canceled y) (by_code id Canceled Pending y x)) ∙ and_from (nat_lt x y) (has_last_change r (at id Canceled y)) l e
 two_go r id Pending Submitted x y w l e =
-    ap (is_valid_history r) (put_under (at id Pending x) (at id Submitted y) (by_code id Submitted Pending y x)) ∙ and_from (nat_lt x y) (has_status_and_stamp_of_row r (at id Submitted y)) l e
+    ap (is_valid_history r) (put_under (at id Pending x) (at id Submitted y) (by_code id Submitted Pending y x)) ∙ and_from (nat_lt x y) (has_last_change r (at id Submitted y)) l e
 two_go r id _ _ x y w l e = false_true w
 
 three_go : (r : TradeRow) (id : ℕ) (s u v : Status) (x y z : ℕ) → is_valid_status_sequence (s ∷ u ∷ v ∷ []) ≡ true → nat_lt x y ≡ true → nat_lt y z ≡ true
-    → has_status_and_stamp_of_row r (at id v z) ≡ true
+    → has_last_change r (at id v z) ≡ true
     → is_valid_history r (rows_sorted_by_key history_key (at id s x ∷ at id u y ∷ at id v z ∷ [])) ≡ true
 three_go r id Pending Submitted Completed x y z w l m e =
     ap (is_valid_history r) (put_three (at id Pending x) (at id Submitted y) (at id Completed z)
     (by_code id Completed Submitted z y) (by_code id Completed Pending z x) (by_code id Submitted Pending y x))
-    ∙ and_from (nat_lt x y && nat_lt y z) (has_status_and_stamp_of_row r (at id Completed z)) (and_from (nat_lt x y) (nat_lt y z) l m) e
+    ∙ and_from (nat_lt x y && nat_lt y z) (has_last_change r (at id Completed z)) (and_from (nat_lt x y) (nat_lt y z) l m) e
 three_go r id Submitted Completed v x y z w l m e = false_true w
 three_go r id Submitted _ v x y z w l m e = false_true w
 three_go r id _ _ _ x y z w l m e = false_true w
@@ -135,15 +135,15 @@ right_one r id _ x e = false_true e
 
 two_right : (r : TradeRow) (id : ℕ) (s u : Status) (x y : ℕ) → is_valid_history r (at id s x ∷ at id u y ∷ []) ≡ true → IsRightOf r (sort_by_key (λ m. m.stamp) (mark s x ∷ mark u y ∷ []))
 two_right r id Completed Submitted x y e =
-    let k = and_parts (nat_lt y x) (has_status_and_stamp_of_row r (at id Completed x)) e in
+    let k = and_parts (nat_lt y x) (has_last_change r (at id Completed x)) e in
     along r (sort_by_key (λ m. m.stamp) (mark Completed x ∷ mark Submitted y ∷ [])) (mark Submitted y ∷ mark Completed x ∷ [])
     (over (mark Completed x) (mark Submitted y) k.0) (right_two r Submitted Completed y x refl k.0 k.1)
 two_right r id Canceled Pending x y e =
-    let k = and_parts (nat_lt y x) (has_status_and_stamp_of_row r (at id Canceled x)) e in
+    let k = and_parts (nat_lt y x) (has_last_change r (at id Canceled x)) e in
     along r (sort_by_key (λ m. m.stamp) (mark Canceled x ∷ mark Pending y ∷ [])) (mark Pending y ∷ mark Canceled x ∷ [])
     (over (mark Canceled x) (mark Pending y) k.0) (right_two r Pending Canceled y x refl k.0 k.1)
 two_right r id Pending Submitted x y e =
-    let k = and_parts (nat_lt x y) (has_status_and_stamp_of_row r (at id Submitted y)) e in
+    let k = and_parts (nat_lt x y) (has_last_change r (at id Submitted y)) e in
     along r (sort_by_key (λ m. m.stamp) (mark Pending x ∷ mark Submitted y ∷ [])) (mark Pending x ∷ mark Submitted y ∷ [])
     (under (mark Pending x) (mark Submitted y) (before x y k.0)) (right_two r Pending Submitted x y refl k.0 k.1)
 two_right r id _ _ x y e = false_true e
@@ -151,7 +151,7 @@ two_right r id _ _ x y e = false_true e
 three_right : (r : TradeRow) (id : ℕ) (s u v : Status) (x y z : ℕ) → is_valid_history r (at id s x ∷ at id u y ∷ at id v z ∷ []) ≡ true
     → IsRightOf r (sort_by_key (λ m. m.stamp) (mark s x ∷ mark u y ∷ mark v z ∷ []))
 three_right r id Completed Pending Submitted x y z e =
-    let k = parts3 (nat_lt y z) (nat_lt z x) (has_status_and_stamp_of_row r (at id Completed x)) e in
+    let k = parts3 (nat_lt y z) (nat_lt z x) (has_last_change r (at id Completed x)) e in
     let l : y < z = ltb-true y z k.0 in
     let m : z < x = ltb-true z x k.1 in
     let n : nat_lt y x ≡ true = later y z x l m in

@@ -1,4 +1,4 @@
--- The trades of one position in sorted ones.
+-- The trades of one position in a sorted list.
 use Rattle.std.proofs.Common.{arith, ◌≡◌, ◌+◌, ◌-◌, ◌<◌, ◌++◌, ℕ, zero, suc, true, false, List, [], ◌∷◌, length, drop, get_or, take, map, refl, sym, ap, ◌∙◌, subst, Bor}
 use Rattle.std.specs.List.{AllByRecursion, IsDistinct}
 use Rattle.std.specs.List.Sorted.{IsSortedBy}

@@ -1,4 +1,4 @@
--- Steps of walks over rows.
+-- Single steps of walks over rows.
 use Rattle.std.proofs.Common.{◌≡◌, ℕ, ◌+◌, ◌<◌, ◌==◌, Bool, true, false, cond, List, [], ◌∷◌, ◌++◌, refl, sym, ◌∙◌, ap, map, filter, take, drop, length, get_or, ⊎_elim}
 use Rattle.std.specs.Prelude.{◌&&◌, ◌||◌, is_none, not}
 use Rattle.std.specs.List.{prefix_len}

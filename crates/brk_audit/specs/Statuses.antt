@@ -16,8 +16,8 @@ can_be_first_status Pending = true
 can_be_first_status Canceled = false
 
 -- True if the row `r` of TRADE has the status and the stamp of the row `h` of TRADE_HISTORY.
-abbrev pub has_status_and_stamp_of_row : TradeRow → HistoryRow → Bool
-has_status_and_stamp_of_row r h = is_same_trade_status r.status h.status && (r.stamp == h.stamp)
+abbrev pub has_last_change : TradeRow → HistoryRow → Bool
+has_last_change r h = is_same_trade_status r.status h.status && (r.stamp == h.stamp)
 
 -- The value `first` if the two statuses are sorted by code and the second followed by the first is
 -- a valid status sequence, the value `second` if they are sorted by code and the first followed by
@@ -31,10 +31,10 @@ value_by_last_of_two_valid_statuses _ _ first second = false
 -- True if the history rows `a` and `b` are sorted by status code and form a valid status sequence
 -- in strictly ascending order of their stamps, and the row `r` of TRADE has the status and the
 -- stamp of the one with the greater stamp.
-abbrev pub is_valid_two_row_history : TradeRow → HistoryRow → HistoryRow → Bool
-is_valid_two_row_history r a b =
-    value_by_last_of_two_valid_statuses a.status b.status (nat_lt b.stamp a.stamp && has_status_and_stamp_of_row r a) (nat_lt a.stamp b.stamp
-    && has_status_and_stamp_of_row r b)
+abbrev pub is_valid_pair : TradeRow → HistoryRow → HistoryRow → Bool
+is_valid_pair r a b =
+    value_by_last_of_two_valid_statuses a.status b.status (nat_lt b.stamp a.stamp && has_last_change r a) (nat_lt a.stamp b.stamp
+    && has_last_change r b)
 
 -- The value `told` if the three statuses are sorted by code and are, in some order, a valid status
 -- sequence; otherwise false.
@@ -45,18 +45,18 @@ value_if_three_statuses_are_valid _ _ _ told = false
 -- True if the history rows `a`, `b` and `c` are sorted by status code and form a valid status
 -- sequence in strictly ascending order of their stamps, and the row `r` of TRADE has the status and
 -- the stamp of the one with the greatest stamp.
-abbrev pub is_valid_three_row_history : TradeRow → HistoryRow → HistoryRow → HistoryRow → Bool
-is_valid_three_row_history r a b c =
-    value_if_three_statuses_are_valid a.status b.status c.status (nat_lt b.stamp c.stamp && nat_lt c.stamp a.stamp && has_status_and_stamp_of_row r a)
+abbrev pub is_valid_triple : TradeRow → HistoryRow → HistoryRow → HistoryRow → Bool
+is_valid_triple r a b c =
+    value_if_three_statuses_are_valid a.status b.status c.status (nat_lt b.stamp c.stamp && nat_lt c.stamp a.stamp && has_last_change r a)
 
 -- True if the history rows are sorted by status code and form a valid status sequence in strictly
 -- ascending order of their stamps, and the row `r` of TRADE has the status and the stamp of the one
 -- with the greatest stamp. False if there are no rows.
 abbrev pub is_valid_history : TradeRow → List HistoryRow → Bool
 is_valid_history r [] = false
-is_valid_history r (h ∷ []) = can_be_first_status h.status && has_status_and_stamp_of_row r h
-is_valid_history r (a ∷ b ∷ []) = is_valid_two_row_history r a b
-is_valid_history r (a ∷ b ∷ c ∷ []) = is_valid_three_row_history r a b c
+is_valid_history r (h ∷ []) = can_be_first_status h.status && has_last_change r h
+is_valid_history r (a ∷ b ∷ []) = is_valid_pair r a b
+is_valid_history r (a ∷ b ∷ c ∷ []) = is_valid_triple r a b c
 is_valid_history r (a ∷ b ∷ c ∷ d ∷ hs) = false
 
 -- True if the list of history rows begins with the rows of the first trade, then has the rows of

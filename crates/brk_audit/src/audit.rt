@@ -1,69 +1,67 @@
+//! The audit: one condition after another, of which the later suppose `Form` and `Status`.
+
 ghost use Rattle.std.specs.Prelude.{◌≡◌, IfErr, IfOk};
 ghost use Rattle.brk_money.specs.declared.fault.Fault.TheVariants.{Memory};
 ghost use Rattle.brk_model.specs.Audit.{IsAuditResult};
 ghost use Rattle.brk_trade_rows.specs.Schemas.{abstract_schema};
 ghost use Rattle.brk_trade_rows.specs.Sheets.{abstract_sheets};
 
-use crate::cash::cash_condition_holds;
-use crate::history::history_condition_holds;
-use crate::holding_lots::lot_condition_holds;
-use crate::requests::request_condition_holds;
-use crate::settlements::settlement_condition_holds;
-use crate::status::status_condition_holds;
-use brk_audit_form::form_condition_holds;
-use brk_audit_sums::balances::balance_condition_holds;
-use brk_audit_sums::commissions::commission_condition_holds;
-use brk_audit_sums::counts::count_condition_holds;
-use brk_audit_sums::summaries::summary_condition_holds;
+use crate::cash::meets_cash;
+use crate::history::meets_history;
+use crate::holding_lots::meets_lots;
+use crate::requests::meets_requests;
+use crate::settlements::meets_settlement;
+use crate::status::meets_status;
+use brk_audit_form::meets_form;
+use brk_audit_sums::balances::meets_balance;
+use brk_audit_sums::commissions::meets_commission;
+use brk_audit_sums::counts::meets_count;
+use brk_audit_sums::summaries::meets_summary;
 use brk_money::{Condition, Fault};
-use brk_trade_rows::{Schema, Sheets};
+use brk_trade_rows::Sheets;
 use std::alloc::Global;
 
-/// Returns the first condition of `schema` that the rows of `sheets` fail, in the order `Form`,
+/// Returns the first condition of the schema of `sheets` that its rows fail, in the order `Form`,
 /// `Status`, `Requests`, `Lots`, `History`, `Summary`, `Count`, `Commission`, `Settlement`, `Cash`,
 /// `Balance`, or `None` if they pass the audit.
 ///
 /// Fails with `Memory` only.
 #[tactic(auto, using(crate::proofs::Chain::form_held, crate::proofs::Chain::statuses_held))]
-pub fn audit_rows(
-    alloc: Global,
-    schema: Schema,
-    sheets: &Sheets,
-) -> Result<Option<Condition>, Fault>
-    ensures condition { IfOk result (λ answer. IsAuditResult (abstract_schema schema) (abstract_sheets sheets.now) answer) }
+pub fn audit_rows(alloc: Global, sheets: &Sheets) -> Result<Option<Condition>, Fault>
+    ensures condition { IfOk result (λ answer. IsAuditResult (abstract_schema sheets.now.schema) (abstract_sheets sheets.now) answer) }
     ensures fault { IfErr result (λ fault. fault ≡ Memory) }
 {
-    if !form_condition_holds(alloc, schema, sheets)? {
+    if !meets_form(alloc, sheets.schema, sheets)? {
         return Ok(Some(Condition::Form));
     }
-    if !status_condition_holds(alloc, sheets)? {
+    if !meets_status(alloc, sheets)? {
         return Ok(Some(Condition::Status));
     }
-    if !request_condition_holds(alloc, sheets)? {
+    if !meets_requests(alloc, sheets)? {
         return Ok(Some(Condition::Requests));
     }
-    if !lot_condition_holds(alloc, sheets)? {
+    if !meets_lots(alloc, sheets)? {
         return Ok(Some(Condition::Lots));
     }
-    if !history_condition_holds(alloc, sheets)? {
+    if !meets_history(alloc, sheets)? {
         return Ok(Some(Condition::History));
     }
-    if !summary_condition_holds(alloc, sheets)? {
+    if !meets_summary(alloc, sheets)? {
         return Ok(Some(Condition::Summary));
     }
-    if !count_condition_holds(alloc, sheets)? {
+    if !meets_count(alloc, sheets)? {
         return Ok(Some(Condition::Count));
     }
-    if !commission_condition_holds(alloc, sheets)? {
+    if !meets_commission(alloc, sheets)? {
         return Ok(Some(Condition::Commission));
     }
-    if !settlement_condition_holds(alloc, sheets)? {
+    if !meets_settlement(alloc, sheets)? {
         return Ok(Some(Condition::Settlement));
     }
-    if !cash_condition_holds(alloc, schema, sheets)? {
+    if !meets_cash(alloc, sheets.schema, sheets)? {
         return Ok(Some(Condition::Cash));
     }
-    if !balance_condition_holds(alloc, sheets)? {
+    if !meets_balance(alloc, sheets)? {
         return Ok(Some(Condition::Balance));
     }
     Ok(None)

@@ -1,3 +1,8 @@
+//! The condition `Cash`: the cash rows of trades, in CASH_TRANSACTION in schema 1 and in CASH_MOVE
+//! in later schemas, are exactly those of the completed cash trades. In later schemas
+//! CASH_TRANSACTION is empty, and all rows of CASH_MOVE are numbered from 1 by ascending stamp.
+//! Names of rows are not compared: `Form` checks them.
+
 ghost use Rattle.std.specs.List.{filter_map};
 ghost use Rattle.brk_audit.specs.CashMoveFigures.{abstract_posted_figures};
 ghost use Rattle.std.specs.Prelude.{◌≡◌, ◌↔◌, ◌==◌, ◌&&◌, map, filter, nat_le, option_map, IfErr, IfOk, IsTrue, MatchOption};
@@ -14,41 +19,35 @@ ghost use Rattle.brk_trade_rows.specs.Schemas.{abstract_schema};
 ghost use Rattle.brk_trade_rows.specs.Sheets.{abstract_sheets};
 
 use crate::status::stamp_in_millis;
-use brk_audit_sums::account_terms::{AccountTerms, account_tax_status, account_terms_by_id};
-use brk_audit_sums::amounts::settlement_amount_of_row;
+use brk_audit_sums::account_terms::{AccountTerms, tax_status_of, terms_by_id};
+use brk_audit_sums::amounts::settling_amount;
 use brk_audit_sums::completion::is_completed;
-use brk_audit_sums::summaries::are_all_three_true;
+use brk_audit_sums::summaries::all_three;
 use brk_money::{Cents, Fault, Id, Stamp, TaxStatus};
 use brk_ref::{CashRow, OldCashRow, TradeRow};
 use brk_trade_rows::{Schema, Sheets};
 use std::alloc::Global;
 use std::collections::BTreeMap;
 
-// Returns true if the row of CASH_TRANSACTION has the id and the stamp of the completed trade, and
-// the trade's settlement amount at the tax status `tax_status`. A missing price counts as 0. The
-// name of the row is not compared.
-fn is_cash_transaction_of_trade(cash: &OldCashRow, trade: &TradeRow, tax_status: TaxStatus) -> bool
+fn is_row_of_trade(cash: &OldCashRow, trade: &TradeRow, tax_status: TaxStatus) -> bool
     ensures { IsTrue result
         ↔ ((cash.now.trade ≡ trade.now.id) × (cash.now.stamp ≡ trade.now.stamp)
         × (cash.now.amount ≡ settlement_amount_at_tax_status tax_status (abstract_trade_row trade.now))) }
 {
     cash.trade == trade.id
         && cash.stamp == trade.stamp
-        && cash.amount.get() == settlement_amount_of_row(trade, tax_status)
+        && cash.amount.get() == settling_amount(trade, tax_status)
 }
 
-// Returns true if the trade is completed and is a cash trade.
-fn is_completed_cash_trade_row(trade: &TradeRow) -> bool
+fn settles_in_cash(trade: &TradeRow) -> bool
     ensures { result ≡ is_completed_cash_trade (abstract_trade_row trade.now) }
 {
     is_completed(trade.status) && trade.is_cash
 }
 
-// Returns the rows of CASH_TRANSACTION after the row of `trade`, or all rows if `trade` is not a
-// completed cash trade. Returns `None` if `trade` is a completed cash trade and `cash` does not
-// begin with its row. Names of rows are not compared. An account that `terms` does not contain
-// counts as `Untaxed`, and a missing price as 0.
-fn strip_cash_transaction_of_trade<'a>(
+// Returns the rows after that of `trade`, if it is a completed cash trade; `None` if its row is not
+// the first.
+fn strip_row<'a>(
     cash: &'a [OldCashRow],
     trade: &TradeRow,
     terms: &BTreeMap<u64, AccountTerms>,
@@ -61,23 +60,21 @@ fn strip_cash_transaction_of_trade<'a>(
         is_completed_cash_trade
         (map abstract_old_cash_row cash.now) (abstract_trade_row trade.now) (map abstract_old_cash_row others.now)) }
 {
-    if !is_completed_cash_trade_row(trade) {
+    if !settles_in_cash(trade) {
         return Some(cash);
     }
     let [first, others @ ..] = cash else {
         return None;
     };
-    if is_cash_transaction_of_trade(first, trade, account_tax_status(terms, trade.account)) {
+    if is_row_of_trade(first, trade, tax_status_of(terms, trade.account)) {
         Some(others)
     } else {
         None
     }
 }
 
-// Returns true if the rows of CASH_TRANSACTION are exactly the rows of the completed cash trades,
-// in the order of the trades. Names of rows are not compared. An account that `terms` does not
-// contain counts as `Untaxed`, and a missing price as 0.
-fn are_cash_transactions_of_trades(
+// One walk over both lists suffices, because both are sorted by trade.
+fn rows_fit_trades(
     cash: &[OldCashRow],
     trades: &[TradeRow],
     terms: &BTreeMap<u64, AccountTerms>,
@@ -89,7 +86,7 @@ fn are_cash_transactions_of_trades(
 {
     let mut rest = cash;
     for trade in trades {
-        let Some(others) = strip_cash_transaction_of_trade(rest, trade, terms) else {
+        let Some(others) = strip_row(rest, trade, terms) else {
             return false;
         };
         rest = others;
@@ -106,9 +103,7 @@ struct CashMoveFigures {
     amount: Cents,
 }
 
-// Returns the account, the trade, the stamp and the amount of the row of CASH_MOVE, or `None` if it
-// belongs to no trade.
-fn figures_of_cash_move_row_with_trade(row: &CashRow) -> Option<CashMoveFigures>
+fn figures_of_row(row: &CashRow) -> Option<CashMoveFigures>
     ensures { option_map abstract_posted_figures result ≡ posted_figures_of_row (abstract_cash_row row.now) }
 {
     let trade = row.trade?;
@@ -120,28 +115,20 @@ fn figures_of_cash_move_row_with_trade(row: &CashRow) -> Option<CashMoveFigures>
     })
 }
 
-// Returns the account, the trade, the stamp and the amount of each row of CASH_MOVE that belongs to
-// a trade, in the order of the rows. Fails with `Memory` only.
-fn figures_of_cash_move_rows_with_trade(
-    alloc: Global,
-    moves: &[CashRow],
-) -> Result<Vec<CashMoveFigures>, Fault>
+fn figures_of_rows(alloc: Global, moves: &[CashRow]) -> Result<Vec<CashMoveFigures>, Fault>
     ensures all { IfOk result (λ all. map abstract_posted_figures all.items ≡ filter_map (λ r. posted_figures_of_row (abstract_cash_row r)) moves.now) }
     ensures fault { IfErr result (λ fault. fault ≡ Memory) }
 {
     let mut all = Vec::new(alloc);
     for row in moves {
-        if let Some(posted) = figures_of_cash_move_row_with_trade(row) {
+        if let Some(posted) = figures_of_row(row) {
             all.push(posted)?;
         }
     }
     Ok(all)
 }
 
-// Returns true if the figures of a row of CASH_MOVE are the account, the id and the stamp of the
-// completed trade, and the trade's settlement amount at the tax status `tax_status`. A missing
-// price counts as 0.
-fn has_figures_of_trade(row: CashMoveFigures, trade: &TradeRow, tax_status: TaxStatus) -> bool
+fn has_figures(row: CashMoveFigures, trade: &TradeRow, tax_status: TaxStatus) -> bool
     ensures { IsTrue result
         ↔ ((row.account ≡ trade.now.account) × (row.trade ≡ trade.now.id) × (row.stamp ≡ trade.now.stamp)
         × (row.amount ≡ settlement_amount_at_tax_status tax_status (abstract_trade_row trade.now))) }
@@ -149,14 +136,11 @@ fn has_figures_of_trade(row: CashMoveFigures, trade: &TradeRow, tax_status: TaxS
     row.account == trade.account
         && row.trade == trade.id
         && row.stamp == trade.stamp
-        && row.amount.get() == settlement_amount_of_row(trade, tax_status)
+        && row.amount.get() == settling_amount(trade, tax_status)
 }
 
-// Returns the figures in `rows` after the figures of `trade`, or all of `rows` if `trade` is not a
-// completed cash trade. Returns `None` if `trade` is a completed cash trade and `rows` does not
-// begin with its figures. An account that `terms` does not contain counts as `Untaxed`, and a
-// missing price as 0.
-fn strip_move_figures_of_trade<'a>(
+// Does for figures what `strip_row` does for rows.
+fn strip_figures<'a>(
     rows: &'a [CashMoveFigures],
     trade: &TradeRow,
     terms: &BTreeMap<u64, AccountTerms>,
@@ -167,23 +151,20 @@ fn strip_move_figures_of_trade<'a>(
         (λ others. RowsMatchTradesIffOthersDo (λ p. p) (posted_figures_of_trade (account_tax_status_in_terms terms.now)) is_completed_cash_trade
         (map abstract_posted_figures rows.now) (abstract_trade_row trade.now) (map abstract_posted_figures others.now)) }
 {
-    if !is_completed_cash_trade_row(trade) {
+    if !settles_in_cash(trade) {
         return Some(rows);
     }
     let [first, others @ ..] = rows else {
         return None;
     };
-    if has_figures_of_trade(*first, trade, account_tax_status(terms, trade.account)) {
+    if has_figures(*first, trade, tax_status_of(terms, trade.account)) {
         Some(others)
     } else {
         None
     }
 }
 
-// Returns true if the figures of rows of CASH_MOVE are exactly the figures of the completed cash
-// trades, in the order of the trades. An account that `terms` does not contain counts as `Untaxed`,
-// and a missing price as 0.
-fn cash_move_figures_match_trades(
+fn figures_fit(
     rows: &[CashMoveFigures],
     trades: &[TradeRow],
     terms: &BTreeMap<u64, AccountTerms>,
@@ -194,7 +175,7 @@ fn cash_move_figures_match_trades(
 {
     let mut rest = rows;
     for trade in trades {
-        let Some(others) = strip_move_figures_of_trade(rest, trade, terms) else {
+        let Some(others) = strip_figures(rest, trade, terms) else {
             return false;
         };
         rest = others;
@@ -202,22 +183,19 @@ fn cash_move_figures_match_trades(
     rest.is_empty()
 }
 
-// Returns true if the row of CASH_MOVE has the number `number` and a stamp of at least `stamp`, in
-// milliseconds since 1970-01-01 UTC.
-fn has_number_and_no_earlier_stamp(row: &CashRow, number: u64, stamp: u64) -> bool
+fn is_next_row(row: &CashRow, number: u64, stamp: u64) -> bool
     ensures { result ≡ (row.now.id == number) && nat_le stamp row.now.stamp }
 {
     row.id.get() == number && stamp <= stamp_in_millis(row.stamp)
 }
 
-// Returns true if the rows of CASH_MOVE, in the order of the list, are numbered 1, 2, 3 and so on,
-// and their stamps do not decrease. Returns true if there are no rows.
-fn cash_move_rows_are_numbered_by_stamp(moves: &[CashRow]) -> bool
+// Numbers count from 1 without a gap; stamps do not decrease.
+fn are_rows_numbered(moves: &[CashRow]) -> bool
     ensures { result ≡ is_numbered_by_stamp 1 0 (map abstract_cash_row moves.now) }
 {
     let mut stamp = 0;
     for (i, row) in moves.iter().enumerate() {
-        if !has_number_and_no_earlier_stamp(row, i as u64 + 1, stamp) {
+        if !is_next_row(row, i as u64 + 1, stamp) {
             return false;
         }
         stamp = stamp_in_millis(row.stamp);
@@ -225,30 +203,20 @@ fn cash_move_rows_are_numbered_by_stamp(moves: &[CashRow]) -> bool
     true
 }
 
-/// Returns true if the rows, which must satisfy `Form` of `schema` and `Status`, satisfy the
-/// condition `Cash` of `schema`: the rows that belong to trades, in CASH_TRANSACTION in schema 1
-/// and in CASH_MOVE in later schemas, are exactly the rows of the completed cash trades. In later
-/// schemas CASH_TRANSACTION is empty, and all rows of CASH_MOVE, with those of deposits and
-/// withdrawals, are numbered from 1 by ascending stamp. Names of rows are not compared. Fails with
-/// `Memory` only.
-pub(crate) fn cash_condition_holds(
-    alloc: Global,
-    schema: Schema,
-    sheets: &Sheets,
-) -> Result<bool, Fault>
+pub(crate) fn meets_cash(alloc: Global, schema: Schema, sheets: &Sheets) -> Result<bool, Fault>
     requires form { ConditionHolds (abstract_schema schema) Form (abstract_sheets sheets.now) }
     requires status { HasValidStatuses sheets.now }
     ensures value { IfOk result (λ holds. IsTrue holds ↔ ConditionHolds (abstract_schema schema) Cash (abstract_sheets sheets.now)) }
     ensures fault { IfErr result (λ fault. fault ≡ Memory) }
 {
-    let terms = account_terms_by_id(alloc, &sheets.accounts)?;
+    let terms = terms_by_id(alloc, &sheets.accounts)?;
     if !schema.has_cash_move_table() {
-        return Ok(are_cash_transactions_of_trades(&sheets.cash, &sheets.trades, &terms));
+        return Ok(rows_fit_trades(&sheets.cash, &sheets.trades, &terms));
     }
-    let mut rows = figures_of_cash_move_rows_with_trade(alloc, &sheets.moves)?;
+    let mut rows = figures_of_rows(alloc, &sheets.moves)?;
     rows.sort_unstable_by_key(|row| row.trade.get());
     let no_others = sheets.cash.is_empty();
-    let in_turn = cash_move_rows_are_numbered_by_stamp(&sheets.moves);
-    let posted = cash_move_figures_match_trades(&rows, &sheets.trades, &terms);
-    Ok(are_all_three_true(no_others, in_turn, posted))
+    let in_turn = are_rows_numbered(&sheets.moves);
+    let posted = figures_fit(&rows, &sheets.trades, &terms);
+    Ok(all_three(no_others, in_turn, posted))
 }

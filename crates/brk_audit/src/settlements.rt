@@ -1,3 +1,7 @@
+//! The condition `Settlement`: SETTLEMENT has exactly one row for each completed trade, with its
+//! due day and its settlement amount in cents. Settlement texts are not compared: `Form` checks
+//! them. `rule` is the first day of one-day settlement, if it is set.
+
 ghost use Rattle.std.specs.Prelude.{◌≡◌, ◌↔◌, ◌+◌, map, filter, IfErr, IfOk, IsTrue, MatchOption};
 ghost use Rattle.brk_money.specs.declared.fault.Condition.TheVariants.{Settlement};
 ghost use Rattle.brk_money.specs.declared.fault.Fault.TheVariants.{Memory};
@@ -12,8 +16,8 @@ ghost use Rattle.brk_audit_sums.specs.Settling.{settlement_figures_of_row, settl
 ghost use Rattle.brk_ref.specs.Rows.{abstract_settlement_row, abstract_trade_row};
 ghost use Rattle.brk_trade_rows.specs.Sheets.{abstract_sheets};
 
-use brk_audit_sums::account_terms::{AccountTerms, account_tax_status, account_terms_by_id};
-use brk_audit_sums::amounts::settlement_amount_of_row;
+use brk_audit_sums::account_terms::{AccountTerms, tax_status_of, terms_by_id};
+use brk_audit_sums::amounts::settling_amount;
 use brk_audit_sums::completion::is_completed;
 use brk_money::{Day, Fault, Stamp, TaxStatus, day_of};
 use brk_ref::{SettlementRow, TradeRow};
@@ -21,18 +25,13 @@ use brk_trade_rows::{Sheets, days_to_settlement};
 use std::alloc::Global;
 use std::collections::BTreeMap;
 
-// Returns true if `day` is the due day of a trade that is completed at `stamp`, where `rule` is the
-// first day of one-day settlement, if it is set.
-fn is_due_day_of_completion(day: Day, rule: Option<Day>, stamp: Stamp) -> bool
+fn is_due_day(day: Day, rule: Option<Day>, stamp: Stamp) -> bool
     ensures { IsTrue result ↔ (day ≡ due_day_of_completion_stamp rule stamp) }
 {
     let completed = day_of(stamp);
     day.get() == completed.get() + i32::from(days_to_settlement(rule, completed))
 }
 
-// Returns true if the settlement has the completed trade's id, the trade's due day, and the trade's
-// settlement amount at the tax status `tax_status`, where `rule` is the first day of one-day
-// settlement, if it is set. A missing price counts as 0. The settlement text is not compared.
 fn settlement_matches_trade(
     settlement: &SettlementRow,
     trade: &TradeRow,
@@ -43,15 +42,13 @@ fn settlement_matches_trade(
         × (settlement.now.amount ≡ settlement_amount_at_tax_status tax_status (abstract_trade_row trade.now))) }
 {
     settlement.trade == trade.id
-        && is_due_day_of_completion(settlement.due_day, rule, trade.stamp)
-        && settlement.amount.get() == settlement_amount_of_row(trade, tax_status)
+        && is_due_day(settlement.due_day, rule, trade.stamp)
+        && settlement.amount.get() == settling_amount(trade, tax_status)
 }
 
-// Returns the settlements after the settlement of `trade`, or all settlements if `trade` is not
-// completed. Returns `None` if `trade` is completed and `settlements` does not begin with its
-// settlement. `rule` is the first day of one-day settlement, if it is set. Settlement texts are not
-// compared. An account that `terms` does not contain counts as `Untaxed`, and a missing price as 0.
-fn strip_settlement_of_trade<'a>(
+// Returns the settlements after that of `trade`, if it is completed; `None` if its settlement is
+// not the first.
+fn strip_settlement<'a>(
     settlements: &'a [SettlementRow],
     trade: &TradeRow,
     rule: &Option<Day>,
@@ -70,22 +67,14 @@ fn strip_settlement_of_trade<'a>(
     let [first, others @ ..] = settlements else {
         return None;
     };
-    if settlement_matches_trade(
-        first,
-        trade,
-        *rule,
-        account_tax_status(terms, trade.account),
-    ) {
+    if settlement_matches_trade(first, trade, *rule, tax_status_of(terms, trade.account)) {
         Some(others)
     } else {
         None
     }
 }
 
-// Returns true if the settlements are exactly the settlements of the completed trades, in the order
-// of the trades, where `rule` is the first day of one-day settlement, if it is set. Settlement
-// texts are not compared. An account that `terms` does not contain counts as `Untaxed`, and a
-// missing price as 0.
+// One walk over both lists suffices, because both are sorted by trade.
 fn settlements_match_trades(
     settlements: &[SettlementRow],
     trades: &[TradeRow],
@@ -99,7 +88,7 @@ fn settlements_match_trades(
 {
     let mut rest = settlements;
     for trade in trades {
-        let Some(others) = strip_settlement_of_trade(rest, trade, rule, terms) else {
+        let Some(others) = strip_settlement(rest, trade, rule, terms) else {
             return false;
         };
         rest = others;
@@ -107,16 +96,12 @@ fn settlements_match_trades(
     rest.is_empty()
 }
 
-/// Returns true if the rows, which must satisfy `Form` of some schema and `Status`, satisfy the
-/// condition `Settlement`, the same in all schemas: SETTLEMENT has exactly one row for each
-/// completed trade, with the trade's due day and settlement amount, and no other row. Settlement
-/// texts are not compared. Fails with `Memory` only.
-pub(crate) fn settlement_condition_holds(alloc: Global, sheets: &Sheets) -> Result<bool, Fault>
+pub(crate) fn meets_settlement(alloc: Global, sheets: &Sheets) -> Result<bool, Fault>
     requires form { HasWellFormedRows sheets.now }
     requires status { HasValidStatuses sheets.now }
     ensures value { IfOk result (λ holds. (schema : Schema) → IsTrue holds ↔ ConditionHolds schema Settlement (abstract_sheets sheets.now)) }
     ensures fault { IfErr result (λ fault. fault ≡ Memory) }
 {
-    let terms = account_terms_by_id(alloc, &sheets.accounts)?;
+    let terms = terms_by_id(alloc, &sheets.accounts)?;
     Ok(settlements_match_trades(&sheets.settlements, &sheets.trades, &sheets.rule, &terms))
 }

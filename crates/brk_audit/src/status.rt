@@ -1,3 +1,7 @@
+//! The condition `Status`: each trade's history is a valid status sequence with strictly ascending
+//! stamps, the trade's row has the status and the stamp of the last change, and no two completions,
+//! deposits or withdrawals have the same stamp.
+
 ghost use Rattle.std.specs.Prelude.{◌≡◌, ◌↔◌, ◌==◌, ℕ, ◌&&◌, ◌||◌, not, is_none, map, ◌++◌, nat_lt, IfErr, IfOk, IsTrue, OnOk};
 ghost use Rattle.std.specs.List.{prefix_len};
 ghost use Rattle.std.specs.Ordering.{nat_cmp};
@@ -21,85 +25,69 @@ use brk_trade_rows::Sheets;
 use std::alloc::Global;
 use std::collections::BTreeSet;
 
-/// Returns the stamp in milliseconds since 1970-01-01 UTC.
 pub(crate) fn stamp_in_millis(stamp: Stamp) -> u64
     ensures { result ≡ stamp }
 {
     stamp.get().unsigned_abs()
 }
 
-// Returns true if the first stamp is before the second.
 fn is_before(first: Stamp, second: Stamp) -> bool
     ensures { result ≡ nat_lt first second }
 {
     first.get() < second.get()
 }
 
-// Returns true if the history of a trade can begin with the status: `Submitted` or `Pending`.
 fn can_be_first_status(status: Status) -> bool
     ensures { result ≡ spec.can_be_first_status status }
 {
     matches!(status, Status::Submitted | Status::Pending)
 }
 
-// Returns true if the trade's row has the status and the stamp of the row of TRADE_HISTORY.
-fn has_status_and_stamp_of_row(trade: &TradeRow, row: HistoryRow) -> bool
-    ensures { result ≡ spec.has_status_and_stamp_of_row (abstract_trade_row trade.now) (abstract_history_row row) }
+fn has_last_change(trade: &TradeRow, row: HistoryRow) -> bool
+    ensures { result ≡ spec.has_last_change (abstract_trade_row trade.now) (abstract_history_row row) }
 {
     trade.status == row.status && trade.stamp == row.stamp
 }
 
-// Returns true if the rows `a` and `b` are sorted by status code and form a valid status sequence
-// in strictly ascending order of their stamps, and the trade's row has the status and the stamp of
-// the one with the greater stamp.
-fn is_valid_two_row_history(trade: &TradeRow, a: HistoryRow, b: HistoryRow) -> bool
-    ensures { result ≡ spec.is_valid_two_row_history (abstract_trade_row trade.now) (abstract_history_row a) (abstract_history_row b) }
+// The rows are sorted by the code of the status, as in TRADE_HISTORY, not by stamp.
+fn is_valid_pair(trade: &TradeRow, a: HistoryRow, b: HistoryRow) -> bool
+    ensures { result ≡ spec.is_valid_pair (abstract_trade_row trade.now) (abstract_history_row a) (abstract_history_row b) }
 {
     match (a.status, b.status) {
         (Status::Completed, Status::Submitted) | (Status::Canceled, Status::Pending) => {
-            is_before(b.stamp, a.stamp) && has_status_and_stamp_of_row(trade, a)
+            is_before(b.stamp, a.stamp) && has_last_change(trade, a)
         }
         (Status::Pending, Status::Submitted) => {
-            is_before(a.stamp, b.stamp) && has_status_and_stamp_of_row(trade, b)
+            is_before(a.stamp, b.stamp) && has_last_change(trade, b)
         }
         _ => false,
     }
 }
 
-// Returns true if the rows `a`, `b` and `c` are sorted by status code and form a valid status
-// sequence in strictly ascending order of their stamps, and the trade's row has the status and the
-// stamp of the one with the greatest stamp.
-fn is_valid_three_row_history(trade: &TradeRow, a: HistoryRow, b: HistoryRow, c: HistoryRow) -> bool
+fn is_valid_triple(trade: &TradeRow, a: HistoryRow, b: HistoryRow, c: HistoryRow) -> bool
     ensures { result
-        ≡ spec.is_valid_three_row_history (abstract_trade_row trade.now) (abstract_history_row a) (abstract_history_row b) (abstract_history_row c) }
+        ≡ spec.is_valid_triple (abstract_trade_row trade.now) (abstract_history_row a) (abstract_history_row b) (abstract_history_row c) }
 {
     match (a.status, b.status, c.status) {
         (Status::Completed, Status::Pending, Status::Submitted) => {
-            is_before(b.stamp, c.stamp)
-                && is_before(c.stamp, a.stamp)
-                && has_status_and_stamp_of_row(trade, a)
+            is_before(b.stamp, c.stamp) && is_before(c.stamp, a.stamp) && has_last_change(trade, a)
         }
         _ => false,
     }
 }
 
-// Returns true if the history rows are sorted by status code and form a valid status sequence in
-// strictly ascending order of their stamps, and the trade's row has the status and the stamp of the
-// one with the greatest stamp. Returns false if there are no rows.
 fn is_valid_trade_history(trade: &TradeRow, rows: &[HistoryRow]) -> bool
     ensures { result ≡ spec.is_valid_history (abstract_trade_row trade.now) (map abstract_history_row rows.now) }
 {
     match rows {
-        [only] => can_be_first_status(only.status) && has_status_and_stamp_of_row(trade, *only),
-        [a, b] => is_valid_two_row_history(trade, *a, *b),
-        [a, b, c] => is_valid_three_row_history(trade, *a, *b, *c),
+        [only] => can_be_first_status(only.status) && has_last_change(trade, *only),
+        [a, b] => is_valid_pair(trade, *a, *b),
+        [a, b, c] => is_valid_triple(trade, *a, *b, *c),
         _ => false,
     }
 }
 
-// Returns the number of rows at the beginning of `history` that belong to the trade with the id
-// `trade`.
-fn leading_row_count_of_trade(history: &[HistoryRow], trade: Id) -> usize
+fn row_count_of(history: &[HistoryRow], trade: Id) -> usize
     ensures { result ≡ prefix_len (λ h. h.trade == trade) history.now }
 {
     for (i, row) in history.iter().enumerate() {
@@ -110,16 +98,13 @@ fn leading_row_count_of_trade(history: &[HistoryRow], trade: Id) -> usize
     history.len()
 }
 
-// Returns true if `history` begins with the rows of the first trade, then has the rows of the
-// second, and so on, and the rows of each trade are a valid history of it
-// (`is_valid_trade_history`). Rows after those of the last trade are not checked. Returns true if
-// there are no trades.
+// Rows after those of the last trade are not checked: `Form` excludes them.
 fn all_histories_are_valid(trades: &[TradeRow], history: &[HistoryRow]) -> bool
     ensures { result ≡ spec.all_histories_are_valid (map abstract_trade_row trades.now) (map abstract_history_row history.now) }
 {
     let mut rest = history;
     for trade in trades {
-        let (rows, others) = rest.split_at(leading_row_count_of_trade(rest, trade.id));
+        let (rows, others) = rest.split_at(row_count_of(rest, trade.id));
         if !is_valid_trade_history(trade, rows) {
             return false;
         }
@@ -128,9 +113,8 @@ fn all_histories_are_valid(trades: &[TradeRow], history: &[HistoryRow]) -> bool
     true
 }
 
-// Inserts the stamp of the row into `seen` if the row is a completion. Returns false if it is one
-// and the set already contained the stamp, otherwise true. Fails with `Memory` only.
-fn insert_completion_stamp(seen: &mut BTreeSet<u64>, row: &HistoryRow) -> Result<bool, Fault>
+// Returns false at a completion whose stamp was seen before.
+fn add_completion(seen: &mut BTreeSet<u64>, row: &HistoryRow) -> Result<bool, Fault>
     ensures new { IfOk result (λ new. new ≡ not (is_same_trade_status row.now.status Completed && contains nat_cmp seen.old row.now.stamp)) }
     ensures seen { OnOk result ((q : ℕ)
         → contains nat_cmp seen.new q ≡ contains nat_cmp seen.old q || (is_same_trade_status row.now.status Completed && (row.now.stamp == q))) }
@@ -143,9 +127,8 @@ fn insert_completion_stamp(seen: &mut BTreeSet<u64>, row: &HistoryRow) -> Result
     Ok(new)
 }
 
-// Inserts the stamp of the row into `seen` if the row is a deposit or a withdrawal. Returns false
-// if it is one and the set already contained the stamp, otherwise true. Fails with `Memory` only.
-fn insert_movement_stamp(seen: &mut BTreeSet<u64>, row: &CashRow) -> Result<bool, Fault>
+// Returns false at a deposit or a withdrawal whose stamp was seen before.
+fn add_movement(seen: &mut BTreeSet<u64>, row: &CashRow) -> Result<bool, Fault>
     ensures new { IfOk result (λ new. new ≡ not (is_none row.now.trade && contains nat_cmp seen.old row.now.stamp)) }
     ensures seen { OnOk result ((q : ℕ) → contains nat_cmp seen.new q ≡ contains nat_cmp seen.old q || (is_none row.now.trade && (row.now.stamp == q))) }
     ensures fault { IfErr result (λ fault. fault ≡ Memory) }
@@ -157,13 +140,7 @@ fn insert_movement_stamp(seen: &mut BTreeSet<u64>, row: &CashRow) -> Result<bool
     Ok(new)
 }
 
-// Returns true if no two of the completions in `history` and the deposits and withdrawals in
-// `moves` have the same stamp. Fails with `Memory` only.
-fn completion_and_movement_stamps_are_distinct(
-    alloc: Global,
-    history: &[HistoryRow],
-    moves: &[CashRow],
-) -> Result<bool, Fault>
+fn stamps_distinct(alloc: Global, history: &[HistoryRow], moves: &[CashRow]) -> Result<bool, Fault>
     ensures value { IfOk result (λ apart. apart
         ≡ all_distinct (spec.completion_stamps_of_history (map abstract_history_row history.now)
         ++ spec.movement_stamps_of_cash_rows (map abstract_cash_row moves.now))) }
@@ -171,23 +148,19 @@ fn completion_and_movement_stamps_are_distinct(
 {
     let mut seen = BTreeSet::new(alloc);
     for row in history {
-        if !insert_completion_stamp(&mut seen, row)? {
+        if !add_completion(&mut seen, row)? {
             return Ok(false);
         }
     }
     for movement in moves {
-        if !insert_movement_stamp(&mut seen, movement)? {
+        if !add_movement(&mut seen, movement)? {
             return Ok(false);
         }
     }
     Ok(true)
 }
 
-/// Returns true if the rows, which must satisfy `Form` of some schema, satisfy the condition
-/// `Status`, the same in all schemas: each trade's history is a valid status sequence with strictly
-/// ascending stamps, the trade's row has the status and the stamp of the last status change, and no
-/// two completions, deposits or withdrawals have the same stamp. Fails with `Memory` only.
-pub(crate) fn status_condition_holds(alloc: Global, sheets: &Sheets) -> Result<bool, Fault>
+pub(crate) fn meets_status(alloc: Global, sheets: &Sheets) -> Result<bool, Fault>
     requires form { HasWellFormedRows sheets.now }
     ensures value { IfOk result (λ holds. (schema : Schema) → IsTrue holds ↔ ConditionHolds schema condition.Status (abstract_sheets sheets.now)) }
     ensures fault { IfErr result (λ fault. fault ≡ Memory) }
@@ -195,6 +168,6 @@ pub(crate) fn status_condition_holds(alloc: Global, sheets: &Sheets) -> Result<b
     if !all_histories_are_valid(&sheets.trades, &sheets.history) {
         return Ok(false);
     }
-    let apart = completion_and_movement_stamps_are_distinct(alloc, &sheets.history, &sheets.moves)?;
+    let apart = stamps_distinct(alloc, &sheets.history, &sheets.moves)?;
     Ok(apart)
 }

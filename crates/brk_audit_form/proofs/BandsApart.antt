@@ -1,4 +1,4 @@
--- Bands that rise by key, of which no neighbours share a quantity.
+-- Bands sorted by key, no two neighbours of which share a quantity.
 use Rattle.std.proofs.Common.{◌≡◌, ℕ, zero, suc, ◌<◌, ◌≤◌, Bool, true, false, not, List, [], ◌∷◌, refl, sym, ◌∙◌, ap, subst, map, length, get_or, Ordering}
 use Rattle.std.proofs.Common.{Less, Equal, Greater, nat_cmp, add-one, arith}
 use Rattle.std.specs.Prelude.{◌&&◌, ◌||◌, ◌==◌, bytes_eq, nat_le}

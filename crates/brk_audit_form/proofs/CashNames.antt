@@ -1,4 +1,4 @@
--- What a cash row is called, and tests of rows so far.
+-- The texts of cash rows, and checks of the first rows of a list.
 use Rattle.std.proofs.Common.{◌≡◌, ℕ, zero, suc, ◌<◌, Bool, true, false, cond, List, [], ◌∷◌, ◌++◌, refl, sym, ◌∙◌, ap, map, length, get_or, Option, Some, None, arith}
 use Rattle.std.specs.Prelude.{◌&&◌, bytes_eq, decimal, find}
 use Rattle.std.specs.List.{list_all}

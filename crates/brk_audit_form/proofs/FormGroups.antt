@@ -1,4 +1,4 @@
--- The groups of tests, and the whole.
+-- The checks of the condition `Form`, in groups and as a whole.
 use Rattle.std.proofs.Common.{◌≡◌, Bool, true, false, List, [], ◌∷◌, refl, sym, ◌∙◌, ap, map}
 use Rattle.std.specs.Prelude.{◌&&◌}
 use Rattle.std.specs.List.{list_all}

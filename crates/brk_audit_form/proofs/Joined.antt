@@ -1,4 +1,4 @@
--- Tests joined by `&&`, as the branches of a test of both leave them.
+-- Checks joined by `&&`, from the branches of a check of both.
 use Rattle.std.proofs.Common.{◌≡◌, ◌⊎◌, inl, inr, Bool, true, false, List, sym, ◌∙◌, ap}
 use Rattle.std.specs.Prelude.{◌&&◌}
 use Rattle.std.specs.List.{list_all}

@@ -1,4 +1,4 @@
--- The order of keys, as a comparison tells it, and rows by rising key.
+-- The order of keys by comparisons, and rows sorted by key.
 use Rattle.std.proofs.Common.{◌≡◌, ℕ, zero, suc, ◌<◌, List, [], ◌∷◌, Bool, true, false, not, ◌&&◌, ◌||◌, ◌==◌, Ordering, Less, Equal, Greater, nat_cmp, refl}
 use Rattle.std.proofs.Common.{sym, ap, subst, add-one, ◌∙◌, inl, inr, length, get_or, arith, eq-eqb, ne_eqb}
 use Rattle.std.specs.Prelude.{nat_lt}

@@ -1,4 +1,4 @@
--- Trades that have one cash row each.
+-- Trades with at most one cash row each.
 use Rattle.std.proofs.Common.{◌≡◌, ℕ, ◌+◌, ◌<◌, ◌==◌, Bool, true, false, List, [], ◌∷◌, ◌++◌, refl, sym, ◌∙◌, ap, map, take, drop, length, get_or, append_assoc, Option, Some, None, ⊎_elim}
 use Rattle.std.specs.Prelude.{◌&&◌, ◌||◌, not, option_to_list}
 use Rattle.std.specs.Option.{option_map_or}

@@ -1,4 +1,4 @@
--- Tax ids that are of one customer each.
+-- Tax ids of at most one customer each.
 use Rattle.std.proofs.Common.{◌≡◌, ℕ, ◌+◌, ◌<◌, Bool, true, false, cond, not, List, [], ◌∷◌, ◌++◌, refl, sym, ◌∙◌, ap, map, take, drop, length, get_or}
 use Rattle.std.proofs.Common.{append_assoc, Ordering, Less, Equal, Greater, nat_cmp}
 use Rattle.std.specs.Prelude.{◌&&◌, ◌||◌, bytes_eq}

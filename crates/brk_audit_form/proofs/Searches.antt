@@ -1,4 +1,4 @@
--- What a binary search among rows by rising key finds.
+-- The result of a binary search in rows sorted by key.
 use Rattle.std.proofs.Common.{◌≡◌, ℕ, zero, suc, ◌<◌, ◌≤◌, Bool, true, false, cond, List, [], ◌∷◌, refl, sym, ◌∙◌, ap, subst, map, length, get_or, Some, Result}
 use Rattle.std.proofs.Common.{Ok, Err, Ordering, Less, Equal, Greater, nat_cmp, add-one, arith, inl, inr}
 use Rattle.std.specs.Prelude.{⊤, ◌||◌, ◌&&◌, not, ◌==◌, find, is_some, is_ok}

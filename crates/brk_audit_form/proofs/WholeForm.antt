@@ -1,4 +1,4 @@
--- The condition of form, from its groups of tests.
+-- The condition `Form` from its groups of checks.
 use Rattle.std.proofs.Common.{◌≡◌, suc, Bool, true, List, [], ◌∷◌, refl, sym, ◌∙◌, ap, map, filter, length}
 use Rattle.std.specs.Prelude.{◌↔◌, is_none, nat_le, IsTrue, IfOk, Result, Ok, Err}
 use Rattle.brk_money.specs.declared.fault.Fault.{Fault}

@@ -1,3 +1,6 @@
+//! The limits of a customer: at most 10 accounts, and tax rates that sum to at most the greatest
+//! tax rate. A customer that a map does not contain has the sum 0.
+
 ghost use Rattle.std.specs.Prelude.{◌≡◌, ℕ, ◌+◌, ◌==◌, ◌<◌, ◌≤◌, ◌^◌, cond, filter, length, nat_le, IfErr, IfOk, OnOk, ◌&&◌};
 ghost use Rattle.std.specs.List.{list_all};
 ghost use Rattle.brk_money.specs.declared.fault.Fault.TheVariants.{Memory};
@@ -17,10 +20,7 @@ use std::collections::BTreeMap;
 // The greatest number of accounts of a customer.
 const MOST_ACCOUNTS: u128 = 10;
 
-// Adds `more` to the sum of the customer in the map and changes no other sum; a customer that the
-// map does not contain has the sum 0. The sum before the call must be below 2^128 - 2^32. Fails
-// with `Memory` only.
-fn add_to_customer_sum(sums: &mut BTreeMap<u64, u128>, customer: Id, more: u32) -> Result<(), Fault>
+fn add_to_sum(sums: &mut BTreeMap<u64, u128>, customer: Id, more: u32) -> Result<(), Fault>
     requires room { sum_at_customer_id sums.old customer + 2 ^ 32 < 2 ^ 128 }
     ensures more { OnOk result ((q : ℕ) → sum_at_customer_id sums.new q ≡ sum_at_customer_id sums.old q + cond (customer == q) more 0) }
     ensures fault { IfErr result (λ fault. fault ≡ Memory) }
@@ -31,27 +31,19 @@ fn add_to_customer_sum(sums: &mut BTreeMap<u64, u128>, customer: Id, more: u32) 
     Ok(())
 }
 
-// Returns a map from customer ids to numbers of accounts: each customer's number counts the
-// rows of `accounts` with this customer, and an id that the map does not contain has 0. Fails with
-// `Memory` only.
-fn count_accounts_by_customer(
-    alloc: Global,
-    accounts: &[AccountRow],
-) -> Result<BTreeMap<u64, u128>, Fault>
+fn count_accounts(alloc: Global, accounts: &[AccountRow]) -> Result<BTreeMap<u64, u128>, Fault>
     ensures counts { IfOk result (λ counts. (q : ℕ) → sum_at_customer_id counts q ≡ length (filter (λ a. a.account.customer == q) accounts.now)) }
     ensures fault { IfErr result (λ fault. fault ≡ Memory) }
 {
     let mut counts = BTreeMap::new(alloc);
     for row in accounts {
-        add_to_customer_sum(&mut counts, row.account.customer, 1)?;
+        add_to_sum(&mut counts, row.account.customer, 1)?;
     }
     Ok(counts)
 }
 
-// Returns the rate of the tax rate with the id `tax`, in hundred-thousandths, or 0 if there is no
-// such tax rate. The result is at most the greatest tax rate. The tables must be sorted by key
-// without a repeated key.
-fn rate_of_tax_or_zero(sheets: &Sheets, tax: Id) -> u32
+// Returns the rate in hundred-thousandths.
+fn rate_of_tax(sheets: &Sheets, tax: Id) -> u32
     requires { HasSortedKeys sheets.now }
     ensures rate { result ≡ rate_of_tax_rate_or_zero (abstract_sheets sheets.now) tax }
     ensures high { result ≤ limits.greatest_tax_rate }
@@ -62,26 +54,20 @@ fn rate_of_tax_or_zero(sheets: &Sheets, tax: Id) -> u32
     }
 }
 
-// Returns a map from customer ids to the sums of the tax rates that each customer pays, in
-// hundred-thousandths; an id that the map does not contain has 0. A tax rate that does not exist
-// counts as 0. The tables must be sorted by key without a repeated key. Fails with `Memory` only.
-fn sum_tax_rates_by_customer(alloc: Global, sheets: &Sheets) -> Result<BTreeMap<u64, u128>, Fault>
+fn sum_tax_rates(alloc: Global, sheets: &Sheets) -> Result<BTreeMap<u64, u128>, Fault>
     requires { HasSortedKeys sheets.now }
     ensures sums { IfOk result (λ sums. (q : ℕ) → sum_at_customer_id sums q ≡ tax_rate_sum_of_payer (abstract_sheets sheets.now) q) }
     ensures fault { IfErr result (λ fault. fault ≡ Memory) }
 {
     let mut sums = BTreeMap::new(alloc);
     for row in &sheets.customer_taxes {
-        let rate = rate_of_tax_or_zero(sheets, row.tax);
-        add_to_customer_sum(&mut sums, row.customer, rate)?;
+        let rate = rate_of_tax(sheets, row.tax);
+        add_to_sum(&mut sums, row.customer, rate)?;
     }
     Ok(sums)
 }
 
-// Returns true if the customer has at most 10 accounts by the map `counts`, and tax rates that sum
-// to at most the greatest tax rate by the map `sums`. A customer that a map does not contain has 0
-// in that map.
-fn customer_is_within_limits(
+fn keeps_limits(
     counts: &BTreeMap<u64, u128>,
     sums: &BTreeMap<u64, u128>,
     customer: &Customer,
@@ -96,10 +82,7 @@ fn customer_is_within_limits(
     count <= MOST_ACCOUNTS && sum <= u128::from(TaxRate::GREATEST)
 }
 
-// Returns true if each customer has at most 10 accounts by the map `counts`, and tax rates that sum
-// to at most the greatest tax rate by the map `sums`. A customer that a map does not contain has 0
-// in that map.
-fn are_customer_sums_within_limits(
+fn all_keep_limits(
     counts: &BTreeMap<u64, u128>,
     sums: &BTreeMap<u64, u128>,
     customers: &[Customer],
@@ -108,19 +91,18 @@ fn are_customer_sums_within_limits(
         ≡ list_all (λ c. nat_le (sum_at_customer_id counts.now c.id) limits.most_accounts_per_customer
         && nat_le (sum_at_customer_id sums.now c.id) limits.greatest_tax_rate) customers.now }
 {
-    customers.iter().all(|customer| customer_is_within_limits(counts, sums, customer))
+    customers
+        .iter()
+        .all(|customer| keeps_limits(counts, sums, customer))
 }
 
-/// Returns true if each customer has at most 10 accounts, and tax rates that sum to at most the
-/// greatest tax rate; a tax rate that does not exist counts as 0. The tables must be sorted by key
-/// without a repeated key. Fails with `Memory` only.
-pub(crate) fn customers_are_within_limits(alloc: Global, sheets: &Sheets) -> Result<bool, Fault>
+pub(crate) fn limits_are_kept(alloc: Global, sheets: &Sheets) -> Result<bool, Fault>
     requires { HasSortedKeys sheets.now }
     ensures value { IfOk result (λ holds. holds
         ≡ list_all (form.is_within_customer_limits (abstract_sheets sheets.now)) (abstract_sheets sheets.now).customers) }
     ensures fault { IfErr result (λ fault. fault ≡ Memory) }
 {
-    let counts = count_accounts_by_customer(alloc, &sheets.accounts)?;
-    let sums = sum_tax_rates_by_customer(alloc, sheets)?;
-    Ok(are_customer_sums_within_limits(&counts, &sums, &sheets.customers))
+    let counts = count_accounts(alloc, &sheets.accounts)?;
+    let sums = sum_tax_rates(alloc, sheets)?;
+    Ok(all_keep_limits(&counts, &sums, &sheets.customers))
 }

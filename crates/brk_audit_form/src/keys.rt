@@ -1,3 +1,5 @@
+//! The keys by which the rows of each table are sorted.
+
 ghost use Rattle.std.specs.Prelude.{◌≡◌, List};
 ghost use Rattle.std.specs.Ordering.{nat_cmp};
 ghost use Rattle.std.specs.Cmp.Lexicographic.{slice_cmp};
@@ -14,28 +16,24 @@ pub(crate) trait Keyed {
     /// The sort key of a row.
     ghost key: { Self → List KeyPart };
 
-    /// Returns the order of the key of the row and the key of `other`, part by part: numbers by
-    /// value, texts in the lexicographic order of bytes.
+    /// Compares part by part: numbers by value, texts by bytes.
     fn compare_keys(&self, other: &Self) -> Ordering
         ensures { result ≡ key_cmp (key self.now) (key other.now) };
 }
 
-/// Returns the order of two ids by their numbers.
 pub(crate) fn compare_ids(one: Id, other: Id) -> Ordering
     ensures { result ≡ nat_cmp one other }
 {
     one.get().cmp(&other.get())
 }
 
-/// Returns the lexicographic order of two texts by their bytes.
 pub(crate) fn compare_texts<F: Form>(one: &Text<F>, other: &Text<F>) -> Ordering
     ensures { result ≡ slice_cmp nat_cmp one.now other.now }
 {
     one.as_str().cmp(other.as_str())
 }
 
-/// Returns true if the rows are sorted by key, ascending, and no key occurs twice.
-pub(crate) fn has_sorted_unique_keys<R: Keyed>(rows: &[R]) -> bool
+pub(crate) fn keys_ascend<R: Keyed>(rows: &[R]) -> bool
     ensures { result ≡ form.is_sorted_by_unique_key R.key rows.now }
 {
     rows.is_sorted_by(|row, next| row.compare_keys(next).is_lt())

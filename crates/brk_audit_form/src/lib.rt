@@ -3,7 +3,7 @@
 #![tactic(auto)]
 
 mod bands;
-mod cash_names;
+mod cash_forms;
 mod customer_limits;
 pub mod form;
 mod keys;
@@ -19,4 +19,4 @@ mod tax_ids;
 mod trading_forms;
 mod trading_keys;
 
-pub use form::form_condition_holds;
+pub use form::meets_form;

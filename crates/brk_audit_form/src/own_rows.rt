@@ -12,9 +12,8 @@ use brk_ref::CashRow;
 use std::alloc::Global;
 use std::collections::BTreeSet;
 
-// Inserts the trade of a cash row into `seen`, if the row has one. Returns false if the set already
-// contained the trade, otherwise true. Fails with `Memory` only.
-fn insert_cash_row_trade(seen: &mut BTreeSet<u64>, trade: Option<Id>) -> Result<bool, Fault>
+// Returns false at a trade that was seen before.
+fn insert_trade(seen: &mut BTreeSet<u64>, trade: Option<Id>) -> Result<bool, Fault>
     ensures new { IfOk result (λ new. new ≡ not (option_map_or (λ id. contains nat_cmp seen.old id) trade false)) }
     ensures seen { OnOk result ((q : ℕ) → contains nat_cmp seen.new q ≡ contains nat_cmp seen.old q || option_map_or (λ id. id == q) trade false) }
     ensures fault { IfErr result (λ fault. fault ≡ Memory) }
@@ -26,18 +25,14 @@ fn insert_cash_row_trade(seen: &mut BTreeSet<u64>, trade: Option<Id>) -> Result<
     Ok(new)
 }
 
-/// Returns true if no two rows of CASH_MOVE have the same trade; rows without a trade are ignored.
-/// Fails with `Memory` only.
-pub(crate) fn cash_rows_have_distinct_trades(
-    alloc: Global,
-    moves: &[CashRow],
-) -> Result<bool, Fault>
+/// Ignores rows without a trade.
+pub(crate) fn trades_differ(alloc: Global, moves: &[CashRow]) -> Result<bool, Fault>
     ensures value { IfOk result (λ own. own ≡ all_distinct (trade_ids_of_cash_rows (map abstract_cash_row moves.now))) }
     ensures fault { IfErr result (λ fault. fault ≡ Memory) }
 {
     let mut seen = BTreeSet::new(alloc);
     for row in moves {
-        if !insert_cash_row_trade(&mut seen, row.trade)? {
+        if !insert_trade(&mut seen, row.trade)? {
             return Ok(false);
         }
     }

@@ -11,7 +11,6 @@ use std::cmp::Ordering;
 impl Keyed for Key {
     ghost key = { λ row. keys.kept_key (of.kept_row_with_empty_texts row) };
 
-    // Returns the order of two keys by batch name, then by row number.
     fn compare_keys(&self, other: &Key) -> Ordering {
         compare_texts(&self.batch, &other.batch).then(self.n.get().cmp(&other.n.get()))
     }
@@ -20,7 +19,6 @@ impl Keyed for Key {
 impl Keyed for BrokerRow {
     ghost key = { λ row. keys.broker_key (of.abstract_broker_row row) };
 
-    // Returns the order of two rows by id.
     fn compare_keys(&self, other: &BrokerRow) -> Ordering {
         compare_ids(self.broker.id, other.broker.id)
     }
@@ -29,7 +27,6 @@ impl Keyed for BrokerRow {
 impl Keyed for Customer {
     ghost key = { λ row. keys.customer_key (of.abstract_customer row) };
 
-    // Returns the order of two rows by id.
     fn compare_keys(&self, other: &Customer) -> Ordering {
         compare_ids(self.id, other.id)
     }
@@ -38,7 +35,6 @@ impl Keyed for Customer {
 impl Keyed for AccountRow {
     ghost key = { λ row. keys.account_key (of.abstract_account_row row) };
 
-    // Returns the order of two rows by id.
     fn compare_keys(&self, other: &AccountRow) -> Ordering {
         compare_ids(self.account.id, other.account.id)
     }
@@ -47,7 +43,6 @@ impl Keyed for AccountRow {
 impl Keyed for Permission {
     ghost key = { λ row. keys.permission_key (of.abstract_permission row) };
 
-    // Returns the order of two rows by account, then by tax id.
     fn compare_keys(&self, other: &Permission) -> Ordering {
         compare_ids(self.account, other.account).then(compare_texts(&self.tax_id, &other.tax_id))
     }
@@ -56,7 +51,6 @@ impl Keyed for Permission {
 impl Keyed for Security {
     ghost key = { λ row. keys.security_key (of.abstract_security_row row) };
 
-    // Returns the order of two rows by symbol.
     fn compare_keys(&self, other: &Security) -> Ordering {
         compare_texts(&self.symbol, &other.symbol)
     }
@@ -65,7 +59,6 @@ impl Keyed for Security {
 impl Keyed for LastTrade {
     ghost key = { λ row. keys.last_trade_key (of.abstract_last_trade_row row) };
 
-    // Returns the order of two rows by symbol.
     fn compare_keys(&self, other: &LastTrade) -> Ordering {
         compare_texts(&self.symbol, &other.symbol)
     }
@@ -74,7 +67,6 @@ impl Keyed for LastTrade {
 impl Keyed for Charge {
     ghost key = { λ row. keys.charge_key (of.abstract_charge row) };
 
-    // Returns the order of two rows by the code of the trade type, then by tier.
     fn compare_keys(&self, other: &Charge) -> Ordering {
         self.kind
             .code()
@@ -86,8 +78,6 @@ impl Keyed for Charge {
 impl Keyed for Band {
     ghost key = { λ row. keys.band_key (of.abstract_band row) };
 
-    // Returns the order of two rows by tier, by the code of the trade type, by exchange, and by
-    // lower bound, in this sequence.
     fn compare_keys(&self, other: &Band) -> Ordering {
         let bound = self.from_qty.get().cmp(&other.from_qty.get());
         let exchange = compare_texts(&self.exchange, &other.exchange).then(bound);
@@ -99,7 +89,6 @@ impl Keyed for Band {
 impl Keyed for Tax {
     ghost key = { λ row. keys.tax_rate_key (of.abstract_tax_rate row) };
 
-    // Returns the order of two rows by id.
     fn compare_keys(&self, other: &Tax) -> Ordering {
         compare_ids(self.id, other.id)
     }
@@ -108,7 +97,6 @@ impl Keyed for Tax {
 impl Keyed for CustomerTax {
     ghost key = { λ row. keys.customer_tax_key (of.abstract_customer_tax row) };
 
-    // Returns the order of two rows by customer, then by tax rate.
     fn compare_keys(&self, other: &CustomerTax) -> Ordering {
         compare_ids(self.customer, other.customer).then(compare_ids(self.tax, other.tax))
     }

@@ -1,3 +1,6 @@
+//! Searches for the records that rows refer to. They are binary searches, so each table must be
+//! sorted by key without a repeated key.
+
 ghost use Rattle.std.specs.Prelude.{◌≡◌, ◌==◌, bytes_eq, find, option_map};
 ghost use Rattle.std.specs.List.{list_any};
 ghost use Rattle.std.specs.Option.{option_copied};
@@ -15,8 +18,6 @@ use brk_money::{Id, Status};
 use brk_ref::{Security, Symbol, Tax, TradeRow};
 use brk_trade_rows::Sheets;
 
-/// Returns true if the rows contain a broker with the id. The tables must be sorted by key without
-/// a repeated key.
 pub(crate) fn has_broker(sheets: &Sheets, id: Id) -> bool
     requires { HasSortedKeys sheets.now }
     ensures { result ≡ form.has_broker (abstract_sheets sheets.now) id }
@@ -28,8 +29,6 @@ pub(crate) fn has_broker(sheets: &Sheets, id: Id) -> bool
         .is_ok()
 }
 
-/// Returns true if the rows contain a customer with the id. The tables must be sorted by key
-/// without a repeated key.
 pub(crate) fn has_customer(sheets: &Sheets, id: Id) -> bool
     requires { HasSortedKeys sheets.now }
     ensures { result ≡ form.has_customer (abstract_sheets sheets.now) id }
@@ -41,8 +40,6 @@ pub(crate) fn has_customer(sheets: &Sheets, id: Id) -> bool
         .is_ok()
 }
 
-/// Returns true if the rows contain an account with the id. The tables must be sorted by key
-/// without a repeated key.
 pub(crate) fn has_account(sheets: &Sheets, id: Id) -> bool
     requires { HasSortedKeys sheets.now }
     ensures { result ≡ form.has_account (abstract_sheets sheets.now) id }
@@ -54,8 +51,6 @@ pub(crate) fn has_account(sheets: &Sheets, id: Id) -> bool
         .is_ok()
 }
 
-/// Returns true if the rows contain a trade with the id. The tables must be sorted by key without a
-/// repeated key.
 pub(crate) fn has_trade(sheets: &Sheets, id: Id) -> bool
     requires { HasSortedKeys sheets.now }
     ensures { result ≡ form.has_trade (abstract_sheets sheets.now) id }
@@ -67,8 +62,6 @@ pub(crate) fn has_trade(sheets: &Sheets, id: Id) -> bool
         .is_ok()
 }
 
-/// Returns true if the rows contain a tax rate with the id. The tables must be sorted by key
-/// without a repeated key.
 pub(crate) fn has_tax_rate(sheets: &Sheets, id: Id) -> bool
     requires { HasSortedKeys sheets.now }
     ensures { result ≡ list_any (λ r. r.id == id) (abstract_sheets sheets.now).tax_rates }
@@ -80,8 +73,6 @@ pub(crate) fn has_tax_rate(sheets: &Sheets, id: Id) -> bool
         .is_ok()
 }
 
-/// Returns true if the rows contain a security with the symbol. The tables must be sorted by key
-/// without a repeated key.
 pub(crate) fn has_security(sheets: &Sheets, symbol: &Symbol) -> bool
     requires { HasSortedKeys sheets.now }
     ensures { result ≡ form.has_security (abstract_sheets sheets.now) symbol.now }
@@ -92,8 +83,6 @@ pub(crate) fn has_security(sheets: &Sheets, symbol: &Symbol) -> bool
         .is_ok()
 }
 
-/// Returns true if the rows contain a row of LAST_TRADE with the symbol. The tables must be sorted
-/// by key without a repeated key.
 pub(crate) fn has_last_trade(sheets: &Sheets, symbol: &Symbol) -> bool
     requires { HasSortedKeys sheets.now }
     ensures { result ≡ list_any (λ l. bytes_eq l.symbol symbol.now) (abstract_sheets sheets.now).last_trades }
@@ -104,8 +93,7 @@ pub(crate) fn has_last_trade(sheets: &Sheets, symbol: &Symbol) -> bool
         .is_ok()
 }
 
-/// Returns true if TRADE_HISTORY contains a row with the trade id `id` and the status `Completed`;
-/// TRADE need not contain the trade. The tables must be sorted by key without a repeated key.
+/// Searches TRADE_HISTORY; TRADE need not contain the trade.
 pub(crate) fn has_completion(sheets: &Sheets, id: Id) -> bool
     requires { HasSortedKeys sheets.now }
     ensures { result ≡ list_any (λ h. is_same_trade_status h.status Completed) (joins.history_rows_with_trade_id (abstract_sheets sheets.now) id) }
@@ -117,8 +105,6 @@ pub(crate) fn has_completion(sheets: &Sheets, id: Id) -> bool
         .is_ok()
 }
 
-/// Returns the row of the trade with the id, or `None` if there is none. The tables must be sorted
-/// by key without a repeated key.
 pub(crate) fn find_trade(sheets: &Sheets, id: Id) -> Option<&TradeRow>
     requires { HasSortedKeys sheets.now }
     ensures { option_map abstract_trade_row (option_copied result) ≡ joins.trade_row_with_id (abstract_sheets sheets.now) id }
@@ -133,8 +119,6 @@ pub(crate) fn find_trade(sheets: &Sheets, id: Id) -> Option<&TradeRow>
     }
 }
 
-/// Returns the row of the security with the symbol, or `None` if there is none. The tables must be
-/// sorted by key without a repeated key.
 pub(crate) fn find_security<'a>(sheets: &'a Sheets, symbol: &Symbol) -> Option<&'a Security>
     requires { HasSortedKeys sheets.now }
     ensures { option_map abstract_security_row (option_copied result) ≡ joins.security_row_with_symbol (abstract_sheets sheets.now) symbol.now }
@@ -148,8 +132,6 @@ pub(crate) fn find_security<'a>(sheets: &'a Sheets, symbol: &Symbol) -> Option<&
     }
 }
 
-/// Returns the row of the tax rate with the id, or `None` if there is none. The tables must be
-/// sorted by key without a repeated key.
 pub(crate) fn find_tax_rate(sheets: &Sheets, id: Id) -> Option<&Tax>
     requires { HasSortedKeys sheets.now }
     ensures { option_map abstract_tax_rate (option_copied result) ≡ find (λ r. r.id == id) (abstract_sheets sheets.now).tax_rates }

@@ -13,21 +13,14 @@ pub(crate) trait Formed {
     /// True if a row passes the checks of its table in `Form`, by the schema and the tables.
     ghost form: { schemas.Schema → Tables → Self → Bool };
 
-    /// Returns true if the row passes the check `form` of its table, by the limits of the schema
-    /// and the records in `sheets`. The tables of `sheets` must be sorted by key without a repeated
-    /// key.
-    fn is_row_well_formed(&self, schema: Schema, sheets: &Sheets) -> bool
+    fn is_valid_row(&self, schema: Schema, sheets: &Sheets) -> bool
         requires { HasSortedKeys sheets.now }
         ensures { result ≡ form (abstract_schema schema) (abstract_sheets sheets.now) self.now };
 }
 
-/// Returns true if each of `rows` passes the check of its table (`is_row_well_formed`), by the
-/// limits of the schema and the records in `sheets`. The tables of `sheets` must be sorted by key
-/// without a repeated key.
-pub(crate) fn are_rows_well_formed<R: Formed>(schema: Schema, sheets: &Sheets, rows: &[R]) -> bool
+pub(crate) fn are_valid_rows<R: Formed>(schema: Schema, sheets: &Sheets, rows: &[R]) -> bool
     requires { HasSortedKeys sheets.now }
     ensures { result ≡ list_all (R.form (abstract_schema schema) (abstract_sheets sheets.now)) rows.now }
 {
-    rows.iter()
-        .all(|row| row.is_row_well_formed(schema, sheets))
+    rows.iter().all(|row| row.is_valid_row(schema, sheets))
 }

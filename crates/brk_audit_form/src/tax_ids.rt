@@ -8,11 +8,7 @@ use brk_ref::Customer;
 use std::alloc::Global;
 use std::collections::BTreeSet;
 
-/// Returns true if no two customers have the same tax id. Fails with `Memory` only.
-pub(crate) fn customers_have_distinct_tax_ids(
-    alloc: Global,
-    customers: &[Customer],
-) -> Result<bool, Fault>
+pub(crate) fn tax_ids_differ(alloc: Global, customers: &[Customer]) -> Result<bool, Fault>
     ensures value { IfOk result (λ holds. holds ≡ form.has_distinct_tax_ids (map abstract_customer customers.now)) }
     ensures fault { IfErr result (λ fault. fault ≡ Memory) }
 {

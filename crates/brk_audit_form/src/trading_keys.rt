@@ -11,7 +11,6 @@ use std::cmp::Ordering;
 impl Keyed for TradeRow {
     ghost key = { λ row. keys.trade_key (of.abstract_trade_row row) };
 
-    // Returns the order of two rows by trade id.
     fn compare_keys(&self, other: &TradeRow) -> Ordering {
         compare_ids(self.id, other.id)
     }
@@ -20,7 +19,6 @@ impl Keyed for TradeRow {
 impl Keyed for HistoryRow {
     ghost key = { λ row. keys.history_key (of.abstract_history_row row) };
 
-    // Returns the order of two rows by trade, then by the code of the status.
     fn compare_keys(&self, other: &HistoryRow) -> Ordering {
         compare_ids(self.trade, other.trade).then(self.status.code().cmp(other.status.code()))
     }
@@ -29,7 +27,6 @@ impl Keyed for HistoryRow {
 impl Keyed for RequestRow {
     ghost key = { λ row. keys.request_key (of.abstract_request_row row) };
 
-    // Returns the order of two rows by trade.
     fn compare_keys(&self, other: &RequestRow) -> Ordering {
         compare_ids(self.trade, other.trade)
     }
@@ -38,7 +35,6 @@ impl Keyed for RequestRow {
 impl Keyed for HoldingRow {
     ghost key = { λ row. keys.holding_key (of.abstract_holding_row row) };
 
-    // Returns the order of two rows by the trade that opened the lot.
     fn compare_keys(&self, other: &HoldingRow) -> Ordering {
         compare_ids(self.trade, other.trade)
     }
@@ -47,7 +43,6 @@ impl Keyed for HoldingRow {
 impl Keyed for SummaryRow {
     ghost key = { λ row. keys.summary_key (of.abstract_summary_row row) };
 
-    // Returns the order of two rows by account, then by symbol.
     fn compare_keys(&self, other: &SummaryRow) -> Ordering {
         compare_ids(self.account, other.account).then(compare_texts(&self.symbol, &other.symbol))
     }
@@ -56,7 +51,6 @@ impl Keyed for SummaryRow {
 impl Keyed for LotChange {
     ghost key = { λ row. keys.holding_history_key (of.abstract_lot_change_row row) };
 
-    // Returns the order of two rows by lot, then by the trade that changed it.
     fn compare_keys(&self, other: &LotChange) -> Ordering {
         compare_ids(self.lot, other.lot).then(compare_ids(self.trade, other.trade))
     }
@@ -65,7 +59,6 @@ impl Keyed for LotChange {
 impl Keyed for SettlementRow {
     ghost key = { λ row. keys.settlement_key (of.abstract_settlement_row row) };
 
-    // Returns the order of two rows by trade.
     fn compare_keys(&self, other: &SettlementRow) -> Ordering {
         compare_ids(self.trade, other.trade)
     }
@@ -74,7 +67,6 @@ impl Keyed for SettlementRow {
 impl Keyed for OldCashRow {
     ghost key = { λ row. keys.cash_transaction_key (of.abstract_old_cash_row row) };
 
-    // Returns the order of two rows by trade.
     fn compare_keys(&self, other: &OldCashRow) -> Ordering {
         compare_ids(self.trade, other.trade)
     }
@@ -83,7 +75,6 @@ impl Keyed for OldCashRow {
 impl Keyed for CashRow {
     ghost key = { λ row. keys.cash_move_key (of.abstract_cash_row row) };
 
-    // Returns the order of two rows by number (CM_ID).
     fn compare_keys(&self, other: &CashRow) -> Ordering {
         self.id.get().cmp(&other.id.get())
     }

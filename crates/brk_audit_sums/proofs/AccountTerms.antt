@@ -1,4 +1,4 @@
--- The terms of accounts in a map are those of the rows.
+-- The terms of accounts in a map equal those of the rows.
 use Rattle.std.proofs.Common.{◌≡◌, ℕ, ◌==◌, List, refl, sym, ◌∙◌, ap, Option, Some, None}
 use Rattle.std.specs.Prelude.{find, option_map}
 use Rattle.std.specs.Option.{option_map_or}

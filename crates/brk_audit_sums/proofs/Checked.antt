@@ -1,4 +1,4 @@
--- What the checkers' sums over rows in types are of the tables that these rows are.
+-- The sums over typed rows equal the sums over the tables of these rows.
 use Rattle.std.proofs.Common.{◌≡◌, ℕ, ◌==◌, Bool, cond, List, [], ◌∷◌, ◌++◌, refl, sym, ◌∙◌, ap, subst, map, filter, ℤ, Some, None}
 use Rattle.std.specs.Prelude.{◌&&◌, ◌+ℤ◌, is_none}
 use Rattle.std.specs.BTreeMap.{BTreeMap}

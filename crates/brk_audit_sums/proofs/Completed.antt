@@ -1,5 +1,5 @@
--- Where statuses are right, a trade's row says itself whether it is completed, whether it waits,
--- and when it came to that.
+-- If the condition `Status` holds, a trade's row alone determines whether the trade is completed or
+-- pending, and since when.
 use Rattle.std.proofs.Common.{◌≡◌, ◌++◌, true, false, sym, ◌∙◌, ap, map}
 use Rattle.std.specs.List.{AllByRecursion, list_all}
 use Rattle.std.specs.Option.{option_map_or}

@@ -1,4 +1,4 @@
--- What is found among the elements so far, and one more.
+-- The first match among the first elements of a list, and among one element more.
 use Rattle.std.proofs.Common.{◌≡◌, ℕ, ◌+◌, ◌<◌, Bool, true, false, cond, List, [], ◌∷◌, ◌++◌, refl, sym, ◌∙◌, ap, take, length, get_or, Option, Some, None}
 use Rattle.std.specs.Prelude.{find, option_map, is_some}
 use Rattle.std.proofs.lemmas.List.{take_more}

@@ -1,4 +1,4 @@
--- Numbers as the keys of a map.
+-- Maps with numbers as keys.
 use Rattle.std.proofs.Common.{◌≡◌, ℕ, ◌+◌, ◌==◌, false, cond, sym, ◌∙◌, ap, Less, Greater, ⊎_elim, arith, Some}
 use Rattle.std.specs.Prelude.{unwrap_or}
 use Rattle.std.specs.Ordering.{nat_cmp, is_eq}

@@ -1,4 +1,4 @@
--- Sums of postings are sums over what was posted.
+-- Sums of postings equal sums over the posted rows.
 use Rattle.std.proofs.Common.{◌≡◌, ℕ, ◌+◌, ◌<◌, Bool, true, false, cond, List, [], ◌∷◌, ◌++◌, refl, sym, ◌∙◌, ap, map, filter, take, length, get_or, append-nil, Option, Some, None, ℤ}
 use Rattle.std.specs.Prelude.{◌&&◌, ◌+ℤ◌}
 use Rattle.std.specs.List.{AllByRecursion, cons_option, filter_map}

@@ -1,5 +1,4 @@
--- The conditions on requests, settlements and cash rows, each as one equation between two lists of
--- rows.
+-- The conditions `Requests`, `Settlement` and `Cash`, each as one equation of two lists of rows.
 use Rattle.std.proofs.Common.{◌≡◌, ℕ, ◌+◌, ◌*◌, ◌==◌, Bool, true, false, cond, List, [], ◌∷◌, ◌++◌, refl, sym, ◌∙◌, ap, map, filter, pos, unwrap_or, Option, Some, None}
 use Rattle.std.specs.Prelude.{◌&&◌, ◌-ℤ◌, if◌then◌else◌, find, is_some, option_map}
 use Rattle.std.specs.List.{AllByRecursion}

@@ -1,4 +1,4 @@
--- The conditions on counts, commissions and balances, row by row, as sums over rows.
+-- The conditions `Count`, `Commission` and `Balance`, row by row, as sums over rows.
 use Rattle.std.proofs.Common.{◌≡◌, ℕ, ◌+◌, ◌==◌, Bool, true, false, List, [], ◌∷◌, refl, sym, ◌∙◌, ap, map, filter, length, ℤ, pos, arith, Some}
 use Rattle.std.specs.Prelude.{◌&&◌, ◌+ℤ◌, find, is_none, is_some, option_map, sum_by}
 use Rattle.std.specs.List.{AllByRecursion}

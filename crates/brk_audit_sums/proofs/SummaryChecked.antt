@@ -1,4 +1,4 @@
--- What tallies over rows in types say of the summaries of the tables that these rows are.
+-- The condition `Summary` of the tables, from sums by key over typed rows.
 use Rattle.std.proofs.Common.{◌≡◌, ℕ, ◌==◌, Bool, true, false, List, refl, sym, ◌∙◌, ap, subst, map, ℤ, pos}
 use Rattle.std.specs.Prelude.{◌&&◌, find, is_some, nat_abs, nat_le, bytes_eq}
 use Rattle.std.specs.Borrow.{Bor}

@@ -1,4 +1,4 @@
--- The condition on summaries: they tell the shares of each position, and those of none twice.
+-- The condition `Summary`: the shares of each position, and at most one row for each.
 use Rattle.std.proofs.Common.{◌≡◌, ℕ, ◌==◌, Bool, true, false, not, cond, List, [], ◌∷◌, refl, sym, ◌∙◌, ap, subst, map, filter, ℤ, pos, inl, inr, Some, arith}
 use Rattle.std.specs.Prelude.{◌&&◌, ◌||◌, ◌+ℤ◌, find, is_some, option_map, flat_map, bytes_eq, nat_abs, nat_le, nat_lt, zero, suc, negsuc}
 use Rattle.std.specs.List.{AllByRecursion}

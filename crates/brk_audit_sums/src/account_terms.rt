@@ -18,9 +18,8 @@ pub struct AccountTerms {
     pub tax_status: TaxStatus,
 }
 
-/// Returns a map from the id of each account to the broker and the tax status of the first row with
-/// this id, in the sequence of `accounts`. Fails with `Memory` only.
-pub fn account_terms_by_id(
+/// Returns the terms of the accounts, by id. Of several rows with one id, the first counts.
+pub fn terms_by_id(
     alloc: Global,
     accounts: &[AccountRow],
 ) -> Result<BTreeMap<u64, AccountTerms>, Fault>
@@ -41,8 +40,8 @@ pub fn account_terms_by_id(
     Ok(terms)
 }
 
-/// Returns the id of the account's broker in the map, or 0 if the map does not contain the account.
-pub fn account_broker_id(terms: &BTreeMap<u64, AccountTerms>, account: Id) -> u64
+/// Returns the id of the account's broker, or 0 if the map does not contain the account.
+pub fn broker_of(terms: &BTreeMap<u64, AccountTerms>, account: Id) -> u64
     ensures { result ≡ account_broker_in_terms terms.now account }
 {
     let id = account.get();
@@ -52,9 +51,8 @@ pub fn account_broker_id(terms: &BTreeMap<u64, AccountTerms>, account: Id) -> u6
     }
 }
 
-/// Returns the tax status of the account in the map, or `Untaxed` if the map does not contain the
-/// account.
-pub fn account_tax_status(terms: &BTreeMap<u64, AccountTerms>, account: Id) -> TaxStatus
+/// Returns the tax status of the account, or `Untaxed` if the map does not contain the account.
+pub fn tax_status_of(terms: &BTreeMap<u64, AccountTerms>, account: Id) -> TaxStatus
     ensures { result ≡ account_tax_status_in_terms terms.now account }
 {
     let id = account.get();

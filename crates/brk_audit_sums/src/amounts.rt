@@ -1,4 +1,4 @@
-//! The settlement amounts of completed trades.
+//! The settlement amounts of completed trades, in cents.
 
 ghost use Rattle.std.specs.Prelude.{◌≡◌, ◌*◌, ◌≤◌, pos, ◌-ℤ◌, if◌then◌else◌, unwrap_or};
 ghost use Rattle.brk_model.specs.Base.{is_withholding_status};
@@ -10,9 +10,7 @@ ghost use Rattle.brk_audit_sums.specs.Settling.{settlement_amount_at_tax_status}
 use brk_money::{Amount, Price, Side, TaxStatus};
 use brk_ref::TradeRow;
 
-// Returns the part of the tax that is withheld from the settlement, in cents: the whole tax at the
-// tax status `Withheld`, otherwise 0. It is at most the greatest amount.
-fn tax_withheld_from_settlement(tax: Amount, tax_status: TaxStatus) -> u64
+fn tax_withheld(tax: Amount, tax_status: TaxStatus) -> u64
     ensures value { result ≡ (if is_withholding_status tax_status then tax else 0) }
     ensures high { result ≤ greatest_amount }
 {
@@ -22,7 +20,6 @@ fn tax_withheld_from_settlement(tax: Amount, tax_status: TaxStatus) -> u64
     }
 }
 
-// Returns the price in cents, or 0 if it is `None`. The result is at most the greatest price.
 fn price_or_zero(price: Option<Price>) -> u64
     ensures value { result ≡ unwrap_or price 0 }
     ensures high { result ≤ greatest_price }
@@ -33,9 +30,6 @@ fn price_or_zero(price: Option<Price>) -> u64
     }
 }
 
-// Returns the value, in cents, of `qty` shares at the price `cents`, in cents. `qty` must be at
-// most the greatest quantity, and `cents` at most the greatest price. The value is at most the
-// greatest quantity times the greatest price.
 fn value_of_shares(qty: u32, cents: u64) -> u64
     requires qty { qty ≤ greatest_qty }
     requires cents { cents ≤ greatest_price }
@@ -45,10 +39,7 @@ fn value_of_shares(qty: u32, cents: u64) -> u64
     u64::from(qty) * cents
 }
 
-// Returns the value of a sale, or the negated value of a purchase, minus the deductions
-// `taken_off`, all in cents. `value` must be at most the greatest quantity times the greatest
-// price, and `taken_off` at most three times the greatest amount.
-fn signed_value_less_deductions(side: Side, value: u64, taken_off: u64) -> i64
+fn net_value(side: Side, value: u64, taken_off: u64) -> i64
     requires value { value ≤ greatest_qty * greatest_price }
     requires taken_off { taken_off ≤ 3 * greatest_amount }
     ensures { result ≡ signed_proceeds side value -ℤ pos taken_off }
@@ -60,16 +51,13 @@ fn signed_value_less_deductions(side: Side, value: u64, taken_off: u64) -> i64
     brought - taken_off as i64
 }
 
-/// Returns the settlement amount of a completed trade at the tax status of its account, in cents:
-/// its quantity times its price, negated for a purchase, minus charge, commission and, if the
-/// status is `Withheld`, tax. It is below 0 if the account pays. A missing price counts as 0.
-pub fn settlement_amount_of_row(trade: &TradeRow, tax_status: TaxStatus) -> i64
+/// Returns the settlement amount of a completed trade, below 0 if the account pays. Tax is deducted
+/// only at `Withheld`; a missing price counts as 0.
+pub fn settling_amount(trade: &TradeRow, tax_status: TaxStatus) -> i64
     ensures { result ≡ settlement_amount_at_tax_status tax_status (abstract_trade_row trade.now) }
 {
     let value = value_of_shares(trade.qty.get(), price_or_zero(trade.price));
     let charge = u64::from(trade.charge.get());
-    let taken_off = charge
-        + trade.commission.get()
-        + tax_withheld_from_settlement(trade.tax, tax_status);
-    signed_value_less_deductions(trade.kind.side(), value, taken_off)
+    let taken_off = charge + trade.commission.get() + tax_withheld(trade.tax, tax_status);
+    net_value(trade.kind.side(), value, taken_off)
 }

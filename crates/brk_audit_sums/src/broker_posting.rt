@@ -3,16 +3,14 @@ ghost use Rattle.brk_ref.specs.Rows.{abstract_trade_row};
 ghost use Rattle.brk_audit_sums.specs.AccountTerms.{account_broker_in_terms};
 ghost use Rattle.brk_audit_sums.specs.Sums.{broker_posting_of_trade_row};
 
-use crate::account_terms::{AccountTerms, account_broker_id};
+use crate::account_terms::{AccountTerms, broker_of};
 use crate::completion::is_completed;
 use crate::tally::KeyedAmount;
 use brk_ref::TradeRow;
 use std::collections::BTreeMap;
 
-/// Returns the amount as a posting at the broker of the trade's account, or `None` if the trade is
-/// not completed. The broker is the account's in the map `terms`, or 0 if the map does
-/// not contain the account.
-pub(crate) fn posting_at_broker(
+/// Returns `None` if the trade is not completed.
+pub(crate) fn at_broker(
     terms: &BTreeMap<u64, AccountTerms>,
     trade: &TradeRow,
     amount: i64,
@@ -22,6 +20,6 @@ pub(crate) fn posting_at_broker(
     if !is_completed(trade.status) {
         return None;
     }
-    let key = account_broker_id(terms, trade.account);
+    let key = broker_of(terms, trade.account);
     Some(KeyedAmount { key, amount })
 }

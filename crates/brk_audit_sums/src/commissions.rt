@@ -1,3 +1,5 @@
+//! The condition `Commission`, on the commission totals of brokers in cents.
+
 ghost use Rattle.std.specs.Prelude.{◌≡◌, ◌↔◌, IfErr, IfOk, IsTrue, pos};
 ghost use Rattle.std.specs.Ordering.{nat_cmp};
 ghost use Rattle.brk_money.specs.declared.fault.Condition.TheVariants.{Commission};
@@ -10,10 +12,10 @@ ghost use Rattle.brk_audit_sums.specs.Conditions.{HasWellFormedRows, HasValidSta
 ghost use Rattle.brk_audit_sums.specs.Sums.{broker_posting_of_trade_row};
 ghost use Rattle.brk_audit_sums.specs.Tally.{sum_at_key};
 
-use crate::account_terms::{AccountTerms, account_terms_by_id};
-use crate::broker_posting::posting_at_broker;
-use crate::keyed_sum::{KeyedSum, all_totals_match_sums, postings_of_trades};
-use crate::tally::{KeyedAmount, sum_amounts_by_key, sum_or_zero_at_key};
+use crate::account_terms::{AccountTerms, terms_by_id};
+use crate::broker_posting::at_broker;
+use crate::keyed_sum::{KeyedSum, all_match_sums, trade_postings};
+use crate::tally::{KeyedAmount, sum_by_key, sum_of_key};
 use brk_money::Fault;
 use brk_ref::{BrokerRow, TradeRow};
 use brk_trade_rows::Sheets;
@@ -31,34 +33,28 @@ impl KeyedSum for Commissions {
 
     ghost has_sum = { λ sums row. pos row.commissions ≡ sum_at_key nat_cmp sums row.broker.id };
 
-    // Returns the commission, in cents, as a posting at the broker of the trade's account, or
-    // `None` if the trade is not completed. The broker is the account's in the map `terms`,
-    // or 0 if the map does not contain the account.
     fn posting_of_trade(
         terms: &BTreeMap<u64, AccountTerms>,
         trade: &TradeRow,
     ) -> Option<KeyedAmount<u64>> {
-        posting_at_broker(terms, trade, trade.commission.get() as i64)
+        at_broker(terms, trade, trade.commission.get() as i64)
     }
 
-    // Returns true if the commission total of the broker is the sum at the broker's id, or 0 if the
-    // map `sums` does not contain the id.
-    fn total_matches_sum(sums: &BTreeMap<u64, i128>, row: &BrokerRow) -> bool {
-        i128::from(row.commissions) == sum_or_zero_at_key(sums, row.broker.id.get())
+    fn matches_sum(sums: &BTreeMap<u64, i128>, row: &BrokerRow) -> bool {
+        i128::from(row.commissions) == sum_of_key(sums, row.broker.id.get())
     }
 }
 
-/// Returns true if the rows, which must satisfy `Form` of some schema and `Status`, satisfy the
-/// condition `Commission`, the same in all schemas: each broker's commission total is the sum of
-/// the commissions of the completed trades of the broker's accounts. Fails with `Memory` only.
-pub fn commission_condition_holds(alloc: Global, sheets: &Sheets) -> Result<bool, Fault>
+/// Returns true if the rows satisfy the condition `Commission`, which is the same in all schemas:
+/// each broker's commission total is the sum over the completed trades of its accounts.
+pub fn meets_commission(alloc: Global, sheets: &Sheets) -> Result<bool, Fault>
     requires form { HasWellFormedRows sheets.now }
     requires status { HasValidStatuses sheets.now }
     ensures value { IfOk result (λ holds. (schema : Schema) → IsTrue holds ↔ ConditionHolds schema Commission (abstract_sheets sheets.now)) }
     ensures fault { IfErr result (λ fault. fault ≡ Memory) }
 {
-    let terms = account_terms_by_id(alloc, &sheets.accounts)?;
-    let postings = postings_of_trades::<Commissions>(alloc, &terms, &sheets.trades)?;
-    let sums = sum_amounts_by_key(alloc, &postings)?;
-    Ok(all_totals_match_sums::<Commissions>(&sums, &sheets.brokers))
+    let terms = terms_by_id(alloc, &sheets.accounts)?;
+    let postings = trade_postings::<Commissions>(alloc, &terms, &sheets.trades)?;
+    let sums = sum_by_key(alloc, &postings)?;
+    Ok(all_match_sums::<Commissions>(&sums, &sheets.brokers))
 }

@@ -4,7 +4,6 @@ ghost use Rattle.brk_money.specs.declared.status.Status.TheVariants.{Completed};
 
 use brk_money::Status;
 
-/// Returns true if the status is `Completed`.
 pub fn is_completed(status: Status) -> bool
     ensures { result ≡ is_same_trade_status status Completed }
 {

@@ -30,23 +30,17 @@ pub(crate) trait KeyedSum {
     /// does not contain has the sum 0.
     ghost has_sum: { BTreeMap ℕ ℤ → Self.Total → Type 0 };
 
-    /// Returns the amount that the trade posts, with its key, by the brokers and the tax statuses
-    /// of accounts in the map `terms`, or `None` if it posts none.
     fn posting_of_trade(
         terms: &BTreeMap<u64, AccountTerms>,
         trade: &TradeRow,
     ) -> Option<KeyedAmount<u64>>
         ensures { result ≡ posting_of terms.now (abstract_trade_row trade.now) };
 
-    /// Returns true if the total of the row follows from the sum at its key in `sums` (`has_sum`).
-    fn total_matches_sum(sums: &BTreeMap<u64, i128>, row: &Self::Total) -> bool
+    fn matches_sum(sums: &BTreeMap<u64, i128>, row: &Self::Total) -> bool
         ensures { IsTrue result ↔ has_sum sums.now row.now };
 }
 
-/// Returns the amounts that the trades post by the terms of accounts in the map `terms`, each with
-/// its key, in the order of the trades; a trade that posts none is left out. Fails with `Memory`
-/// only.
-pub(crate) fn postings_of_trades<S: KeyedSum>(
+pub(crate) fn trade_postings<S: KeyedSum>(
     alloc: Global,
     terms: &BTreeMap<u64, AccountTerms>,
     trades: &[TradeRow],
@@ -61,15 +55,11 @@ pub(crate) fn postings_of_trades<S: KeyedSum>(
     Ok(all)
 }
 
-/// Returns true if the total of each row follows from the sum at its key in `sums` (`has_sum`).
-pub(crate) fn all_totals_match_sums<S: KeyedSum>(
-    sums: &BTreeMap<u64, i128>,
-    rows: &[S::Total],
-) -> bool
+pub(crate) fn all_match_sums<S: KeyedSum>(sums: &BTreeMap<u64, i128>, rows: &[S::Total]) -> bool
     ensures { IsTrue result ↔ AllByRecursion (S.has_sum sums.now) rows.now }
 {
     for row in rows {
-        if !S::total_matches_sum(sums, row) {
+        if !S::matches_sum(sums, row) {
             return false;
         }
     }

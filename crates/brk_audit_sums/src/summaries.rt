@@ -1,3 +1,6 @@
+//! The condition `Summary`, on the holding summaries of positions in shares: a purchase counts
+//! above 0, a sale below.
+
 ghost use Rattle.std.specs.Prelude.{◌≡◌, ◌↔◌, false, IfErr, IfOk, IsTrue, map, option_map};
 ghost use Rattle.std.specs.List.{AllByRecursion, filter_map};
 ghost use Rattle.brk_money.specs.declared.fault.Condition.TheVariants.{Summary};
@@ -13,14 +16,13 @@ ghost use Rattle.brk_audit_sums.specs.PositionSums.{HasNonzeroQuantity, posting_
 ghost use Rattle.brk_audit_sums.specs.Tally.{sum_at_key};
 
 use crate::completion::is_completed;
-use crate::tally::{KeyedAmount, sum_amounts_by_key, sum_or_zero_at_key};
+use crate::tally::{KeyedAmount, sum_by_key, sum_of_key};
 use brk_money::{Fault, Side};
 use brk_ref::{SummaryRow, TradeRow};
 use brk_trade_rows::Sheets;
 use std::alloc::Global;
 use std::collections::BTreeMap;
 
-// Returns the quantity `qty`, in shares, with a sign: `qty` for a purchase, and `-qty` for a sale.
 fn signed_shares(side: Side, qty: u32) -> i64
     ensures { result ≡ signed_by_side side qty }
 {
@@ -30,9 +32,7 @@ fn signed_shares(side: Side, qty: u32) -> i64
     }
 }
 
-// Returns the trade's quantity, negated for a sale, as a posting at its account and symbol, or
-// `None` if the trade is not completed.
-fn share_posting_of_row(trade: &TradeRow) -> Option<KeyedAmount<(u64, &str)>>
+fn share_posting(trade: &TradeRow) -> Option<KeyedAmount<(u64, &str)>>
     ensures { option_map posting_with_owned_symbol result ≡ share_posting_of_trade (abstract_trade_row trade.now) }
 {
     if !is_completed(trade.status) {
@@ -43,9 +43,7 @@ fn share_posting_of_row(trade: &TradeRow) -> Option<KeyedAmount<(u64, &str)>>
     Some(KeyedAmount { key, amount })
 }
 
-// Returns the quantities of all completed trades, negated for sales, as postings at their accounts
-// and symbols, in the order of the trades. Fails with `Memory` only.
-fn share_postings_of_trades<'a>(
+fn share_postings<'a>(
     alloc: Global,
     trades: &'a [TradeRow],
 ) -> Result<Vec<KeyedAmount<(u64, &'a str)>>, Fault>
@@ -54,7 +52,7 @@ fn share_postings_of_trades<'a>(
 {
     let mut all = Vec::new(alloc);
     for trade in trades {
-        if let Some(posting) = share_posting_of_row(trade) {
+        if let Some(posting) = share_posting(trade) {
             all.push(posting)?;
         }
     }
@@ -62,7 +60,7 @@ fn share_postings_of_trades<'a>(
 }
 
 // Returns the quantity of the holding summary as a posting at its account and symbol.
-fn posting_of_summary(row: &SummaryRow) -> KeyedAmount<(u64, &str)>
+fn summary_posting(row: &SummaryRow) -> KeyedAmount<(u64, &str)>
     ensures { posting_with_owned_symbol result ≡ share_posting_of_summary (abstract_summary_row row.now) }
 {
     let key = (row.account.get(), row.symbol.as_str());
@@ -70,9 +68,7 @@ fn posting_of_summary(row: &SummaryRow) -> KeyedAmount<(u64, &str)>
     KeyedAmount { key, amount }
 }
 
-// Returns the quantities of all holding summaries as postings at their accounts and symbols, in the
-// order of the rows. Fails with `Memory` only.
-fn postings_of_summaries<'a>(
+fn summary_postings<'a>(
     alloc: Global,
     rows: &'a [SummaryRow],
 ) -> Result<Vec<KeyedAmount<(u64, &'a str)>>, Fault>
@@ -81,14 +77,12 @@ fn postings_of_summaries<'a>(
 {
     let mut all = Vec::new(alloc);
     for row in rows {
-        all.push(posting_of_summary(row))?;
+        all.push(summary_posting(row))?;
     }
     Ok(all)
 }
 
-// Returns true if the maps `sums` and `told` have equal sums at the key of each posting. A key that
-// a map does not contain has the sum 0.
-fn sums_agree_at_postings<K: Ord + Copy>(
+fn sums_agree<K: Ord + Copy>(
     sums: &BTreeMap<K, i128>,
     told: &BTreeMap<K, i128>,
     postings: &[KeyedAmount<K>],
@@ -96,22 +90,20 @@ fn sums_agree_at_postings<K: Ord + Copy>(
     ensures { IsTrue result ↔ AllByRecursion (λ p. sum_at_key K.cmp sums.now p.key ≡ sum_at_key K.cmp told.now p.key) postings.now }
 {
     for posting in postings {
-        if sum_or_zero_at_key(sums, posting.key) != sum_or_zero_at_key(told, posting.key) {
+        if sum_of_key(sums, posting.key) != sum_of_key(told, posting.key) {
             return false;
         }
     }
     true
 }
 
-// Returns true if the quantity is not 0.
 fn is_nonzero(qty: i64) -> bool
     ensures { IsTrue result ↔ (is_zero qty ≡ false) }
 {
     qty != 0
 }
 
-// Returns true if no holding summary has the quantity 0.
-fn has_no_zero_summary(rows: &[SummaryRow]) -> bool
+fn has_no_zero(rows: &[SummaryRow]) -> bool
     ensures { IsTrue result ↔ AllByRecursion (λ r. is_zero r.qty ≡ false) rows.now }
 {
     for row in rows {
@@ -122,29 +114,27 @@ fn has_no_zero_summary(rows: &[SummaryRow]) -> bool
     true
 }
 
-/// Returns true if all three arguments are true.
-pub fn are_all_three_true(one: bool, other: bool, last: bool) -> bool
+pub fn all_three(one: bool, other: bool, last: bool) -> bool
     ensures { IsTrue result ↔ (IsTrue one × IsTrue other × IsTrue last) }
 {
     one && other && last
 }
 
-/// Returns true if the rows, which must satisfy `Form` of some schema and `Status`, satisfy the
-/// condition `Summary`, the same in all schemas: for each account and symbol, the holding summaries
-/// sum to the quantities of the completed trades, purchases minus sales, and no summary has the
-/// quantity 0. Fails with `Memory` only.
-pub fn summary_condition_holds(alloc: Global, sheets: &Sheets) -> Result<bool, Fault>
+/// Returns true if the rows satisfy the condition `Summary`, which is the same in all schemas: the
+/// holding summaries of a position sum to the shares that its completed trades bought minus those
+/// that they sold, and none is 0. Compares the sums at the keys of all trades and of all summaries.
+pub fn meets_summary(alloc: Global, sheets: &Sheets) -> Result<bool, Fault>
     requires form { HasWellFormedRows sheets.now }
     requires status { HasValidStatuses sheets.now }
     ensures value { IfOk result (λ holds. (schema : Schema) → IsTrue holds ↔ ConditionHolds schema Summary (abstract_sheets sheets.now)) }
     ensures fault { IfErr result (λ fault. fault ≡ Memory) }
 {
-    let postings = share_postings_of_trades(alloc, &sheets.trades)?;
-    let claims = postings_of_summaries(alloc, &sheets.summaries)?;
-    let sums = sum_amounts_by_key(alloc, &postings)?;
-    let told = sum_amounts_by_key(alloc, &claims)?;
-    let each_trade = sums_agree_at_postings(&sums, &told, &postings);
-    let each_row = sums_agree_at_postings(&sums, &told, &claims);
-    let shares = has_no_zero_summary(&sheets.summaries);
-    Ok(are_all_three_true(each_trade, each_row, shares))
+    let postings = share_postings(alloc, &sheets.trades)?;
+    let claims = summary_postings(alloc, &sheets.summaries)?;
+    let sums = sum_by_key(alloc, &postings)?;
+    let told = sum_by_key(alloc, &claims)?;
+    let each_trade = sums_agree(&sums, &told, &postings);
+    let each_row = sums_agree(&sums, &told, &claims);
+    let shares = has_no_zero(&sheets.summaries);
+    Ok(all_three(each_trade, each_row, shares))
 }

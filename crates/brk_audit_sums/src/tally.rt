@@ -1,4 +1,4 @@
-//! Sums of amounts by key.
+//! Sums of amounts by key. A key that a map does not contain has the sum 0.
 
 ghost use Rattle.std.specs.Prelude.{◌≡◌, ◌+◌, ◌<◌, ◌≤◌, ◌^◌, ℤ, pos, ◌+ℤ◌, nat_abs, cond, IfErr, IfOk, OnErr, OnOk, Err};
 ghost use Rattle.std.specs.Ordering.{is_eq};
@@ -16,8 +16,6 @@ pub struct KeyedAmount<K> {
     pub amount: i64,
 }
 
-// Returns the sum of `sum` and `amount`. The absolute value of `sum` must be below 2^127 - 2^63.
-// The absolute value of the result is greater by at most 2^63.
 fn sum_plus_amount(sum: i128, amount: i64) -> i128
     requires room { nat_abs sum + 2 ^ 63 < 2 ^ 127 }
     ensures sum { result ≡ sum +ℤ amount }
@@ -26,9 +24,6 @@ fn sum_plus_amount(sum: i128, amount: i64) -> i128
     sum + i128::from(amount)
 }
 
-// Adds the amount of the posting to the sum at its key in the map; a key that the map does not
-// contain has the sum 0. The absolute value of the sum must be below 2^127 - 2^63. No absolute
-// value of a sum grows by more than 2^63. Fails with `Memory` only.
 fn add_posting<K: Ord + Copy>(
     tally: &mut BTreeMap<K, i128>,
     posting: &KeyedAmount<K>,
@@ -46,9 +41,8 @@ fn add_posting<K: Ord + Copy>(
     Ok(())
 }
 
-/// Returns a map from each key of the postings to the sum of the amounts of the postings with this
-/// key. Fails with `Memory` only.
-pub fn sum_amounts_by_key<K: Ord + Copy>(
+/// Returns the sum of the amounts at each key of the postings.
+pub fn sum_by_key<K: Ord + Copy>(
     alloc: Global,
     postings: &[KeyedAmount<K>],
 ) -> Result<BTreeMap<K, i128>, Fault>
@@ -62,8 +56,7 @@ pub fn sum_amounts_by_key<K: Ord + Copy>(
     Ok(tally)
 }
 
-/// Returns the sum at the key in the map, or 0 if the map does not contain the key.
-pub fn sum_or_zero_at_key<K: Ord + Copy>(tally: &BTreeMap<K, i128>, key: K) -> i128
+pub fn sum_of_key<K: Ord + Copy>(tally: &BTreeMap<K, i128>, key: K) -> i128
     ensures { result ≡ sum_at_key K.cmp tally.now key }
 {
     tally.get(&key).copied().unwrap_or(0)

@@ -1,4 +1,5 @@
--- The base of rows that pass is sound, and the tables of a sound base pass.
+-- The base of rows that pass the audit satisfies the audit invariant, and a base that satisfies it
+-- has tables that pass.
 use Rattle.std.proofs.Common.{◌≡◌, ℕ, ◌==◌, true, false, cond, List, [], sym, ◌∙◌, ap, map, Some, None, arith, ◌++◌, subst, ◌∷◌, refl}
 use Rattle.std.specs.Prelude.{◌&&◌, ◌↔◌, find, option_map, nat_lt}
 use Rattle.std.specs.List.{AllByRecursion, list_all}

@@ -1,4 +1,4 @@
--- The base of rows in form whose statuses are right is in order.
+-- The base of rows that satisfy `Form` and `Status` satisfies the books invariant.
 use Rattle.std.proofs.Common.{◌≡◌, ℕ, ◌+◌, ◌==◌, Bool, true, false, not, cond, List, [], ◌∷◌, ◌++◌, refl, sym, ◌∙◌, ap, subst, map, filter, length, arith, Option, Some, None, inl, inr}
 use Rattle.std.specs.Prelude.{◌&&◌, ◌||◌, ◌≤◌, nat_le, find, is_none, is_some, bytes_eq, IfSome}
 use Rattle.std.specs.List.{AllByRecursion, list_any, list_all, range_with_len}

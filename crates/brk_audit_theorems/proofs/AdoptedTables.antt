@@ -1,4 +1,4 @@
--- Rows that pass are the tables of the base that they give.
+-- Rows that pass the audit are the tables of the base that they describe.
 use Rattle.std.proofs.Common.{◌≡◌, ℕ, true, List, [], ◌∷◌, ◌++◌, refl, sym, ◌∙◌, ap, subst, map, ℤ, Option, Some, None, inl, inr}
 use Rattle.std.specs.Prelude.{◌&&◌, nat_le, find, bytes_eq}
 use Rattle.std.specs.List.{AllByRecursion, list_any, list_all}

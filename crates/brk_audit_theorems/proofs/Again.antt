@@ -1,4 +1,4 @@
--- The base that the tables of a base give is that base, with its reference records by rising key.
+-- The tables of a base describe this base, with its reference records sorted by key.
 use Rattle.std.proofs.Common.{◌≡◌, ℕ, ◌==◌, Bool, true, false, not, cond, List, [], ◌∷◌, ◌++◌, refl, sym, ◌∙◌, ap, subst, map, filter, arith, Some, None}
 use Rattle.std.specs.Prelude.{⊤, ◌&&◌, nat_lt, find, flat_map, is_none, option_map, bytes_eq}
 use Rattle.std.specs.List.{AllByRecursion}

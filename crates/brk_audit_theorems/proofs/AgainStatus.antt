@@ -1,4 +1,4 @@
--- The statuses of the tables of a base are right where its trades go a way.
+-- The tables of a base with valid histories satisfy the condition `Status`.
 use Rattle.std.proofs.Common.{◌≡◌, ℕ, ◌==◌, Bool, true, false, not, cond, List, [], ◌∷◌, ◌++◌, refl, sym, ◌∙◌, ap, subst, map, filter, Some, None}
 use Rattle.std.specs.Prelude.{◌&&◌, ◌||◌, flat_map, is_none}
 use Rattle.std.specs.List.{AllByRecursion, last_or, list_all}

@@ -1,4 +1,4 @@
--- What a completion records is within the limits: shares, taxes, commissions and amounts.
+-- The limits of what a completion records: shares, taxes, commissions and amounts.
 use Rattle.std.proofs.Common.{◌≤◌, ℕ, zero, suc, ◌+◌, ◌-◌, ◌*◌, ◌^◌, min, Bool, true, false, cond, List, [], ◌∷◌, length, arith, ℤ, pos, negsuc, ◌-ℤ◌, ◌≤ℤ◌, mul-le-mul}
 use Rattle.std.specs.Prelude.{take, drop, replicate, fold, sum_by, nat_abs}
 use Rattle.std.specs.List.{AllByRecursion}

@@ -1,5 +1,5 @@
--- Rows whose keys rise strictly: sorted, they stay as they are, and two lists of them with the same
--- rows are one.
+-- Rows sorted by strictly ascending keys: sorting does not change them, and two such lists with the
+-- same rows are equal.
 use Rattle.std.proofs.Common.{◌≡◌, Bool, true, false, cond, List, [], ◌∷◌, ◌++◌, refl, sym, ◌∙◌, ap, subst, map, filter, inl, inr}
 use Rattle.std.specs.Prelude.{⊤, ◌⊎◌}
 use Rattle.std.specs.List.{AllByRecursion, list_all}

@@ -1,4 +1,5 @@
--- A base in order whose tables have form is sound.
+-- A base with the books invariant, valid histories and tables that satisfy `Form` satisfies the
+-- audit invariant.
 use Rattle.std.proofs.Common.{◌≡◌, ◌≤◌, ℕ, ◌==◌, ◌+◌, Bool, true, false, not, cond, List, [], ◌∷◌, refl, sym, ◌∙◌, ap, subst, map, filter, length, arith}
 use Rattle.std.proofs.Common.{Option, Some, None, pos, negsuc, zero, suc, ℤ, ◌+ℤ◌}
 use Rattle.std.specs.Prelude.{◌&&◌, ◌||◌, bytes_eq, find, flat_map, is_none, is_some, nat_abs, nat_le, option_map, sum_by, nat_lt}

@@ -1,4 +1,4 @@
--- The tables of a sound base rise by their keys.
+-- The tables of a base that satisfies both invariants are sorted by key.
 use Rattle.std.proofs.Common.{◌≡◌, ℕ, ◌==◌, Bool, true, false, not, List, [], ◌∷◌, refl, sym, ap, subst, map, filter, ◌∙◌}
 use Rattle.std.specs.Prelude.{bytes_eq, flat_map, nat_lt, ◌-ℤ◌}
 use Rattle.std.specs.List.{AllByRecursion}

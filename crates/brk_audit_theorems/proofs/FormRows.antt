@@ -1,4 +1,4 @@
--- The tables of a sound base have form.
+-- The tables of a base that satisfies both invariants satisfy `Form`.
 use Rattle.std.proofs.Common.{◌≡◌, ◌≤◌, ℕ, ◌==◌, ◌+◌, Bool, true, false, not, cond, List, [], ◌∷◌, refl, sym, ◌∙◌, ap, subst, map, filter, length, Option, Some, None, arith}
 use Rattle.std.specs.Prelude.{◌&&◌, ◌||◌, IfSome, bytes_eq, find, flat_map, is_none, is_some, nat_abs, nat_le, nat_lt, option_map, unwrap_or}
 use Rattle.std.specs.List.{AllByRecursion, last_or, list_all, list_any, range_with_len}

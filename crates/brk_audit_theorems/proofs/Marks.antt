@@ -1,5 +1,5 @@
--- The statuses of a trade of the rows: they go a way, each is of a row of its history, and the last
--- is that of its row.
+-- The status changes of a trade: they are a valid sequence, each is a row of the trade's history,
+-- and the last is that of its row.
 use Rattle.std.proofs.Common.{◌≡◌, ℕ, ◌==◌, Bool, true, false, cond, List, [], ◌∷◌, refl, sym, ◌∙◌, ap, subst, map, filter, Option, Some, None}
 use Rattle.std.specs.Prelude.{⊤, nat_lt}
 use Rattle.std.specs.List.{AllByRecursion, last_or}

@@ -1,4 +1,4 @@
--- Members of lists that were made of others, and rows put in one by one.
+-- Elements of lists that are derived from others, and rows inserted one by one.
 use Rattle.std.proofs.Common.{◌≡◌, Bool, true, false, cond, List, [], ◌∷◌, ◌++◌, refl, sym, ◌∙◌, ap, subst, map, filter, Some, inl, inr}
 use Rattle.std.specs.Prelude.{find, is_some, flat_map}
 use Rattle.std.specs.List.{AllByRecursion}

@@ -1,4 +1,5 @@
--- What holds of one trade of a sound base, and of a base at a later stamp.
+-- Properties of one trade of a base that satisfies the audit invariant, and of a base at a later
+-- stamp.
 use Rattle.std.proofs.Common.{◌≡◌, ◌<◌, ◌≤◌, ℕ, ◌+◌, max, Bool, true, false, cond, List, [], ◌∷◌, ◌++◌, refl, sym, ◌∙◌, ap, map, arith, Option, Some, None}
 use Rattle.std.specs.Prelude.{◌==◌, bytes_eq, is_none, nat_le, nat_lt, unwrap_or}
 use Rattle.brk_money.specs.Spelling.{Text}

@@ -1,4 +1,4 @@
--- A row that is read gives a command in form.
+-- A row that is parsed yields a command in the audit's formats.
 use Rattle.std.proofs.Common.{◌≡◌, ℕ, Bool, true, false, cond, List, [], ◌∷◌, refl, Option, Some, None, ℤ}
 use Rattle.std.specs.Prelude.{◌&&◌, ⊤, IfSome, Ok, Err, IfOk, bytes_eq, find, length, nat_le}
 use Rattle.std.specs.List.{AllByRecursion}

@@ -1,4 +1,4 @@
--- Tables that have keys climb by them.
+-- Tables with sorted unique keys ascend strictly by them.
 use Rattle.std.proofs.Common.{◌≡◌, true}
 use Rattle.brk_model.specs.Tables.{Tables}
 use Rattle.brk_model.specs.Form.{has_tables_sorted_by_unique_key}

@@ -1,4 +1,4 @@
--- The tables of a base pass where they have form and their statuses are right.
+-- The tables of a base pass the audit if they satisfy `Form` and `Status`.
 use Rattle.std.proofs.Common.{◌≡◌, true, refl, sym, ◌∙◌, ap, map, inl}
 use Rattle.brk_model.specs.Base.{Base}
 use Rattle.brk_model.specs.Schemas.{Schema, third_schema}

@@ -1,4 +1,4 @@
--- Rows that pass, condition by condition.
+-- Rows that pass the audit, condition by condition.
 use Rattle.std.proofs.Common.{◌≡◌, inl, inr, Some, None}
 use Rattle.std.specs.Prelude.{◌⊎◌}
 use Rattle.brk_money.specs.declared.fault.Condition.{Condition}

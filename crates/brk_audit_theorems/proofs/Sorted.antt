@@ -1,4 +1,4 @@
--- The tables are no matter of the order in which reference records were accepted.
+-- The tables do not depend on the order in which reference records were accepted.
 use Rattle.std.proofs.Common.{◌≡◌, ℕ, ◌+◌, ◌==◌, Bool, true, false, not, cond, List, [], ◌∷◌, ◌++◌, refl, sym, ◌∙◌, ap, map, filter, length, pos}
 use Rattle.std.specs.Prelude.{◌+ℤ◌, ◌-ℤ◌, ◌*◌, if◌then◌else◌, flat_map, sum_by, bytes_eq}
 use Rattle.std.specs.List.{AllByRecursion}

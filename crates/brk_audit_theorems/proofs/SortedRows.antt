@@ -1,4 +1,4 @@
--- Rows whose keys are apart, put by rising key: their keys rise strictly.
+-- Rows with distinct keys ascend strictly once they are sorted by key.
 use Rattle.std.proofs.Common.{◌≡◌, Bool, true, false, not, cond, List, [], ◌∷◌, ◌++◌, refl, sym, ◌∙◌, ap, map, filter}
 use Rattle.std.specs.Prelude.{◌||◌, bytes_eq, flat_map, ⊤}
 use Rattle.std.specs.List.{AllByRecursion, list_any}

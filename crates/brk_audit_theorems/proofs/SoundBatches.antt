@@ -1,4 +1,4 @@
--- A batch, whose rows are read in form, leads from sound books in order to sound books in order.
+-- A batch of well-formed rows preserves the books invariant and the audit invariant.
 use Rattle.std.proofs.Common.{◌≡◌, ◌≤◌, ℕ, ◌+◌, true, List, [], ◌∷◌, length, ap, subst, arith, Some}
 use Rattle.std.specs.Prelude.{IfOk, Ok, Err, nat_le}
 use Rattle.std.specs.List.{AllByRecursion}

@@ -1,4 +1,5 @@
--- An accepted movement in form, and an accepted first day of one-day settlement, leave a sound base sound.
+-- An accepted movement in the audit's formats, and an accepted first day of one-day settlement,
+-- preserve the audit invariant.
 use Rattle.std.proofs.Common.{◌≡◌, ◌≤◌, ◌<◌, ℕ, zero, suc, ◌+◌, ◌==◌, Bool, true, false, not, cond, List, [], ◌∷◌, ◌++◌, refl, sym, ◌∙◌, ap, subst, map, length, arith, Some, None, pos, neg_ℤ}
 use Rattle.std.specs.Prelude.{◌&&◌, ◌||◌, codes, nat_abs, nat_le, nat_lt}
 use Rattle.std.specs.List.{AllByRecursion}

@@ -1,4 +1,4 @@
--- An accepted record in form leaves a sound base sound.
+-- An accepted record in the audit's formats preserves the audit invariant.
 use Rattle.std.proofs.Common.{◌≡◌, ◌<◌, ◌≤◌, ℕ, ◌==◌, ◌+◌, Bool, true, false, cond, List, [], ◌∷◌, ◌++◌, refl, sym, ◌∙◌, ap, subst, filter, length, arith, Option, Some, None, pos, ◌+ℤ◌}
 use Rattle.std.specs.Prelude.{◌&&◌, bytes_eq, find, is_some, nat_abs, nat_le, sum_by}
 use Rattle.std.specs.List.{AllByRecursion}

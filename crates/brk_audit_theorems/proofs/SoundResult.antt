@@ -1,4 +1,4 @@
--- An accepted result in form leaves a sound base sound.
+-- An accepted result in the audit's formats preserves the audit invariant.
 use Rattle.std.proofs.Common.{◌≡◌, ◌≤◌, ℕ, ◌==◌, ◌+◌, ◌^◌, Bool, true, false, cond, List, [], ◌∷◌, ◌++◌, refl, sym, ◌∙◌, ap, subst, filter, arith, Option, Some, None}
 use Rattle.std.specs.Prelude.{◌&&◌, bytes_eq, codes, nat_abs, nat_le, nat_lt, option_map, sum_by, unwrap_or}
 use Rattle.std.specs.List.{AllByRecursion}

@@ -1,4 +1,4 @@
--- A run of calls in form leads from sound books in order to sound books in order.
+-- A run of calls in the audit's formats preserves both invariants.
 use Rattle.std.proofs.Common.{ℕ, List, [], ◌∷◌, sym, ap, subst, Option}
 use Rattle.std.specs.Prelude.{IfSome, Result, Ok, Err}
 use Rattle.std.specs.List.{AllByRecursion}

@@ -1,5 +1,5 @@
--- Each accepted command in form leaves a sound base sound, and so does a call with a key in form.
--- The empty base is sound.
+-- Each accepted command in the audit's formats preserves the audit invariant, and so does a call
+-- with a well-formed key. The empty base satisfies the audit invariant.
 use Rattle.std.proofs.Common.{◌≡◌, ℕ, List, [], ◌∷◌, refl, sym, ◌∙◌, ap, subst, arith, Option, Some, None}
 use Rattle.std.specs.Prelude.{IfSome, Result, Ok, Err, bytes_eq, find, ◌&&◌, ◌==◌}
 use Rattle.brk_money.specs.declared.refusal.Refusal.{Refusal}

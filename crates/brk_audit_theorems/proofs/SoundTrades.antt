@@ -1,4 +1,4 @@
--- An accepted order, cancel, feed or change of words leaves a sound base sound.
+-- An accepted order, cancel, feed or text update preserves the audit invariant.
 use Rattle.std.proofs.lemmas.Bool.Decides.{nat_tests}
 use Rattle.std.proofs.Common.{◌≡◌, ◌<◌, ◌≤◌, ℕ, ◌==◌, ◌+◌, ◌^◌, Bool, true, false, not, cond, List, [], ◌∷◌, ◌++◌, refl, sym, ◌∙◌, ap, subst, map, filter, arith, Option, Some, None, ℤ, ◌+ℤ◌, length}
 use Rattle.std.specs.Prelude.{◌&&◌, ◌||◌, IfSome, bytes_eq, codes, find, is_none, is_some, nat_abs, nat_le, sum_by, take, unwrap_or}

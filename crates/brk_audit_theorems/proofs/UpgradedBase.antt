@@ -1,4 +1,4 @@
--- Moved rows are the tables of the base that the rows gave, and give that base.
+-- Upgraded rows are the tables of the base that the rows described, and describe this base.
 use Rattle.std.proofs.Common.{◌≡◌, ℕ, ◌==◌, Bool, true, false, not, cond, List, [], ◌∷◌, ◌++◌, refl, sym, ◌∙◌, ap, subst, map, filter, Option, Some, None}
 use Rattle.std.specs.Prelude.{⊤, ◌&&◌, ◌||◌, if◌then◌else◌, find, is_none, nat_lt, option_map, option_to_list}
 use Rattle.std.specs.Option.{option_map_or}

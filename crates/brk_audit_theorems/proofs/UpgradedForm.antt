@@ -1,4 +1,4 @@
--- Moved rows have form in the third schema.
+-- Upgraded rows satisfy `Form` of schema 3.
 use Rattle.std.proofs.Common.{◌≡◌, ◌≤◌, ℕ, ◌+◌, ◌==◌, Bool, true, false, cond, List, [], ◌∷◌, ◌++◌, refl, sym, ◌∙◌, ap, subst, map, filter, length, arith, Option, Some, None}
 use Rattle.std.specs.Prelude.{is_none, nat_le, nat_abs, nat_lt, find}
 use Rattle.std.specs.Option.{option_map_or}

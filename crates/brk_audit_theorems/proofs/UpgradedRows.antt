@@ -1,4 +1,4 @@
--- Moved rows pass.
+-- Upgraded rows pass the audit of schema 3.
 use Rattle.std.proofs.Common.{◌≡◌, true, ◌++◌, refl, sym, ◌∙◌, ap, filter, map, arith}
 use Rattle.std.specs.Prelude.{◌&&◌, is_none}
 use Rattle.std.specs.List.{list_all}

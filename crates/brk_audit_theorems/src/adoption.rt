@@ -14,9 +14,8 @@ ghost use Rattle.brk_trade_books.specs.Books.{BooksInvariant};
 ghost use Rattle.brk_audit_theorems.specs.Passing.{PassesAudit};
 ghost use Rattle.brk_audit_theorems.specs.Histories.{HasValidHistories, base_sorted_by_keys};
 
-/// Proves that the base that is read from rows that pass the audit of a schema satisfies the books
-/// invariant, and that the rows are the tables of this base in that schema, each sorted by key. For
-/// the books invariant, the condition `Form` of some schema and the condition `Status` suffice.
+/// The base of rows that pass an audit satisfies the books invariant, and its tables, sorted by
+/// key, are these rows.
 pub fn passing_rows_are_tables_of_their_base()
     ensures order { (schema : Schema) (rows : Tables) → IsTrue (satisfies_form_condition schema rows) → IsTrue (satisfies_status_condition rows)
         → BooksInvariant (base_of_tables rows) }
@@ -24,10 +23,8 @@ pub fn passing_rows_are_tables_of_their_base()
     ensures tables { (schema : Schema) (rows : Tables) → PassesAudit schema rows → sheets_in_schema schema (base_of_tables rows) ≡ rows }
 {}
 
-/// Proves, for a base that satisfies the books invariant and has valid histories, that its tables
-/// describe this base with reference records and stored replies sorted by key, and that the tables
-/// of the described base equal its tables. Its tables satisfy the condition `Status`, and, if they
-/// satisfy the condition `Form` of schema 3, pass the audit of schema 3.
+/// The tables of a base with the books invariant and valid histories describe it, and pass the
+/// audit if they satisfy `Form`.
 pub fn well_formed_tables_pass_the_audit()
     ensures base { (base : Base) → BooksInvariant base → HasValidHistories base → base_of_tables (sheets base) ≡ base_sorted_by_keys base }
     ensures tables { (base : Base) → BooksInvariant base → HasValidHistories base → sheets (base_of_tables (sheets base)) ≡ sheets base }

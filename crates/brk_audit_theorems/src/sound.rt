@@ -1,5 +1,7 @@
-//! Theorems: the audit invariant and the books invariant make the tables of a base pass an audit,
-//! and commands preserve the audit invariant.
+//! Theorems: the audit invariant and the books invariant make the tables of a base pass the audit
+//! of schema 3, and commands preserve the audit invariant. A command is in the audit's formats if
+//! its fields are (`MeetsAuditFormats`), a call if its command and its key are
+//! (`CallMeetsAuditFormats`).
 
 ghost use Rattle.std.specs.Prelude.{◌≡◌, ◌≤◌, ◌↔◌, ℕ, IfOk, IfSome, IsTrue, List, Ok, Option, length};
 ghost use Rattle.brk_money.specs.Spelling.{Text};
@@ -28,10 +30,8 @@ ghost use Rattle.brk_audit_theorems.specs.InForm.{MeetsAuditFormats, IsWellForme
 ghost use Rattle.brk_audit_theorems.specs.Runs.{CallMeetsAuditFormats, IsWellFormedCall};
 ghost use Rattle.brk_audit_theorems.specs.Sound.{AuditInvariant};
 
-/// Proves that a base that satisfies the audit invariant has valid histories. If a base satisfies
-/// the books invariant, it satisfies the audit invariant if and only if it has valid histories and
-/// its tables, sorted by key, satisfy the condition `Form` of the third schema. If it satisfies
-/// both invariants, these tables pass the audit of the third schema.
+/// Under the books invariant, the audit invariant means valid histories and tables in `Form`, and
+/// these tables pass the audit.
 pub fn audit_invariant_makes_tables_pass_audit()
     ensures form { (base : Base) → BooksInvariant base → AuditInvariant base → IsTrue (satisfies_form_condition third_schema (sheets base)) }
     ensures histories { (base : Base) → AuditInvariant base → HasValidHistories base }
@@ -40,21 +40,18 @@ pub fn audit_invariant_makes_tables_pass_audit()
         → AuditInvariant base ↔ (HasValidHistories base × IsTrue (satisfies_form_condition third_schema (sheets base))) }
 {}
 
-/// Proves that the base that rows describe (`base_of_tables`) satisfies the audit invariant, if the
-/// rows pass the audit of the third schema.
+/// The base of rows that pass the audit satisfies the audit invariant.
 pub fn passing_rows_satisfy_audit_invariant()
     ensures { (rows : Tables) → PassesAudit third_schema rows → AuditInvariant (base_of_tables rows) }
 {}
 
-/// Proves that the empty base satisfies the audit invariant.
+/// The empty base satisfies the audit invariant.
 pub fn empty_base_satisfies_audit_invariant()
     ensures { AuditInvariant empty_base }
 {}
 
-/// Proves that a command whose fields meet the formats of the audit (`MeetsAuditFormats`) preserves
-/// the audit invariant of a base that satisfies the books invariant, if the step accepts the
-/// command (`step`). The call of the command preserves this invariant too, whatever its answer is,
-/// if the command has no key or a well-formed key (`keyed`).
+/// Under the books invariant, commands in the audit's formats preserve the audit invariant, and so
+/// do their calls with a well-formed key or none.
 pub fn commands_preserve_audit_invariant()
     ensures step { (base : Base) (now : ℕ) (command : Command) (reply : Reply) (after : Base)
         → AuditInvariant base → BooksInvariant base → MeetsAuditFormats command → step base now command ≡ Ok (reply, after) → AuditInvariant after }
@@ -63,11 +60,8 @@ pub fn commands_preserve_audit_invariant()
         → AuditInvariant (keyed_step base now command key).1 }
 {}
 
-/// Proves that a run of calls that meet the formats of the audit (`CallMeetsAuditFormats`)
-/// preserves the audit invariant, if the base satisfies both invariants. The tables after a run of
-/// calls that meet these formats, from the empty base or from the base of rows that pass the audit
-/// of the third schema, pass that audit. The tables after a run of well-formed calls
-/// (`IsWellFormedCall`) from the empty base also pass that audit.
+/// Tables after a run of calls in the audit's formats, from the empty base or passing rows, pass
+/// the audit.
 pub fn tables_after_runs_pass_the_audit()
     ensures preserved { (base : Base) (calls : List (ℕ × Call)) (outcomes : List Outcome) (after : Base)
         → BooksInvariant base → AuditInvariant base → AllByRecursion CallMeetsAuditFormats calls → Run base calls outcomes after → AuditInvariant after }
@@ -80,15 +74,13 @@ pub fn tables_after_runs_pass_the_audit()
         → AllByRecursion IsWellFormedCall calls → Run empty_base calls outcomes after → PassesAudit third_schema (sheets after) }
 {}
 
-/// Proves that the command that a row parses as meets the formats of the audit
-/// (`MeetsAuditFormats`), and that any command meets them if its row text parses as this command.
+/// A command parsed from a row meets the audit's formats, and so does any well-formed command.
 pub fn parsed_rows_meet_audit_formats()
     ensures read { (fields : List Text) → IfOk (parse_row fields) MeetsAuditFormats }
     ensures formed { (command : Command) → IsWellFormedCommand command → MeetsAuditFormats command }
 {}
 
-/// Proves that answering the rows of a batch preserves the books invariant together with the audit
-/// invariant, if the batch name is well-formed and the number of rows is at most the greatest id.
+/// A batch with a well-formed name and at most `Id::GREATEST` rows preserves both invariants.
 pub fn batches_preserve_books_and_audit_invariants()
     ensures { (base : Base) (name : Text) (moments : List ℕ) (rows : List Fields) (answers : List Answer) (after : Base)
         → IsTrue (is_batch_name name) → length rows ≤ greatest_id → RowsAreAnswered parse_row step_of_row name base moments rows answers after

@@ -10,21 +10,16 @@ ghost use Rattle.brk_model.specs.Sheets.{sheets};
 ghost use Rattle.brk_audit_theorems.specs.Upgrade.{UpgradedRowsMatchTheirBase, HasLimitsWithinThirdSchema};
 ghost use Rattle.brk_audit_theorems.specs.Passing.{PassesAudit};
 
-/// Proves, for rows that pass the audit of the first or the second schema, or of a schema whose
-/// limits are at most the limits of the third (`HasLimitsWithinThirdSchema`), that their upgrade
-/// (`tables_with_merged_cash_rows`) equals the tables, sorted by key, of the base that the rows
-/// describe. The upgraded rows describe this base too, and pass the audit of the third schema.
+/// Rows passing the audit of a schema within schema 3's limits become, upgraded, the tables of
+/// their base.
 pub fn upgraded_rows_are_tables_of_their_base()
     ensures first { (rows : Tables) → PassesAudit first_schema rows → UpgradedRowsMatchTheirBase rows }
     ensures second { (rows : Tables) → PassesAudit second_schema rows → UpgradedRowsMatchTheirBase rows }
     ensures narrower { (schema : Schema) (rows : Tables) → HasLimitsWithinThirdSchema schema → PassesAudit schema rows → UpgradedRowsMatchTheirBase rows }
 {}
 
-/// Proves that, for rows that pass the audit of a schema, the upgrade from that schema
-/// (`tables_upgraded_from_schema`) equals these rows with all cash rows in CASH_MOVE, sorted by
-/// stamp, ascending, and numbered from 1, and with CASH_TRANSACTION empty
-/// (`tables_with_merged_cash_rows`). The upgrade also equals the tables, sorted by key, of the base
-/// that the rows describe.
+/// The upgrade merges the cash rows of passing rows into CASH_MOVE by stamp, yielding the tables of
+/// their base.
 pub fn upgrade_yields_tables_of_the_base()
     ensures same { (schema : Schema) (rows : Tables) → PassesAudit schema rows → tables_upgraded_from_schema schema rows ≡ tables_with_merged_cash_rows rows }
     ensures tables { (schema : Schema) (rows : Tables) → PassesAudit schema rows → tables_upgraded_from_schema schema rows ≡ sheets (base_of_tables rows) }

@@ -7,4 +7,4 @@ pub mod words;
 
 pub use brk_io::UsageFault;
 pub use job::Job;
-pub use words::{non_utf8_argument_fault, read_words};
+pub use words::{non_utf8_fault, read_words};

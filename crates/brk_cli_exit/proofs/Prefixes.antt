@@ -1,4 +1,4 @@
--- Texts that a sink received up to where it failed.
+-- Prefixes of a text that a sink received before it failed.
 use Rattle.std.proofs.Common.{◌++◌, ◌∙◌, ℕ, List, Option, Result, Ok, Err, OnErr, take, drop, sym, ap, append_assoc, take-append-drop}
 use Rattle.std.specs.Io.KnownBytes.{Appends}
 use Rattle.std.proofs.KnownBytes.{Appends-trans}

@@ -11,9 +11,9 @@ use brk_money::Fault;
 /// cause.
 pub type ErrorLineParts<'a> = (&'a str, &'a str);
 
-/// Returns the error line of a fault of a desk, in two parts: `brk: fault: ` and `memory` or
-/// `store`, or `brk: damaged: ` and the word for the condition that fails.
-pub fn fault_error_line(fault: Fault) -> ErrorLineParts<'static>
+/// Returns `brk: fault: ` and `memory` or `store`, or `brk: damaged: ` and the word for the
+/// condition that fails.
+pub fn fault_line(fault: Fault) -> ErrorLineParts<'static>
     ensures { spec.bytes_of_error_line result ≡ spec.error_line_of_fault fault }
 {
     match fault {
@@ -23,8 +23,8 @@ pub fn fault_error_line(fault: Fault) -> ErrorLineParts<'static>
     }
 }
 
-/// Sends an error line to a sink: its two parts and a line feed. Fails only if the sink fails,
-/// which has then received a prefix of these bytes, perhaps all of them.
+/// Sends the two parts of an error line and a line feed. A sink that fails has received a prefix of
+/// these bytes.
 pub fn send_line<S: Sink>(sink: &mut S, line: ErrorLineParts<'_>) -> Result<(), NotWritten>
     ensures ok { OnOk result (Appends (S.contents sink.old) (S.contents sink.new) (spec.bytes_of_error_line line.entry)) }
     ensures err { OnErr result (SinkFailsWithinText S.contents S.fails sink.old sink.new (spec.bytes_of_error_line line.entry)) }

@@ -15,8 +15,8 @@ pub trait Sink {
     /// sink that defines no relation of its own.
     ghost fails: { Self → Self → Type 0 } = { λ _ _. Unit {0} };
 
-    /// Sends all of `bytes` to the sink. Fails only if the sink fails, which has then received a
-    /// prefix of them, perhaps all.
+    /// Sends all of `bytes` to the sink, which has received a prefix of them, perhaps all, if it
+    /// fails.
     fn send(&mut self, bytes: &[u8]) -> Result<(), NotWritten>
         ensures ok { OnOk result (Appends (contents self.old) (contents self.new) bytes.now) }
         ensures err { OnErr result (SinkFailsWithinText contents fails self.old self.new bytes.now) };
@@ -26,8 +26,7 @@ pub trait Sink {
 impl<W: Write> Sink for W {
     ghost contents = { W.contents };
 
-    /// Writes all of `bytes` to the writer. Fails at the first call of the writer that returns an
-    /// error or accepts no byte; the writer has then received a prefix of them, perhaps all.
+    /// Fails at the first call of the writer that returns an error or accepts no byte.
     fn send(&mut self, bytes: &[u8]) -> Result<(), NotWritten> {
         write_all_bytes(self, bytes)
     }

@@ -1,4 +1,4 @@
--- Results of opening a desk, by those of an adoption, and of closing one.
+-- Results of opening a desk, by those of an adoption, and results of closing one.
 use Rattle.std.proofs.Common.{◌≡◌, ◌∙◌, ◌⊎◌, Result, Ok, Err, OnOk, inl, inr, sym, subst}
 use Rattle.sqlite_disk.specs.declared.Disk.{Ghosts}
 use Rattle.sqlite_store.specs.declared.store.FileStore.{FileStore}

@@ -1,4 +1,4 @@
--- What a batch prints on a new desk in memory at a fixed time.
+-- The text that a batch prints on a new desk in memory at a fixed time.
 use Rattle.std.proofs.Common.{◌≡◌, ◌⊎◌, inl, inr, ℕ, List, [], ◌∷◌, Option, Some, None, Ok, Err, Result, length, option_map, ◌+◌, refl, sym, subst, ◌∙◌, ap}
 use Rattle.std.specs.Borrow.{Bor}
 use Rattle.std.specs.Io.KnownBytes.{Appends}

@@ -31,9 +31,15 @@ ending_of_report closed (Err (report.Desk fault)) = ending.Statement (report.Des
 ending_of_report true (Err report.Write) = ending.ClosedPipe
 ending_of_report false (Err report.Write) = ending.Statement report.Write
 
--- The ending of a job that served streams: `Done` exactly if all of them were handled, otherwise
+-- The result of serving streams: `Ok` exactly if all of them were handled, otherwise the ending
 -- `Serve` with the fault of a stream, or `Net`.
-abbrev pub ending_of_serving : Result (Unit {0}) ListenFault → Ending
+abbrev pub result_of_serving : Result (Unit {0}) ListenFault → Result (Unit {0}) Ending
+result_of_serving (Ok u) = Ok tt
+result_of_serving (Err (listen.Stream fault)) = Err (ending.Serve fault)
+result_of_serving (Err listen.Net) = Err ending.Net
+
+-- The ending of a job that served streams with this result: `Done` exactly if all of them were
+-- handled, otherwise the ending of the fault.
+abbrev pub ending_of_serving : Result (Unit {0}) Ending → Ending
 ending_of_serving (Ok u) = ending.Done
-ending_of_serving (Err (listen.Stream fault)) = ending.Serve fault
-ending_of_serving (Err listen.Net) = ending.Net
+ending_of_serving (Err end) = end

@@ -46,7 +46,7 @@ use Rattle.brk_explain.specs.LinesOutput.{WriteLinesPost}
 use Rattle.brk_report.specs.StatementOutput.{StatementPost}
 use Rattle.brk_ask.specs.declared.form.Form.{Form}
 use Rattle.brk_store_transactions.specs.Audited.{Represents}
-use Rattle.brk_cli_jobs.specs.Endings.{ending_of_batch, ending_of_report, ending_of_serving, ending_of_statement}
+use Rattle.brk_cli_jobs.specs.Endings.{ending_of_batch, ending_of_report, ending_of_serving, ending_of_statement, result_of_serving}
 
 -- The bytes that a job may read (`input`), and the content of its writer before and after the job.
 -- Each is `None` if no contract specifies it.
@@ -106,23 +106,26 @@ WritesExplanation g request old new io end =
     FailsBeforeReading old new io end
     ⊎ ((result : Result (Unit {0}) ReportFault) × (closed : Bool) × (end ≡ ending_of_report closed result) × ExplainsRequest g request old new io result)
 
--- The job served `streams` streams of a listener in sequence, with the readings of the program's
--- clock, or failed (`serve_on`).
-pub record ServesListener {S R : Type 0} (g : Ghosts S) (machine : Bor R) (at : Option ℕ) (streams : ℕ) (old new : Held S) (end : Ending) : Type 0 where
-  pub result : Result (Unit {0}) ListenFault
-  -- The listener before and after, and the clock after. No clause relates the listener to a port.
-  pub first : TcpListener
-  pub last : TcpListener
-  pub later : ProgramClock R
-  pub ended : end ≡ ending_of_serving result
+-- `streams` streams of a listener were served in sequence, or serving them failed (`serve_on`).
+-- `gives` is the relation of a reading of the clock, which is `clock` before and `later` after.
+pub record ServesListener {S C : Type 0} (g : Ghosts S) (gives : C → ℕ → C → Type 0) (streams : ℕ) (clock later : C) (old new : Held S)
+    (result : Result (Unit {0}) Ending) : Type 0 where
+  pub listened : Result (Unit {0}) ListenFault
+  -- The listener before and after. No clause relates it to a port.
+  pub first : Bor TcpListener
+  pub last : Bor TcpListener
+  pub ended : result ≡ result_of_serving listened
   pub served : IsSomeDeskRun g old new
-  pub taken : ServeEachStreamPost {X = TcpStream} (λ _ _ _. Unit {0}) (DeskServesStream g ReturnsReading) streams
-      (record { listener = first; clock = program_clock machine at; desk = old }) result (record { listener = last; clock = later; desk = new })
+  pub taken : ServeEachStreamPost {X = TcpStream} (λ _ _ _. Unit {0}) (DeskServesStream g gives) streams
+      (record { listener = first; clock = clock; desk = old }) listened (record { listener = last; clock = later; desk = new })
 
--- The job served its streams (`ServesListener`), or its port could not be opened, and the desk is
--- unchanged.
+-- The job served its streams with the readings of the program's clock (`ServesListener`), or its
+-- port could not be opened, and the desk is unchanged.
 abbrev pub ServesStreams : {S R : Type 0} → Ghosts S → Bor R → Option ℕ → ℕ → Held S → Held S → Ending → Type 0
-ServesStreams g machine at streams old new end = ((end ≡ ending.Net) × (new ≡ old)) ⊎ ServesListener g machine at streams old new end
+ServesStreams {R = R} g machine at streams old new end =
+    ((end ≡ ending.Net) × (new ≡ old))
+    ⊎ ((result : Result (Unit {0}) Ending) × (later : ProgramClock R) × (end ≡ ending_of_serving result)
+    × ServesListener g ReturnsReading streams (program_clock machine at) later old new result)
 
 -- The bytes `ok` and a line feed were written, and the ending is `Done`; or a prefix of them,
 -- perhaps empty or all of them, and the ending is `Output`.

@@ -4,8 +4,6 @@ use brk_cli_exit::Ending;
 use brk_io::write_all_bytes;
 use std::io::Write;
 
-/// Writes `ok` and a line feed, the output of an audit that passed, to `output`. Returns `Done`,
-/// or, after a prefix of these bytes, perhaps all, `Output` if the writer fails.
 pub(crate) fn write_audit_ok<W: Write>(output: &mut W) -> Ending
     ensures { WritesAuditOk (W.contents output.old) (W.contents output.new) result }
 {

@@ -10,8 +10,6 @@ use brk_money::Stamp;
 use sqlite::Alter;
 use std::io::{Read, Write};
 
-// Returns the outcome of a batch that ended with the result `ended`: `Done`, or `Batch` with the
-// fault.
 fn ending_of_batch(ended: Result<Counts, BatchFault>) -> Ending
     ensures { result ≡ ending_of_batch ended }
 {
@@ -21,10 +19,7 @@ fn ending_of_batch(ended: Result<Counts, BatchFault>) -> Ending
     }
 }
 
-/// Executes a batch from `input` on a desk, and writes its lines to `output`. Each clock reading is
-/// `at`, or a reading of the machine's clock if `at` is `None`. Returns `Done`, also if rows were
-/// refused, or `Batch` with the fault if a fault ended the batch. The changes of the decided rows
-/// remain.
+/// Returns `Done` also if rows were refused. The changes of the decided rows remain after a fault.
 pub(crate) fn execute_batch_job<R: Read + Drop, W: Write, S: Alter>(
     rt: &HostRuntime,
     at: Option<Stamp>,

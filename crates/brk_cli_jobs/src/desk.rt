@@ -15,10 +15,7 @@ use brk_store::Store;
 use sqlite::{Alter, Connection};
 use std::io::{Read, Write};
 
-// Executes a job on an open desk, and returns its outcome: `Done`, or, by the kind of the job,
-// `Batch`, `Statement`, `ClosedPipe`, `Serve`, `Net` or `Open(Memory)` if the job is refused or ends
-// early. For an audit the function does nothing and returns `Done`: the audit passed when the desk
-// was opened.
+// For an audit nothing is left to do: it passed when the desk was opened.
 fn execute_job_at_desk<R: Read + Drop, W: Write, S: Alter>(
     rt: &HostRuntime,
     desk: &mut Desk<S>,
@@ -66,8 +63,6 @@ fn execute_job_at_desk<R: Read + Drop, W: Write, S: Alter>(
     }
 }
 
-// Executes a job on the desk of a store, and returns the outcome of the job
-// (`execute_job_at_desk`) and the store.
 fn execute_job_at_store<R: Read + Drop, W: Write, S: Alter>(
     rt: &HostRuntime,
     store: Store<S>,
@@ -83,15 +78,8 @@ fn execute_job_at_store<R: Read + Drop, W: Write, S: Alter>(
     (ending, desk.into_store())
 }
 
-/// Executes a job on the desk in a file that was opened, closes the file and returns the outcome of
-/// the job; if it is `Done` and the file cannot be closed, `Open` with the fault of the close. If
-/// the file could not be opened, executes nothing and returns `Open` with the fault.
-pub(crate) fn execute_job_and_close_desk_file<
-    S: Alter,
-    F: DeskFiles<Desk = Store<S>>,
-    R: Read + Drop,
-    W: Write,
->(
+/// If the job is done but the file cannot be closed, returns `Open` with the fault of the close.
+pub(crate) fn execute_on_file<S: Alter, F: DeskFiles<Desk = Store<S>>, R: Read + Drop, W: Write>(
     rt: &HostRuntime,
     files: &F,
     opened: Result<Store<S>, Fault>,
@@ -111,9 +99,7 @@ pub(crate) fn execute_job_and_close_desk_file<
     }
 }
 
-/// Executes a job on a new desk in memory, and returns the outcome of the job, or `Open` with the
-/// fault if the desk cannot be created.
-pub(crate) fn execute_job_on_new_desk_in_memory<R: Read + Drop, W: Write>(
+pub(crate) fn execute_in_memory<R: Read + Drop, W: Write>(
     rt: &HostRuntime,
     job: &Job,
     input: R,

@@ -5,19 +5,15 @@ ghost use Rattle.brk_model_explain.specs.Explain as model;
 use crate::pipe::PipeWriter;
 use brk_cli_exit::Ending;
 use brk_desk::Desk;
-use brk_explain::{parse_explain_request, write_explanation};
+use brk_explain::{parse_explain, write_explanation};
 use brk_money::Fault;
-use brk_ref::borrow_bytes_of_texts;
+use brk_ref::borrow_texts;
 use brk_report::ReportFault;
 use sqlite::Alter;
 use std::alloc::Global;
 use std::io::Write;
 
-/// Parses `words` as a request for the explanation of a trade, an account, a holding or a broker,
-/// and writes this explanation of a desk to `output`. Returns `Done`, `Statement` with the refusal or
-/// the fault, `ClosedPipe` if the reader of the output closed its pipe, or `Open(Memory)` if memory
-/// runs out before the desk is read. After any other outcome than `Done` a prefix of the output is
-/// written, perhaps empty or all of it. If the database is still open, it is unchanged.
+/// Returns `Open(Memory)` if memory runs out before the desk is read.
 pub(crate) fn execute_explain_job<S: Alter, W: Write>(
     alloc: Global,
     desk: &mut Desk<S>,
@@ -27,14 +23,14 @@ pub(crate) fn execute_explain_job<S: Alter, W: Write>(
     ensures { WritesExplanation S.Store (model.read_explain_request (map string_bytes words.now)) desk.old desk.new
         (record { input = None; before = W.contents output.old.output; after = W.contents output.new.output }) result }
 {
-    let Ok(words) = borrow_bytes_of_texts(alloc, words) else {
+    let Ok(words) = borrow_texts(alloc, words) else {
         return Ending::Open(Fault::Memory);
     };
-    let what = match parse_explain_request(alloc, &words) {
+    let what = match parse_explain(alloc, &words) {
         Ok(Ok(what)) => what,
         Ok(Err(refusal)) => return Ending::Statement(ReportFault::Refused(refusal)),
         Err(_) => return Ending::Open(Fault::Memory),
     };
     let written = write_explanation(alloc, desk, &what, output);
-    output.ending_after_write(written)
+    output.after_write(written)
 }

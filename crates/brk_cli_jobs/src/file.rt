@@ -18,9 +18,6 @@ use std::io::ErrorKind;
 /// A desk's store in a file, which its connection locks for this program only.
 pub type FileDesk = Store<FileStore<File>>;
 
-// Closes the files of a connection. At `Ok`, under the disk assumption, the database file contains
-// the last commit even without its log, and a crash exposes only this commit. Fails with `Store`
-// only; the file handles are then dropped, and a part of the committed data may be only in the log.
 fn close_connection(conn: Connection<FileStore<File>>) -> Result<(), Fault>
     ensures closed { OnOk result (HasLastCommitInFile conn) }
     ensures fault { OnErr result (result ≡ Err fault.Store) }
@@ -35,9 +32,9 @@ fn close_connection(conn: Connection<FileStore<File>>) -> Result<(), Fault>
 }
 
 /// Closes the file of a desk. At `Ok`, under the disk assumption, the database file contains the
-/// last commit even without its log, and a crash exposes only this commit; before that, a part of
-/// the committed data may be only in the log beside it. Fails with `Store` only; the file handle is
-/// then dropped, and a part of the committed data may still be only in the log.
+/// last commit even without its log, and a crash exposes only this commit. At `Store` the file
+/// handle is dropped, and a part of the committed data may still be only in the log beside the
+/// file.
 pub fn close_desk_file(store: FileDesk) -> Result<(), Fault>
     ensures closed { OnOk result (HasLastCommitInFile store) }
     ensures fault { OnErr result (result ≡ Err fault.Store) }
@@ -45,8 +42,7 @@ pub fn close_desk_file(store: FileDesk) -> Result<(), Fault>
     close_connection(store.into_conn())
 }
 
-// Opens a connection to the database file at `path`, also to a missing file, which becomes a new
-// database. Fails with `Store` only, for any error of the open.
+// A missing file becomes a new database.
 fn open_connection(rt: &HostRuntime, path: &str) -> Result<Connection<FileStore<File>>, Fault>
     ensures opened { IfOk result IsNewConnectionToFile }
     ensures fault { OnErr result (result ≡ Err fault.Store) }
@@ -57,12 +53,6 @@ fn open_connection(rt: &HostRuntime, path: &str) -> Result<Connection<FileStore<
     }
 }
 
-// Audits the database of a connection by the conditions of its own schema and, if it passes,
-// returns it as a store, upgraded to schema 3. Fails with the connection and the fault: `Damaged`
-// with the first condition that fails, `Memory` or `Store`; a database that is still open is then
-// unchanged. At `Ok`, under the disk assumption and the premise of `Store::adopt`, the store, while
-// it is open, represents the base that the audited rows determine, and a crash exposes only the
-// tables of this base.
 fn adopt_connection<S: Alter>(
     alloc: Global,
     conn: Connection<S>,
@@ -73,16 +63,8 @@ fn adopt_connection<S: Alter>(
     Store::adopt(alloc, conn)
 }
 
-// Adopts the database of a connection as a store, upgraded to schema 3. If the adoption fails,
-// closes the file, ignores an error of the close, and fails with the fault of the adoption:
-// `Damaged` with the first condition that fails, `Memory` or `Store`. A database that was still
-// open after the adoption failed is unchanged. Under the premise of `Store::adopt`, a crash between
-// this failure and the close exposes a prior crash state or, if the rows of an older schema pass
-// their audit, the tables after the upgrade.
-fn adopt_or_close_connection(
-    rt: &HostRuntime,
-    conn: Connection<FileStore<File>>,
-) -> Result<FileDesk, Fault>
+// An error of the close is ignored: the fault of the adoption is the cause.
+fn adopt_file(rt: &HostRuntime, conn: Connection<FileStore<File>>) -> Result<FileDesk, Fault>
     ensures adopted { IsAdoptionResult conn result }
     ensures represented { IfOk result (λ store. RepresentsRowsOfFile over_files store) }
 {
@@ -102,9 +84,6 @@ fn adopt_or_close_connection(
 ///
 /// A new desk is closed and opened again, so that its tables are in the file itself, and a file
 /// that then loses its log is never treated as a new one.
-///
-/// At `Ok`, under the disk assumption and the premise of `Store::adopt`, a crash exposes only the
-/// tables of the returned store while the store is open.
 pub fn open_or_create_desk_file(rt: &HostRuntime, path: &str) -> Result<FileDesk, Fault>
     ensures opened { OpenOrCreatePost result }
     ensures represented { IfOk result (λ store. RepresentsRowsOfFile over_files store) }
@@ -114,9 +93,9 @@ pub fn open_or_create_desk_file(rt: &HostRuntime, path: &str) -> Result<FileDesk
         Ok(store) => {
             close_desk_file(store)?;
             let conn = open_connection(rt, path)?;
-            adopt_or_close_connection(rt, conn)
+            adopt_file(rt, conn)
         }
-        Err((conn, Fault::Damaged(_))) => adopt_or_close_connection(rt, conn),
+        Err((conn, Fault::Damaged(_))) => adopt_file(rt, conn),
         Err((conn, _)) => {
             let _ = close_connection(conn);
             Err(Fault::Store)
@@ -124,8 +103,7 @@ pub fn open_or_create_desk_file(rt: &HostRuntime, path: &str) -> Result<FileDesk
     }
 }
 
-// Returns true if no file is found at the path, or if a regular file of 0 bytes is. Returns false
-// otherwise, also if the file cannot be examined for another reason than that it is not found.
+// Returns false also if the file cannot be examined for another reason than that it is not found.
 fn is_missing_or_empty(rt: &HostRuntime, path: &str) -> bool {
     match fs::metadata(rt, path) {
         Ok(found) => found.is_file() && found.len() == 0,
@@ -136,9 +114,6 @@ fn is_missing_or_empty(rt: &HostRuntime, path: &str) -> bool {
 /// Opens the desk in the file at `path`, and upgrades a file of an older schema. Creates no desk.
 /// Fails with `Damaged(Schema)` if the file is missing or empty, with `Damaged` and the first
 /// condition that fails if it does not pass the audit, or with `Memory` or `Store`.
-///
-/// At `Ok`, under the disk assumption and the premise of `Store::adopt`, a crash exposes only the
-/// tables of the returned store while the store is open.
 pub fn open_desk_file(rt: &HostRuntime, path: &str) -> Result<FileDesk, Fault>
     ensures opened { OpenPost result }
     ensures represented { IfOk result (λ store. RepresentsRowsOfFile over_files store) }
@@ -147,5 +122,5 @@ pub fn open_desk_file(rt: &HostRuntime, path: &str) -> Result<FileDesk, Fault>
         return Err(Fault::Damaged(Condition::Schema));
     }
     let conn = open_connection(rt, path)?;
-    adopt_or_close_connection(rt, conn)
+    adopt_file(rt, conn)
 }

@@ -4,7 +4,7 @@ ghost use Rattle.brk_cli_jobs.specs.Places.{ExecutesJobAt, PrintsOkAfterAudit, R
 ghost use Rattle.brk_cli_jobs.specs.Requested.{AnswersRequest, WritesHelpText, abstract_place};
 
 use crate::audit::write_audit_ok;
-use crate::desk::{execute_job_and_close_desk_file, execute_job_on_new_desk_in_memory};
+use crate::desk::{execute_in_memory, execute_on_file};
 use crate::pipe::PipeWriter;
 use crate::places::DeskFiles;
 use brk_cli_args::{Job, UsageFault};
@@ -14,9 +14,7 @@ use brk_store::Store;
 use sqlite::Alter;
 use std::io::{Read, Write};
 
-// Writes a help text or the version text to `output`. Returns `Usage` with the text, or, after a
-// prefix of the text, perhaps all of it, `Output` if the writer fails.
-fn write_help_or_version_text<W: Write>(text: String, output: &mut W) -> Ending
+fn write_help_text<W: Write>(text: String, output: &mut W) -> Ending
     ensures { WritesHelpText text (W.contents output.old) (W.contents output.new) result }
 {
     match write_all_bytes(output, text.as_bytes()) {
@@ -37,9 +35,7 @@ enum Place<'a> {
     ExistingFile(&'a str),
 }
 
-// Returns the place of a desk for an optional path: the file at the path (`FileOrNewFile`), or
-// memory if there is no path.
-fn desk_place_of_optional_path(db: &Option<String>) -> Place<'_>
+fn place_of_path(db: &Option<String>) -> Place<'_>
     ensures { abstract_place result ≡ place_of_optional_path db.now }
 {
     match db {
@@ -48,14 +44,12 @@ fn desk_place_of_optional_path(db: &Option<String>) -> Place<'_>
     }
 }
 
-// Returns the place of the desk of a job: for a batch and for serving, the file of the job
-// (`FileOrNewFile`), or memory without a file; for any other job, its file (`ExistingFile`).
-fn desk_place_of_job(job: &Job) -> Place<'_>
+fn job_place(job: &Job) -> Place<'_>
     ensures { abstract_place result ≡ place_of_job job.now }
 {
     match job {
-        Job::Batch { db, .. } => desk_place_of_optional_path(db),
-        Job::Serve { db, .. } => desk_place_of_optional_path(db),
+        Job::Batch { db, .. } => place_of_path(db),
+        Job::Serve { db, .. } => place_of_path(db),
         Job::Statement { db, .. } => Place::ExistingFile(db.as_str()),
         Job::Ask { db, .. } => Place::ExistingFile(db.as_str()),
         Job::Explain { db, .. } => Place::ExistingFile(db.as_str()),
@@ -63,10 +57,6 @@ fn desk_place_of_job(job: &Job) -> Place<'_>
     }
 }
 
-// Executes a job on the desk at its place: opens or creates the desk, executes the job, closes the
-// file of the desk, if it has one, and returns the outcome of the job. Returns `Open` with the
-// fault if the desk cannot be opened or created, or if the outcome is `Done` and the file cannot be
-// closed.
 fn execute_job_at_place<S: Alter, F: DeskFiles<Desk = Store<S>>, R: Read + Drop, W: Write>(
     rt: &HostRuntime,
     files: &F,
@@ -77,22 +67,21 @@ fn execute_job_at_place<S: Alter, F: DeskFiles<Desk = Store<S>>, R: Read + Drop,
     ensures { ExecutesJobAt S.Store F.opens_or_creates F.opens F.closes rt.entry job.now (place_of_job job.now)
         (record { input = R.remaining input; before = W.contents output.old.output; after = W.contents output.new.output }) result }
 {
-    match desk_place_of_job(job) {
-        Place::Memory => execute_job_on_new_desk_in_memory(rt, job, input, output),
+    match job_place(job) {
+        Place::Memory => execute_in_memory(rt, job, input, output),
         Place::FileOrNewFile(path) => {
             let opened = files.open_or_create(path);
-            execute_job_and_close_desk_file(rt, files, opened, job, input, output)
+            execute_on_file(rt, files, opened, job, input, output)
         }
         Place::ExistingFile(path) => {
             let opened = files.open(path);
-            execute_job_and_close_desk_file(rt, files, opened, job, input, output)
+            execute_on_file(rt, files, opened, job, input, output)
         }
     }
 }
 
-// Writes `ok` and a line feed after an audit that passed, and returns its outcome. After any other
-// job or outcome it writes nothing and returns `ending`.
-fn print_ok_after_audit<W: Write>(job: &Job, ending: Ending, output: &mut W) -> Ending
+// The file is closed by then: `ok` is printed only if its close succeeded.
+fn print_ok<W: Write>(job: &Job, ending: Ending, output: &mut W) -> Ending
     ensures { PrintsOkAfterAudit job.now ending (W.contents output.old) (W.contents output.new) result }
 {
     match (job, ending) {
@@ -101,10 +90,10 @@ fn print_ok_after_audit<W: Write>(job: &Job, ending: Ending, output: &mut W) -> 
     }
 }
 
-/// Opens or creates the desk of a job, executes the job, closes the file of the desk, if it has one,
-/// and returns the outcome of the job. Returns `Open` with the fault if the desk cannot be opened or
-/// created, or if the outcome is `Done` and the file cannot be closed. After an audit that passed
-/// and this close, writes `ok` and a line feed to `output`, and returns `Output` if that fails.
+/// Opens or creates the desk of a job, executes the job, closes the file of the desk, if it has
+/// one, and returns the outcome of the job. Returns `Open` with the fault if the desk cannot be
+/// opened or created, or if the job is done and the file cannot be closed. After an audit that
+/// passed and this close, writes `ok` and a line feed to `output`, or returns `Output`.
 pub fn execute_job<S: Alter, F: DeskFiles<Desk = Store<S>>, R: Read + Drop, W: Write>(
     rt: &HostRuntime,
     files: &F,
@@ -125,16 +114,12 @@ pub fn execute_job<S: Alter, F: DeskFiles<Desk = Store<S>>, R: Read + Drop, W: W
         (record { input = R.remaining input; before = W.contents output.old.output; after = W.contents output.new.output }) result }
 {
     let ending = execute_job_at_place(rt, files, job, input, output);
-    print_ok_after_audit(job, ending, output)
+    print_ok(job, ending, output)
 }
 
-/// Executes the job `requested`, which is the result of parsing the command-line arguments
-/// (`read_words`), and returns the outcome of the job (`execute_job`). A batch is read from
-/// `input`, and the output of the job is written to `output`.
-///
-/// If the arguments request help or the version, writes its text to `output` and returns `Usage`
-/// with the text, or `Output` if the writer fails. Otherwise returns `Usage` with the fault if they
-/// are wrong, if a day is malformed, or if memory runs out before they are parsed.
+/// Executes the job that the command-line arguments request (`read_words`, `execute_job`). If they
+/// request help or the version, writes its text to `output` and returns `Usage` with it, or
+/// `Output` if the writer fails. Returns `Usage` with the fault if they are wrong.
 pub fn execute_requested_job<S: Alter, F: DeskFiles<Desk = Store<S>>, R: Read + Drop, W: Write>(
     rt: &HostRuntime,
     files: &F,
@@ -147,7 +132,7 @@ pub fn execute_requested_job<S: Alter, F: DeskFiles<Desk = Store<S>>, R: Read + 
 {
     match requested {
         Ok(job) => execute_job(rt, files, &job, input, output),
-        Err(UsageFault::Help(text)) => write_help_or_version_text(text, output),
+        Err(UsageFault::Help(text)) => write_help_text(text, output),
         Err(fault) => Ending::Usage(fault),
     }
 }

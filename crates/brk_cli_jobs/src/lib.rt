@@ -16,3 +16,4 @@ mod statement;
 pub use jobs::{execute_job, execute_requested_job};
 pub use pipe::PipeWriter;
 pub use places::{DeskFiles, MachineFiles};
+pub use serve::serve_on;

@@ -17,7 +17,6 @@ pub struct PipeWriter<W> {
 }
 
 impl<W> PipeWriter<W> {
-    /// Returns a writer that passes the bytes on to `output`, and has recorded no closed pipe.
     pub fn new(output: W) -> PipeWriter<W>
         ensures output { result.output ≡ output }
         ensures open { result.is_closed ≡ false }
@@ -28,7 +27,6 @@ impl<W> PipeWriter<W> {
         }
     }
 
-    /// Returns the writer to which the bytes were passed on.
     pub fn into_output(self) -> W
         ensures { result ≡ self.output }
     {
@@ -39,10 +37,8 @@ impl<W> PipeWriter<W> {
         output
     }
 
-    /// Returns the outcome of a job that wrote a text to this writer with the result `written`:
-    /// `Done`, `ClosedPipe` if the writer failed and its pipe was closed, and otherwise `Statement`
-    /// with the refusal or the fault.
-    pub(crate) fn ending_after_write(&self, written: Result<(), ReportFault>) -> Ending
+    /// A write that failed because the pipe was closed is `ClosedPipe`, not `Statement`.
+    pub(crate) fn after_write(&self, written: Result<(), ReportFault>) -> Ending
         ensures { result ≡ ending_of_report self.now.is_closed written }
     {
         match written {
@@ -56,8 +52,7 @@ impl<W> PipeWriter<W> {
 impl<W: Write> Write for PipeWriter<W> {
     ghost contents = { λ p. W.contents p.output };
 
-    /// Writes the bytes to the other writer and returns the result of this write. If it failed
-    /// because the pipe is closed, records that.
+    /// Writes to the other writer, and records whether this failed because the pipe is closed.
     fn write(&mut self, bytes: &[u8]) -> io::Result<usize> {
         let written = self.output.write(bytes);
         if let Err(error) = &written {
@@ -66,7 +61,6 @@ impl<W: Write> Write for PipeWriter<W> {
         written
     }
 
-    /// Flushes the other writer, and returns its result.
     fn flush(&mut self) -> io::Result<()> {
         self.output.flush()
     }

@@ -28,7 +28,6 @@ pub trait DeskFiles {
     fn open(&self, path: &str) -> Result<Self::Desk, Fault>
         ensures { opens path.now result };
 
-    /// Closes the file of a desk.
     fn close(&self, store: Self::Desk) -> Result<(), Fault>
         ensures { closes store result };
 }
@@ -40,7 +39,6 @@ pub struct MachineFiles<'a> {
 }
 
 impl<'a> MachineFiles<'a> {
-    /// Returns the files of the machine `rt`.
     pub fn new(rt: &'a HostRuntime) -> MachineFiles<'a> {
         MachineFiles { rt }
     }
@@ -63,18 +61,14 @@ impl DeskFiles for MachineFiles<'_> {
 
     ghost closes = { λ store result. OnOk result (HasLastCommitInFile store) × OnErr result (result ≡ Err fault.Store) };
 
-    /// Opens the desk in the file at `path`, and creates it if the file is missing or empty or has
-    /// no table of a desk (`open_or_create_desk_file`).
     fn open_or_create(&self, path: &str) -> Result<FileDesk, Fault> {
         open_or_create_desk_file(self.rt, path)
     }
 
-    /// Opens the desk in the file at `path` (`open_desk_file`).
     fn open(&self, path: &str) -> Result<FileDesk, Fault> {
         open_desk_file(self.rt, path)
     }
 
-    /// Closes the file of a desk (`close_desk_file`).
     fn close(&self, store: FileDesk) -> Result<(), Fault>
         ensures { OnOk result (HasLastCommitInFile store) × OnErr result (result ≡ Err fault.Store) }
     {

@@ -9,10 +9,6 @@ use sqlite::Alter;
 use std::alloc::Global;
 use std::io::Write;
 
-/// Writes the statement of an account of a desk, from the day `from` to the day `to`, both
-/// included, to `output`. Returns `Done`, or `Statement` with the refusal or the fault. After any
-/// other outcome than `Done` a prefix of the output is written, perhaps empty or all of it. If the
-/// database is still open, it is unchanged.
 pub(crate) fn execute_statement_job<S: Alter, W: Write>(
     alloc: Global,
     desk: &mut Desk<S>,

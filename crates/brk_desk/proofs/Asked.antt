@@ -1,5 +1,5 @@
--- Queries over what was read: each has the view of the definitions, or is refused for the same
--- reason.
+-- Each query has the view of the model, or is refused for the same reason, for the rows that were
+-- read.
 use Rattle.std.proofs.Common.{Result, Ok, Err, IfErr, IfOk, refl}
 use Rattle.sqlite_trees.specs.declared.store.Store.{Ghosts}
 use Rattle.sqlite.specs.Held.{Held, state}

@@ -1,4 +1,5 @@
--- What a store keeps at first: its rows are none, or they are what a stop left of a run.
+-- The base of a store at first: without rows, with audited rows, or with the rows that a crash
+-- after a run exposed.
 use Rattle.brk_model.specs.Form.{has_utf8_texts}
 use Rattle.std.proofs.Common.{ℕ, List, [], ◌∷◌, ◌++◌, IsTrue, ap, inl, inr, subst, sym}
 use Rattle.std.specs.List.{AllByRecursion}

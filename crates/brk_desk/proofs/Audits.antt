@@ -1,4 +1,4 @@
--- What an audit answers where books are kept.
+-- The result of an audit of a store that represents a base.
 use Rattle.std.proofs.Common.{Result}
 use Rattle.sqlite_trees.specs.declared.store.Store.{Ghosts}
 use Rattle.sqlite.specs.Held.{Held}

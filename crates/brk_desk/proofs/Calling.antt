@@ -1,4 +1,4 @@
--- A command over what was read: it fails, is answered again, is refused, or is booked.
+-- A command fails, is answered again, is refused or is committed, for the rows that were read.
 use Rattle.brk_model.specs.Form.{has_utf8_texts}
 use Rattle.std.specs.Prelude.{IfSome}
 use Rattle.std.proofs.Common.{◌≡◌, ◌∙◌, ℕ, Bool, true, false, List, if◌then◌else◌, Result, Ok, Err, IfOk, OnErr, None, Some, Option, refl, sym, ap, subst, inl}

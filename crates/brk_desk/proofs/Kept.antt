@@ -1,4 +1,4 @@
--- A command whose key is kept, and one whose key is not.
+-- Commands whose key has a stored reply, and commands whose key has none.
 use Rattle.std.proofs.Common.{◌≡◌, ◌∙◌, ℕ, Option, Some, None, refl, sym, ap}
 use Rattle.brk_model.specs.Base.{Base}
 use Rattle.brk_model.specs.Sheets.{sheets}

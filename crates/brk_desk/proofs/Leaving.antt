@@ -1,4 +1,4 @@
--- No command changes what is kept under keys.
+-- No command by itself changes the stored replies.
 use Rattle.std.proofs.Common.{◌≡◌, ℕ, List, [], ◌∷◌, Option, Some, None, refl}
 use Rattle.std.specs.Option.{option_map_or}
 use Rattle.brk_model.specs.Base.{Base, trade_with_id}

@@ -1,4 +1,4 @@
--- A run of calls keeps the whole promise.
+-- A run with its postcondition gives the guarantee of a run.
 use Rattle.std.proofs.Common.{ℕ, List, map}
 use Rattle.sqlite_trees.specs.declared.store.Store.{Ghosts}
 use Rattle.sqlite.specs.Held.{Held, state}

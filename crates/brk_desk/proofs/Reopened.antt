@@ -1,4 +1,4 @@
--- What a stop left is opened again and adopted.
+-- A crash state of a store that represented a base is adopted without damage.
 use Rattle.std.proofs.Common.{◌≡◌, ◌⊎◌, ◌∙◌, inl, inr, ℕ, List, map, Option, Result, Ok, IsTrue, refl, sym, ap, subst}
 use Rattle.sqlite_trees.specs.declared.store.Store.{Ghosts}
 use Rattle.sqlite_trees.specs.Tree.{Trees}

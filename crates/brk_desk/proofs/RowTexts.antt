@@ -1,4 +1,4 @@
--- Changes of rows leave texts of no form in UTF-8: each comes from a `String`.
+-- Row changes leave all texts of the tables in UTF-8: each free text comes from a `String`.
 use Rattle.brk_model.specs.Form.{has_utf8_texts}
 use Rattle.std.proofs.Common.{◌≡◌, ◌==◌, Bool, true, List, [], ◌∷◌, Some, refl}
 use Rattle.std.specs.Prelude.{◌&&◌, string_bytes}

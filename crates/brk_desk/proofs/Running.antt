@@ -1,4 +1,4 @@
--- A run of calls, with one call more.
+-- A run with one more call.
 use Rattle.std.proofs.Common.{◌≡◌, ◌∙◌, ◌+◌, ℕ, List, [], ◌∷◌, ◌++◌, map, length, Result, Ok, Err, IfErr, inl, inr, refl, sym, ap, subst, subst₂, IsTrue}
 use Rattle.std.proofs.lemmas.List.{length-append, map-append}
 use Rattle.std.specs.List.{AllByRecursion}

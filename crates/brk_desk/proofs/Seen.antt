@@ -1,5 +1,4 @@
--- What is known after reads of a store, one after another: nothing was changed, and something is so
--- of the rows.
+-- Reads of a store in sequence: the store is unchanged, and a fact holds of its rows.
 use Rattle.std.proofs.Common.{◌≡◌, Option, Some, None, Ok, IsTrue, arith, inl, refl, sym, subst}
 use Rattle.std.specs.Prelude.{option_map}
 use Rattle.sqlite_trees.specs.declared.store.Store.{Ghosts}

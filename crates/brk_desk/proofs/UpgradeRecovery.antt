@@ -1,4 +1,4 @@
--- A database of whichever schema is adopted, also after a stop within its move.
+-- A database of any schema is adopted, also after a crash that follows an adoption, failed or not.
 use Rattle.std.proofs.Common.{◌≡◌, ◌∙◌, inl, inr, Option, Some, None, Result, Ok, Err, IsTrue, refl, sym, ap, subst}
 use Rattle.std.specs.Prelude.{OnOk}
 use Rattle.sqlite_trees.specs.declared.store.Store.{Ghosts}

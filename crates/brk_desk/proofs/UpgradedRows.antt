@@ -1,5 +1,5 @@
--- Rows of whichever schema that passed, upgraded to the third: their texts can be read, and their
--- base is sound.
+-- Rows of any schema that pass their audit, upgraded to schema 3: their texts are UTF-8, and their
+-- base is consistent.
 use Rattle.std.proofs.Common.{◌≡◌, ◌∙◌, ℕ, ◌+◌, Bool, true, List, [], ◌∷◌, IsTrue, arith, refl, subst, map}
 use Rattle.std.specs.Prelude.{◌&&◌}
 use Rattle.std.specs.List.{AllByRecursion, list_all}

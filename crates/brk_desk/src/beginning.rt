@@ -31,12 +31,8 @@ pub fn empty_stores_represent_the_empty_base<S: Alter>()
     ensures { (store : Held S) → HoldsRows S.Store store tables_without_rows → Represents S.Store store empty_base }
 {}
 
-/// Proves that a store represents the base that its rows determine, if these rows pass the audit of
-/// schema 3 and their texts are UTF-8 (`rows`).
-///
-/// `upgraded`: a store with the rows that an upgrade from any schema yields (from schema 3, which
-/// needs none, the unchanged rows) represents the base that the rows before the upgrade determine,
-/// if those rows pass the audit of their schema and their texts are UTF-8.
+/// Proves that a store represents the base of its rows, if these pass their audit and are UTF-8,
+/// also after an upgrade from any schema (`upgraded`).
 pub fn store_represents_base_of_audited_rows<S: Alter>()
     ensures rows { (store : Held S) (rows : Tables) → HoldsRows S.Store store rows → IsTrue (has_utf8_texts rows) → PassesAudit third_schema rows
         → Represents S.Store store (base_of_tables rows) }
@@ -45,10 +41,8 @@ pub fn store_represents_base_of_audited_rows<S: Alter>()
         → PassesAudit (abstract_schema schema) rows → Represents S.Store store (base_of_tables rows) }
 {}
 
-/// Proves that a connection to a database with the tables of the base `after` represents `after`,
-/// if a crash after a run may expose `after` (`CrashMayExposeBase`), its texts are UTF-8, the calls
-/// of the run meet the formats of the audit (`CallMeetsAuditFormats`), and the base before the run
-/// satisfies the books invariant and the audit invariant.
+/// Proves that a reopened store represents the base that a crash exposed, if the invariants held
+/// before the run and its texts and calls are well-formed.
 pub fn reopened_store_represents_exposed_base<S: Alter>()
     ensures { (base : Base) (calls : List (ℕ × Call)) (outcomes : List Outcome) (after : Base) (trees : Trees) (conn : Held S) → BooksInvariant base
         → AuditInvariant base

@@ -32,9 +32,7 @@ pub enum Outcome {
 }
 
 impl Outcome {
-    // Returns the outcome of a command with this result: `Did` with its answer, or `Failed` with
-    // its fault.
-    pub(crate) fn from_command_result(answered: Result<Answer, Fault>) -> Outcome
+    pub(crate) fn command_outcome(answered: Result<Answer, Fault>) -> Outcome
         ensures { result ≡ outcome_of_command answered }
     {
         match answered {
@@ -43,9 +41,7 @@ impl Outcome {
         }
     }
 
-    // Returns the outcome of a query with this result: `Saw` with its view, `NoView` with its
-    // refusal, or `Failed` with its fault.
-    pub(crate) fn from_query_result(seen: Planned<View>) -> Outcome
+    pub(crate) fn query_outcome(seen: Planned<View>) -> Outcome
         ensures { result ≡ outcome_of_query seen }
     {
         match seen {

@@ -8,7 +8,7 @@ ghost use Rattle.brk_store_transactions.specs.Holds.{ReadPost};
 
 use brk_desk_commands::Command;
 use brk_desk_decisions::{
-    decide_cancel, decide_feed, decide_movement, decide_one_day_settlement, decide_order,
+    decide_cancel, decide_feed, decide_movement, decide_oneday, decide_order,
     decide_reference_record, decide_result, decide_update,
 };
 use brk_money::{Planned, Stamp};
@@ -17,13 +17,8 @@ use brk_trade::Plan;
 use sqlite::Alter;
 use std::alloc::Global;
 
-// Decides on a command at the clock reading `now`: reads the tables and returns the plan of the
-// command, or its refusal, and applies no plan. The result is the decision of the model if the
-// tables equal those of a base that satisfies the books invariant. If the database is still open,
-// it is unchanged. Fails with `Memory` or `Store` only; with `Store` also if a row that it reads is
-// malformed, a row that another row requires does not exist, a lot has no shares, a number or a sum
-// is out of range, or no number is left for a cash row.
-pub(crate) fn decide_command<S: Alter>(
+// Applies no plan.
+pub(crate) fn decide<S: Alter>(
     alloc: Global,
     store: &mut Store<S>,
     now: Stamp,
@@ -40,6 +35,6 @@ pub(crate) fn decide_command<S: Alter>(
         Command::Complete(completion) => decide_result(alloc, store, now, completion),
         Command::Update(update) => decide_update(alloc, store, now, update),
         Command::Move(movement) => decide_movement(alloc, store, now, movement),
-        Command::OneDay(day) => decide_one_day_settlement(alloc, store, now, *day),
+        Command::OneDay(day) => decide_oneday(alloc, store, now, *day),
     }
 }

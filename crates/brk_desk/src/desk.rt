@@ -1,11 +1,10 @@
 use crate::asking::answer_query;
-use crate::booking::{Answer, execute_and_commit_command};
+use crate::booking::{Answer, book_command};
 use crate::call::{Call, Outcome};
 use brk_desk_commands::Command;
-use brk_desk_queries::{Head, read_statement_head};
+use brk_desk_queries::{Head, account_head};
 use brk_explain_reads::{
-    read_account_details, read_broker_details, read_holding_details, read_trade_details,
-    visit_completed_trades_of_broker,
+    gather_account, gather_broker, gather_holding, gather_trade, visit_broker_trades,
 };
 use brk_explain_rows::{AccountDetails, BrokerDetails, HoldingDetails, TradeDetails};
 use brk_lots::Lot;
@@ -37,8 +36,13 @@ use std::marker::Model;
 /// In contracts the value of a desk is the connection of its store (`Held S`), and `t` are the rows
 /// that the store holds.
 ///
-/// The clauses `called` of `call`, `asked`, `audited`, `read` and `walked` are the postconditions
-/// of a command, of a query, of an audit, of a read and of a walk.
+/// A query, an audit, a read and a walk change nothing in a store that is still open, whatever the
+/// result, and a crash after them exposes only states that a crash before them could expose.
+///
+/// The fault `Store` may also mean that a stored row is malformed, that a row that another row
+/// requires does not exist, or that the `sqlite` crate ran out of memory; for a command also that a
+/// lot has no shares, that a number or a sum is out of range, or that no CM_ID is left for a cash
+/// row. None of these closes the store.
 pub struct Desk<S: Alter> {
     store: Store<S>,
 }
@@ -54,7 +58,7 @@ impl<S: Alter> Model for Desk<S> {
 }
 
 impl<S: Alter + Drop> Drop for Desk<S> {
-    /// Drops the store of the desk.
+    // Drops the store. A derived `Drop` would not ask that the disk `S` can be dropped.
     fn drop(self) {
         let Desk { store: _ } = self;
     }
@@ -83,8 +87,7 @@ impl<S: Alter> Desk<S> {
     ghost use Rattle.brk_store_transactions.specs.Holds.{ReadPost};
     ghost use Rattle.brk_store.specs.Walked.{CallsClosureWithEachRecord, WalkPost, cash_rows_in_span};
 
-    /// Creates a desk over a store and changes nothing in the store. In contracts the value of the
-    /// desk is the value of the store (`same`).
+    /// Creates a desk over a store and changes nothing in the store.
     pub fn new(store: Store<S>) -> Desk<S>
         ensures same { result ≡ store }
     {
@@ -92,28 +95,18 @@ impl<S: Alter> Desk<S> {
     }
 
     /// Executes `command` at the clock reading `now` and, if it is accepted, commits it with its
-    /// key in one transaction. Returns an `Answer`:
+    /// key in one transaction. Returns `Done` with the reply, after the commit; `Again` with the
+    /// stored reply, if this same command was accepted before under `key`; or `Refused`: with
+    /// refusal 19 if another command was accepted before under `key`, otherwise with the first
+    /// reason in the order of the model's checks.
     ///
-    /// - `Done` with the reply, after the commit, if the command is accepted;
-    /// - `Again` with the stored reply, if this same command was accepted before under `key`;
-    /// - `Refused` with refusal 19, if another command was accepted before under `key`;
-    /// - otherwise `Refused`, with the first reason in the order of the model's checks.
+    /// Fails with `Memory` if an allocation of the desk's own code was refused, otherwise with
+    /// `Store`. Any result but `Done` changes nothing in a store that is still open. A crash after
+    /// the call exposes a state that a crash before it could expose, or the tables after the
+    /// command; after `Done` only the latter.
     ///
-    /// Fails with `Memory` or `Store` only. `Memory` means that an allocation of the desk's own
-    /// code was refused. `Store` may also mean that the `sqlite` crate ran out of memory, that a
-    /// stored row is malformed, that a row that another row requires does not exist, that a lot has
-    /// no shares, that a number or a sum is out of range, or that no CM_ID is left for a cash row;
-    /// none of these closes the store. A refusal, a stored reply or a fault changes nothing, and
-    /// records no key, in a store that is still open. After a fault that closed the store a crash
-    /// may expose the command as committed (`Desk`).
-    ///
-    /// A crash after the call exposes a state that a crash before the call could expose, or the
-    /// tables after the command; after `Done` it exposes only the tables after the command.
-    ///
-    /// Retry: after `Memory`, on this desk; after `Store`, which may have closed it, drop the desk,
-    /// and open and adopt the file again. A command is accepted at most once under a key. A repeat
-    /// without a key may execute the command twice: read the tables first; after `Store`, those in
-    /// the reopened file.
+    /// Retry after `Memory` on this desk, and after `Store` once the file is opened and adopted
+    /// again. A command is accepted at most once under a key; without a key, read the tables first.
     pub fn call(
         &mut self,
         alloc: Global,
@@ -123,35 +116,27 @@ impl<S: Alter> Desk<S> {
     ) -> Result<Answer, Fault>
         ensures called { CommandPost S.Store self.old self.new now (abstract_command command.now) (optional_model_key (option_copied key.entry)) result }
     {
-        execute_and_commit_command(alloc, &mut self.store, now, command, key)
+        book_command(alloc, &mut self.store, now, command, key)
     }
 
-    /// Returns the view of a query, or the refusal.
-    ///
-    /// Fails with `Memory` or `Store` only; `Store` may also mean that a row that another row
-    /// requires does not exist, that a lot has no shares, that the number of lots read exceeds 32
-    /// bits, or that a sum overflows or exceeds its limit. If the database is still open, it is
-    /// unchanged, whatever the result.
-    ///
-    /// A crash after the call exposes only states that a crash before the call could expose.
+    /// Returns the view of a query, or the refusal. `Store` may also mean that a lot has no shares,
+    /// that the number of lots read exceeds 32 bits, or that a sum overflows or exceeds its limit.
     pub fn ask(&mut self, alloc: Global, query: &Query) -> Planned<View>
         ensures asked { AskPost S.Store self.old self.new (abstract_query query.now) result }
     {
         answer_query(alloc, &mut self.store, query)
     }
 
-    /// Executes exactly the calls in `calls`, in this order, each at its clock reading, and appends
-    /// one outcome for each to `out`. A query, a refusal, a stored reply or a fault changes nothing
-    /// in a store that is still open; after any of them the next call is executed.
-    ///
-    /// Fails with `Memory` only. The desk and the outcomes in `out` are then unchanged. The fault
-    /// of an outcome is `Memory` or `Store`.
+    /// Executes the calls in `calls`, in this order, each at its clock reading, and appends one
+    /// outcome for each to `out`. A fault of a call, `Memory` or `Store`, does not end the run: it
+    /// is the outcome. Fails with `Memory` only, before the first call; the desk and `out` are then
+    /// unchanged.
     ///
     /// A crash after the run has returned exposes a state that a crash before the run could expose,
     /// or tables with the changes of every acknowledged command, and of at most one more: one that
-    /// returned a fault, and after which no command was acknowledged. If the run acknowledges a
-    /// command, or if a crash before it could expose only the tables of the represented base, a
-    /// crash after it exposes only tables with these changes.
+    /// returned a fault, and after which no command was acknowledged. It exposes only such tables
+    /// if the run acknowledges a command, or if a crash before it could expose only the tables of
+    /// the represented base.
     pub fn run(
         &mut self,
         alloc: Global,
@@ -160,9 +145,7 @@ impl<S: Alter> Desk<S> {
     ) -> Result<(), Fault>
         ensures executed { OnOk result ((outcomes : List desk_outcome.Outcome) × (out.new.items ≡ out.old.items ++ outcomes)
             × IsRunWithOutcomes S.Store self.old self.new calls.now outcomes) }
-        // Fails with `Memory` only.
         ensures fault { OnErr result (result ≡ Err Memory) }
-        // At an error the desk and `out` are unchanged.
         ensures unchanged { OnErr result ((self.new ≡ self.old) × (out.new.items ≡ out.old.items)) }
     {
         out.reserve(calls.len())?;
@@ -174,33 +157,25 @@ impl<S: Alter> Desk<S> {
         Ok(())
     }
 
-    // Executes the call `call`, a command at the clock reading `now` or a query, which does not use
-    // `now`, and returns its outcome: the answer to a command, the view or the refusal of a query,
-    // or the fault of the call, `Memory` or `Store`. Any outcome but `Done` changes nothing in a
-    // store that is still open. For what a crash may expose after it, see `call` and `ask`.
+    // A query does not use `now`.
     fn execute_call(&mut self, alloc: Global, now: Stamp, call: &Call) -> Outcome
         ensures executed { OutcomePost S.Store self.old self.new now call.now result }
     {
         match call {
             Call::Do(command, key) => {
-                Outcome::from_command_result(self.call(alloc, now, command, key.as_ref()))
+                Outcome::command_outcome(self.call(alloc, now, command, key.as_ref()))
             }
-            Call::Ask(query) => Outcome::from_query_result(self.ask(alloc, query)),
+            Call::Ask(query) => Outcome::query_outcome(self.ask(alloc, query)),
         }
     }
 
-    /// Audits the database by the conditions of schema 3 and writes nothing. Returns `Ok` only if
-    /// its rows pass this audit.
-    ///
-    /// Fails with `Damaged` and the first condition that fails, or with `Memory` or `Store`. Under
-    /// the disk assumption a desk that represents a base never returns `Damaged`. If the database
-    /// is still open, it is unchanged, whatever the result.
-    ///
-    /// A crash after the call exposes only states that a crash before the call could expose.
+    /// Audits the database by the conditions of schema 3. Fails with `Damaged` and the first
+    /// condition that fails, or with `Memory` or `Store`. Under the disk assumption a desk that
+    /// represents a base never returns `Damaged`.
     ///
     /// The result is specified only if the database satisfies
-    /// `ConnectionTablesWithThirdSchemaNamesAreDeskTables` (see `Store::audit`). The store of every
-    /// desk that represents a base satisfies it.
+    /// `ConnectionTablesWithThirdSchemaNamesAreDeskTables` (see `Store::audit`), as it does if the
+    /// desk represents a base.
     #[tactic(auto, using(crate::proofs::Audits::audits))]
     pub fn audit(&mut self, alloc: Global) -> Result<(), Fault>
         ensures audited { DeskAuditPost S.Store self.old self.new result }
@@ -210,47 +185,32 @@ impl<S: Alter> Desk<S> {
         self.store.audit(alloc)
     }
 
-    /// Returns the figures of an account's statement that are not rows: the account's name, its
-    /// opening balance (CA_OPEN), and the market value of its holdings at last prices, both in
-    /// cents. Returns `None` if the account does not exist.
-    ///
-    /// Fails with `Memory` or `Store` only; `Store` may also mean that a held symbol has no last
-    /// price or that the sum overflows. If the database is still open, it is unchanged, whatever
-    /// the result.
-    ///
-    /// A crash after the call exposes only states that a crash before the call could expose.
+    /// Returns the figures of an account's statement that are not rows, or `None` if the account
+    /// does not exist: the account's name, its opening balance (CA_OPEN), and the market value of
+    /// its holdings at last prices, both in cents. `Store` may also mean that a held symbol has no
+    /// last price or that the sum overflows.
     pub fn head(&mut self, alloc: Global, account: Id) -> Result<Option<Head>, Fault>
         ensures read { ReadPost S.Store self.old self.new result (IsStatementHeadOfAccount account) }
         ensures fault { IfErr result IsCallFault }
     {
-        read_statement_head(alloc, &mut self.store, account)
+        account_head(alloc, &mut self.store, account)
     }
 
-    /// Returns the facts that `brk explain` prints of a trade: the trade with its account, security
-    /// and status changes, and its results if it is completed. Returns `None` if the trade does not
-    /// exist.
-    ///
-    /// Fails with `Memory` or `Store` only; `Store` may also mean that a row that another row
-    /// requires does not exist or, for a completed trade, that it, or a trade that opened a lot of
-    /// which it closed shares, has no price, or that the number of the account's cash rows with
-    /// stamps before this trade's or the sum of their amounts overflows. If the database is still
-    /// open, it is unchanged, whatever the result.
-    ///
-    /// A crash after the call exposes only states that a crash before the call could expose.
+    /// Returns the facts that `brk explain` prints of a trade, or `None` if the trade does not
+    /// exist: the trade with its account, security and status changes, and its results if it is
+    /// completed. `Store` may also mean that this trade, or one that opened a lot of which it
+    /// closed shares, has no price, or that the number or the sum of the account's cash rows before
+    /// it overflows.
     pub fn trade_details(&mut self, alloc: Global, trade: Id) -> Result<Option<TradeDetails>, Fault>
         ensures read { ReadPost S.Store self.old self.new result (AreDetailsOfTrade trade) }
         ensures fault { IfErr result IsCallFault }
     {
-        read_trade_details(alloc, &mut self.store, trade)
+        gather_trade(alloc, &mut self.store, trade)
     }
 
     /// Returns the row of an account and its holding summaries, sorted by symbol, ascending, each
-    /// with the last price of its symbol, in cents. Returns `None` if the account does not exist.
-    ///
-    /// Fails with `Memory` or `Store` only; `Store` may also mean that one of these symbols has no
-    /// last price. If the database is still open, it is unchanged, whatever the result.
-    ///
-    /// A crash after the call exposes only states that a crash before the call could expose.
+    /// with the last price of its symbol, in cents; `None` if the account does not exist. `Store`
+    /// may also mean that a symbol has no last price.
     pub fn account_details(
         &mut self,
         alloc: Global,
@@ -259,22 +219,15 @@ impl<S: Alter> Desk<S> {
         ensures read { ReadPost S.Store self.old self.new result (AreDetailsOfAccount account) }
         ensures fault { IfErr result IsCallFault }
     {
-        read_account_details(alloc, &mut self.store, account)
+        gather_account(alloc, &mut self.store, account)
     }
 
     /// Returns the facts that `brk explain` prints of the holding of an account in a security: the
-    /// rows of the account and of the security; the completed trades of the account in the
-    /// security, in the order of completion; every lot that these trades opened, also if it was
-    /// closed, in the same order, each with its changes by other trades, in the order of their
-    /// completion; the number of shares held, below 0 if they were sold short, and 0 if there is no
-    /// holding summary; and the last price, in cents. Refuses with `NoAccount` if the account does
-    /// not exist, and with `NoSecurity` if the account exists and the security does not.
-    ///
-    /// Fails with `Memory` or `Store` only; `Store` may also mean that the security has no last
-    /// price, or that a trade that changed one of these lots after its opening does not exist or
-    /// has no price. If the database is still open, it is unchanged, whatever the result.
-    ///
-    /// A crash after the call exposes only states that a crash before the call could expose.
+    /// rows of both; the completed trades, in the order of completion; every lot that they opened,
+    /// also if it was closed, in the same order, each with its changes by other trades, in the
+    /// order of completion; the number of shares, below 0 if sold short; and the last price, in
+    /// cents. Refuses with `NoAccount`, then with `NoSecurity`. `Store` may also mean that the
+    /// security has no last price, or that a trade that changed one of these lots has no price.
     pub fn holding_details(
         &mut self,
         alloc: Global,
@@ -284,16 +237,11 @@ impl<S: Alter> Desk<S> {
         ensures read { ReadPost S.Store self.old self.new result (AreDetailsOfHolding account symbol.now) }
         ensures fault { IfErr result IsCallFault }
     {
-        read_holding_details(alloc, &mut self.store, account, symbol)
+        gather_holding(alloc, &mut self.store, account, symbol)
     }
 
     /// Returns the row of a broker and the number of its accounts, or `None` if the broker does not
     /// exist.
-    ///
-    /// Fails with `Memory` or `Store` only. If the database is still open, it is unchanged,
-    /// whatever the result.
-    ///
-    /// A crash after the call exposes only states that a crash before the call could expose.
     pub fn broker_details(
         &mut self,
         alloc: Global,
@@ -302,22 +250,13 @@ impl<S: Alter> Desk<S> {
         ensures read { ReadPost S.Store self.old self.new result (AreDetailsOfBroker broker) }
         ensures fault { IfErr result IsCallFault }
     {
-        read_broker_details(alloc, &mut self.store, broker)
+        gather_broker(alloc, &mut self.store, broker)
     }
 
     /// Passes the completed trades of a broker's accounts to a visitor, sorted by the stamp of
-    /// completion, then by id, ascending. Returns `Ok` only after the visitor has taken the last
-    /// trade. Does not check that the broker exists.
-    ///
-    /// Fails with `Cause` and the visitor's error, or with `Failed` and the fault `Memory` or
-    /// `Store` after a prefix of the trades. If the database is still open, it is unchanged,
-    /// whatever the result.
-    ///
-    /// `ready`: the visitor must be ready to take records, and is so after the walk. `leads`: the
-    /// visitor after the walk is one that calls may lead to (`Visitor::leads`).
-    ///
-    /// A crash after the call exposes only states that a crash before the call could expose.
-    pub fn visit_completed_trades_of_broker<E, V: Visitor<TradeRow, E>>(
+    /// completion, then by id, ascending. Fails with `Cause` and the visitor's error, or with
+    /// `Failed` and a fault, after a prefix of the trades. Does not check that the broker exists.
+    pub fn visit_broker_trades<E, V: Visitor<TradeRow, E>>(
         &mut self,
         alloc: Global,
         broker: Id,
@@ -329,21 +268,12 @@ impl<S: Alter> Desk<S> {
         ensures walked { WalkPost S.Store self.old self.new abstract_trade_row
             (λ t. completed_trades_of_broker t broker) V.takes V.stops visitor.old visitor.new result }
     {
-        visit_completed_trades_of_broker::<S, E, V>(alloc, &mut self.store, broker, visitor)
+        visit_broker_trades::<S, E, V>(alloc, &mut self.store, broker, visitor)
     }
 
     /// Passes the cash rows of an account with stamps from `from` to `to`, both included, to a
-    /// visitor, sorted by stamp, then by number (CM_ID), ascending. Returns `Ok` only after the
-    /// visitor has taken the last row. Does not check that the account exists.
-    ///
-    /// Fails with `Cause` and the visitor's error, or with `Failed` and the fault `Memory` or
-    /// `Store` after a prefix of the rows. If the database is still open, it is unchanged, whatever
-    /// the result.
-    ///
-    /// `ready`: the visitor must be ready to take records, and is so after the walk. `leads`: the
-    /// visitor after the walk is one that calls may lead to (`Visitor::leads`).
-    ///
-    /// A crash after the call exposes only states that a crash before the call could expose.
+    /// visitor, sorted by stamp, then by number (CM_ID), ascending. Fails like
+    /// `visit_broker_trades`. Does not check that the account exists.
     pub fn visit_cash_rows<E, V: Visitor<CashRow, E>>(
         &mut self,
         account: Id,
@@ -362,17 +292,8 @@ impl<S: Alter> Desk<S> {
     }
 
     /// Passes the lots of an account to a visitor, sorted by symbol, then by opening stamp, then by
-    /// trade id, ascending. Returns `Ok` only after the visitor has taken the last lot. Does not
-    /// check that the account exists.
-    ///
-    /// Fails with `Cause` and the visitor's error, or with `Failed` and the fault `Memory` or
-    /// `Store` after a prefix of the lots. If the database is still open, it is unchanged, whatever
-    /// the result.
-    ///
-    /// `ready`: the visitor must be ready to take records, and is so after the walk. `leads`: the
-    /// visitor after the walk is one that calls may lead to (`Visitor::leads`).
-    ///
-    /// A crash after the call exposes only states that a crash before the call could expose.
+    /// trade id, ascending. Fails like `visit_broker_trades`. Does not check that the
+    /// account exists.
     pub fn visit_lots<E, V: Visitor<HoldingRow, E>>(
         &mut self,
         account: Id,
@@ -388,18 +309,9 @@ impl<S: Alter> Desk<S> {
     }
 
     /// Calls a closure with each cash row of an account with a stamp from `from` to `to`, both
-    /// included, sorted by stamp, then by number (CM_ID), ascending. Returns `Ok` only after the
-    /// last row. Does not check that the account exists.
-    ///
-    /// Fails with the closure's first error, or with a fault (`Memory` or `Store`) as an error of
-    /// type `E`, after a prefix of the rows. If the database is still open, it is unchanged,
-    /// whatever the result.
-    ///
-    /// `callable`: the closure must be callable with any record, at its first and each later call.
-    /// `called`: the closure is called with the rows, in order and one at a time, until its first
-    /// error or a fault.
-    ///
-    /// A crash after the call exposes only states that a crash before the call could expose.
+    /// included, sorted by stamp, then by number (CM_ID), ascending. Fails with the closure's first
+    /// error, or with a fault as an error of type `E`, after a prefix of the rows. Does not check
+    /// that the account exists.
     pub fn walk_cash<E: From<Fault>, F: FnMut(&CashRow) -> Result<(), E> + Drop>(
         &mut self,
         account: Id,
@@ -415,18 +327,8 @@ impl<S: Alter> Desk<S> {
     }
 
     /// Calls a closure with each lot of an account and its symbol, sorted by symbol, then by
-    /// opening stamp, then by trade id, ascending. Returns `Ok` only after the last lot. Does not
-    /// check that the account exists.
-    ///
-    /// Fails with the closure's first error, or with a fault (`Memory` or `Store`) as an error of
-    /// type `E`, after a prefix of the lots. If the database is still open, it is unchanged,
-    /// whatever the result.
-    ///
-    /// `callable`: the closure must be callable with any record, at its first and each later call.
-    /// `called`: the closure is called with the lots, in order and one at a time, until its first
-    /// error or a fault.
-    ///
-    /// A crash after the call exposes only states that a crash before the call could expose.
+    /// opening stamp, then by trade id, ascending. Fails like `walk_cash`. Does not check that the
+    /// account exists.
     pub fn walk_lots<E: From<Fault>, F: FnMut(&str, &Lot) -> Result<(), E> + Drop>(
         &mut self,
         account: Id,
@@ -439,8 +341,7 @@ impl<S: Alter> Desk<S> {
         self.store.walk_lots::<E, F>(account, call)
     }
 
-    /// Returns the store of the desk and changes nothing in it. In contracts the value of the store
-    /// is the value of the desk (`same`).
+    /// Returns the store of the desk and changes nothing in it.
     pub fn into_store(self) -> Store<S>
         ensures same { result ≡ self }
     {

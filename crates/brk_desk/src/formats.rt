@@ -1,5 +1,6 @@
-//! Proofs that commands meet the formats that an audit checks, and that keys are well-formed: the
-//! types of their fields have no malformed values.
+//! Proofs that commands meet the formats and the limits that an audit checks, and that keys are
+//! well-formed: the types of their fields have no malformed values. No function does anything at run
+//! time.
 
 ghost use Rattle.std.specs.Prelude.{◌≡◌};
 ghost use Rattle.std.specs.List.{AllByRecursion};
@@ -16,112 +17,92 @@ use brk_ref::{Account, Band, Broker, Charge, Customer, Key, Listing, Permission,
 use brk_ref_orders::{Direction, Movement, Order, Tick, Update};
 use brk_trade_plans::Reference;
 
-// Proves that the command that adds this broker meets the formats that an audit checks. Does
-// nothing at run time.
-fn prove_broker_meets_audit_formats(broker: &Broker)
+fn prove_broker(broker: &Broker)
     ensures { MeetsAuditFormats (AddBroker (abstract_broker broker.now)) }
 {
     let _ = broker.id.get();
-    broker.name.prove_text_has_its_format();
+    broker.name.prove_form();
 }
 
-// Proves that the command that adds this customer meets the formats that an audit checks. Does
-// nothing at run time.
-fn prove_customer_meets_audit_formats(customer: &Customer)
+fn prove_customer(customer: &Customer)
     ensures { MeetsAuditFormats (AddCustomer (abstract_customer customer.now)) }
 {
     let _ = customer.id.get();
     let _ = customer.tier.get();
-    customer.tax_id.prove_text_has_its_format();
-    customer.last_name.prove_text_has_its_format();
-    customer.first_name.prove_text_has_its_format();
+    customer.tax_id.prove_form();
+    customer.last_name.prove_form();
+    customer.first_name.prove_form();
 }
 
-// Proves that the command that adds this account meets the formats that an audit checks. Does
-// nothing at run time.
-fn prove_account_meets_audit_formats(account: &Account)
+fn prove_account(account: &Account)
     ensures { MeetsAuditFormats (AddAccount (abstract_account account.now)) }
 {
     let _ = account.id.get();
-    account.name.prove_text_has_its_format();
+    account.name.prove_form();
     let _ = account.opening.get();
 }
 
-// Proves that the command that adds this permission meets the formats that an audit checks. Does
-// nothing at run time.
-fn prove_permission_meets_audit_formats(permission: &Permission)
+fn prove_permission(permission: &Permission)
     ensures { MeetsAuditFormats (AddPermission (abstract_permission permission.now)) }
 {
-    permission.acl.prove_text_has_its_format();
-    permission.tax_id.prove_text_has_its_format();
-    permission.last_name.prove_text_has_its_format();
-    permission.first_name.prove_text_has_its_format();
+    permission.acl.prove_form();
+    permission.tax_id.prove_form();
+    permission.last_name.prove_form();
+    permission.first_name.prove_form();
 }
 
-// Proves that the command that adds this security with its first price meets the formats that an
-// audit checks. Does nothing at run time.
-fn prove_listing_meets_audit_formats(listing: &Listing)
+fn prove_listing(listing: &Listing)
     ensures { MeetsAuditFormats (AddSecurity (abstract_listing listing.now)) }
 {
-    listing.security.symbol.prove_text_has_its_format();
-    listing.security.name.prove_text_has_its_format();
-    listing.security.exchange.prove_text_has_its_format();
-    listing.security.sector.prove_text_has_its_format();
+    listing.security.symbol.prove_form();
+    listing.security.name.prove_form();
+    listing.security.exchange.prove_form();
+    listing.security.sector.prove_form();
     let _ = listing.price.get();
 }
 
-// Proves that the command that adds this charge meets the formats that an audit checks. Does
-// nothing at run time.
-fn prove_charge_meets_audit_formats(charge: &Charge)
+fn prove_charge(charge: &Charge)
     ensures { MeetsAuditFormats (AddCharge (abstract_charge charge.now)) }
 {
     let _ = charge.tier.get();
     let _ = charge.amount.get();
 }
 
-// Proves that the command that adds this commission band meets the formats that an audit checks.
-// Does nothing at run time.
-fn prove_band_meets_audit_formats(band: &Band)
+fn prove_band(band: &Band)
     ensures { MeetsAuditFormats (AddBand (abstract_band band.now)) }
 {
     let _ = band.tier.get();
-    band.exchange.prove_text_has_its_format();
+    band.exchange.prove_form();
     let _ = band.from_qty.get();
     let _ = band.to_qty.get();
     let _ = band.rate.get();
 }
 
-// Proves that the command that adds this tax rate meets the formats that an audit checks. Does
-// nothing at run time.
-fn prove_tax_meets_audit_formats(tax: &Tax)
+fn prove_tax(tax: &Tax)
     ensures { MeetsAuditFormats (AddTaxRate (abstract_tax_rate tax.now)) }
 {
     let _ = tax.id.get();
-    tax.name.prove_text_has_its_format();
+    tax.name.prove_form();
     let _ = tax.rate.get();
 }
 
-// Proves that the command that adds this reference record, for example a broker or a charge, meets
-// the formats that an audit checks. Does nothing at run time.
-fn prove_reference_meets_audit_formats(reference: &Reference)
+fn prove_reference(reference: &Reference)
     ensures { MeetsAuditFormats (books.command_adding_record reference.now) }
 {
     match reference {
-        Reference::Broker(broker) => prove_broker_meets_audit_formats(broker),
-        Reference::Customer(customer) => prove_customer_meets_audit_formats(customer),
-        Reference::Account(account) => prove_account_meets_audit_formats(account),
-        Reference::Permission(permission) => prove_permission_meets_audit_formats(permission),
-        Reference::Security(listing) => prove_listing_meets_audit_formats(listing),
-        Reference::Charge(charge) => prove_charge_meets_audit_formats(charge),
-        Reference::Band(band) => prove_band_meets_audit_formats(band),
-        Reference::TaxRate(tax) => prove_tax_meets_audit_formats(tax),
+        Reference::Broker(broker) => prove_broker(broker),
+        Reference::Customer(customer) => prove_customer(customer),
+        Reference::Account(account) => prove_account(account),
+        Reference::Permission(permission) => prove_permission(permission),
+        Reference::Security(listing) => prove_listing(listing),
+        Reference::Charge(charge) => prove_charge(charge),
+        Reference::Band(band) => prove_band(band),
+        Reference::TaxRate(tax) => prove_tax(tax),
         Reference::CustomerTax(_) => (),
     }
 }
 
-// Proves that the quantity of an order, and its price, if it has one, are within their limits. Does
-// nothing at run time.
-fn prove_order_meets_audit_formats(order: &Order)
+fn prove_order(order: &Order)
     ensures { OrderMeetsAuditFormats (abstract_order order.now) }
 {
     let _ = order.qty.get();
@@ -130,8 +111,7 @@ fn prove_order_meets_audit_formats(order: &Order)
     }
 }
 
-// Proves that the price of each tick is within its limits. Does nothing at run time.
-fn prove_ticks_meet_audit_formats(ticks: &[Tick])
+fn prove_ticks(ticks: &[Tick])
     ensures { AllByRecursion TickMeetsAuditFormats (abstract_ticks ticks.now) }
 {
     for tick in ticks {
@@ -139,9 +119,8 @@ fn prove_ticks_meet_audit_formats(ticks: &[Tick])
     }
 }
 
-// Proves that a text update meets the formats that an audit checks: it has no field that an audit
-// checks. Does nothing at run time.
-fn prove_update_meets_audit_formats(update: &Update)
+// A text update has no field that an audit checks.
+fn prove_update(update: &Update)
     ensures { MeetsAuditFormats (text_update_command update.now) }
 {
     match update {
@@ -149,9 +128,7 @@ fn prove_update_meets_audit_formats(update: &Update)
     }
 }
 
-// Proves that the amount of a deposit or a withdrawal is within its limits. Does nothing at run
-// time.
-fn prove_movement_meets_audit_formats(movement: &Movement)
+fn prove_movement(movement: &Movement)
     ensures { MeetsAuditFormats (movement_command movement.now) }
 {
     let _ = movement.amount.get();
@@ -160,31 +137,28 @@ fn prove_movement_meets_audit_formats(movement: &Movement)
     }
 }
 
-/// Proves that a command meets the formats that an audit checks, also the limits of its numbers.
-/// Does nothing at run time.
-pub fn prove_command_meets_audit_formats(command: &Command)
+pub fn prove_command(command: &Command)
     ensures { MeetsAuditFormats (abstract_command command.now) }
 {
     match command {
-        Command::Add(reference) => prove_reference_meets_audit_formats(reference),
-        Command::Order(order) => prove_order_meets_audit_formats(order),
-        Command::Feed(feed) => prove_ticks_meet_audit_formats(feed.ticks()),
+        Command::Add(reference) => prove_reference(reference),
+        Command::Order(order) => prove_order(order),
+        Command::Feed(feed) => prove_ticks(feed.ticks()),
         Command::Cancel(_) => (),
         Command::Complete(completion) => {
             let _ = completion.price.get();
         }
-        Command::Update(update) => prove_update_meets_audit_formats(update),
-        Command::Move(movement) => prove_movement_meets_audit_formats(movement),
+        Command::Update(update) => prove_update(update),
+        Command::Move(movement) => prove_movement(movement),
         Command::OneDay(day) => {
             let _ = day.get();
         }
     }
 }
 
-/// Proves that a key is well-formed. Does nothing at run time.
-pub fn prove_key_is_well_formed(key: &Key)
+pub fn prove_key(key: &Key)
     ensures { IsWellFormedKey (abstract_key key.now) }
 {
-    key.batch.prove_text_has_its_format();
+    key.batch.prove_form();
     let _ = key.n.get();
 }

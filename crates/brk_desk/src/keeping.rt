@@ -25,11 +25,8 @@ use brk_trade::{Change, Plan};
 use sqlite::Alter;
 use std::alloc::Global;
 
-// Returns the row of KEPT under the key `key`, which has the stored request and the stored reply,
-// or `None` if there is no key or no such row. If the database is still open, it is unchanged.
-// Without a key the store is unchanged, and the function does not fail. Fails with `Memory` or
-// `Store` only; with `Store` also if the row is malformed.
-pub(crate) fn read_stored_reply<S: Alter>(
+// Reads nothing without a key.
+pub(crate) fn read_kept<S: Alter>(
     store: &mut Store<S>,
     key: Option<&Key>,
 ) -> Result<Option<Kept>, Fault>
@@ -42,9 +39,6 @@ pub(crate) fn read_stored_reply<S: Alter>(
     }
 }
 
-// Returns the answer to a command whose key already has the stored row `kept`: `Again` with the
-// stored reply if the command is the stored one, otherwise `Refused` with refusal 19. Fails with
-// `Memory` only.
 pub(crate) fn answer_retry(alloc: Global, command: &Command, kept: Kept) -> Result<Answer, Fault>
     ensures answer { IfOk result (λ answer. (base : Base)
         → answer_and_base_of_retry base (abstract_command command.now) (abstract_kept_row kept) ≡ (model_answer answer, base)) }
@@ -58,10 +52,8 @@ pub(crate) fn answer_retry(alloc: Global, command: &Command, kept: Kept) -> Resu
     }
 }
 
-// Returns `plan` with one more change, the last, which adds the row of KEPT that stores the command
-// and its reply under the key. Without a key, returns `plan` unchanged and does not fail. Otherwise
-// fails with `Memory` only.
-pub(crate) fn plan_with_stored_reply(
+// The stored reply is the last change of the plan.
+pub(crate) fn plan_with_reply(
     alloc: Global,
     plan: Plan,
     command: &Command,

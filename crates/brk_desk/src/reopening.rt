@@ -1,5 +1,5 @@
 //! Theorem: the adoption of a crash state of a store that represented a base does not fail with
-//! `Damaged`.
+//! `Damaged`. All clauses are under the disk assumption and on a crash after a call has returned.
 
 ghost use Rattle.std.specs.Prelude.{◌≡◌, ◌⊎◌, ℕ, List, None, Ok, Option, Result, map};
 ghost use Rattle.sqlite.specs.Held.{Held, state};
@@ -28,17 +28,8 @@ ghost use Rattle.brk_store_transactions.specs.Holds.{CreatePost};
 
 use sqlite::Alter;
 
-/// Proves that recovery never reports damage: the adoption of a crash state does not fail with
-/// `Damaged`. This holds after a crash that follows a command or a run on a store that represented
-/// a base, if a crash before the call could expose only its tables (`crash_after_call`,
-/// `crash_after_run`); after a crash that follows an adoption of rows that pass their audit
-/// (`crash_after_adoption`); and after a crash that follows `Store::create`, except for states that
-/// were possible before it (`crash_after_creation`). The adoption may fail with `Memory` or
-/// `Store`. After a creation or an adoption that succeeded, a crash exposes only the tables of the
-/// represented base (`created`, `adopted`).
-///
-/// All clauses are under the disk assumption: every read so far returned what was written. They are
-/// on a crash after a call has returned, not on one within a call.
+/// Proves that the adoption of a crash state reports no damage, if a crash before could expose only
+/// a base's tables or rows that pass their audit.
 pub fn recovery_never_reports_damage<S: Alter>()
     // After the creation of the tables, the store represents the empty base, and a crash exposes
     // only its tables.

@@ -10,13 +10,8 @@ ghost use Rattle.brk_desk.specs.declared.call.Outcome as desk_outcome;
 
 use sqlite::Alter;
 
-/// Proves that calls of a desk, executed in order with nothing between them, satisfy
-/// `IsRunWithOutcomes`: the postcondition and the guarantee of a run follow from the postconditions
-/// of the single calls (`one_run`). They therefore hold for the calls of `Desk::run`, and for calls
-/// of `Desk::call` and `Desk::ask` in order.
-///
-/// `joined_runs`: two runs, the second of which begins in the state in which the first ends, are
-/// one run of all their calls.
+/// Proves that calls of a desk, in order with nothing between them, are a run (`one_run`), and that
+/// two runs in sequence are one (`joined_runs`).
 pub fn call_sequences_are_runs<S: Alter>()
     ensures one_run { (old new : Held S) (calls : List (ℕ × desk_call.Call)) (outcomes : List desk_outcome.Outcome)
         → IsCallSequence (λ before now call outcome after. OutcomePost S.Store before after now call outcome) old calls outcomes new

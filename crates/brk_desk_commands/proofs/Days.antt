@@ -1,12 +1,13 @@
--- The text of a day.
+-- The text of a day is valid UTF-8.
 use Rattle.std.proofs.Common.{ℕ, ◌+◌, ◌/◌, ◌%◌, ◌<◌, ◌≤◌, [], ◌∷◌, sym, subst, arith}
 use Rattle.std.specs.Str.{IsUtf8, IsAscii}
 use Rattle.std.proofs.lemmas.Str.{IsUtf8-from_ascii}
 use Rattle.std.proofs.lemmas.Str.Ascii.{IsAscii-cons, IsAscii-nil}
 use Rattle.brk_money.specs.Moments.{civil_date_of_day}
-use Rattle.brk_money.specs.Spelling.{Text, date_text_by_digits, day_text}
+use Rattle.brk_money.specs.Spelling.{Text, day_text}
 use Rattle.brk_money.proofs.Calendar.{is_short}
 use Rattle.brk_money.proofs.DayTexts.{day_text-digits}
+use Rattle.brk_money.proofs.Padded.{date_text_by_digits}
 
 -- two digits before a text
 two_digits : (n : ℕ) (after : Text) → n < 100 → IsAscii after → IsAscii ((48 + n / 10) ∷ (48 + n % 10) ∷ after)

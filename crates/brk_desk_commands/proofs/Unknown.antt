@@ -1,4 +1,4 @@
--- The kinds that are known.
+-- A row of none of the first kinds is parsed by the parsers of the other kinds.
 use Rattle.std.proofs.Common.{◌≡◌, ◌≢◌, List, Bool, true, false, refl, codes, sym, ◌∙◌}
 use Rattle.std.specs.Prelude.{◌∷◌, ◌++◌, Err, bytes_eq}
 use Rattle.std.proofs.lemmas.Bool.{false_from_ne_true}

@@ -1,3 +1,5 @@
+//! The commands to the desk.
+
 use brk_money::{Day, Id};
 use brk_ref_orders::{Completion, Feed, Movement, Order, Update};
 use brk_trade_plans::Reference;

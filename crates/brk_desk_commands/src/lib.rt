@@ -5,18 +5,18 @@
 pub mod command;
 pub mod line;
 pub mod movement_row;
-pub mod order_row;
 pub mod parse;
 mod parse_movement;
 mod parse_order;
 mod parse_update;
 pub mod row;
+pub mod trading_row;
 pub mod update_row;
 
 pub use command::Command;
 pub use line::{day_text, line_text};
-pub use movement_row::{movement_row_text, one_day_settlement_row_text};
-pub use order_row::{cancel_row_text, completion_row_text, feed_row_text, order_row_text};
+pub use movement_row::{row_of_movement, row_of_oneday};
 pub use parse::parse_row;
-pub use row::{reference_row_text, row_text};
-pub use update_row::update_row_text;
+pub use row::{row_of_reference, row_text};
+pub use trading_row::{row_of_cancel, row_of_feed, row_of_order, row_of_result};
+pub use update_row::row_of_update;

@@ -15,55 +15,40 @@ use brk_ref::MovedAmount;
 use brk_ref_orders::{Direction, Movement};
 use std::alloc::{AllocError, Global};
 
-// Returns the row of a deposit, as it is stored under a key: `deposit`, the account and the amount,
-// such as `10.00`, joined by byte 31. Fails if memory runs out.
-fn deposit_row_text(alloc: Global, account: Id, amount: MovedAmount) -> Result<String, AllocError>
+fn row_of_deposit(alloc: Global, account: Id, amount: MovedAmount) -> Result<String, AllocError>
     ensures { IfOk result (λ row. string_bytes row ≡ model.row_text (DepositCash account amount)) }
 {
     format!(in alloc; "deposit\x1f{}\x1f{amount}", account.get())
 }
 
-// Returns the row of a withdrawal, as it is stored under a key: `withdraw`, the account and the
-// amount, such as `10.00`, joined by byte 31. Fails if memory runs out.
-fn withdrawal_row_text(
-    alloc: Global,
-    account: Id,
-    amount: MovedAmount,
-) -> Result<String, AllocError>
+fn row_of_withdrawal(alloc: Global, account: Id, amount: MovedAmount) -> Result<String, AllocError>
     ensures { IfOk result (λ row. string_bytes row ≡ model.row_text (WithdrawCash account amount)) }
 {
     format!(in alloc; "withdraw\x1f{}\x1f{amount}", account.get())
 }
 
-/// Returns the row of a deposit or a withdrawal, as it is stored under a key: `deposit` or
-/// `withdraw`, the account and the amount, such as `10.00`, joined by byte 31. Fails if memory runs
-/// out.
-pub fn movement_row_text(alloc: Global, movement: &Movement) -> Result<String, AllocError>
+/// Returns the row of a deposit or a withdrawal.
+pub fn row_of_movement(alloc: Global, movement: &Movement) -> Result<String, AllocError>
     ensures { IfOk result (λ row. string_bytes row ≡ model.row_text (movement_command movement.now)) }
 {
     match movement.direction {
-        Direction::Deposit => deposit_row_text(alloc, movement.account, movement.amount),
-        Direction::Withdrawal => withdrawal_row_text(alloc, movement.account, movement.amount),
+        Direction::Deposit => row_of_deposit(alloc, movement.account, movement.amount),
+        Direction::Withdrawal => row_of_withdrawal(alloc, movement.account, movement.amount),
     }
 }
 
-// Returns the row that sets the start of one-day settlement (the first day whose completions settle
-// after one day), from the text `day` of this day: `oneday` and `day`, joined by byte 31. Fails if
-// memory runs out.
-fn one_day_settlement_row_from_day_text(alloc: Global, day: &str) -> Result<String, AllocError>
+fn oneday_row(alloc: Global, day: &str) -> Result<String, AllocError>
     ensures { IfOk result (λ row. string_bytes row ≡ join_with_byte 31 (codes "oneday" ∷ day.now ∷ [])) }
 {
     format!(in alloc; "oneday\x1f{day}")
 }
 
-/// Returns the row that sets the start of one-day settlement (the first day whose completions
-/// settle after one day), as it is stored under a key: `oneday` and the day, such as `2024-03-01`,
-/// joined by byte 31. Fails with `Memory` only.
-pub fn one_day_settlement_row_text(alloc: Global, day: Day) -> Result<String, Fault>
+/// Returns the row that sets `day` as the first day whose completions settle after one day.
+pub fn row_of_oneday(alloc: Global, day: Day) -> Result<String, Fault>
     ensures row { IfOk result (λ row. string_bytes row ≡ model.row_text (SetOneDay day)) }
     ensures fault { OnErr result (result ≡ Err Memory) }
 {
     let text = day_text(alloc, day)?;
-    let row = one_day_settlement_row_from_day_text(alloc, text.as_str())?;
+    let row = oneday_row(alloc, text.as_str())?;
     Ok(row)
 }

@@ -1,3 +1,5 @@
+//! Parsing of deposits, withdrawals and the first day of one-day settlement.
+
 ghost use Rattle.std.specs.Prelude.{◌≡◌, ◌∷◌};
 ghost use Rattle.brk_model.specs.Commands.{SetOneDay};
 ghost use Rattle.brk_model.specs.Parse.{movement_and_one_day_settlement_row_parsers, parse_by_first_field};
@@ -8,47 +10,37 @@ ghost use Rattle.brk_desk_commands.specs.Commands.{abstract_command};
 
 use crate::command::Command;
 use brk_money::Refusal;
-use brk_ref_orders::{Direction, parse_cash_movement, parse_one_day_settlement_start};
+use brk_ref_orders::{Direction, parse_cash_move, parse_one_day};
 
-// Parses the command of a deposit or a withdrawal, by `direction`, from the fields ACCOUNT and
-// AMOUNT of a row. Refuses malformed fields, or a wrong number of them, with `BadText`.
-fn parse_movement_command(direction: Direction, fields: &[&[u8]]) -> Result<Command, Refusal>
+fn move_command(direction: Direction, fields: &[&[u8]]) -> Result<Command, Refusal>
     ensures { ParsesAs abstract_command result (read_movement_command (cash_movement_command direction) (texts_of_fields fields.now)) }
 {
-    match parse_cash_movement(direction, fields) {
+    match parse_cash_move(direction, fields) {
         Ok(movement) => Ok(Command::Move(movement)),
         Err(refusal) => Err(refusal),
     }
 }
 
-// Parses the command that sets the start of one-day settlement (the first day whose completions
-// settle after one day) from the one field DAY of a row. Refuses a malformed day, or a wrong number
-// of fields, with `BadText`.
-fn parse_one_day_settlement_command(fields: &[&[u8]]) -> Result<Command, Refusal>
+fn oneday_command(fields: &[&[u8]]) -> Result<Command, Refusal>
     ensures { ParsesAs abstract_command result (read_and_wrap SetOneDay read_one_day_settlement_start (texts_of_fields fields.now)) }
 {
-    match parse_one_day_settlement_start(fields) {
+    match parse_one_day(fields) {
         Ok(day) => Ok(Command::OneDay(day)),
         Err(refusal) => Err(refusal),
     }
 }
 
-// Parses a command of the kind `deposit`, `withdraw` or `oneday` from the fields after the kind.
-// Refuses any other kind, malformed fields, or a wrong number of them, with `BadText`.
-pub(crate) fn parse_movement_or_one_day_settlement(
-    kind: &[u8],
-    fields: &[&[u8]],
-) -> Result<Command, Refusal>
+pub(crate) fn cash_of_kind(kind: &[u8], fields: &[&[u8]]) -> Result<Command, Refusal>
     ensures { ParsesAs abstract_command result (parse_by_first_field movement_and_one_day_settlement_row_parsers (kind.now ∷ texts_of_fields fields.now)) }
 {
     if kind == b"deposit".as_slice() {
-        return parse_movement_command(Direction::Deposit, fields);
+        return move_command(Direction::Deposit, fields);
     }
     if kind == b"withdraw".as_slice() {
-        return parse_movement_command(Direction::Withdrawal, fields);
+        return move_command(Direction::Withdrawal, fields);
     }
     if kind == b"oneday".as_slice() {
-        return parse_one_day_settlement_command(fields);
+        return oneday_command(fields);
     }
     Err(Refusal::BadText)
 }

@@ -1,4 +1,5 @@
-//! The rows of commands, as they are stored under idempotency keys.
+//! The rows of commands, as they are stored under idempotency keys: the kind and the other fields,
+//! joined by byte 31.
 #![tactic(auto, unfolding(brk_model::specs::Rows::row_fields))]
 
 ghost use Rattle.std.specs.Prelude.{◌≡◌, IfOk, OnErr, Err, string_bytes};
@@ -11,25 +12,21 @@ ghost use Rattle.brk_ref.specs.Records.{abstract_account, abstract_band, abstrac
 ghost use Rattle.brk_ref.specs.Records.{abstract_customer_tax, abstract_listing, abstract_permission, abstract_tax_rate};
 
 use crate::command::Command;
-use crate::movement_row::{movement_row_text, one_day_settlement_row_text};
-use crate::order_row::{cancel_row_text, completion_row_text, feed_row_text, order_row_text};
-use crate::update_row::update_row_text;
+use crate::movement_row::{row_of_movement, row_of_oneday};
+use crate::trading_row::{row_of_cancel, row_of_feed, row_of_order, row_of_result};
+use crate::update_row::row_of_update;
 use brk_money::Fault;
 use brk_ref::{Account, Band, Broker, Charge, Customer, CustomerTax, Listing, Permission, Tax};
 use brk_trade_plans::Reference;
 use std::alloc::{AllocError, Global};
 
-// Returns the row that adds a broker, as it is stored under a key: `broker`, the id and the name,
-// joined by byte 31. Fails if memory runs out.
-fn broker_row_text(alloc: Global, broker: &Broker) -> Result<String, AllocError>
+fn row_of_broker(alloc: Global, broker: &Broker) -> Result<String, AllocError>
     ensures { IfOk result (λ row. string_bytes row ≡ model.row_text (AddBroker (abstract_broker broker.now))) }
 {
     format!(in alloc; "broker\x1f{}\x1f{}", broker.id.get(), broker.name.as_str())
 }
 
-// Returns the row that adds a customer, as it is stored under a key: `customer`, the id, the tier,
-// the tax id, the last name and the first name, joined by byte 31. Fails if memory runs out.
-fn customer_row_text(alloc: Global, customer: &Customer) -> Result<String, AllocError>
+fn row_of_customer(alloc: Global, customer: &Customer) -> Result<String, AllocError>
     ensures { IfOk result (λ row. string_bytes row ≡ model.row_text (AddCustomer (abstract_customer customer.now))) }
 {
     format!(in alloc;
@@ -42,10 +39,7 @@ fn customer_row_text(alloc: Global, customer: &Customer) -> Result<String, Alloc
     )
 }
 
-// Returns the row that adds an account, as it is stored under a key: `account`, the id, the
-// customer, the broker, the name, the number of the tax status and the opening balance, such as
-// `10.00`, joined by byte 31. Fails if memory runs out.
-fn account_row_text(alloc: Global, account: &Account) -> Result<String, AllocError>
+fn row_of_account(alloc: Global, account: &Account) -> Result<String, AllocError>
     ensures { IfOk result (λ row. string_bytes row ≡ model.row_text (AddAccount (abstract_account account.now))) }
 {
     format!(in alloc;
@@ -59,10 +53,7 @@ fn account_row_text(alloc: Global, account: &Account) -> Result<String, AllocErr
     )
 }
 
-// Returns the row that adds a permission, as it is stored under a key: `permission`, the account,
-// the rights, the tax id, the last name and the first name, joined by byte 31. Fails if memory runs
-// out.
-fn permission_row_text(alloc: Global, permission: &Permission) -> Result<String, AllocError>
+fn row_of_permission(alloc: Global, permission: &Permission) -> Result<String, AllocError>
     ensures { IfOk result (λ row. string_bytes row ≡ model.row_text (AddPermission (abstract_permission permission.now))) }
 {
     format!(in alloc;
@@ -75,10 +66,7 @@ fn permission_row_text(alloc: Global, permission: &Permission) -> Result<String,
     )
 }
 
-// Returns the row that lists a security, as it is stored under a key: `security`, the symbol, the
-// name, the exchange, the sector and the first price, such as `10.00`, joined by byte 31. Fails if
-// memory runs out.
-fn listing_row_text(alloc: Global, listing: &Listing) -> Result<String, AllocError>
+fn row_of_listing(alloc: Global, listing: &Listing) -> Result<String, AllocError>
     ensures { IfOk result (λ row. string_bytes row ≡ model.row_text (AddSecurity (abstract_listing listing.now))) }
 {
     let security = &listing.security;
@@ -92,9 +80,7 @@ fn listing_row_text(alloc: Global, listing: &Listing) -> Result<String, AllocErr
     )
 }
 
-// Returns the row that adds a charge, as it is stored under a key: `charge`, the code of the trade
-// type, the tier and the amount, such as `10.00`, joined by byte 31. Fails if memory runs out.
-fn charge_row_text(alloc: Global, charge: &Charge) -> Result<String, AllocError>
+fn row_of_charge(alloc: Global, charge: &Charge) -> Result<String, AllocError>
     ensures { IfOk result (λ row. string_bytes row ≡ model.row_text (AddCharge (abstract_charge charge.now))) }
 {
     format!(in alloc;
@@ -105,10 +91,8 @@ fn charge_row_text(alloc: Global, charge: &Charge) -> Result<String, AllocError>
     )
 }
 
-// Returns the row that adds a commission band, as it is stored under a key: `band`, the tier, the
-// code of the trade type, the exchange, the least and the greatest quantity and the rate, in
-// hundredths of a percent, joined by byte 31. Fails if memory runs out.
-fn band_row_text(alloc: Global, band: &Band) -> Result<String, AllocError>
+// The rate is in hundredths of a percent.
+fn row_of_band(alloc: Global, band: &Band) -> Result<String, AllocError>
     ensures { IfOk result (λ row. string_bytes row ≡ model.row_text (AddBand (abstract_band band.now))) }
 {
     format!(in alloc;
@@ -122,9 +106,8 @@ fn band_row_text(alloc: Global, band: &Band) -> Result<String, AllocError>
     )
 }
 
-// Returns the row that adds a tax with its rate, as it is stored under a key: `taxrate`, the id,
-// the name and the rate, in hundred-thousandths, joined by byte 31. Fails if memory runs out.
-fn tax_rate_row_text(alloc: Global, tax: &Tax) -> Result<String, AllocError>
+// The rate is in hundred-thousandths.
+fn row_of_tax_rate(alloc: Global, tax: &Tax) -> Result<String, AllocError>
     ensures { IfOk result (λ row. string_bytes row ≡ model.row_text (AddTaxRate (abstract_tax_rate tax.now))) }
 {
     format!(in alloc;
@@ -135,47 +118,43 @@ fn tax_rate_row_text(alloc: Global, tax: &Tax) -> Result<String, AllocError>
     )
 }
 
-// Returns the row that adds a tax of a customer, as it is stored under a key: `custtax`, the id of
-// the customer and the id of the tax, joined by byte 31. Fails if memory runs out.
-fn customer_tax_row_text(alloc: Global, pays: &CustomerTax) -> Result<String, AllocError>
+fn row_of_taxpayer(alloc: Global, pays: &CustomerTax) -> Result<String, AllocError>
     ensures { IfOk result (λ row. string_bytes row ≡ model.row_text (AddCustomerTax (abstract_customer_tax pays.now))) }
 {
     format!(in alloc; "custtax\x1f{}\x1f{}", pays.customer.get(), pays.tax.get())
 }
 
-/// Returns the row that adds a record of reference data, as it is stored under an idempotency key:
-/// its fields, the kind first, joined by byte 31. Fails if memory runs out.
-pub fn reference_row_text(alloc: Global, reference: &Reference) -> Result<String, AllocError>
+/// Returns the row that adds a record of reference data.
+pub fn row_of_reference(alloc: Global, reference: &Reference) -> Result<String, AllocError>
     ensures { IfOk result (λ row. string_bytes row ≡ model.row_text (books.command_adding_record reference.now)) }
 {
     match reference {
-        Reference::Broker(broker) => broker_row_text(alloc, broker),
-        Reference::Customer(customer) => customer_row_text(alloc, customer),
-        Reference::Account(account) => account_row_text(alloc, account),
-        Reference::Permission(permission) => permission_row_text(alloc, permission),
-        Reference::Security(listing) => listing_row_text(alloc, listing),
-        Reference::Charge(charge) => charge_row_text(alloc, charge),
-        Reference::Band(band) => band_row_text(alloc, band),
-        Reference::TaxRate(tax) => tax_rate_row_text(alloc, tax),
-        Reference::CustomerTax(pays) => customer_tax_row_text(alloc, pays),
+        Reference::Broker(broker) => row_of_broker(alloc, broker),
+        Reference::Customer(customer) => row_of_customer(alloc, customer),
+        Reference::Account(account) => row_of_account(alloc, account),
+        Reference::Permission(permission) => row_of_permission(alloc, permission),
+        Reference::Security(listing) => row_of_listing(alloc, listing),
+        Reference::Charge(charge) => row_of_charge(alloc, charge),
+        Reference::Band(band) => row_of_band(alloc, band),
+        Reference::TaxRate(tax) => row_of_tax_rate(alloc, tax),
+        Reference::CustomerTax(pays) => row_of_taxpayer(alloc, pays),
     }
 }
 
-/// Returns the row of a command, as it is stored under an idempotency key: its fields, the kind
-/// first, joined by byte 31. Fails with `Memory` only.
+/// Returns the row of a command, as it is stored under an idempotency key.
 pub fn row_text(alloc: Global, command: &Command) -> Result<String, Fault>
     ensures row { IfOk result (λ row. string_bytes row ≡ model.row_text (abstract_command command.now)) }
     ensures fault { OnErr result (result ≡ Err Memory) }
 {
     let row = match command {
-        Command::Add(reference) => reference_row_text(alloc, reference),
-        Command::Order(order) => order_row_text(alloc, order),
-        Command::Feed(feed) => feed_row_text(alloc, feed.ticks()),
-        Command::Cancel(trade) => cancel_row_text(alloc, *trade),
-        Command::Complete(completion) => completion_row_text(alloc, completion),
-        Command::Update(update) => update_row_text(alloc, update),
-        Command::Move(movement) => movement_row_text(alloc, movement),
-        Command::OneDay(day) => return one_day_settlement_row_text(alloc, *day),
+        Command::Add(reference) => row_of_reference(alloc, reference),
+        Command::Order(order) => row_of_order(alloc, order),
+        Command::Feed(feed) => row_of_feed(alloc, feed.ticks()),
+        Command::Cancel(trade) => row_of_cancel(alloc, *trade),
+        Command::Complete(completion) => row_of_result(alloc, completion),
+        Command::Update(update) => row_of_update(alloc, update),
+        Command::Move(movement) => row_of_movement(alloc, movement),
+        Command::OneDay(day) => return row_of_oneday(alloc, *day),
     };
     Ok(row?)
 }

@@ -1,4 +1,4 @@
--- What was read for a cancel decides on it.
+-- The decision on a cancel, from the facts read, is the model's.
 use Rattle.std.proofs.Common.{◌≡◌, ◌≤◌, ◌∙◌, ℕ, Option, Result, Ok, Err, IfOk, ap}
 use Rattle.std.specs.Prelude.{MatchResult, ◌∷◌, ◌++◌, [], Some, option_map}
 use Rattle.sqlite_trees.specs.declared.store.Store.{Ghosts}

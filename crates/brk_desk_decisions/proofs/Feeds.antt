@@ -1,4 +1,4 @@
--- What was read for a feed decides on it.
+-- The decision on a feed, from the quotes read, is the model's.
 use Rattle.std.proofs.Common.{◌≡◌, ◌≤◌, ◌∙◌, ℕ, Bool, true, false, not, List, Option, Result, Ok, Err, IfOk, ap, filter, map, refl, subst, sym}
 use Rattle.std.specs.Prelude.{IfSome, MatchResult, ◌∷◌, ◌++◌, [], None, Some, option_map}
 use Rattle.std.specs.List.{Contains, list_any}

@@ -1,4 +1,4 @@
--- What was read for a movement of cash decides on it.
+-- The decision on a deposit or a withdrawal, from the facts read, is the model's.
 use Rattle.std.proofs.Common.{◌≡◌, ◌≤◌, ◌∙◌, Bool, ℕ, ℤ, Option, Result, Ok, Err, IfOk, ap, filter, length, subst}
 use Rattle.std.specs.Prelude.{MatchResult, ◌∷◌, ◌++◌, [], Some, is_none, nat_le, option_map}
 use Rattle.sqlite_trees.specs.declared.store.Store.{Ghosts}

@@ -1,4 +1,4 @@
--- What was read for a first day of one-day settlement decides on it.
+-- The decision on the first day of one-day settlement, from the facts read, is the model's.
 use Rattle.std.proofs.Common.{◌≡◌, ◌≤◌, ◌∙◌, ℕ, Option, Result, Ok, Err, IfOk, ap}
 use Rattle.std.specs.Prelude.{MatchResult, Some}
 use Rattle.sqlite_trees.specs.declared.store.Store.{Ghosts}

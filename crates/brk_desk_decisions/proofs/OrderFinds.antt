@@ -1,4 +1,4 @@
--- What was found of an account's order is what is found for its estimate.
+-- The facts read for an order are those that its estimate needs.
 use Rattle.std.proofs.Common.{◌≡◌, ℕ, ◌==◌, ◌+ℤ◌, ℤ, Bool, true, false, cond, List, [], ◌∷◌, Option, Some, None, refl, sym, subst, ap, ◌∙◌}
 use Rattle.std.proofs.Common.{filter, find, map, option_map, ◌+◌}
 use Rattle.std.proofs.lemmas.Bool.{eqb-true}
@@ -21,14 +21,14 @@ use Rattle.brk_trade_books.specs.Reads.{customer_tax_rate_sum}
 use Rattle.brk_trade_books.specs.TradeReads.{commission_band_of_quantity, permission_list_for_tax_id, summary_row_of_position}
 use Rattle.brk_desk_decisions.specs.OrderFactReads.{EstimateAmountsMatchTables, CustomerOrderFactsMatchTables, EstimateFactsMatchIfAccountOfOrder}
 use Rattle.brk_store_required.specs.Required.{IsCustomerWithId}
-use Rattle.brk_desk_decisions.specs.OrderFactReads.{order_facts_with_account, order_facts_without_account}
-use Rattle.brk_desk_decisions.specs.declared.tested.OrderCheckFacts.{OrderCheckFacts}
+use Rattle.brk_desk_decisions.specs.OrderFactReads.{facts_with_account, facts_without_account}
+use Rattle.brk_desk_decisions.specs.declared.order_check_reads.OrderCheckFacts.{OrderCheckFacts}
 use Rattle.brk_desk_decisions.specs.declared.amounts.Amounts.{Amounts}
 
 not_none : {X : Type 0} (x : X) → Some x ≡ None → ⊥
 not_none x e = absurd (cc)
 
-pub no_account : (t : Tables) (order : Order) → None ≡ account_row_with_id t order.account → EstimateFactsMatchTables t order order_facts_without_account
+pub no_account : (t : Tables) (order : Order) → None ≡ account_row_with_id t order.account → EstimateFactsMatchTables t order facts_without_account
 no_account t order e = record {
   account = ap (option_map order_account_of_row) e;
   last_price = λ p. absurd (not_none NoAccount p);
@@ -58,7 +58,7 @@ passes_found p (y ∷ ys) x e = go (passes_found p ys x) (p y) refl
     go more false k = more (rw k at e)
 
 pub all_found : (t : Tables) (order : Order) (a : ref.AccountRow) (c : customer.Customer) (tested : OrderCheckFacts) (amounts : Amounts) → IsCustomerWithId t a.account.customer c
-    → CustomerOrderFactsMatchTables t order c tested → EstimateAmountsMatchTables t a order amounts → EstimateFactsMatchIfAccountOfOrder t order a (order_facts_with_account a tested amounts)
+    → CustomerOrderFactsMatchTables t order c tested → EstimateAmountsMatchTables t a order amounts → EstimateFactsMatchIfAccountOfOrder t order a (facts_with_account a tested amounts)
 all_found t order a c tested amounts k x y there = record {
   account = ap (option_map order_account_of_row) there;
   last_price = λ p. x.last_price;

@@ -1,4 +1,4 @@
--- What was read for an order decides on it.
+-- The decision on an order, and its estimate, from the facts and the lots read, are the model's.
 use Rattle.std.proofs.Common.{◌≡◌, ◌≤◌, ◌∙◌, ℕ, List, Option, Result, Ok, Err, IfOk, ap, subst}
 use Rattle.std.specs.Prelude.{MatchResult, ◌∷◌, ◌++◌, [], Some}
 use Rattle.sqlite_trees.specs.declared.store.Store.{Ghosts}

@@ -1,4 +1,4 @@
--- What was read for a record of reference data decides on it.
+-- The decision on a new reference record, from the facts read, is the model's.
 use Rattle.std.proofs.Common.{◌≡◌, ◌≤◌, ◌∙◌, ℕ, Option, Result, Ok, Err, IfOk, ap, subst}
 use Rattle.std.specs.Prelude.{MatchResult, ◌∷◌, ◌++◌, [], Some}
 use Rattle.sqlite_trees.specs.declared.store.Store.{Ghosts}

@@ -1,37 +1,35 @@
--- What was found of a trade's account, of its security and of what is held is what is found for its
--- result.
-use Rattle.std.proofs.Common.{◌≡◌, ◌==◌, ◌∙◌, ℕ, ℤ, Option, Some, None, ap, find, option_map, refl, subst, sym}
+-- The facts of a trade's parties, security, summary and posting together are those of its result.
+use Rattle.std.proofs.Common.{◌≡◌, ◌==◌, ◌∙◌, ℕ, Option, Some, None, ap, find, option_map, refl, subst, sym}
 use Rattle.std.specs.Prelude.{IfSome}
 use Rattle.brk_model.specs.Joins.{account_row_with_id, security_row_with_symbol, trade_row_with_id}
 use Rattle.brk_model.specs.Records.{Customer}
-use Rattle.brk_model.specs.Tables.{AccountRow, SecurityRow, SummaryRow, Tables}
+use Rattle.brk_model.specs.Tables.{AccountRow, SecurityRow, Tables}
 use Rattle.brk_ref.specs.declared.account.AccountRow as ref
 use Rattle.brk_ref.specs.declared.customer.Customer as customer
-use Rattle.brk_ref.specs.Records.{abstract_account_row}
+use Rattle.brk_ref.specs.Records.{abstract_account_row, abstract_security_row}
 use Rattle.brk_ref.specs.Rows.{abstract_summary_row, abstract_trade_row}
 use Rattle.brk_trade_rows.specs.declared.broker_totals.BrokerTotals.{BrokerTotals}
+use Rattle.brk_trade.specs.declared.result_found.Posting.{Posting}
 use Rattle.brk_trade.specs.declared.result_found.ResultPlanFacts.{ResultPlanFacts}
+use Rattle.brk_trade.specs.declared.result_found.TradedSecurity.{TradedSecurity}
+use Rattle.brk_trade.specs.declared.result_found.TradeParties.{TradeParties}
 use Rattle.brk_ref.specs.declared.summary_row.SummaryRow as summary
 use Rattle.brk_ref.specs.declared.trade_row.TradeRow.{TradeRow}
 use Rattle.brk_trade_books.specs.Reads.{customer_tax_rate_sum}
-use Rattle.brk_trade_theorems.specs.ResultPlans.{result_account_of_row}
 use Rattle.brk_trade_books.specs.TradeReads.{commission_band_of_quantity, summary_row_of_position}
 use Rattle.brk_store_required.specs.Required.{AreTotalsOfBroker, IsCustomerWithId}
 use Rattle.brk_desk_decisions.specs.ResultFactReads.{PartyFactsMatchTables, AreResultFactsOfTradeWithId, AreResultFactsOfTrade, SecurityFactsMatchTables, PostingFactsMatchTables}
-use Rattle.brk_desk_decisions.specs.declared.parties.PartyFacts.{PartyFacts}
-use Rattle.brk_desk_decisions.specs.declared.result_finding.SecurityFacts.{SecurityFacts}
-use Rattle.brk_desk_decisions.specs.declared.result_finding.Posting.{Posting}
 
 -- what holds of what is there leads to what holds of it
 if_there : {X : Type 0} (o : Option X) (P Q : X → Type 0) → ((x : X) → P x → Q x) → IfSome o P → IfSome o Q
 if_there None P Q f p = tt
 if_there (Some x) P Q f p = f x p
 
--- The facts of an account's row, its customer, the sum of the customer's tax rates, and the totals
--- of its broker.
-abbrev pub parties_of_rows : ref.AccountRow → customer.Customer → ℕ → BrokerTotals → PartyFacts
+-- The row of an account with its customer's tier, the sum of the customer's tax rates, and the
+-- totals of its broker.
+abbrev pub parties_of_rows : ref.AccountRow → customer.Customer → ℕ → BrokerTotals → TradeParties
 parties_of_rows row customer rates broker = record {
-  account = record { broker = row.account.broker; tax_status = row.account.tax_status; balance = row.balance };
+  account = row;
   broker = broker;
   tier = customer.tier;
   rates = rates;
@@ -47,22 +45,18 @@ parties_known t row customer rates broker k e n = record {
   broker = n;
 }
 
--- The facts for the decision on a result: the trade, its parties, its security, the shares that the
--- account holds of it, and the facts of its posting.
-abbrev pub result_facts_with : TradeRow → PartyFacts → SecurityFacts → Option ℤ → Posting → ResultPlanFacts
+-- The facts for the decision on a result: the trade, its parties, its security, its summary, and the
+-- facts of its posting.
+abbrev pub result_facts_with : TradeRow → TradeParties → TradedSecurity → Option summary.SummaryRow → Posting → ResultPlanFacts
 result_facts_with trade parties listed summary posting = record {
   trade = trade;
-  account = parties.account;
-  broker = parties.broker;
+  parties = parties;
   summary = summary;
-  security = listed.name;
-  rate = listed.rate;
-  rates = parties.rates;
-  rule = posting.rule;
-  next = posting.next;
+  listed = listed;
+  posting = posting;
 }
 
-module _ (t : Tables) (trade : TradeRow) (parties : PartyFacts) (listed : SecurityFacts) (held : Option ℤ) where
+module _ (t : Tables) (trade : TradeRow) (parties : TradeParties) (listed : TradedSecurity) (held : Option summary.SummaryRow) where
   -- If the account of the trade exists, the facts of its parties equal those of the tables. Vacuous
   -- otherwise.
   abbrev pub PartyFactsMatchIfAccountExists : Type 0
@@ -89,12 +83,11 @@ module _ (t : Tables) (trade : TradeRow) (parties : PartyFacts) (listed : Securi
       of_security k (λ s. listed.rate ≡ option_map (λ b. b.rate) (commission_band_of_quantity t c.tier trade.kind s.exchange trade.qty))
       (λ s l. l.rate ∙ ap (λ tier. option_map (λ b. b.rate) (commission_band_of_quantity t tier trade.kind s.exchange trade.qty)) e)
 
-  -- `held` is the number of shares of the summary of the trade's account and security, or `None` if
-  -- there is no summary.
-  abbrev pub SharesMatchSummary : Type 0
-  SharesMatchSummary = held ≡ option_map (λ r. r.qty) (summary_row_of_position t trade.account trade.symbol)
+  -- `held` is the summary of the trade's account and security, or `None` if there is none.
+  abbrev pub SummaryMatches : Type 0
+  SummaryMatches = option_map abstract_summary_row held ≡ summary_row_of_position t trade.account trade.symbol
 
-  pub found_known : (posting : Posting) → PartyFactsMatchIfAccountExists → SecurityFactsMatchIfSecurityExists → SharesMatchSummary
+  pub found_known : (posting : Posting) → PartyFactsMatchIfAccountExists → SecurityFactsMatchIfSecurityExists → SummaryMatches
       → PostingFactsMatchTables t posting → AreResultFactsOfTrade t trade (result_facts_with trade parties listed held posting)
   found_known posting owner security summary posted = record {
     own = refl;
@@ -102,19 +95,14 @@ module _ (t : Tables) (trade : TradeRow) (parties : PartyFacts) (listed : Securi
       rate = λ p. of_owner owner (λ a. IfSome (find (λ r. r.id == a.customer) t.customers) RateMatchesForCustomer)
           (λ a k. if_there (find (λ r. r.id == a.customer) t.customers) (λ c. parties.tier ≡ c.tier) RateMatchesForCustomer (rate_at security) k.tier);
       summary = λ p. summary;
-      account = λ p. of_owner owner (λ a. parties.account ≡ result_account_of_row a) (λ a k. k.account);
+      account = λ p. of_owner owner (λ a. abstract_account_row parties.account ≡ a) (λ a k. k.account);
       rates = λ p. of_owner owner (λ a. parties.rates ≡ customer_tax_rate_sum t a.customer) (λ a k. k.rates);
       broker = λ p. of_owner owner (λ a. AreTotalsOfBroker t a.broker parties.broker) (λ a k. k.broker);
-      security = λ p. of_security security (λ s. listed.name ≡ s.name) (λ s l. l.name);
+      security = λ p. of_security security (λ s. abstract_security_row listed.security ≡ s) (λ s l. l.security);
       rule = λ p. posted.rule;
       next = λ p. posted.next;
     };
   }
-
--- the number in a summary, which is that of its row
-pub number_in : (o : Option summary.SummaryRow) → option_map (λ (r : summary.SummaryRow). r.qty) o ≡ option_map (λ (r : SummaryRow). r.qty) (option_map abstract_summary_row o)
-number_in None = refl
-number_in (Some r) = refl
 
 -- of a trade that was found with its row
 pub there : (t : Tables) (id : ℕ) (row : TradeRow) (found : ResultPlanFacts) → Some (abstract_trade_row row) ≡ trade_row_with_id t id

@@ -1,4 +1,4 @@
--- What was read for a result decides on it.
+-- The decision on a result, from the facts and the lots read, is the model's.
 use Rattle.std.proofs.Common.{◌≡◌, ◌≤◌, ◌<◌, ◌∙◌, ℕ, List, Option, Result, Ok, Err, IfOk, None, Some, ap, refl, subst, sym}
 use Rattle.std.specs.Prelude.{IfSome, MatchResult}
 use Rattle.sqlite_trees.specs.declared.store.Store.{Ghosts}

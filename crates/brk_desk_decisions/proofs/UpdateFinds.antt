@@ -1,4 +1,4 @@
--- Whether an account is there.
+-- The flag that an account exists agrees with its row.
 use Rattle.std.proofs.Common.{◌≡◌, ◌∙◌, Bool, true, Option, Some, None, refl, sym}
 use Rattle.std.proofs.lemmas.Bool.{true≢false}
 use Rattle.std.specs.Prelude.{is_none, is_some}

@@ -1,4 +1,4 @@
--- What was read for a correction of words decides on it.
+-- The decision on a text update, from the facts read, is the model's.
 use Rattle.std.proofs.Common.{◌≡◌, ◌≤◌, ◌∙◌, ℕ, Option, Some, None, Result, Ok, Err, IfOk, ap, subst}
 use Rattle.std.specs.Prelude.{MatchOption, MatchResult, ◌∷◌, ◌++◌, []}
 use Rattle.brk_money.specs.Moments.{greatest_stamp}

@@ -14,7 +14,7 @@ use Rattle.brk_trade_theorems.specs.OrderPlans.{EstimateFactsMatchTables}
 use Rattle.brk_trade_books.specs.OrderReads.{charge_of_type_and_tier, last_price_of_symbol}
 use Rattle.brk_trade_books.specs.Reads.{customer_tax_rate_sum}
 use Rattle.brk_trade_books.specs.TradeReads.{commission_band_of_quantity, permission_list_for_tax_id, summary_row_of_position}
-use Rattle.brk_desk_decisions.specs.declared.tested.OrderCheckFacts.{OrderCheckFacts}
+use Rattle.brk_desk_decisions.specs.declared.order_check_reads.OrderCheckFacts.{OrderCheckFacts}
 use Rattle.brk_desk_decisions.specs.declared.amounts.Amounts.{Amounts}
 use Rattle.brk_store_required.specs.Valuation.{market_value_of_account}
 
@@ -50,15 +50,15 @@ pub record EstimateAmountsMatchTables (t : Tables) (account : AccountRow) (order
   pub held : AreAssetsAndSharesOfAccount t account order.symbol amounts.assets amounts.summary
 
 -- The facts for the decision on an order whose account does not exist: each is `None`, false or 0.
-abbrev pub order_facts_without_account : OrderPlanFacts
-order_facts_without_account =
+abbrev pub facts_without_account : OrderPlanFacts
+facts_without_account =
     record { account = None; last_price = None; is_permitted = false; charge = None; rate = None; rates = 0; assets = pos 0; summary = None; last_trade = None }
 
 -- The facts for the decision on an order of the account `account`: its broker and its tax status,
 -- the facts `tested`, the amounts `amounts`, and `None` as the greatest trade id, which an estimate
 -- does not need.
-abbrev pub order_facts_with_account : AccountRow → OrderCheckFacts → Amounts → OrderPlanFacts
-order_facts_with_account account tested amounts = record {
+abbrev pub facts_with_account : AccountRow → OrderCheckFacts → Amounts → OrderPlanFacts
+facts_with_account account tested amounts = record {
   account = Some (record { broker = account.account.broker; tax_status = account.account.tax_status });
   last_price = tested.last_price;
   is_permitted = tested.is_permitted;

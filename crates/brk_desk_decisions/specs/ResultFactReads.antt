@@ -5,33 +5,34 @@ use Rattle.brk_lots.specs.Sources.{EqualsLots}
 use Rattle.brk_lots.specs.declared.lot.Lot.{Lot}
 use Rattle.brk_model.specs.Joins.{trade_row_with_id}
 use Rattle.brk_model.specs.Tables.{AccountRow, SecurityRow, Tables}
+use Rattle.brk_ref.specs.Records.{abstract_account_row, abstract_security_row}
 use Rattle.brk_ref.specs.Rows.{abstract_trade_row}
+use Rattle.brk_trade.specs.declared.result_found.Posting.{Posting}
 use Rattle.brk_trade.specs.declared.result_found.ResultPlanFacts.{ResultPlanFacts}
+use Rattle.brk_trade.specs.declared.result_found.TradedSecurity.{TradedSecurity}
+use Rattle.brk_trade.specs.declared.result_found.TradeParties.{TradeParties}
 use Rattle.brk_ref.specs.declared.trade_row.TradeRow.{TradeRow}
 use Rattle.brk_trade_books.specs.Reads.{customer_tax_rate_sum}
-use Rattle.brk_trade_theorems.specs.ResultPlans.{ResultFactsMatchTables, result_account_of_row}
+use Rattle.brk_trade_theorems.specs.ResultPlans.{ResultFactsMatchTables}
 use Rattle.brk_trade_books.specs.TradeReads.{commission_band_of_quantity, last_cash_row_number_or_zero, lots_of_position}
 use Rattle.brk_store_required.specs.Required.{AreTotalsOfBroker}
-use Rattle.brk_desk_decisions.specs.declared.parties.PartyFacts.{PartyFacts}
-use Rattle.brk_desk_decisions.specs.declared.result_finding.SecurityFacts.{SecurityFacts}
-use Rattle.brk_desk_decisions.specs.declared.result_finding.Posting.{Posting}
 
--- The facts `parties` of the account in the row `row` agree with the tables `t`: the broker, the
--- tax status and the balance in the row, the tier of the account's customer and the sum of this
--- customer's tax rates in hundred-thousandths, and the totals of the account's broker. The tier is
+-- The facts `parties` of the account in the row `row` agree with the tables `t`: the row itself, the
+-- tier of the account's customer and the sum of this customer's tax rates in hundred-thousandths,
+-- and the totals of the account's broker. The tier is
 -- specified only if the customer exists, and the totals only if the broker exists.
-pub record PartyFactsMatchTables (t : Tables) (row : AccountRow) (parties : PartyFacts) : Type 0 where
-  pub account : parties.account ≡ result_account_of_row row
+pub record PartyFactsMatchTables (t : Tables) (row : AccountRow) (parties : TradeParties) : Type 0 where
+  pub account : abstract_account_row parties.account ≡ row
   pub tier : IfSome (find (λ r. r.id == row.customer) t.customers) (λ c. parties.tier ≡ c.tier)
   pub rates : parties.rates ≡ customer_tax_rate_sum t row.customer
   pub broker : AreTotalsOfBroker t row.broker parties.broker
 
 -- The facts `listed` of the trade's security, whose row is `row`, agree with the tables `t`: the
--- name in the row, and the commission rate, in hundredths of a percent, of the first band, in the
+-- row itself, and the commission rate, in hundredths of a percent, of the first band, in the
 -- order of the table, for the trade's quantity and type, the security's exchange and the customer
 -- tier `tier`, or `None` if there is no such band.
-pub record SecurityFactsMatchTables (t : Tables) (trade : TradeRow) (tier : ℕ) (row : SecurityRow) (listed : SecurityFacts) : Type 0 where
-  pub name : listed.name ≡ row.name
+pub record SecurityFactsMatchTables (t : Tables) (trade : TradeRow) (tier : ℕ) (row : SecurityRow) (listed : TradedSecurity) : Type 0 where
+  pub security : abstract_security_row listed.security ≡ row
   pub rate : listed.rate ≡ option_map (λ b. b.rate) (commission_band_of_quantity t tier trade.kind row.exchange trade.qty)
 
 -- The facts `posting` for the cash row of a result agree with the tables `t`: the first day of

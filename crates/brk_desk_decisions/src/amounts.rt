@@ -6,13 +6,13 @@ ghost use Rattle.brk_desk_decisions.specs.OrderFactReads.{AreAssetsAndSharesOfAc
 ghost use Rattle.brk_model.specs.Run.{IsCallFault};
 ghost use Rattle.brk_store_transactions.specs.Holds.{ReadPost};
 
-use crate::summary_finding::shares_of_symbol;
-use crate::terms::read_tax_rate_sum_within_limit;
+use crate::summary_finding::symbol_shares;
+use crate::terms::limited_tax_sum;
 use brk_money::{Cents, Fault, Id, TaxRate, Wide};
 use brk_ref::{AccountRow, Symbol};
 use brk_ref_orders::Order;
 use brk_store::Store;
-use brk_store_required::read_holding_summaries_and_value;
+use brk_store_required::read_valued_summaries;
 use sqlite::Alter;
 use std::alloc::Global;
 
@@ -28,10 +28,9 @@ pub struct Amounts {
     pub summary: Option<i64>,
 }
 
-// Returns the sum of the tax rates that a customer pays, in hundred-thousandths. If the database is
-// still open, it is unchanged. Fails with `Memory` or `Store` only; with `Store` also if one of the
-// customer's taxes does not exist, or if the sum exceeds the greatest rate.
-pub(crate) fn read_tax_rate_sum<S: Alter>(
+// The sum is in hundred-thousandths. Fails with `Store` also if one of the customer's taxes does
+// not exist, or if the sum exceeds the greatest rate.
+pub(crate) fn tax_rate_sum<S: Alter>(
     alloc: Global,
     store: &mut Store<S>,
     customer: Id,
@@ -39,14 +38,14 @@ pub(crate) fn read_tax_rate_sum<S: Alter>(
     ensures read { ReadPost S.Store store.old store.new result (λ rates t. rates ≡ customer_tax_rate_sum t customer) }
     ensures fault { IfErr result IsCallFault }
 {
-    match read_tax_rate_sum_within_limit(alloc, store, customer)? {
+    match limited_tax_sum(alloc, store, customer)? {
         Some(rates) => Ok(rates),
         None => Err(Fault::Store),
     }
 }
 
-// Returns a balance plus a market value, in cents, or `None` if the sum overflows.
-fn add_balance_to_value(balance: Cents, worth: Wide) -> Option<Wide>
+// Returns `None` if the sum overflows.
+fn add_balance(balance: Cents, worth: Wide) -> Option<Wide>
     ensures { IfSome result (λ assets. assets ≡ balance +ℤ worth) }
 {
     match i128::from(balance.get()).checked_add(worth.get()) {
@@ -55,12 +54,9 @@ fn add_balance_to_value(balance: Cents, worth: Wide) -> Option<Wide>
     }
 }
 
-// Returns an account's balance plus the market value of its holdings, in cents, and the number of
-// shares of a security that it holds, below 0 if it sold them short, or `None` if it has no summary
-// of the security. Reads the account's summaries once for both. If the database is still open, it
-// is unchanged. Fails with `Memory` or `Store` only; with `Store` also if a held symbol has no last
-// price or the sum overflows.
-fn read_assets_and_shares<S: Alter>(
+// Reads the account's summaries once for both. Fails with `Store` also if a held symbol has no last
+// price, or if the sum overflows.
+fn account_amounts<S: Alter>(
     alloc: Global,
     store: &mut Store<S>,
     account: &AccountRow,
@@ -69,20 +65,16 @@ fn read_assets_and_shares<S: Alter>(
     ensures read { ReadPost S.Store store.old store.new result (λ amounts t. AreAssetsAndSharesOfAccount t account.now symbol.now amounts.0 amounts.1) }
     ensures fault { IfErr result IsCallFault }
 {
-    let held = read_holding_summaries_and_value(alloc, store, account.account.id)?;
-    let shares = shares_of_symbol(&held.rows, symbol);
+    let held = read_valued_summaries(alloc, store, account.account.id)?;
+    let shares = symbol_shares(&held.rows, symbol);
     let worth = held.value;
-    match add_balance_to_value(account.balance, worth) {
+    match add_balance(account.balance, worth) {
         Some(assets) => Ok((assets, shares)),
         None => Err(Fault::Store),
     }
 }
 
-// Returns the amounts that the estimate of an order of an account needs. If the database is still
-// open, it is unchanged. Fails with `Memory` or `Store` only; with `Store` also if one of the
-// customer's taxes does not exist, their rates total more than the greatest rate, a held symbol has
-// no last price, or a sum overflows.
-pub(crate) fn read_estimate_amounts<S: Alter>(
+pub(crate) fn order_amounts<S: Alter>(
     alloc: Global,
     store: &mut Store<S>,
     account: &AccountRow,
@@ -91,8 +83,8 @@ pub(crate) fn read_estimate_amounts<S: Alter>(
     ensures read { ReadPost S.Store store.old store.new result (λ amounts t. EstimateAmountsMatchTables t account.now order.now amounts) }
     ensures fault { IfErr result IsCallFault }
 {
-    let rates = read_tax_rate_sum(alloc, store, account.account.customer)?;
-    let (assets, summary) = read_assets_and_shares(alloc, store, account, &order.symbol)?;
+    let rates = tax_rate_sum(alloc, store, account.account.customer)?;
+    let (assets, summary) = account_amounts(alloc, store, account, &order.symbol)?;
     Ok(Amounts {
         rates,
         assets,

@@ -13,9 +13,7 @@ use brk_trade::{Plan, plan_cancel};
 use sqlite::Alter;
 use std::alloc::Global;
 
-// Returns the status of a trade, or `None` if the trade does not exist. If the database is still
-// open, it is unchanged. Fails with `Memory` or `Store` only.
-fn read_trade_status<S: Alter>(store: &mut Store<S>, trade: Id) -> Result<Option<Status>, Fault>
+fn read_status<S: Alter>(store: &mut Store<S>, trade: Id) -> Result<Option<Status>, Fault>
     ensures read { ReadPost S.Store store.old store.new result (λ status t. status ≡ option_map (λ r. r.status) (trade_row_with_id t trade)) }
     ensures fault { IfErr result IsCallFault }
 {
@@ -26,11 +24,6 @@ fn read_trade_status<S: Alter>(store: &mut Store<S>, trade: Id) -> Result<Option
 }
 
 /// Decides on the cancel of a trade at the clock reading `now`: returns its plan, or the refusal.
-/// It is the decision of the model if the tables equal those of a base that satisfies the books
-/// invariant. If the database is still open, it is unchanged. A crash after the call exposes only
-/// states that a crash before the call could expose.
-///
-/// Fails with `Memory` or `Store` only.
 pub fn decide_cancel<S: Alter>(
     alloc: Global,
     store: &mut Store<S>,
@@ -43,6 +36,6 @@ pub fn decide_cancel<S: Alter>(
     // The value is not needed: the call shows that the stamp is at most the greatest stamp.
     let _moment = now.get();
     let last = store.last_stamp()?;
-    let status = read_trade_status(store, trade)?;
+    let status = read_status(store, trade)?;
     plan_cancel(alloc, trade, status, last, now)
 }

@@ -10,23 +10,31 @@ ghost use Rattle.brk_ref_orders.specs.Records.{abstract_order};
 ghost use Rattle.brk_store_transactions.specs.Holds.{ReadPost};
 ghost use Rattle.brk_store.specs.ReadSequences.{IsUnchangedByReads};
 ghost use Rattle.brk_store.specs.RemainingLots.{borrowed_store, number_of_rows_read};
+ghost use Rattle.brk_trade_plans.specs.declared.estimate.Estimate as spec;
+ghost use Rattle.brk_trade_plans.specs.declared.reply.Reply.TheVariants.{Estimated};
 ghost use Rattle.brk_trade.specs.Estimates.{OrderReadsAtMostOneLotMore};
 ghost use Rattle.brk_trade.specs.Orders.{EstimatesCheckedOrder, order_checks, terms_of_order};
 
-use crate::order_finding::read_estimate_facts;
+use crate::order_finding::estimate_facts;
 use brk_money::Planned;
 use brk_ref_orders::Order;
 use brk_store::{LotPages, Store};
-use brk_trade::{Estimate, OrderPlanFacts, plan_estimate};
+use brk_trade::{Estimate, OrderPlanFacts, Reply, plan_estimate};
 use sqlite::Alter;
 use std::alloc::Global;
 
-// Plans the estimate of an order from the facts `found` in the tables and from `lots`, the lots of
-// the position: returns the estimate, or the refusal. Under the disk assumption, if these lots form
-// a position that other trades opened, it reads at most 16 lots more than the order would close or
-// reduce, also if it fails. It reads no lot if it refuses the order or the order closes no held
-// shares. Fails with `Memory` or `Store` only; with `Store` also if one of the lots that it reads
-// has no shares, or if the number of lots read exceeds 32 bits.
+fn reply_estimate(reply: &Reply) -> Estimate
+    requires { (e : spec.Estimate) × (reply.now ≡ Estimated e) }
+    ensures { reply.now ≡ Estimated result }
+{
+    match reply {
+        Reply::Estimated(estimate) => *estimate,
+        _ => unreachable!(),
+    }
+}
+
+// Fails with `Store` also if a lot that it reads has no shares, or if the number of lots read
+// exceeds 32 bits.
 fn plan_estimate_over_lots<S: Alter>(
     order: &Order,
     found: &OrderPlanFacts,
@@ -44,7 +52,7 @@ fn plan_estimate_over_lots<S: Alter>(
         (λ refusal. first_refusal (order_checks found.now) ≡ Some refusal)) }
     ensures refused { IfOk result (λ planned. OnErr planned (lots.new ≡ lots.old)) }
 
-    // The number of lots read, also if the call fails.
+    // The number of lots read, also if the call fails. Lots are read 16 at a time: hence the 15.
     ensures few_rows_read { OrderReadsAtMostOneLotMore (terms_of_order order.now found.now)
         (AreLotsBeforeReads S.Store lots.old lots.new) (number_of_rows_read lots.old + 15) (number_of_rows_read lots.new) }
     ensures no_lot_read { is_trade_closing_lots (terms_of_order order.now found.now).side (terms_of_order order.now found.now).held ≡ false
@@ -53,20 +61,17 @@ fn plan_estimate_over_lots<S: Alter>(
     // The only faults are `Memory` and `Store`.
     ensures fault { IfErr result IsCallFault }
 {
-    plan_estimate(order, found, lots)
+    match plan_estimate(order, found, lots)? {
+        Ok(reply) => Ok(Ok(reply_estimate(&reply))),
+        Err(refusal) => Ok(Err(refusal)),
+    }
 }
 
-/// Returns the estimated figures of an order, in cents (Trade-Order): its price, the buy and the
-/// sell value of the shares that it would close, the tax, the commission, the charge and the
-/// account's assets; or the refusal. The figures and the refusal equal those of the model if the
-/// tables equal those of a base that satisfies the books invariant. If the database is still open,
-/// it is unchanged. A crash after the call exposes only states that a crash before the call could
-/// expose.
+/// Returns the estimated figures of an order (Trade-Order), in cents, or the refusal.
 ///
-/// Fails with `Memory` or `Store` only; with `Store` also if the account's customer or one of the
-/// customer's taxes does not exist, the tax rates total more than the greatest rate, a held symbol
-/// has no last price, a sum overflows, one of the lots that it reads has no shares, or the number
-/// of lots read exceeds 32 bits.
+/// Fails with `Store` also if the account's customer or one of the customer's taxes does not exist,
+/// the tax rates total more than the greatest rate, a held symbol has no last price, a sum
+/// overflows, a lot that it reads has no shares, or the number of lots read exceeds 32 bits.
 pub fn compute_order_estimate<S: Alter>(
     alloc: Global,
     store: &mut Store<S>,
@@ -75,7 +80,7 @@ pub fn compute_order_estimate<S: Alter>(
     ensures read { ReadPost S.Store store.old store.new result (IsEstimateOfModel (abstract_order order.now)) }
     ensures fault { IfErr result IsCallFault }
 {
-    let found = read_estimate_facts(alloc, store, order)?;
+    let found = estimate_facts(alloc, store, order)?;
     let mut lots = store.lot_pages(alloc, order.account, &order.symbol, order.is_lifo);
     plan_estimate_over_lots(order, &found, &mut lots)
 }

@@ -20,11 +20,9 @@ use brk_trade::{
 use sqlite::Alter;
 use std::alloc::Global;
 
-// Returns the quote of a tick's symbol: its last trade, and its pending requests that a price from
-// the lowest to the highest price of `tick` and of its symbol's ticks in `ticks` can trigger,
-// sorted by trade, ascending. Returns `None` if the symbol has no last trade. If the database is
-// still open, it is unchanged. Fails with `Memory` or `Store` only.
-fn read_last_trade_and_requests_of_tick<S: Alter>(
+// One quote serves all ticks of its symbol: its requests are those that a price in the span of
+// these ticks can trigger.
+fn read_tick_quote<S: Alter>(
     alloc: Global,
     store: &mut Store<S>,
     tick: &Tick,
@@ -39,23 +37,16 @@ fn read_last_trade_and_requests_of_tick<S: Alter>(
         return Ok(None);
     };
     let span = first_symbol_price_span(tick, ticks);
-    let losses = store.requests_at_or_above(alloc, &tick.symbol, TradeType::StopLoss, span.lowest)?;
-    let sells = store.requests_at_or_below(
-        alloc,
-        &tick.symbol,
-        TradeType::LimitSell,
-        span.highest,
-    )?;
-    let buys = store.requests_at_or_above(alloc, &tick.symbol, TradeType::LimitBuy, span.lowest)?;
+    let losses = store.requests_at_least(alloc, &tick.symbol, TradeType::StopLoss, span.lowest)?;
+    let sells = store.requests_at_most(alloc, &tick.symbol, TradeType::LimitSell, span.highest)?;
+    let buys = store.requests_at_least(alloc, &tick.symbol, TradeType::LimitBuy, span.lowest)?;
     let quote = create_quote(last, losses, sells, buys)?;
     Ok(Some(quote))
 }
 
-// Returns the stamp of the last accepted command, or `None` if there is none, and one quote for
-// each symbol of `ticks` that has a last trade: this trade, and the pending requests that the ticks
-// of the symbol can trigger. If the database is still open, it is unchanged. Fails with `Memory` or
-// `Store` only.
-fn read_feed_facts<S: Alter>(
+// Returns the stamp of the last accepted command, and one quote for each symbol of `ticks` that has
+// a last trade.
+fn feed_facts<S: Alter>(
     alloc: Global,
     store: &mut Store<S>,
     ticks: &[Tick],
@@ -68,7 +59,7 @@ fn read_feed_facts<S: Alter>(
     let mut quotes = Vec::new(alloc);
     for tick in ticks {
         if has_no_quote_of_symbol(&quotes, tick) {
-            if let Some(quote) = read_last_trade_and_requests_of_tick(alloc, store, tick, ticks)? {
+            if let Some(quote) = read_tick_quote(alloc, store, tick, ticks)? {
                 quotes.push(quote)?;
             }
         }
@@ -76,12 +67,8 @@ fn read_feed_facts<S: Alter>(
     Ok((last, quotes))
 }
 
-/// Decides on a feed of ticks at the clock reading `now`: returns its plan, or the refusal. It is
-/// the decision of the model if the tables equal those of a base that satisfies the books
-/// invariant. If the database is still open, it is unchanged. A crash after the call exposes only
-/// states that a crash before the call could expose.
-///
-/// Fails with `Memory` or `Store` only.
+/// Decides on a feed of ticks at the clock reading `now` (Market-Feed): returns its plan, or the
+/// refusal.
 pub fn decide_feed<S: Alter>(
     alloc: Global,
     store: &mut Store<S>,
@@ -93,6 +80,6 @@ pub fn decide_feed<S: Alter>(
 {
     // The value is not needed: the call shows that the stamp is at most the greatest stamp.
     let _moment = now.get();
-    let (last, quotes) = read_feed_facts(alloc, store, feed.ticks())?;
+    let (last, quotes) = feed_facts(alloc, store, feed.ticks())?;
     plan_feed(alloc, feed, quotes, last, now)
 }

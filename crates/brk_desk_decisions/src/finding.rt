@@ -7,10 +7,7 @@ ghost use Rattle.brk_model.specs.Form.{has_account, has_broker, has_customer, ha
 ghost use Rattle.brk_trade_books.specs.Reads.{account_count_of_customer, contains_customer_with_tax_id, contains_tax_rate};
 ghost use Rattle.brk_store_transactions.specs.Holds.{ReadPost};
 
-use crate::terms::{
-    read_new_band_facts, read_new_charge_facts, read_new_customer_tax_facts,
-    read_new_permission_facts,
-};
+use crate::terms::{band_facts, charge_facts, permission_facts, taxpayer_facts};
 use brk_money::{Fault, Id};
 use brk_ref::{Account, Broker, Customer, Symbol, TaxId};
 use brk_store::Store;
@@ -31,8 +28,6 @@ pub(crate) const NO_REFERENCE_FACTS: ReferenceFacts = ReferenceFacts {
     rates: None,
 };
 
-// Returns true if the broker with the id `id` exists. If the database is still open, it is
-// unchanged. Fails with `Memory` or `Store` only.
 fn broker_exists<S: Alter>(store: &mut Store<S>, id: Id) -> Result<bool, Fault>
     ensures read { ReadPost S.Store store.old store.new result (λ there t. there ≡ has_broker t id) }
     ensures fault { IfErr result IsCallFault }
@@ -40,8 +35,6 @@ fn broker_exists<S: Alter>(store: &mut Store<S>, id: Id) -> Result<bool, Fault>
     Ok(store.broker(id)?.is_some())
 }
 
-// Returns true if the customer with the id `id` exists. If the database is still open, it is
-// unchanged. Fails with `Memory` or `Store` only.
 pub(crate) fn customer_exists<S: Alter>(store: &mut Store<S>, id: Id) -> Result<bool, Fault>
     ensures read { ReadPost S.Store store.old store.new result (λ there t. there ≡ has_customer t id) }
     ensures fault { IfErr result IsCallFault }
@@ -49,8 +42,6 @@ pub(crate) fn customer_exists<S: Alter>(store: &mut Store<S>, id: Id) -> Result<
     Ok(store.customer(id)?.is_some())
 }
 
-// Returns true if a customer with the tax id `tax_id` exists. If the database is still open, it is
-// unchanged. Fails with `Memory` or `Store` only.
 fn tax_id_exists<S: Alter>(store: &mut Store<S>, tax_id: &TaxId) -> Result<bool, Fault>
     ensures read { ReadPost S.Store store.old store.new result (λ there t. there ≡ contains_customer_with_tax_id t tax_id.now) }
     ensures fault { IfErr result IsCallFault }
@@ -58,8 +49,6 @@ fn tax_id_exists<S: Alter>(store: &mut Store<S>, tax_id: &TaxId) -> Result<bool,
     Ok(store.customer_by_tax_id(tax_id)?.is_some())
 }
 
-// Returns true if the account with the id `id` exists. If the database is still open, it is
-// unchanged. Fails with `Memory` or `Store` only.
 pub(crate) fn account_exists<S: Alter>(store: &mut Store<S>, id: Id) -> Result<bool, Fault>
     ensures read { ReadPost S.Store store.old store.new result (λ there t. there ≡ has_account t id) }
     ensures fault { IfErr result IsCallFault }
@@ -67,9 +56,7 @@ pub(crate) fn account_exists<S: Alter>(store: &mut Store<S>, id: Id) -> Result<b
     Ok(store.account(id)?.is_some())
 }
 
-// Returns the number of accounts of a customer. If the database is still open, it is unchanged.
-// Fails with `Memory` or `Store` only.
-fn count_accounts_of_customer<S: Alter>(
+fn account_count<S: Alter>(
     alloc: Global,
     store: &mut Store<S>,
     customer: Id,
@@ -80,12 +67,7 @@ fn count_accounts_of_customer<S: Alter>(
     Ok(store.accounts_of_customer(alloc, customer)?.len())
 }
 
-// Returns the fact that decides on a new broker: whether a broker with its id exists. If the
-// database is still open, it is unchanged. Fails with `Memory` or `Store` only.
-fn read_new_broker_facts<S: Alter>(
-    store: &mut Store<S>,
-    broker: &Broker,
-) -> Result<ReferenceFacts, Fault>
+fn broker_facts<S: Alter>(store: &mut Store<S>, broker: &Broker) -> Result<ReferenceFacts, Fault>
     ensures read { ReadPost S.Store store.old store.new result (λ found t. found.same_id ≡ has_broker t broker.now.id) }
     ensures fault { IfErr result IsCallFault }
 {
@@ -96,10 +78,7 @@ fn read_new_broker_facts<S: Alter>(
     })
 }
 
-// Returns the facts that decide on a new customer: whether a customer with its id exists, and
-// whether one with its tax id exists. If the database is still open, it is unchanged. Fails with
-// `Memory` or `Store` only.
-fn read_new_customer_facts<S: Alter>(
+fn customer_facts<S: Alter>(
     store: &mut Store<S>,
     customer: &Customer,
 ) -> Result<ReferenceFacts, Fault>
@@ -116,10 +95,7 @@ fn read_new_customer_facts<S: Alter>(
     })
 }
 
-// Returns the facts that decide on a new account: whether an account with its id exists, whether
-// its customer and its broker exist, and the number of accounts of its customer. If the database is
-// still open, it is unchanged. Fails with `Memory` or `Store` only.
-fn read_new_account_facts<S: Alter>(
+fn account_facts<S: Alter>(
     alloc: Global,
     store: &mut Store<S>,
     account: &Account,
@@ -131,7 +107,7 @@ fn read_new_account_facts<S: Alter>(
     let same_id = account_exists(store, account.id)?;
     let customer = customer_exists(store, account.customer)?;
     let broker = broker_exists(store, account.broker)?;
-    let accounts = count_accounts_of_customer(alloc, store, account.customer)?;
+    let accounts = account_count(alloc, store, account.customer)?;
     Ok(ReferenceFacts {
         same_id,
         customer,
@@ -141,12 +117,7 @@ fn read_new_account_facts<S: Alter>(
     })
 }
 
-// Returns the fact that decides on a new security: whether a security with its symbol exists. If
-// the database is still open, it is unchanged. Fails with `Memory` or `Store` only.
-fn read_new_security_facts<S: Alter>(
-    store: &mut Store<S>,
-    symbol: &Symbol,
-) -> Result<ReferenceFacts, Fault>
+fn security_facts<S: Alter>(store: &mut Store<S>, symbol: &Symbol) -> Result<ReferenceFacts, Fault>
     ensures read { ReadPost S.Store store.old store.new result (λ found t. found.same_id ≡ has_security t symbol.now) }
     ensures fault { IfErr result IsCallFault }
 {
@@ -157,9 +128,7 @@ fn read_new_security_facts<S: Alter>(
     })
 }
 
-// Returns the fact that decides on a new tax: whether a tax with its id exists. If the database is
-// still open, it is unchanged. Fails with `Memory` or `Store` only.
-fn read_new_tax_facts<S: Alter>(store: &mut Store<S>, id: Id) -> Result<ReferenceFacts, Fault>
+fn tax_facts<S: Alter>(store: &mut Store<S>, id: Id) -> Result<ReferenceFacts, Fault>
     ensures read { ReadPost S.Store store.old store.new result (λ found t. found.same_id ≡ contains_tax_rate t id) }
     ensures fault { IfErr result IsCallFault }
 {
@@ -170,11 +139,10 @@ fn read_new_tax_facts<S: Alter>(store: &mut Store<S>, id: Id) -> Result<Referenc
     })
 }
 
-/// Returns the facts that decide on a new reference record. A fact on which the decision on a
-/// record of this kind does not depend may have any value. If the database is still open, it is
-/// unchanged. Fails with `Memory` or `Store` only; with `Store` also if the record is a tax of a
-/// customer who already pays a tax that does not exist.
-pub(crate) fn read_new_reference_facts<S: Alter>(
+// A fact on which the decision on this kind of record does not depend may have any value. Fails
+// with `Store` also if the record is a tax of a customer who already pays a tax that does not
+// exist.
+pub(crate) fn reference_facts<S: Alter>(
     alloc: Global,
     store: &mut Store<S>,
     reference: &Reference,
@@ -183,14 +151,14 @@ pub(crate) fn read_new_reference_facts<S: Alter>(
     ensures fault { IfErr result IsCallFault }
 {
     match reference {
-        Reference::Broker(broker) => read_new_broker_facts(store, broker),
-        Reference::Customer(customer) => read_new_customer_facts(store, customer),
-        Reference::Account(account) => read_new_account_facts(alloc, store, account),
-        Reference::Permission(permission) => read_new_permission_facts(store, permission),
-        Reference::Security(listing) => read_new_security_facts(store, &listing.security.symbol),
-        Reference::Charge(charge) => read_new_charge_facts(store, charge),
-        Reference::Band(band) => read_new_band_facts(alloc, store, band),
-        Reference::TaxRate(tax) => read_new_tax_facts(store, tax.id),
-        Reference::CustomerTax(pays) => read_new_customer_tax_facts(alloc, store, pays),
+        Reference::Broker(broker) => broker_facts(store, broker),
+        Reference::Customer(customer) => customer_facts(store, customer),
+        Reference::Account(account) => account_facts(alloc, store, account),
+        Reference::Permission(permission) => permission_facts(store, permission),
+        Reference::Security(listing) => security_facts(store, &listing.security.symbol),
+        Reference::Charge(charge) => charge_facts(store, charge),
+        Reference::Band(band) => band_facts(alloc, store, band),
+        Reference::TaxRate(tax) => tax_facts(store, tax.id),
+        Reference::CustomerTax(pays) => taxpayer_facts(alloc, store, pays),
     }
 }

@@ -6,7 +6,7 @@ ghost use Rattle.brk_model.specs.Run.{IsCallFault};
 ghost use Rattle.brk_ref_orders.specs.Records.{movement_command};
 ghost use Rattle.brk_store_transactions.specs.Holds.{ReadPost};
 
-use crate::movement_finding::read_movement_facts;
+use crate::movement_finding::movement_facts;
 use brk_money::{Planned, Stamp};
 use brk_ref_orders::Movement;
 use brk_store::Store;
@@ -15,11 +15,7 @@ use sqlite::Alter;
 use std::alloc::Global;
 
 /// Decides on a deposit or a withdrawal at the clock reading `now`: returns its plan, or the
-/// refusal. It is the decision of the model if the tables equal those of a base that satisfies the
-/// books invariant. If the database is still open, it is unchanged. A crash after the call exposes
-/// only states that a crash before the call could expose.
-///
-/// Fails with `Memory` or `Store` only; with `Store` also if no number is left for a cash row.
+/// refusal. Fails with `Store` also if no number is left for a cash row.
 pub fn decide_movement<S: Alter>(
     alloc: Global,
     store: &mut Store<S>,
@@ -32,6 +28,6 @@ pub fn decide_movement<S: Alter>(
     // The value is not needed: the call shows that the stamp is at most the greatest stamp.
     let _moment = now.get();
     let last = store.last_stamp()?;
-    let found = read_movement_facts(store, movement)?;
+    let found = movement_facts(store, movement)?;
     plan_move(alloc, movement, &found, last, now)
 }

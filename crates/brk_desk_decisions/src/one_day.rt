@@ -12,14 +12,9 @@ use brk_trade::{Plan, plan_oneday};
 use sqlite::Alter;
 use std::alloc::Global;
 
-/// Decides on a command that sets the start of one-day settlement, the first day whose completions
-/// settle after one day, to `day`, at the clock reading `now`: returns its plan, or the refusal. It
-/// is the decision of the model if the tables equal those of a base that satisfies the books
-/// invariant. If the database is still open, it is unchanged. A crash after the call exposes only
-/// states that a crash before the call could expose.
-///
-/// Fails with `Memory` or `Store` only.
-pub fn decide_one_day_settlement<S: Alter>(
+/// Decides on `day` as the first day whose completions settle after one day, at the clock reading
+/// `now`: returns the plan that sets it, or the refusal.
+pub fn decide_oneday<S: Alter>(
     alloc: Global,
     store: &mut Store<S>,
     now: Stamp,
@@ -31,6 +26,6 @@ pub fn decide_one_day_settlement<S: Alter>(
     // The value is not needed: the call shows that the stamp is at most the greatest stamp.
     let _moment = now.get();
     let last = store.last_stamp()?;
-    let rule = store.one_day_settlement_start()?;
+    let rule = store.one_day_start()?;
     plan_oneday(alloc, day, rule, last, now)
 }

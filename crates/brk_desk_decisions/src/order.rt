@@ -15,7 +15,7 @@ ghost use Rattle.brk_store.specs.RemainingLots.{borrowed_store, number_of_rows_r
 ghost use Rattle.brk_trade.specs.Estimates.{OrderReadsAtMostOneLotMore};
 ghost use Rattle.brk_trade.specs.Orders.{IsOrderPlan, order_checks, terms_of_order, free_trade_id_check};
 
-use crate::order_finding::read_order_facts;
+use crate::order_finding::order_facts;
 use brk_money::{Planned, Stamp};
 use brk_ref_orders::Order;
 use brk_store::{LotPages, Store};
@@ -23,12 +23,7 @@ use brk_trade::{OrderPlanFacts, Plan, plan_order};
 use sqlite::Alter;
 use std::alloc::Global;
 
-// Plans an order from the facts `found` in the tables and from `lots`, the lots of the position:
-// returns its plan, or the refusal. `last` is the stamp of the last accepted command, or `None` if
-// there is none, and `now` the clock reading. Under the disk assumption, if these lots form a
-// position that other trades opened, it reads at most 16 lots more than the order would close or
-// reduce, also if it fails. It reads no lot if it refuses the order or the order closes no held
-// shares. Fails with `Memory` or `Store` only; with `Store` also if one of the lots that it reads
+// `last` is the stamp of the last accepted command. Fails with `Store` also if a lot that it reads
 // has no shares, or if the number of lots read exceeds 32 bits.
 fn plan_order_over_lots<S: Alter>(
     alloc: Global,
@@ -50,7 +45,7 @@ fn plan_order_over_lots<S: Alter>(
         (λ refusal. first_refusal (order_checks found.now ++ free_trade_id_check found.now.last_trade ∷ later_stamp_check last now ∷ []) ≡ Some refusal)) }
     ensures refused { IfOk result (λ planned. OnErr planned (lots.new ≡ lots.old)) }
 
-    // The number of lots read, also if the call fails.
+    // The number of lots read, also if the call fails. Lots are read 16 at a time: hence the 15.
     ensures few_rows_read { OrderReadsAtMostOneLotMore (terms_of_order order.now found.now)
         (AreLotsBeforeReads S.Store lots.old lots.new) (number_of_rows_read lots.old + 15) (number_of_rows_read lots.new) }
     ensures no_lot_read { is_trade_closing_lots (terms_of_order order.now found.now).side (terms_of_order order.now found.now).held ≡ false
@@ -63,14 +58,10 @@ fn plan_order_over_lots<S: Alter>(
 }
 
 /// Decides on an order at the clock reading `now` (Trade-Order): returns its plan, or the refusal.
-/// It is the decision of the model if the tables equal those of a base that satisfies the books
-/// invariant. If the database is still open, it is unchanged. A crash after the call exposes only
-/// states that a crash before the call could expose.
 ///
-/// Fails with `Memory` or `Store` only; with `Store` also if the account's customer or one of the
-/// customer's taxes does not exist, the tax rates total more than the greatest rate, a held symbol
-/// has no last price, a sum overflows, one of the lots that it reads has no shares, or the number
-/// of lots read exceeds 32 bits.
+/// Fails with `Store` also if the account's customer or one of the customer's taxes does not exist,
+/// the tax rates total more than the greatest rate, a held symbol has no last price, a sum
+/// overflows, a lot that it reads has no shares, or the number of lots read exceeds 32 bits.
 pub fn decide_order<S: Alter>(
     alloc: Global,
     store: &mut Store<S>,
@@ -83,7 +74,7 @@ pub fn decide_order<S: Alter>(
     // The value is not needed: the call shows that the stamp is at most the greatest stamp.
     let _moment = now.get();
     let last = store.last_stamp()?;
-    let found = read_order_facts(alloc, store, order)?;
+    let found = order_facts(alloc, store, order)?;
     let mut lots = store.lot_pages(alloc, order.account, &order.symbol, order.is_lifo);
     plan_order_over_lots(alloc, order, &found, &mut lots, last, now)
 }

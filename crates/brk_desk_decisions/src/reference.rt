@@ -6,20 +6,16 @@ ghost use Rattle.brk_trade_theorems.specs.Decisions.{DecidesCommand};
 ghost use Rattle.brk_model.specs.Run.{IsCallFault};
 ghost use Rattle.brk_store_transactions.specs.Holds.{ReadPost};
 
-use crate::finding::read_new_reference_facts;
+use crate::finding::reference_facts;
 use brk_money::{Planned, Stamp};
 use brk_store::Store;
 use brk_trade::{Plan, Reference, plan_reference};
 use sqlite::Alter;
 use std::alloc::Global;
 
-/// Decides on a command that adds a reference record, such as a broker or a charge, at the clock
-/// reading `now`: returns its plan, or the refusal. It is the decision of the model if the tables
-/// equal those of a base that satisfies the books invariant. If the database is still open, it is
-/// unchanged. A crash after the call exposes only states that a crash before the call could expose.
-///
-/// Fails with `Memory` or `Store` only; with `Store` also if the record is a tax of a customer who
-/// already pays a tax that does not exist.
+/// Decides on a new reference record, such as a broker or a charge, at the clock reading `now`:
+/// returns its plan, or the refusal. Fails with `Store` also if the record is a tax of a customer
+/// who already pays a tax that does not exist.
 pub fn decide_reference_record<S: Alter>(
     alloc: Global,
     store: &mut Store<S>,
@@ -32,6 +28,6 @@ pub fn decide_reference_record<S: Alter>(
     // The value is not needed: the call shows that the stamp is at most the greatest stamp.
     let _moment = now.get();
     let last = store.last_stamp()?;
-    let found = read_new_reference_facts(alloc, store, reference)?;
+    let found = reference_facts(alloc, store, reference)?;
     plan_reference(alloc, reference, found, last, now)
 }

@@ -15,7 +15,7 @@ ghost use Rattle.brk_store.specs.ReadSequences.{IsUnchangedByReads};
 ghost use Rattle.brk_store.specs.RemainingLots.{borrowed_store, number_of_rows_read};
 ghost use Rattle.brk_trade.specs.Results.{ResultReadsAtMostOneLotMore, CompletesExistingTrade, IsResultRefusal, ClosesNoHeldShares, stamp_or_clock_reading};
 
-use crate::result_finding::read_result_facts;
+use crate::result_finding::facts_of_result;
 use brk_lots::Position;
 use brk_money::{Planned, Price, Stamp};
 use brk_ref_orders::Completion;
@@ -24,13 +24,8 @@ use brk_trade::{Plan, ResultPlanFacts, plan_result};
 use sqlite::Alter;
 use std::alloc::Global;
 
-// Plans the result of a trade, completed at `price`, from the facts `found` in the tables and from
-// `lots`, the lots of its position: returns its plan, or the refusal. `last` is the stamp of the
-// last accepted command, or `None` if there is none, and `now` the clock reading. Under the disk
-// assumption, if these lots match the account's holding summary (`AreLotsBeforeTrade`), it reads at
-// most 16 lots more than the trade closes or reduces, also if it fails. It reads no lot if the
-// trade closes no held shares. Fails with `Memory` or `Store` only; with `Store` also if one of the
-// lots that it reads has no shares, or if the number of lots read exceeds 32 bits.
+// `last` is the stamp of the last accepted command. Fails with `Store` also if a lot that it reads
+// has no shares, or if the number of lots read exceeds 32 bits.
 fn plan_result_over_lots<S: Alter>(
     alloc: Global,
     found: &ResultPlanFacts,
@@ -50,7 +45,7 @@ fn plan_result_over_lots<S: Alter>(
         (CompletesExistingTrade (Some found.now) price (AreLotsBeforeReads S.Store lots.old lots.new) last now)
         (IsResultRefusal (Some found.now) price (AreLotsBeforeReads S.Store lots.old lots.new) last now)) }
 
-    // The number of lots read, also if the call fails.
+    // The number of lots read, also if the call fails. Lots are read 16 at a time: hence the 15.
     ensures few_rows_read { ResultReadsAtMostOneLotMore (Some found.now) price (stamp_or_clock_reading (moments.stamp_after last now) now)
         (AreLotsBeforeReads S.Store lots.old lots.new) (number_of_rows_read lots.old + 15) (number_of_rows_read lots.new) }
     ensures no_lot_read { ClosesNoHeldShares found.now → lots.new ≡ lots.old }
@@ -61,13 +56,8 @@ fn plan_result_over_lots<S: Alter>(
     plan_result(alloc, Some(found), price, lots, last, now)
 }
 
-// Plans the result of the trade in `found`, completed at `price`, from these facts and from the
-// lots of its position: returns its plan, or the refusal. `last` is the stamp of the last accepted
-// command, or `None` if there is none, and `now` the clock reading. If `found` is `None`, the trade
-// does not exist, and the function returns the refusal `NoTrade` (5). If the database is still
-// open, it is unchanged. Fails with `Memory` or `Store` only; with `Store` also if one of the lots
-// that it reads has no shares, or if the number of lots read exceeds 32 bits.
-fn plan_result_from_facts<S: Alter>(
+// If the trade does not exist, `found` is `None`, and the refusal is `NoTrade` (5).
+fn result_of_facts<S: Alter>(
     alloc: Global,
     store: &mut Store<S>,
     found: Option<ResultPlanFacts>,
@@ -96,14 +86,12 @@ fn plan_result_from_facts<S: Alter>(
 }
 
 /// Decides on the result of a trade at the clock reading `now` (Trade-Result): returns its plan, or
-/// the refusal. It is the decision of the model if the tables equal those of a base that satisfies
-/// the books invariant. If the database is still open, it is unchanged. A crash after the call
-/// exposes only states that a crash before the call could expose.
+/// the refusal.
 ///
-/// Fails with `Memory` or `Store` only; with `Store` also if the trade exists and its account,
-/// customer, broker or security or one of the customer's taxes does not, the tax rates total more
-/// than the greatest rate, a total of the broker is out of range, no number is left for a cash row,
-/// one of the lots that it reads has no shares, or the number of lots read exceeds 32 bits.
+/// Fails with `Store` also if the trade exists and its account, customer, broker or security or one
+/// of the customer's taxes does not, the tax rates total more than the greatest rate, a total of
+/// the broker is out of range, no number is left for a cash row, a lot that it reads has no shares,
+/// or the number of lots read exceeds 32 bits.
 pub fn decide_result<S: Alter>(
     alloc: Global,
     store: &mut Store<S>,
@@ -116,6 +104,6 @@ pub fn decide_result<S: Alter>(
     // The value is not needed: the call shows that the stamp is at most the greatest stamp.
     let _moment = now.get();
     let last = store.last_stamp()?;
-    let found = read_result_facts(alloc, store, completion.trade)?;
-    plan_result_from_facts(alloc, store, found, completion.price, last, now)
+    let found = facts_of_result(alloc, store, completion.trade)?;
+    result_of_facts(alloc, store, found, completion.price, last, now)
 }

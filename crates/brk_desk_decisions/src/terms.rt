@@ -19,9 +19,7 @@ use brk_trade::ReferenceFacts;
 use sqlite::Alter;
 use std::alloc::Global;
 
-// Returns true if the account has a permission for the tax id `tax_id`. If the database is still
-// open, it is unchanged. Fails with `Memory` or `Store` only.
-fn permission_exists<S: Alter>(
+fn has_permission<S: Alter>(
     store: &mut Store<S>,
     account: Id,
     tax_id: &TaxId,
@@ -32,9 +30,8 @@ fn permission_exists<S: Alter>(
     Ok(store.permission(account, tax_id)?.is_some())
 }
 
-// Returns the rate of the tax with the id `tax`, in hundred-thousandths, or `None` if the tax does
-// not exist. If the database is still open, it is unchanged. Fails with `Memory` or `Store` only.
-fn read_rate_of_tax<S: Alter>(store: &mut Store<S>, tax: Id) -> Result<Option<TaxRate>, Fault>
+// The rate is in hundred-thousandths.
+fn stored_rate<S: Alter>(store: &mut Store<S>, tax: Id) -> Result<Option<TaxRate>, Fault>
     ensures read { ReadPost S.Store store.old store.new result (λ rate t. rate ≡ rate_of_tax_rate_with_id t tax) }
     ensures fault { IfErr result IsCallFault }
 {
@@ -44,19 +41,15 @@ fn read_rate_of_tax<S: Alter>(store: &mut Store<S>, tax: Id) -> Result<Option<Ta
     }
 }
 
-// Returns true if CUSTOMER_TAXRATE has a row of the customer and the tax: the customer pays the
-// tax. If the database is still open, it is unchanged. Fails with `Memory` or `Store` only.
-fn customer_pays_tax<S: Alter>(store: &mut Store<S>, customer: Id, tax: Id) -> Result<bool, Fault>
+fn pays_tax<S: Alter>(store: &mut Store<S>, customer: Id, tax: Id) -> Result<bool, Fault>
     ensures read { ReadPost S.Store store.old store.new result (λ there t. there ≡ contains_customer_tax t customer tax) }
     ensures fault { IfErr result IsCallFault }
 {
     Ok(store.customer_tax(customer, tax)?.is_some())
 }
 
-// Returns the taxes that a customer pays, with their rates, in the order of the rows of
-// CUSTOMER_TAXRATE. If the database is still open, it is unchanged. Fails with `Memory` or `Store`
-// only; with `Store` also if one of the taxes does not exist.
-fn read_taxes_of_customer<S: Alter>(
+// Fails with `Store` also if one of the taxes does not exist.
+fn read_taxes<S: Alter>(
     alloc: Global,
     store: &mut Store<S>,
     customer: Id,
@@ -76,10 +69,9 @@ fn read_taxes_of_customer<S: Alter>(
     Ok(taxes)
 }
 
-// Returns the sum of the tax rates that a customer pays, in hundred-thousandths, or `None` if the
-// sum exceeds the greatest rate. If the database is still open, it is unchanged. Fails with
-// `Memory` or `Store` only; with `Store` also if one of the taxes does not exist.
-pub(crate) fn read_tax_rate_sum_within_limit<S: Alter>(
+// The sum is in hundred-thousandths. Fails with `Store` also if one of the customer's taxes does
+// not exist.
+pub(crate) fn limited_tax_sum<S: Alter>(
     alloc: Global,
     store: &mut Store<S>,
     customer: Id,
@@ -88,14 +80,11 @@ pub(crate) fn read_tax_rate_sum_within_limit<S: Alter>(
         ≤ greatest_tax_rate) (customer_tax_rate_sum t customer)) }
     ensures fault { IfErr result IsCallFault }
 {
-    let taxes = read_taxes_of_customer(alloc, store, customer)?;
+    let taxes = read_taxes(alloc, store, customer)?;
     Ok(tax_sum(&taxes))
 }
 
-// Returns the facts that decide on a new permission: whether its account exists, and whether this
-// account already has a permission for the same tax id. If the database is still open, it is
-// unchanged. Fails with `Memory` or `Store` only.
-pub(crate) fn read_new_permission_facts<S: Alter>(
+pub(crate) fn permission_facts<S: Alter>(
     store: &mut Store<S>,
     permission: &Permission,
 ) -> Result<ReferenceFacts, Fault>
@@ -104,7 +93,7 @@ pub(crate) fn read_new_permission_facts<S: Alter>(
     ensures fault { IfErr result IsCallFault }
 {
     let account = account_exists(store, permission.account)?;
-    let same_id = permission_exists(store, permission.account, &permission.tax_id)?;
+    let same_id = has_permission(store, permission.account, &permission.tax_id)?;
     Ok(ReferenceFacts {
         same_id,
         account,
@@ -112,9 +101,7 @@ pub(crate) fn read_new_permission_facts<S: Alter>(
     })
 }
 
-// Returns the fact that decides on a new charge: whether a charge of its trade type and customer
-// tier exists. If the database is still open, it is unchanged. Fails with `Memory` or `Store` only.
-pub(crate) fn read_new_charge_facts<S: Alter>(
+pub(crate) fn charge_facts<S: Alter>(
     store: &mut Store<S>,
     charge: &Charge,
 ) -> Result<ReferenceFacts, Fault>
@@ -128,11 +115,7 @@ pub(crate) fn read_new_charge_facts<S: Alter>(
     })
 }
 
-// Returns the fact that decides on a new commission band: whether a band of its tier, trade type
-// and exchange exists such that the lower bound of each of the two bands is at most the upper bound
-// of the other. If the database is still open, it is unchanged. Fails with `Memory` or `Store`
-// only.
-pub(crate) fn read_new_band_facts<S: Alter>(
+pub(crate) fn band_facts<S: Alter>(
     alloc: Global,
     store: &mut Store<S>,
     band: &Band,
@@ -148,12 +131,8 @@ pub(crate) fn read_new_band_facts<S: Alter>(
     })
 }
 
-// Returns the facts that decide on a new tax of a customer: whether the customer exists, whether
-// the customer already pays this tax, the rate of the tax (`None` if the tax does not exist), and
-// the sum of the rates that the customer pays (`None` if it exceeds the greatest rate). If the
-// database is still open, it is unchanged. Fails with `Memory` or `Store` only; with `Store` also
-// if one of the taxes that the customer pays does not exist.
-pub(crate) fn read_new_customer_tax_facts<S: Alter>(
+// Fails with `Store` also if a tax that the customer already pays does not exist.
+pub(crate) fn taxpayer_facts<S: Alter>(
     alloc: Global,
     store: &mut Store<S>,
     pays: &CustomerTax,
@@ -162,9 +141,9 @@ pub(crate) fn read_new_customer_tax_facts<S: Alter>(
     ensures fault { IfErr result IsCallFault }
 {
     let customer = customer_exists(store, pays.customer)?;
-    let rate = read_rate_of_tax(store, pays.tax)?;
-    let same_id = customer_pays_tax(store, pays.customer, pays.tax)?;
-    let rates = read_tax_rate_sum_within_limit(alloc, store, pays.customer)?;
+    let rate = stored_rate(store, pays.tax)?;
+    let same_id = pays_tax(store, pays.customer, pays.tax)?;
+    let rates = limited_tax_sum(alloc, store, pays.customer)?;
     Ok(ReferenceFacts {
         same_id,
         customer,

@@ -8,9 +8,7 @@ ghost use Rattle.brk_store_transactions.specs.Holds.{ReadPost};
 ghost use Rattle.brk_store.specs.ReadSequences.{ReadSequencePost};
 ghost use Rattle.brk_trade_theorems.specs.Corrections.{UpdateFactsMatchTables};
 
-use crate::update_finding::{
-    read_facts_of_cash_name_update, read_facts_of_cash_type_update, read_facts_of_executor_update,
-};
+use crate::update_finding::{cash_name_facts, cash_type_facts, executor_facts};
 use brk_money::{Fault, Planned, Stamp};
 use brk_ref_orders::Update;
 use brk_store::Store;
@@ -18,12 +16,8 @@ use brk_trade::{Plan, TextUpdate, plan_update};
 use sqlite::Alter;
 use std::alloc::Global;
 
-// Returns the trades that the update selects, with their texts, and, in an update of cash names,
-// the name of the security; or `None` if a trade, account or security that the update names does
-// not exist. If the database is still open, it is unchanged. Fails with `Memory` or `Store` only;
-// with `Store` also if a selected trade has no settlement, in an update of cash types, or no cash
-// row, in an update of cash names.
-fn read_facts_of_update<S: Alter>(
+// Returns `None` if the update names a trade, an account or a security that does not exist.
+fn update_facts<S: Alter>(
     alloc: Global,
     store: &mut Store<S>,
     update: &Update,
@@ -32,23 +26,15 @@ fn read_facts_of_update<S: Alter>(
     ensures fault { IfErr result IsCallFault }
 {
     match update {
-        Update::Executors(trades) => read_facts_of_executor_update(alloc, store, trades),
-        Update::CashTypes { account, span } => read_facts_of_cash_type_update(
-            alloc, store, *account, *span,
-        ),
-        Update::CashNames { symbol, span } => read_facts_of_cash_name_update(
-            alloc, store, symbol, *span,
-        ),
+        Update::Executors(trades) => executor_facts(alloc, store, trades),
+        Update::CashTypes { account, span } => cash_type_facts(alloc, store, *account, *span),
+        Update::CashNames { symbol, span } => cash_name_facts(alloc, store, symbol, *span),
     }
 }
 
 /// Decides on a text update at the clock reading `now` (Trade-Update): returns its plan, or the
-/// refusal. It is the decision of the model if the tables equal those of a base that satisfies the
-/// books invariant. If the database is still open, it is unchanged. A crash after the call exposes
-/// only states that a crash before the call could expose.
-///
-/// Fails with `Memory` or `Store` only; with `Store` also if a selected trade has no settlement, in
-/// an update of cash types, or no cash row, in an update of cash names.
+/// refusal. Fails with `Store` also if a selected trade has no settlement, in an update of cash
+/// types, or no cash row, in an update of cash names.
 pub fn decide_update<S: Alter>(
     alloc: Global,
     store: &mut Store<S>,
@@ -61,6 +47,6 @@ pub fn decide_update<S: Alter>(
     // The value is not needed: the call shows that the stamp is at most the greatest stamp.
     let _moment = now.get();
     let last = store.last_stamp()?;
-    let found = read_facts_of_update(alloc, store, update)?;
+    let found = update_facts(alloc, store, update)?;
     plan_update(alloc, update, found, last, now)
 }

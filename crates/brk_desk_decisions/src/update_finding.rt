@@ -9,7 +9,7 @@ ghost use Rattle.brk_store.specs.ReadSequences.{ReadSequencePost};
 ghost use Rattle.brk_trade_theorems.specs.Corrections.{CashTextsMatchTables, SettlementTextsMatchTables, UpdateFactsMatchTables, SecurityHasName};
 ghost use Rattle.brk_ref_orders.specs.declared.update.Update.TheVariants as update;
 
-use crate::update_texts::{require_cash_name, require_cash_type};
+use crate::update_texts::{cash_name_of, cash_type_of};
 use brk_money::{Fault, Id};
 use brk_ref::{Name, Span, Symbol};
 use brk_ref_orders::TradeIds;
@@ -18,12 +18,8 @@ use brk_trade::{CashText, SettlementText, TextUpdate};
 use sqlite::Alter;
 use std::alloc::Global;
 
-// Returns the trades of an account that an update of cash types selects, each with the cash type of
-// its settlement: the first twenty, or all if there are fewer, by stamp of completion, then by id,
-// ascending, of those that were completed in the span, both ends included. If the database is still
-// open, it is unchanged. Fails with `Memory` or `Store` only; with `Store` also if one of them has
-// no settlement.
-fn read_trades_with_cash_types<S: Alter>(
+// Fails with `Store` also if one of the trades has no settlement.
+fn read_cash_types<S: Alter>(
     alloc: Global,
     store: &mut Store<S>,
     account: Id,
@@ -33,10 +29,10 @@ fn read_trades_with_cash_types<S: Alter>(
         (λ settled t. SettlementTextsMatchTables t (chosen.first_twenty_completed_trade_rows_of_account account span.first span.last t) settled.items) }
     ensures fault { IfErr result IsCallFault }
 {
-    let trades = store.first_twenty_completed_trades_of_account(alloc, account, span)?;
+    let trades = store.completed_trades_of_account(alloc, account, span)?;
     let mut settled = Vec::new(alloc);
     for trade in &trades {
-        let cash_type = require_cash_type(store, trade.id)?;
+        let cash_type = cash_type_of(store, trade.id)?;
         settled.push(SettlementText {
             trade: trade.id,
             is_cash: trade.is_cash,
@@ -46,12 +42,8 @@ fn read_trades_with_cash_types<S: Alter>(
     Ok(settled)
 }
 
-// Returns the cash trades of a symbol that an update of cash names selects, each with the name of
-// its cash row: the first twenty, or all if there are fewer, by stamp of completion, then by id,
-// ascending, of those that were completed in the span, both ends included. If the database is still
-// open, it is unchanged. Fails with `Memory` or `Store` only; with `Store` also if one of them has
-// no cash row.
-fn read_trades_with_cash_names<S: Alter>(
+// Fails with `Store` also if one of the trades has no cash row.
+fn read_cash_names<S: Alter>(
     alloc: Global,
     store: &mut Store<S>,
     symbol: &Symbol,
@@ -61,10 +53,10 @@ fn read_trades_with_cash_names<S: Alter>(
         (λ paid t. CashTextsMatchTables t (chosen.first_twenty_completed_cash_trade_rows_of_symbol symbol.now span.first span.last t) paid.items) }
     ensures fault { IfErr result IsCallFault }
 {
-    let trades = store.first_twenty_completed_cash_trades_of_symbol(alloc, symbol, span)?;
+    let trades = store.completed_cash_trades_of_symbol(alloc, symbol, span)?;
     let mut paid = Vec::new(alloc);
     for trade in &trades {
-        let name = require_cash_name(store, trade.id)?;
+        let name = cash_name_of(store, trade.id)?;
         paid.push(CashText {
             trade: trade.id,
             kind: trade.kind,
@@ -75,10 +67,7 @@ fn read_trades_with_cash_names<S: Alter>(
     Ok(paid)
 }
 
-// Returns the trades with the ids `trades`, in the order of `trades`, for an update of the names of
-// their executors, or `None` if one of them does not exist. If the database is still open, it is
-// unchanged. Fails with `Memory` or `Store` only.
-pub(crate) fn read_facts_of_executor_update<S: Alter>(
+pub(crate) fn executor_facts<S: Alter>(
     alloc: Global,
     store: &mut Store<S>,
     trades: &TradeIds,
@@ -92,8 +81,7 @@ pub(crate) fn read_facts_of_executor_update<S: Alter>(
     }
 }
 
-// Returns true if the account with the id `account` exists. If the database is still open, it is
-// unchanged. Fails with `Memory` or `Store` only.
+// The same read as `finding::account_exists`, with the clause that updates need.
 fn account_row_exists<S: Alter>(store: &mut Store<S>, account: Id) -> Result<bool, Fault>
     ensures read { ReadPost S.Store store.old store.new result (λ there t. there ≡ is_some (account_row_with_id t account)) }
     ensures fault { IfErr result IsCallFault }
@@ -101,11 +89,7 @@ fn account_row_exists<S: Alter>(store: &mut Store<S>, account: Id) -> Result<boo
     Ok(store.account(account)?.is_some())
 }
 
-// Returns the trades of an account that an update of cash types selects, each with the cash type of
-// its settlement (`read_trades_with_cash_types`), or `None` if the account does not exist. If the
-// database is still open, it is unchanged. Fails with `Memory` or `Store` only; with `Store` also
-// if one of the trades has no settlement.
-pub(crate) fn read_facts_of_cash_type_update<S: Alter>(
+pub(crate) fn cash_type_facts<S: Alter>(
     alloc: Global,
     store: &mut Store<S>,
     account: Id,
@@ -117,16 +101,11 @@ pub(crate) fn read_facts_of_cash_type_update<S: Alter>(
     if !account_row_exists(store, account)? {
         return Ok(None);
     }
-    let settled = read_trades_with_cash_types(alloc, store, account, span)?;
+    let settled = read_cash_types(alloc, store, account, span)?;
     Ok(Some(TextUpdate::CashTypes(settled)))
 }
 
-// Returns the name of the security with the symbol `symbol`, or `None` if the security does not
-// exist. If the database is still open, it is unchanged. Fails with `Memory` or `Store` only.
-fn read_security_name<S: Alter>(
-    store: &mut Store<S>,
-    symbol: &Symbol,
-) -> Result<Option<Name>, Fault>
+fn symbol_name<S: Alter>(store: &mut Store<S>, symbol: &Symbol) -> Result<Option<Name>, Fault>
     ensures read { ReadPost S.Store store.old store.new result (λ name t. MatchOption name (is_none (security_row_with_symbol t symbol.now)
         ≡ true) (SecurityHasName t symbol.now)) }
     ensures fault { IfErr result IsCallFault }
@@ -137,11 +116,7 @@ fn read_security_name<S: Alter>(
     }
 }
 
-// Returns the name of the security with the symbol `symbol`, and its cash trades that an update of
-// cash names selects, each with the name of its cash row (`read_trades_with_cash_names`); or `None`
-// if the security does not exist. If the database is still open, it is unchanged. Fails with
-// `Memory` or `Store` only; with `Store` also if one of the trades has no cash row.
-pub(crate) fn read_facts_of_cash_name_update<S: Alter>(
+pub(crate) fn cash_name_facts<S: Alter>(
     alloc: Global,
     store: &mut Store<S>,
     symbol: &Symbol,
@@ -150,9 +125,9 @@ pub(crate) fn read_facts_of_cash_name_update<S: Alter>(
     ensures read { ReadPost S.Store store.old store.new result (λ found t. UpdateFactsMatchTables t (update.CashNames symbol.now span) found) }
     ensures fault { IfErr result IsCallFault }
 {
-    let Some(name) = read_security_name(store, symbol)? else {
+    let Some(name) = symbol_name(store, symbol)? else {
         return Ok(None);
     };
-    let paid = read_trades_with_cash_names(alloc, store, symbol, span)?;
+    let paid = read_cash_names(alloc, store, symbol, span)?;
     Ok(Some(TextUpdate::CashNames(name, paid)))
 }

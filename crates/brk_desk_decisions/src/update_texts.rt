@@ -12,13 +12,8 @@ use brk_store::Store;
 use brk_trade::CashType;
 use sqlite::Alter;
 
-// Returns the cash type of a trade's settlement (SE_CASH_TYPE). If the database is still open, it
-// is unchanged. Fails with `Memory` or `Store` only; with `Store` also if the trade has no
-// settlement.
-pub(crate) fn require_cash_type<S: Alter>(
-    store: &mut Store<S>,
-    trade: Id,
-) -> Result<CashType, Fault>
+// Reads SE_CASH_TYPE.
+pub(crate) fn cash_type_of<S: Alter>(store: &mut Store<S>, trade: Id) -> Result<CashType, Fault>
     ensures read { ReadPost S.Store store.old store.new result (λ cash_type t. Some (cash_type_text cash_type)
         ≡ option_map (λ s. s.cash_type) (settlement_row_of_trade t trade)) }
     ensures fault { IfErr result IsCallFault }
@@ -29,9 +24,8 @@ pub(crate) fn require_cash_type<S: Alter>(
     }
 }
 
-// Returns the name of a trade's cash row (CM_NAME). If the database is still open, it is unchanged.
-// Fails with `Memory` or `Store` only; with `Store` also if the trade has no cash row.
-pub(crate) fn require_cash_name<S: Alter>(store: &mut Store<S>, trade: Id) -> Result<String, Fault>
+// Reads CM_NAME.
+pub(crate) fn cash_name_of<S: Alter>(store: &mut Store<S>, trade: Id) -> Result<String, Fault>
     ensures read { ReadPost S.Store store.old store.new result (λ name t. Some (string_bytes name) ≡ option_map (λ c. c.name) (cash_row_of_trade t trade)) }
     ensures fault { IfErr result IsCallFault }
 {

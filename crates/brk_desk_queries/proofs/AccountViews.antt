@@ -1,4 +1,4 @@
--- What a customer's accounts are worth, as it was read, is the view of the definitions.
+-- The view of the values of a customer's accounts, from the rows read, is the model's.
 use Rattle.std.proofs.Common.{◌≡◌, ℕ, ◌==◌, List, Bool, Some, None, Ok, Err, sym, ap, ◌∙◌, map, filter, find}
 use Rattle.std.specs.Prelude.{◌&&◌, bytes_eq, is_none}
 use Rattle.std.specs.Global.{Vec}

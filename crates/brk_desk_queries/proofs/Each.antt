@@ -1,4 +1,4 @@
--- What is made of rows one after another.
+-- Lists that grow row by row.
 use Rattle.std.proofs.Common.{◌≡◌, ◌∙◌, ◌+◌, ◌<◌, ℕ, List, [], ◌∷◌, ◌++◌, refl, sym, ap, arith, get_or, length, map, reverse, take}
 use Rattle.std.specs.Prelude.{flat_map}
 use Rattle.std.proofs.lemmas.List.{map-append, reverse-append, take_more}

@@ -1,4 +1,4 @@
--- Trades that were looked up, as they were read, are the view of the definitions.
+-- The views of looked-up trades, from the rows read, are the model's.
 use Rattle.std.proofs.Common.{◌≡◌, ◌≤◌, ◌==◌, ℕ, Bool, true, false, cond, List, [], ◌∷◌, Option, Some, None, Ok, Err, refl, sym, ap, ◌∙◌, find, filter, length, map, take, arith, ◌+◌, ◌++◌}
 use Rattle.std.proofs.lemmas.List.{take_all}
 use Rattle.std.specs.Global.{Vec}

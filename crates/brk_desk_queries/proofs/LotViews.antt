@@ -1,4 +1,4 @@
--- What became of the lots that a trade touched, as it was read, is the view of the definitions.
+-- The view of the lots that a trade touched, from the rows read, is the model's.
 use Rattle.std.proofs.Common.{◌≡◌, ◌==◌, ℕ, List, [], ◌∷◌, ◌++◌, Option, Some, None, Ok, Err, refl, sym, ap, ◌∙◌, arith, find, filter, length, map, take}
 use Rattle.std.proofs.lemmas.List.{map-append}
 use Rattle.std.specs.Prelude.{flat_map, is_none, nat_le, option_map, option_to_list}

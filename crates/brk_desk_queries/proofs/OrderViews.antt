@@ -1,4 +1,4 @@
--- The view of submitted trades.
+-- The view of submitted trades, from the rows read, is the model's.
 use Rattle.std.proofs.Common.{◌≡◌, ◌∙◌, List, Ok, sym, ap, filter, map}
 use Rattle.std.specs.Global.{Vec}
 use Rattle.brk_money.specs.Kinds.{is_same_trade_status}

@@ -1,4 +1,4 @@
--- What an account did last, as it was read, is the view of the definitions.
+-- The view of an account's last trades, from the rows read, is the model's.
 use Rattle.std.proofs.Common.{◌≡◌, ℕ, ◌==◌, List, true, false, Some, None, Ok, Err, sym, ap, ◌∙◌, map, find}
 use Rattle.std.specs.Global.{Vec}
 use Rattle.std.specs.Prelude.{flat_map, is_none, option_map}

@@ -1,4 +1,4 @@
--- Whose account it is and its last trades, as they were read, are the view of the definitions.
+-- The view of an account's parties and last trades, from the rows read, is the model's.
 use Rattle.std.proofs.Common.{◌≡◌, ◌==◌, ℕ, Bool, true, false, cond, List, [], ◌∷◌, ◌++◌, Some, None, Ok, Err, refl, sym, ap, subst, ◌∙◌, find, filter, map, option_map, reverse, take}
 use Rattle.std.proofs.lemmas.List.{map-append}
 use Rattle.std.specs.Global.{Vec}

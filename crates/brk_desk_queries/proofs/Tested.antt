@@ -1,5 +1,5 @@
--- A query with one test: refused where it fails, and else answered. And the rows of a view that is
--- known.
+-- A query with one check is refused if the check fails, and answered otherwise. The rows of a known
+-- view.
 use Rattle.std.proofs.Common.{◌≡◌, [], ◌∷◌, Bool, true, false, Option, Some, None, Ok, Err, refl, subst, sym}
 use Rattle.std.specs.Prelude.{is_none}
 use Rattle.brk_money.specs.declared.refusal.Refusal.{Refusal}

@@ -1,4 +1,4 @@
--- What brokers have to trade in a sector, as it was read, is the view of the definitions.
+-- The view of the brokers' volumes in a sector, from the rows read, is the model's.
 use Rattle.std.proofs.Common.{◌≡◌, ◌==◌, ◌+◌, ◌<◌, ℕ, Bool, true, false, cond, List, [], ◌∷◌, ◌++◌, Ok, refl, sym, ap, ◌∙◌, arith, filter, get_or, length, map, pos, take}
 use Rattle.std.proofs.lemmas.List.{map-append}
 use Rattle.std.proofs.lemmas.Bool.Decides.{nat_tests}

@@ -16,11 +16,9 @@ use brk_view_rows::{AccountWorth, View, position};
 use sqlite::Alter;
 use std::alloc::Global;
 
-// Returns the id and the balance of the account in the row `row`, and the market value of its
-// holdings at last prices, both amounts in cents. If the database is still open, it is unchanged.
-// Fails with `Memory` or `Store` only; with `Store` also if a held symbol has no last price or the
+// Both amounts are in cents. Fails with `Store` also if a held symbol has no last price, or if the
 // sum overflows.
-fn read_balance_and_market_value<S: Alter>(
+fn read_worth<S: Alter>(
     alloc: Global,
     store: &mut Store<S>,
     row: &AccountRow,
@@ -36,11 +34,7 @@ fn read_balance_and_market_value<S: Alter>(
     })
 }
 
-// Returns the ids, the balances and the market values of all accounts of the customer with the id
-// `customer`, both amounts in cents, in the order of the table of accounts. If the database is
-// still open, it is unchanged. Fails with `Memory` or `Store` only; with `Store` also if a held
-// symbol has no last price or a sum overflows.
-fn read_balances_and_market_values<S: Alter>(
+fn read_worths<S: Alter>(
     alloc: Global,
     store: &mut Store<S>,
     customer: Id,
@@ -52,52 +46,37 @@ fn read_balances_and_market_values<S: Alter>(
     let mut worths = Vec::new(alloc);
     let rows = store.accounts_of_customer(alloc, customer)?;
     for row in &rows {
-        let worth = read_balance_and_market_value(alloc, store, row)?;
+        let worth = read_worth(alloc, store, row)?;
         worths.push(worth)?;
     }
     Ok(worths)
 }
 
-/// Returns the view of the balances and the market values of the accounts of the customer with the
-/// id `customer`, sorted by market value, then by id, ascending. Refuses with `NoCustomer` if there
-/// is no such customer. The result equals that of the model if the tables equal those of a base
-/// that satisfies the books invariant and the audit invariant. If the database is still open, it is
-/// unchanged. Fails with `Memory` or `Store` only; with `Store` also if a held symbol has no last
-/// price or a sum overflows.
-pub fn view_of_account_values<S: Alter>(
-    alloc: Global,
-    store: &mut Store<S>,
-    customer: Id,
-) -> Planned<View>
+/// Returns the view of the balances and the market values of a customer's accounts, in cents,
+/// sorted by market value, then by id, ascending. Refuses an unknown customer with `NoCustomer`.
+/// Fails with `Store` also if a held symbol has no last price or a sum overflows.
+pub fn values_view<S: Alter>(alloc: Global, store: &mut Store<S>, customer: Id) -> Planned<View>
     ensures read { ReadPost S.Store store.old store.new result (AnswersQueryAsModel (PositionOf customer)) }
     ensures fault { IfErr result IsCallFault }
 {
     let Some(found) = store.customer(customer)? else {
         return Ok(Err(Refusal::NoCustomer));
     };
-    let worths = read_balances_and_market_values(alloc, store, found.id)?;
+    let worths = read_worths(alloc, store, found.id)?;
     let view = position(alloc, worths)?;
     Ok(Ok(view))
 }
 
-/// Returns the view of the balances and the market values of the accounts of the customer with the
-/// tax id `tax_id`, sorted by market value, then by id, ascending. Refuses with `NoCustomer` if
-/// there is no such customer. The result equals that of the model if the tables equal those of a
-/// base that satisfies the books invariant and the audit invariant. If the database is still open,
-/// it is unchanged. Fails with `Memory` or `Store` only; with `Store` also if a held symbol has no
-/// last price or a sum overflows.
-pub fn view_of_account_values_by_tax_id<S: Alter>(
-    alloc: Global,
-    store: &mut Store<S>,
-    tax_id: &TaxId,
-) -> Planned<View>
+/// Returns the view of `values_view` for the customer with a tax id, and refuses and
+/// fails as it does.
+pub fn tax_id_view<S: Alter>(alloc: Global, store: &mut Store<S>, tax_id: &TaxId) -> Planned<View>
     ensures read { ReadPost S.Store store.old store.new result (AnswersQueryAsModel (PositionOfTaxId tax_id.now)) }
     ensures fault { IfErr result IsCallFault }
 {
     let Some(found) = store.customer_by_tax_id(tax_id)? else {
         return Ok(Err(Refusal::NoCustomer));
     };
-    let worths = read_balances_and_market_values(alloc, store, found.id)?;
+    let worths = read_worths(alloc, store, found.id)?;
     let view = position(alloc, worths)?;
     Ok(Ok(view))
 }

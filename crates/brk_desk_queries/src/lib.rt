@@ -1,6 +1,6 @@
-//! The answers to all queries except that for the estimate of an order, read from a store: each is
-//! a view of typed rows, or a refusal. Also the figures of an account's statement that are not
-//! rows.
+//! The answers to queries, read from a store: views of typed rows, or refusals. An answer is the
+//! model's if the tables equal those of a base that satisfies the books invariant and the audit
+//! invariant. The estimate of an order is in brk_desk_decisions; the head of a statement is here.
 #![tactic(auto)]
 
 pub mod accounts;
@@ -13,11 +13,11 @@ pub mod statuses;
 pub mod touched_lots;
 pub mod volumes;
 
-pub use accounts::{view_of_account_values, view_of_account_values_by_tax_id};
-pub use lookups::{view_of_account_trades, view_of_symbol_trades, view_of_trades_by_ids};
-pub use orders::view_of_submitted_trades;
-pub use recents::view_of_recent_trades;
-pub use statement_head::{Head, read_statement_head};
-pub use statuses::view_of_account_trade_statuses;
-pub use touched_lots::view_of_touched_lots;
-pub use volumes::view_of_broker_volumes;
+pub use accounts::{tax_id_view, values_view};
+pub use lookups::{view_by_account, view_by_ids, view_by_symbol};
+pub use orders::submitted_view;
+pub use recents::recent_view;
+pub use statement_head::{Head, account_head};
+pub use statuses::status_view;
+pub use touched_lots::touched_view;
+pub use volumes::volume_view;

@@ -14,16 +14,14 @@ use brk_ref::{Span, Symbol, TradeRow};
 use brk_store::{Store, read_trades_by_ids};
 use brk_view_rows::{
     LookedUp, NamedTrades, View, create_looked_up_trade, lookup_account, lookup_ids, lookup_symbol,
-    sort_trades_oldest_first,
+    oldest_first,
 };
 use sqlite::Alter;
 use std::alloc::Global;
 
-// Returns a trade with its settlement and its cash row,
-// each if it exists, and its history. The result is specified only if the tables equal those of a
-// base that satisfies the books invariant and the audit invariant. If the database is still open,
-// it is unchanged. Fails with `Memory` or `Store` only.
-fn read_settlement_cash_and_history_of_trade<S: Alter>(
+// The settlement and the cash row may be missing. The result is specified only if the tables are
+// those of a base that satisfies the books invariant and the audit invariant.
+fn look_up_trade<S: Alter>(
     alloc: Global,
     store: &mut Store<S>,
     trade: TradeRow,
@@ -37,11 +35,7 @@ fn read_settlement_cash_and_history_of_trade<S: Alter>(
     create_looked_up_trade(alloc, trade, settlement, cash, &history)
 }
 
-// Returns the trades `trades`, in the order of this list, each with its settlement and its cash
-// row, if they exist, and its history. The result is specified only if the tables equal those of a
-// base that satisfies the books invariant and the audit invariant. If the database is still open,
-// it is unchanged. Fails with `Memory` or `Store` only.
-fn read_settlement_cash_and_history_of_trades<S: Alter>(
+fn look_up_trades<S: Alter>(
     alloc: Global,
     store: &mut Store<S>,
     trades: Vec<TradeRow>,
@@ -52,7 +46,7 @@ fn read_settlement_cash_and_history_of_trades<S: Alter>(
     let mut rest = trades;
     let mut found = Vec::new(alloc);
     while let Some(trade) = rest.pop() {
-        let one = read_settlement_cash_and_history_of_trade(alloc, store, trade)?;
+        let one = look_up_trade(alloc, store, trade)?;
         found.push(one)?;
     }
     found.reverse();
@@ -61,10 +55,8 @@ fn read_settlement_cash_and_history_of_trades<S: Alter>(
 
 /// Returns the view of the trades with the ids in `trades`, sorted by the stamp of the last status,
 /// then by id, ascending, each with its settlement and its cash row, if they exist, and its
-/// history. Refuses with `NoTrade` if one of the trades does not exist. The result equals that of
-/// the model if the tables equal those of a base that satisfies the books invariant and the audit
-/// invariant. If the database is still open, it is unchanged. Fails with `Memory` or `Store` only.
-pub fn view_of_trades_by_ids<S: Alter>(
+/// history. Refuses an unknown id with `NoTrade`.
+pub fn view_by_ids<S: Alter>(
     alloc: Global,
     store: &mut Store<S>,
     trades: &NamedTrades,
@@ -77,18 +69,15 @@ pub fn view_of_trades_by_ids<S: Alter>(
     let Some(named) = read_trades_by_ids(alloc, store, trades.trades.ids())? else {
         return Ok(Err(Refusal::NoTrade));
     };
-    let ordered = sort_trades_oldest_first(alloc, named)?;
-    let found = read_settlement_cash_and_history_of_trades(alloc, store, ordered)?;
+    let ordered = oldest_first(alloc, named)?;
+    let found = look_up_trades(alloc, store, ordered)?;
     Ok(Ok(lookup_ids(found)))
 }
 
-/// Returns the view of the first 20 trades of an account, or of all if there are fewer, whose last
-/// statuses have stamps in `span`, both ends included, sorted by this stamp, then by id, ascending,
-/// each with its settlement and its cash row, if they exist, and its history. Refuses with
-/// `NoAccount` if the account does not exist. The result equals that of the model if the tables
-/// equal those of a base that satisfies the books invariant and the audit invariant. If the
-/// database is still open, it is unchanged. Fails with `Memory` or `Store` only.
-pub fn view_of_account_trades<S: Alter>(
+/// Returns the view of the first 20 trades of an account whose last statuses have stamps in `span`,
+/// both ends included, with the rows and in the order of `view_by_ids`. Refuses an
+/// unknown account with `NoAccount`.
+pub fn view_by_account<S: Alter>(
     alloc: Global,
     store: &mut Store<S>,
     account: Id,
@@ -100,18 +89,15 @@ pub fn view_of_account_trades<S: Alter>(
     let Some(_row) = store.account(account)? else {
         return Ok(Err(Refusal::NoAccount));
     };
-    let trades = store.first_twenty_trades_of_account(alloc, account, span)?;
-    let found = read_settlement_cash_and_history_of_trades(alloc, store, trades)?;
+    let trades = store.twenty_trades_of_account(alloc, account, span)?;
+    let found = look_up_trades(alloc, store, trades)?;
     Ok(Ok(lookup_account(found)))
 }
 
-/// Returns the view of the first 20 trades of a symbol, or of all if there are fewer, whose last
-/// statuses have stamps in `span`, both ends included, sorted by this stamp, then by id, ascending,
-/// each with its settlement and its cash row, if they exist, and its history. Refuses with
-/// `NoSecurity` if the security does not exist. The result equals that of the model if the tables
-/// equal those of a base that satisfies the books invariant and the audit invariant. If the
-/// database is still open, it is unchanged. Fails with `Memory` or `Store` only.
-pub fn view_of_symbol_trades<S: Alter>(
+/// Returns the view of the first 20 trades of a symbol whose last statuses have stamps in `span`,
+/// both ends included, with the rows and in the order of `view_by_ids`. Refuses an
+/// unknown symbol with `NoSecurity`.
+pub fn view_by_symbol<S: Alter>(
     alloc: Global,
     store: &mut Store<S>,
     symbol: &Symbol,
@@ -123,7 +109,7 @@ pub fn view_of_symbol_trades<S: Alter>(
     let Some(_row) = store.security(symbol)? else {
         return Ok(Err(Refusal::NoSecurity));
     };
-    let trades = store.first_twenty_trades_of_symbol(alloc, symbol, span)?;
-    let found = read_settlement_cash_and_history_of_trades(alloc, store, trades)?;
+    let trades = store.twenty_trades_of_symbol(alloc, symbol, span)?;
+    let found = look_up_trades(alloc, store, trades)?;
     Ok(Ok(lookup_symbol(found)))
 }

@@ -12,11 +12,8 @@ use brk_view_rows::{View, submitted};
 use sqlite::Alter;
 use std::alloc::Global;
 
-/// Returns the view of all submitted trades, sorted by id, ascending. Never refuses. The view
-/// equals that of the model if the tables equal those of a base that satisfies the books invariant
-/// and the audit invariant. If the database is still open, it is unchanged. Fails with `Memory` or
-/// `Store` only.
-pub fn view_of_submitted_trades<S: Alter>(alloc: Global, store: &mut Store<S>) -> Planned<View>
+/// Returns the view of all submitted trades, sorted by id, ascending. Never refuses.
+pub fn submitted_view<S: Alter>(alloc: Global, store: &mut Store<S>) -> Planned<View>
     ensures read { ReadPost S.Store store.old store.new result (AnswersQueryAsModel SubmittedTrades) }
     ensures fault { IfErr result IsCallFault }
 {

@@ -15,9 +15,7 @@ use brk_store_required::require_customer;
 use brk_view_rows::{AccountStatus, TradeStatus};
 use sqlite::Alter;
 
-// Returns the name of the broker with the id `id`. If the database is still open, it is unchanged.
-// Fails with `Memory` or `Store` only; with `Store` also if there is no such broker.
-fn require_broker_name<S: Alter>(store: &mut Store<S>, id: Id) -> Result<Name, Fault>
+fn require_name<S: Alter>(store: &mut Store<S>, id: Id) -> Result<Name, Fault>
     ensures read { ReadPost S.Store store.old store.new result (λ name t. name ≡ broker_name_with_id t id) }
     ensures fault { IfErr result IsCallFault }
 {
@@ -27,10 +25,7 @@ fn require_broker_name<S: Alter>(store: &mut Store<S>, id: Id) -> Result<Name, F
     }
 }
 
-// Returns the status of the account in the row `row`: the names of its customer and its broker, and
-// the trades `trades`. If the database is still open, it is unchanged. Fails with `Memory` or
-// `Store` only; with `Store` also if the customer or the broker does not exist.
-pub(crate) fn read_account_status<S: Alter>(
+pub(crate) fn account_status<S: Alter>(
     store: &mut Store<S>,
     row: &AccountRow,
     trades: Vec<TradeStatus>,
@@ -39,7 +34,7 @@ pub(crate) fn read_account_status<S: Alter>(
     ensures fault { IfErr result IsCallFault }
 {
     let customer = require_customer(store, row.account.customer)?;
-    let broker = require_broker_name(store, row.account.broker)?;
+    let broker = require_name(store, row.account.broker)?;
     Ok(AccountStatus {
         last_name: customer.last_name,
         first_name: customer.first_name,

@@ -16,8 +16,7 @@ use brk_view_rows::{View, recent};
 use sqlite::Alter;
 use std::alloc::Global;
 
-// Appends the status changes `rows` (of TRADE_HISTORY) to `history`, in their order. Fails with
-// `Memory` only (the clause also allows `Store`); a prefix of `rows` may then be appended.
+// Fails with `Memory` only (the clause also allows `Store`).
 fn append_history_rows(history: &mut Vec<HistoryRow>, rows: &[HistoryRow]) -> Result<(), Fault>
     ensures added { OnOk result (history.new.items ≡ history.old.items ++ rows.now) }
     ensures fault { IfErr result IsCallFault }
@@ -28,11 +27,7 @@ fn append_history_rows(history: &mut Vec<HistoryRow>, rows: &[HistoryRow]) -> Re
     Ok(())
 }
 
-// Returns the last ten trades of an account, or all if it has fewer, sorted by the stamp of the
-// last status, then by id, descending, and their status changes (of TRADE_HISTORY), trade by trade
-// in this order, those of one trade in the order of the table. If the database is still open, it is
-// unchanged. Fails with `Memory` or `Store` only.
-fn read_recent_trades_with_history<S: Alter>(
+fn recent_trades<S: Alter>(
     alloc: Global,
     store: &mut Store<S>,
     account: Id,
@@ -42,7 +37,7 @@ fn read_recent_trades_with_history<S: Alter>(
         × (map abstract_history_row found.1.items ≡ flat_map (λ row. history_rows_with_trade_id t row.id) (last_ten_trade_rows t account))) }
     ensures fault { IfErr result IsCallFault }
 {
-    let trades = store.last_ten_trades_of_account(alloc, account)?;
+    let trades = store.last_ten_trades(alloc, account)?;
     let mut history = Vec::new(alloc);
     for trade in &trades {
         let rows = store.history_of_trade(alloc, trade.id)?;
@@ -51,24 +46,17 @@ fn read_recent_trades_with_history<S: Alter>(
     Ok((trades, history))
 }
 
-/// Returns the view of the last ten trades of an account, or of all if it has fewer, sorted by the
-/// stamp of the last status, then by id, descending, and of their status changes, sorted by stamp,
-/// then by trade id, descending. Refuses with `NoAccount` if the account does not exist. The result
-/// equals that of the model if the tables equal those of a base that satisfies the books invariant
-/// and the audit invariant. If the database is still open, it is unchanged. Fails with `Memory` or
-/// `Store` only.
-pub fn view_of_recent_trades<S: Alter>(
-    alloc: Global,
-    store: &mut Store<S>,
-    account: Id,
-) -> Planned<View>
+/// Returns the view of an account's last ten trades, sorted by the stamp of the last status, then
+/// by id, descending, and of their status changes, sorted by stamp, then by trade id, descending.
+/// Refuses an unknown account with `NoAccount`.
+pub fn recent_view<S: Alter>(alloc: Global, store: &mut Store<S>, account: Id) -> Planned<View>
     ensures read { ReadPost S.Store store.old store.new result (AnswersQueryAsModel (RecentOf account)) }
     ensures fault { IfErr result IsCallFault }
 {
     let Some(found) = store.account(account)? else {
         return Ok(Err(Refusal::NoAccount));
     };
-    let (trades, history) = read_recent_trades_with_history(alloc, store, account)?;
+    let (trades, history) = recent_trades(alloc, store, account)?;
     let view = recent(alloc, trades, history)?;
     Ok(Ok(view))
 }

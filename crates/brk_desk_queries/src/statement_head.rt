@@ -1,3 +1,5 @@
+//! The head of an account's statement.
+
 ghost use Rattle.std.specs.Prelude.{IfErr};
 ghost use Rattle.brk_desk_queries.specs.Heads.{IsStatementHeadOfAccount};
 ghost use Rattle.brk_model.specs.Run.{IsCallFault};
@@ -22,11 +24,9 @@ pub struct Head {
     pub holdings: Wide,
 }
 
-/// Returns the name and the opening balance of an account, and the market value of its holdings at
-/// last prices, both amounts in cents, or `None` if the account does not exist. If the database is
-/// still open, it is unchanged. Fails with `Memory` or `Store` only; with `Store` also if a held
-/// symbol has no last price or the sum overflows.
-pub fn read_statement_head<S: Alter>(
+/// Returns the head of an account's statement, or `None` if the account does not exist. Fails with
+/// `Store` also if a held symbol has no last price, or if the sum overflows.
+pub fn account_head<S: Alter>(
     alloc: Global,
     store: &mut Store<S>,
     account: Id,

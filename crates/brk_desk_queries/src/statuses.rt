@@ -10,7 +10,7 @@ ghost use Rattle.brk_money.specs.declared.fault.Fault.TheVariants.{Memory};
 ghost use Rattle.brk_store_transactions.specs.Holds.{ReadPost};
 ghost use Rattle.brk_view_rows.specs.Status.{rows_of_trade_status, trade_row_with_security};
 
-use crate::parties::read_account_status;
+use crate::parties::account_status;
 use brk_money::{Fault, Id, Planned, Refusal};
 use brk_ref::{Security, Symbol, TradeRow};
 use brk_store::Store;
@@ -18,12 +18,8 @@ use brk_view_rows::{TradeStatus, View, status};
 use sqlite::Alter;
 use std::alloc::Global;
 
-// Returns the trade `trade` with its security. If the database is still open, it is unchanged.
-// Fails with `Memory` or `Store` only; with `Store` also if the security does not exist.
-fn read_trade_with_security<S: Alter>(
-    store: &mut Store<S>,
-    trade: TradeRow,
-) -> Result<TradeStatus, Fault>
+// Fails with `Store` also if the security does not exist.
+fn trade_status_of<S: Alter>(store: &mut Store<S>, trade: TradeRow) -> Result<TradeStatus, Fault>
     ensures read { ReadPost S.Store store.old store.new result (λ status t. rows_of_trade_status status
         ≡ trade_row_with_security t (abstract_trade_row trade)) }
     ensures fault { IfErr result IsCallFault }
@@ -34,15 +30,12 @@ fn read_trade_with_security<S: Alter>(
     }
 }
 
-// Returns true if the trade in `status`, a trade with its security, has the symbol `symbol`.
 fn is_trade_of_symbol(status: &TradeStatus, symbol: &Symbol) -> bool
     ensures { result ≡ bytes_eq status.now.trade.symbol symbol.now }
 {
     status.trade.symbol.as_str() == symbol.as_str()
 }
 
-// Returns the security of the first trade in `statuses` that has the symbol `symbol`, or `None` if
-// there is no such trade. Fails with `Memory` only.
 fn security_of_symbol(statuses: &[TradeStatus], symbol: &Symbol) -> Result<Option<Security>, Fault>
     ensures security { IfOk result (λ security. security
         ≡ option_map (λ s. s.security) (find (λ s. bytes_eq s.trade.symbol symbol.now) statuses.now)) }
@@ -58,11 +51,8 @@ fn security_of_symbol(statuses: &[TradeStatus], symbol: &Symbol) -> Result<Optio
     Ok(Some(security))
 }
 
-// Returns the last fifty trades of an account, or all if it has fewer, sorted by the stamp of the
-// last status, then by id, descending, each with its security. Reads the security of each symbol
-// once. If the database is still open, it is unchanged. Fails with `Memory` or `Store` only; with
-// `Store` also if one of the securities does not exist.
-fn read_recent_trades_with_securities<S: Alter>(
+// Reads the security of each symbol once.
+fn trade_statuses<S: Alter>(
     alloc: Global,
     store: &mut Store<S>,
     account: Id,
@@ -71,13 +61,13 @@ fn read_recent_trades_with_securities<S: Alter>(
         ≡ map (trade_row_with_security t) (take 50 (trade_rows_recent_first (trade_rows_of_account t account)))) }
     ensures fault { IfErr result IsCallFault }
 {
-    let mut rest = store.last_fifty_trades_of_account(alloc, account)?;
+    let mut rest = store.last_fifty_trades(alloc, account)?;
     let mut statuses = Vec::new(alloc);
     while let Some(trade) = rest.pop() {
         if let Some(security) = security_of_symbol(&statuses, &trade.symbol)? {
             statuses.push(TradeStatus { trade, security })?;
         } else {
-            let status = read_trade_with_security(store, trade)?;
+            let status = trade_status_of(store, trade)?;
             statuses.push(status)?;
         }
     }
@@ -85,24 +75,18 @@ fn read_recent_trades_with_securities<S: Alter>(
     Ok(statuses)
 }
 
-/// Returns the view of the names of an account's customer and broker, and of its last fifty trades,
-/// or of all if it has fewer, sorted by the stamp of the last status, then by id, descending, with
-/// their securities. Refuses with `NoAccount` if the account does not exist. The result equals that
-/// of the model if the tables equal those of a base that satisfies the books invariant and the
-/// audit invariant. If the database is still open, it is unchanged. Fails with `Memory` or `Store`
-/// only; with `Store` also if the customer, the broker or one of the securities does not exist.
-pub fn view_of_account_trade_statuses<S: Alter>(
-    alloc: Global,
-    store: &mut Store<S>,
-    account: Id,
-) -> Planned<View>
+/// Returns the view of the names of an account's customer and broker, and of its last fifty trades
+/// with their securities, sorted by the stamp of the last status, then by id, descending. Refuses
+/// an unknown account with `NoAccount`. Fails with `Store` also if the customer, the broker or one
+/// of the securities does not exist.
+pub fn status_view<S: Alter>(alloc: Global, store: &mut Store<S>, account: Id) -> Planned<View>
     ensures read { ReadPost S.Store store.old store.new result (AnswersQueryAsModel (StatusOf account)) }
     ensures fault { IfErr result IsCallFault }
 {
     let Some(row) = store.account(account)? else {
         return Ok(Err(Refusal::NoAccount));
     };
-    let trades = read_recent_trades_with_securities(alloc, store, account)?;
-    let found = read_account_status(store, &row, trades)?;
+    let trades = trade_statuses(alloc, store, account)?;
+    let found = account_status(store, &row, trades)?;
     Ok(Ok(status(found)))
 }

@@ -15,13 +15,11 @@ ghost use Rattle.brk_view_rows.specs.Volume as volume;
 use brk_money::{Fault, Id, Planned};
 use brk_ref::{BrokerRow, Name, RequestRow, Symbol};
 use brk_store::Store;
-use brk_view_rows::{BrokerNames, BrokerVolume, View, broker_volume, total_bid_value_of_requests};
+use brk_view_rows::{BrokerNames, BrokerVolume, View, broker_volume, total_bid_value};
 use sqlite::Alter;
 use std::alloc::Global;
 
-// Returns true if the security with the symbol `symbol` exists and is in the sector `sector`. If
-// the database is still open, it is unchanged. Fails with `Memory` or `Store` only.
-fn is_security_in_sector<S: Alter>(
+fn is_in_sector<S: Alter>(
     store: &mut Store<S>,
     symbol: &Symbol,
     sector: &Name,
@@ -35,10 +33,7 @@ fn is_security_in_sector<S: Alter>(
     }
 }
 
-// Appends the pending request `row` to `found` if `row` is one of the broker `broker` and its
-// security exists and is in the sector. If the database is still open, it is unchanged. Fails with
-// `Memory` or `Store` only; `found` is then unchanged (no clause states this).
-fn append_request_if_of_broker_in_sector<S: Alter>(
+fn append_request<S: Alter>(
     store: &mut Store<S>,
     sector: &Name,
     broker: Id,
@@ -52,7 +47,7 @@ fn append_request_if_of_broker_in_sector<S: Alter>(
     if row.broker != broker {
         return Ok(());
     }
-    if !is_security_in_sector(store, &row.symbol, sector)? {
+    if !is_in_sector(store, &row.symbol, sector)? {
         return Ok(());
     }
     let symbol = row.symbol.clone()?;
@@ -67,10 +62,7 @@ fn append_request_if_of_broker_in_sector<S: Alter>(
     Ok(())
 }
 
-// Returns the requests in `requests` that are of the broker and for a security in the sector, in
-// the order of `requests`. If the database is still open, it is unchanged. Fails with `Memory` or
-// `Store` only.
-fn read_sector_requests_of_broker<S: Alter>(
+fn sector_requests<S: Alter>(
     alloc: Global,
     store: &mut Store<S>,
     sector: &Name,
@@ -83,18 +75,14 @@ fn read_sector_requests_of_broker<S: Alter>(
 {
     let mut found = Vec::new(alloc);
     for row in requests {
-        append_request_if_of_broker_in_sector(store, sector, broker, row, &mut found)?;
+        append_request(store, sector, broker, row, &mut found)?;
     }
     Ok(found)
 }
 
-// Appends to `found` the id and the name of the broker in the row `row` and its volume in the
-// sector: the sum, in cents, of quantity times bid price over its pending requests for securities
-// in the sector. Appends nothing if the broker has no such request. What is appended is specified
-// only if `requests` are all pending requests, in the order of their table. If the database is
-// still open, it is unchanged. Fails with `Memory` or `Store` only; `found` is then unchanged (no
-// clause states this).
-fn append_broker_volume<S: Alter>(
+// Appends nothing if the broker has no request in the sector. `found` is specified only if
+// `requests` are all pending requests, in the order of their table.
+fn append_volume<S: Alter>(
     alloc: Global,
     store: &mut Store<S>,
     sector: &Name,
@@ -106,12 +94,12 @@ fn append_broker_volume<S: Alter>(
         ≡ found.old.items ++ volumes_of_brokers_in_sector t sector.now (abstract_broker_row row.now ∷ [])) }
     ensures fault { IfErr result IsCallFault }
 {
-    let mine = read_sector_requests_of_broker(alloc, store, sector, requests, row.broker.id)?;
+    let mine = sector_requests(alloc, store, sector, requests, row.broker.id)?;
     if mine.is_empty() {
         return Ok(());
     }
     let name = row.broker.name.clone()?;
-    let volume = total_bid_value_of_requests(&mine);
+    let volume = total_bid_value(&mine);
     found.push(BrokerVolume {
         broker: row.broker.id,
         name,
@@ -120,12 +108,7 @@ fn append_broker_volume<S: Alter>(
     Ok(())
 }
 
-// Appends to `found` the volumes in the sector, in cents, of the brokers with the name `name` that
-// have a pending request for a security in it, in the order of the table of brokers. What it
-// appends is specified only if `requests` are all pending requests, in the order of their table. If
-// the database is still open, it is unchanged. Fails with `Memory` or `Store` only; the volumes of
-// some of the brokers may then be appended.
-fn append_volumes_of_brokers_named<S: Alter>(
+fn append_volumes<S: Alter>(
     alloc: Global,
     store: &mut Store<S>,
     sector: &Name,
@@ -139,16 +122,13 @@ fn append_volumes_of_brokers_named<S: Alter>(
 {
     let rows = store.brokers_named(alloc, name)?;
     for row in &rows {
-        append_broker_volume(alloc, store, sector, requests, row, found)?;
+        append_volume(alloc, store, sector, requests, row, found)?;
     }
     Ok(())
 }
 
-// Returns the volumes in the sector, in cents, of the brokers with the names `names` that have a
-// pending request for a security in it, in the order of `names` and, for one name, in the order of
-// the table of brokers. Reads all requests once. If the database is still open, it is unchanged.
-// Fails with `Memory` or `Store` only.
-fn read_volumes_of_brokers_named<S: Alter>(
+// Reads the pending requests once for all brokers.
+fn named_volumes<S: Alter>(
     alloc: Global,
     store: &mut Store<S>,
     sector: &Name,
@@ -161,17 +141,15 @@ fn read_volumes_of_brokers_named<S: Alter>(
     let requests = store.all_trade_requests(alloc)?;
     let mut found = Vec::new(alloc);
     for name in names {
-        append_volumes_of_brokers_named(alloc, store, sector, &requests, name, &mut found)?;
+        append_volumes(alloc, store, sector, &requests, name, &mut found)?;
     }
     Ok(found)
 }
 
-/// Returns the view of the volumes in the sector, in cents, of the brokers with the names `names`
-/// that have a pending request for a security in it, sorted by volume, descending, then by name and
-/// id, ascending. Never refuses. The view equals that of the model if the tables equal those of a
-/// base that satisfies the books invariant and the audit invariant. If the database is still open,
-/// it is unchanged. Fails with `Memory` or `Store` only.
-pub fn view_of_broker_volumes<S: Alter>(
+/// Returns the view of the volumes in a sector, in cents, of the brokers with the names `names`
+/// that have a pending request in it, sorted by volume, descending, then by name and id, ascending.
+/// The volume is the sum of quantity times bid price over these requests. Never refuses.
+pub fn volume_view<S: Alter>(
     alloc: Global,
     store: &mut Store<S>,
     sector: &Name,
@@ -181,7 +159,7 @@ pub fn view_of_broker_volumes<S: Alter>(
     ensures fault { IfErr result IsCallFault }
 {
     let names = names.names();
-    let found = read_volumes_of_brokers_named(alloc, store, sector, names)?;
+    let found = named_volumes(alloc, store, sector, names)?;
     let view = broker_volume(alloc, found)?;
     Ok(Ok(view))
 }

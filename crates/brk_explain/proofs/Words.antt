@@ -1,4 +1,4 @@
--- What a comparison with a known word tells.
+-- A comparison with a known word decides whether the words are equal.
 use Rattle.std.proofs.Common.{◌≡◌, Bool, true, false, sym, ◌∙◌}
 use Rattle.std.specs.Prelude.{bytes_eq}
 use Rattle.std.proofs.lemmas.Bool.{false_from_ne_true}

@@ -1,3 +1,5 @@
+//! The explanations, from the facts that the desk reads to the lines that are written.
+
 ghost use Rattle.std.specs.Prelude.{IfErr};
 ghost use Rattle.brk_explain.specs.Requests.{abstract_explain_request};
 ghost use Rattle.brk_explain.specs.ExplanationParts.{all_broker_lines, all_account_lines};
@@ -7,16 +9,11 @@ ghost use Rattle.brk_report.specs.StatementOutput.{PreservesDesk, IsLinesFaultOt
 ghost use Rattle.brk_report_lines.specs.Written.{WritesLines};
 
 use crate::parse::ExplainRequest;
-use crate::sections::{
-    write_cash_posting_lines, write_open_lot_lines, write_trade_commission_lines,
-};
+use crate::sections::{write_commissions, write_open_lots, write_postings};
 use brk_desk::Desk;
-use brk_explain_lines::{
-    account_header_text, balance_and_lot_header_text, holding_and_total_text,
-    trade_explanation_text,
-};
+use brk_explain_lines::{end_text, explained_trade, header_text, lots_head_text};
 use brk_explain_rows::{AccountDetails, BrokerDetails};
-use brk_explain_sums::{broker_header_text, broker_total_text, holding_explanation_text};
+use brk_explain_sums::{broker_end_text, broker_head, explained_holding};
 use brk_money::{Id, Refusal};
 use brk_ref::Symbol;
 use brk_report_lines::{LinesFault, ReportFault, write_lines};
@@ -24,14 +21,8 @@ use sqlite::Alter;
 use std::alloc::Global;
 use std::io::Write;
 
-// Writes the explanation of the trade with the id. Fails with `Refused` (`NoTrade`) if the trade
-// does not exist, or with `Desk` if a read fails, memory runs out, a row that another row requires
-// does not exist, a completed trade has no price, the tax rates of the customer total more than the
-// greatest tax rate, or an amount, a number of shares or a number of cash rows overflows or exceeds
-// its limit; nothing is then written (after `Desk` no clause states this). Fails with `Write` after
-// a prefix of the text, perhaps all of it. If the database is still open, it is unchanged, whatever
-// the result.
-fn write_trade_explanation<W: Write, S: Alter>(
+// After `Desk` nothing is written, which no clause states: the text is made before it is written.
+fn write_trade<W: Write, S: Alter>(
     alloc: Global,
     desk: &mut Desk<S>,
     trade: Id,
@@ -44,17 +35,12 @@ fn write_trade_explanation<W: Write, S: Alter>(
         Ok(None) => return Err(ReportFault::Refused(Refusal::NoTrade)),
         Err(fault) => return Err(ReportFault::Desk(fault)),
     };
-    write_lines(writer, trade_explanation_text(alloc, &details))?;
+    write_lines(writer, explained_trade(alloc, &details))?;
     Ok(())
 }
 
-// Writes all lines of the explanation of an account, from its row and holdings in `details` and
-// from its cash rows and lots, which the function reads. Fails with `Desk` if a read fails, memory
-// runs out, or an amount or a number of rows overflows, or with `Write`. After `Desk` only whole
-// lines are written, perhaps none and never the last one; after `Write` whole lines and a prefix of
-// the next one, perhaps all of it. If the database is still open, it is unchanged, whatever the
-// result.
-fn write_account_explanation_lines<W: Write, S: Alter>(
+// Reads the cash rows and the lots row by row while it writes.
+fn write_account_lines<W: Write, S: Alter>(
     alloc: Global,
     desk: &mut Desk<S>,
     account: Id,
@@ -67,23 +53,14 @@ fn write_account_explanation_lines<W: Write, S: Alter>(
         (λ t. WritesLines (all_account_lines t account details.now) (W.contents writer.old) (W.contents writer.new) result) }
 {
     let row = &details.account;
-    write_lines(writer, account_header_text(alloc, row))?;
-    let cash = write_cash_posting_lines(alloc, desk, account, row.account.opening, writer)?;
-    write_lines(writer, balance_and_lot_header_text(alloc, row))?;
-    let lots = write_open_lot_lines(alloc, desk, account, writer)?;
-    write_lines(
-        writer,
-        holding_and_total_text(alloc, row, &details.held, cash, lots),
-    )
+    write_lines(writer, header_text(alloc, row))?;
+    let cash = write_postings(alloc, desk, account, row.account.opening, writer)?;
+    write_lines(writer, lots_head_text(alloc, row))?;
+    let lots = write_open_lots(alloc, desk, account, writer)?;
+    write_lines(writer, end_text(alloc, row, &details.held, cash, lots))
 }
 
-// Writes the explanation of the account with the id. Fails with `Refused` (`NoAccount`) and nothing
-// written if the account does not exist; with `Desk` if a read fails, memory runs out, a held
-// symbol has no last price, or an amount or a number of rows overflows; or with `Write`. After
-// `Desk` only whole lines are written, perhaps none and never the last one; after `Write` whole
-// lines and a prefix of the next one, perhaps all of it. If the database is still open, it is
-// unchanged, whatever the result.
-fn write_account_explanation<W: Write, S: Alter>(
+fn write_account<W: Write, S: Alter>(
     alloc: Global,
     desk: &mut Desk<S>,
     account: Id,
@@ -96,18 +73,12 @@ fn write_account_explanation<W: Write, S: Alter>(
         Ok(None) => return Err(ReportFault::Refused(Refusal::NoAccount)),
         Err(fault) => return Err(ReportFault::Desk(fault)),
     };
-    write_account_explanation_lines(alloc, desk, account, &details, writer)?;
+    write_account_lines(alloc, desk, account, &details, writer)?;
     Ok(())
 }
 
-// Writes the explanation of the holding of an account in a security. Fails with `Refused` if the
-// account does not exist (`NoAccount`) or only the security does not exist (`NoSecurity`), or with
-// `Desk` if a read fails, memory runs out, the security has no last price, a trade that changed a
-// lot does not exist, a trade has no price, or an amount, a quantity or a number of lots or of
-// their changes overflows; nothing is then written (after `Desk` no clause states this). Fails with
-// `Write` after a prefix of the text, perhaps all of it. If the database is still open, it is
-// unchanged, whatever the result.
-fn write_holding_explanation<W: Write, S: Alter>(
+// After `Desk` nothing is written, which no clause states: the text is made before it is written.
+fn write_holding<W: Write, S: Alter>(
     alloc: Global,
     desk: &mut Desk<S>,
     account: Id,
@@ -122,17 +93,12 @@ fn write_holding_explanation<W: Write, S: Alter>(
         Ok(Err(refusal)) => return Err(ReportFault::Refused(refusal)),
         Err(fault) => return Err(ReportFault::Desk(fault)),
     };
-    write_lines(writer, holding_explanation_text(alloc, &details))?;
+    write_lines(writer, explained_holding(alloc, &details))?;
     Ok(())
 }
 
-// Writes all lines of the explanation of a broker, from its row and number of accounts in `details`
-// and from the completed trades of its accounts, which the function reads. Fails with `Desk` if a
-// read fails, memory runs out, or the sum of the commissions or the number of the trades overflows,
-// or with `Write`. After `Desk` only whole lines are written, perhaps none and never the last one;
-// after `Write` whole lines and a prefix of the next one, perhaps all of it. If the database is
-// still open, it is unchanged, whatever the result.
-fn write_broker_explanation_lines<W: Write, S: Alter>(
+// Reads the completed trades row by row while it writes.
+fn write_broker_lines<W: Write, S: Alter>(
     alloc: Global,
     desk: &mut Desk<S>,
     broker: Id,
@@ -145,21 +111,15 @@ fn write_broker_explanation_lines<W: Write, S: Alter>(
         (λ t. WritesLines (all_broker_lines t broker details.now) (W.contents writer.old) (W.contents writer.new) result) }
 {
     let row = &details.broker;
-    write_lines(writer, broker_header_text(alloc, row))?;
-    let trades = write_trade_commission_lines(alloc, desk, broker, writer)?;
+    write_lines(writer, broker_head(alloc, row))?;
+    let trades = write_commissions(alloc, desk, broker, writer)?;
     write_lines(
         writer,
-        broker_total_text(alloc, row, details.accounts, trades),
+        broker_end_text(alloc, row, details.accounts, trades),
     )
 }
 
-// Writes the explanation of the broker with the id. Fails with `Refused` (`NoBroker`) and nothing
-// written if the broker does not exist; with `Desk` if a read fails, memory runs out, or the sum of
-// the commissions or the number of the trades overflows; or with `Write`. After `Desk` only whole
-// lines are written, perhaps none and never the last one; after `Write` whole lines and a prefix of
-// the next one, perhaps all of it. If the database is still open, it is unchanged, whatever the
-// result.
-fn write_broker_explanation<W: Write, S: Alter>(
+fn write_broker<W: Write, S: Alter>(
     alloc: Global,
     desk: &mut Desk<S>,
     broker: Id,
@@ -172,24 +132,18 @@ fn write_broker_explanation<W: Write, S: Alter>(
         Ok(None) => return Err(ReportFault::Refused(Refusal::NoBroker)),
         Err(fault) => return Err(ReportFault::Desk(fault)),
     };
-    write_broker_explanation_lines(alloc, desk, broker, &details, writer)?;
+    write_broker_lines(alloc, desk, broker, &details, writer)?;
     Ok(())
 }
 
-/// Writes the explanation of a trade, of an account, of a holding or of a broker of the desk. If
-/// the database is still open, it is unchanged, whatever the result.
+/// Writes the explanation of a trade, an account, a holding or a broker of the desk.
 ///
-/// Fails with `Refused` and nothing written if a record does not exist: with refusal 5 (`NoTrade`)
-/// for the trade, 1 (`NoAccount`) for the account, also of a holding, 4 (`NoSecurity`) for the
-/// security of a holding whose account exists, and 3 (`NoBroker`) for the broker. Fails with
-/// `Desk(Memory)` or `Desk(Store)`; `Desk(Store)` may also mean that a row that another row
-/// requires does not exist, that a security has no last price, that a completed trade has no price,
-/// that the tax rates of a customer total more than the greatest tax rate, or that an amount, a
-/// number of shares or a number of rows overflows or exceeds its limit. After `Desk` only whole
-/// lines are written, from the first on, perhaps none and never the last one. After `Write` whole
-/// lines are written, from the first on, and a prefix of the next one, perhaps empty or all of it.
-///
-/// A crash after the call exposes only states that a crash before the call could expose.
+/// Fails with `Refused` and nothing written if a record does not exist: `NoTrade` (5), `NoAccount`
+/// (1), `NoSecurity` (4; of a holding whose account exists) or `NoBroker` (3). Fails with
+/// `Desk(Memory)`, or with `Desk(Store)` also if a row or a price that the explanation requires is
+/// missing, or if an amount or a number exceeds its limit; whole lines are then written, perhaps
+/// none, never the last one. After `Write` a prefix of the next line is written too, perhaps all of
+/// it.
 pub fn write_explanation<W: Write, S: Alter>(
     alloc: Global,
     desk: &mut Desk<S>,
@@ -200,13 +154,11 @@ pub fn write_explanation<W: Write, S: Alter>(
         (W.contents writer.old) (W.contents writer.new) result }
 {
     match what {
-        ExplainRequest::Trade(trade) => write_trade_explanation(alloc, desk, *trade, writer),
-        ExplainRequest::Account(account) => write_account_explanation(
-            alloc, desk, *account, writer,
-        ),
+        ExplainRequest::Trade(trade) => write_trade(alloc, desk, *trade, writer),
+        ExplainRequest::Account(account) => write_account(alloc, desk, *account, writer),
         ExplainRequest::Holding { account, symbol } => {
-            write_holding_explanation(alloc, desk, *account, symbol, writer)
+            write_holding(alloc, desk, *account, symbol, writer)
         }
-        ExplainRequest::Broker(broker) => write_broker_explanation(alloc, desk, *broker, writer),
+        ExplainRequest::Broker(broker) => write_broker(alloc, desk, *broker, writer),
     }
 }

@@ -7,4 +7,4 @@ pub mod sections;
 pub mod visitors;
 
 pub use explaining::write_explanation;
-pub use parse::{ExplainRequest, parse_explain_request};
+pub use parse::{ExplainRequest, parse_explain};

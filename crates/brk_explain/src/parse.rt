@@ -1,3 +1,5 @@
+//! Requests for explanations, and their words on a command line.
+
 ghost use Rattle.std.specs.Prelude.{◌≡◌, ◌∷◌, Err, IfOk, OnErr};
 ghost use Rattle.brk_explain.specs.Requests.{abstract_explain_request};
 ghost use Rattle.brk_model_explain.specs.Explain as model;
@@ -22,8 +24,6 @@ pub enum ExplainRequest {
     Broker(Id),
 }
 
-// Parses `words` as exactly one id and returns the id. Refuses another number of words or a
-// malformed id with `BadText`.
 fn parse_single_id(words: &[&[u8]]) -> Result<Id, Refusal>
     ensures { ParsesAs (λ id. id) result (model.read_single_id (texts_of_fields words.now)) }
 {
@@ -36,9 +36,7 @@ fn parse_single_id(words: &[&[u8]]) -> Result<Id, Refusal>
     }
 }
 
-// Returns the request to explain a trade from the words after `trade`: the id of the trade. Refuses
-// any other words with `BadText`.
-fn parse_trade_explain_request(words: &[&[u8]]) -> Result<ExplainRequest, Refusal>
+fn trade_asked(words: &[&[u8]]) -> Result<ExplainRequest, Refusal>
     ensures { ParsesAs abstract_explain_request result (read_and_wrap model.TradeOf model.read_single_id (texts_of_fields words.now)) }
 {
     match parse_single_id(words) {
@@ -47,9 +45,7 @@ fn parse_trade_explain_request(words: &[&[u8]]) -> Result<ExplainRequest, Refusa
     }
 }
 
-// Returns the request to explain an account from the words after `account`: the id of the account.
-// Refuses any other words with `BadText`.
-fn parse_account_explain_request(words: &[&[u8]]) -> Result<ExplainRequest, Refusal>
+fn account_asked(words: &[&[u8]]) -> Result<ExplainRequest, Refusal>
     ensures { ParsesAs abstract_explain_request result (read_and_wrap model.AccountOf model.read_single_id (texts_of_fields words.now)) }
 {
     match parse_single_id(words) {
@@ -58,9 +54,7 @@ fn parse_account_explain_request(words: &[&[u8]]) -> Result<ExplainRequest, Refu
     }
 }
 
-// Returns the request to explain a broker from the words after `broker`: the id of the broker.
-// Refuses any other words with `BadText`.
-fn parse_broker_explain_request(words: &[&[u8]]) -> Result<ExplainRequest, Refusal>
+fn broker_asked(words: &[&[u8]]) -> Result<ExplainRequest, Refusal>
     ensures { ParsesAs abstract_explain_request result (read_and_wrap model.BrokerOf model.read_single_id (texts_of_fields words.now)) }
 {
     match parse_single_id(words) {
@@ -69,9 +63,7 @@ fn parse_broker_explain_request(words: &[&[u8]]) -> Result<ExplainRequest, Refus
     }
 }
 
-// Returns the request to explain a holding from the words after `holding`: the id of the account
-// and the symbol. Refuses any other words with `BadText`. Fails with `Memory` only.
-fn parse_holding_explain_request(alloc: Global, words: &[&[u8]]) -> Planned<ExplainRequest>
+fn holding_asked(alloc: Global, words: &[&[u8]]) -> Planned<ExplainRequest>
     ensures read { IfOk result (λ read. ParsesAs abstract_explain_request read (model.read_holding_request (texts_of_fields words.now))) }
     ensures fault { OnErr result (result ≡ Err Memory) }
 {
@@ -87,43 +79,36 @@ fn parse_holding_explain_request(alloc: Global, words: &[&[u8]]) -> Planned<Expl
     Ok(Ok(ExplainRequest::Holding { account, symbol }))
 }
 
-// Returns the explain request of the kind `form`, the first word (`trade`, `account`, `holding` or
-// `broker`), with the ids and the symbol in the other words, `words`. Refuses another first word,
-// and malformed, missing or surplus words, with `BadText`. Fails with `Memory` only.
+// `form` is the first word, `words` has the others.
 #[tactic(auto, unfolding(brk_model_explain::specs::Explain::read_explain_request))]
-fn parse_explain_request_of_kind(
-    alloc: Global,
-    form: &[u8],
-    words: &[&[u8]],
-) -> Planned<ExplainRequest>
+fn request_of_kind(alloc: Global, form: &[u8], words: &[&[u8]]) -> Planned<ExplainRequest>
     ensures read { IfOk result (λ read. ParsesAs abstract_explain_request read (model.read_explain_request (form.now ∷ texts_of_fields words.now))) }
     ensures fault { OnErr result (result ≡ Err Memory) }
 {
     if form == b"trade".as_slice() {
-        return Ok(parse_trade_explain_request(words));
+        return Ok(trade_asked(words));
     }
     if form == b"account".as_slice() {
-        return Ok(parse_account_explain_request(words));
+        return Ok(account_asked(words));
     }
     if form == b"holding".as_slice() {
-        return parse_holding_explain_request(alloc, words);
+        return holding_asked(alloc, words);
     }
     if form == b"broker".as_slice() {
-        return Ok(parse_broker_explain_request(words));
+        return Ok(broker_asked(words));
     }
     Ok(Err(Refusal::BadText))
 }
 
-/// Returns the request for an explanation from the words of a command line: `trade ID`,
-/// `account ID`, `holding ACCOUNT SYMBOL` or `broker ID`. Refuses another or no first word, a wrong
-/// number of words, a malformed id or a malformed symbol with `BadText`. Fails with `Memory` only.
+/// Reads a request from the words `trade ID`, `account ID`, `holding ACCOUNT SYMBOL` or `broker
+/// ID`. Refuses all others with `BadText`.
 #[tactic(auto, unfolding(brk_model_explain::specs::Explain::read_explain_request))]
-pub fn parse_explain_request(alloc: Global, words: &[&[u8]]) -> Planned<ExplainRequest>
+pub fn parse_explain(alloc: Global, words: &[&[u8]]) -> Planned<ExplainRequest>
     ensures read { IfOk result (λ read. ParsesAs abstract_explain_request read (model.read_explain_request (texts_of_fields words.now))) }
     ensures fault { OnErr result (result ≡ Err Memory) }
 {
     let [form, rest @ ..] = words else {
         return Ok(Err(Refusal::BadText));
     };
-    parse_explain_request_of_kind(alloc, form, rest)
+    request_of_kind(alloc, form, rest)
 }

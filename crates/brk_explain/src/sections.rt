@@ -1,5 +1,6 @@
-//! The parts of the explanations of an account and of a broker that are written row by row. If the
-//! database is still open, none of them changes it.
+//! The parts of the explanations of an account and of a broker that are written row by row, each
+//! with the number of its rows. After `Desk` only whole lines are written, after `Write` also a
+//! prefix of the next one.
 
 ghost use Rattle.std.specs.Prelude.{IfErr, length};
 ghost use Rattle.brk_explain.specs.ExplanationParts.{WritesCountedLines, account_cash_lines, broker_trade_lines, account_lot_lines};
@@ -17,13 +18,9 @@ use sqlite::Alter;
 use std::alloc::Global;
 use std::io::Write;
 
-/// Writes a line for each cash row of an account with a stamp from 1970-01-01 to 9999-12-31, both
-/// included, sorted by stamp, ascending, with the balance after it; the balance before the first
-/// one is `opening`, in cents. Returns the number of these cash rows. Fails with `Desk` if a read
-/// fails, memory runs out, or a balance or the number overflows, or with `Write`. After `Desk` only
-/// whole lines are written, perhaps none or all; after `Write` whole lines and a prefix of the next
-/// one, perhaps all of it. If the database is still open, it is unchanged, whatever the result.
-pub(crate) fn write_cash_posting_lines<W: Write, S: Alter>(
+/// Writes the cash rows with stamps from 1970-01-01 to 9999-12-31, both included, sorted by stamp,
+/// ascending. The balance before the first one is `opening`, in cents.
+pub(crate) fn write_postings<W: Write, S: Alter>(
     alloc: Global,
     desk: &mut Desk<S>,
     account: Id,
@@ -49,12 +46,8 @@ pub(crate) fn write_cash_posting_lines<W: Write, S: Alter>(
     }
 }
 
-/// Writes a line for each lot of an account, sorted by symbol, then by opening stamp, both
-/// ascending, and returns the number of lots. Fails with `Desk` if a read fails, memory runs out or
-/// the number overflows, or with `Write`. After `Desk` only whole lines are written, perhaps none
-/// or all; after `Write` whole lines and a prefix of the next one, perhaps all of it. If the
-/// database is still open, it is unchanged, whatever the result.
-pub(crate) fn write_open_lot_lines<W: Write, S: Alter>(
+/// Writes the lots sorted by symbol, then by opening stamp, both ascending.
+pub(crate) fn write_open_lots<W: Write, S: Alter>(
     alloc: Global,
     desk: &mut Desk<S>,
     account: Id,
@@ -77,13 +70,8 @@ pub(crate) fn write_open_lot_lines<W: Write, S: Alter>(
     }
 }
 
-/// Writes a line for each completed trade of a broker's accounts, sorted by the stamp of
-/// completion, ascending, with the running total of the commissions. Returns the number of trades.
-/// Fails with `Desk` if a read fails, memory runs out, or the total or the number overflows, or
-/// with `Write`. After `Desk` only whole lines are written, perhaps none or all; after `Write`
-/// whole lines and a prefix of the next one, perhaps all of it. If the database is still open, it
-/// is unchanged, whatever the result.
-pub(crate) fn write_trade_commission_lines<W: Write, S: Alter>(
+/// Writes the trades sorted by the stamp of completion, ascending.
+pub(crate) fn write_commissions<W: Write, S: Alter>(
     alloc: Global,
     desk: &mut Desk<S>,
     broker: Id,
@@ -101,7 +89,7 @@ pub(crate) fn write_trade_commission_lines<W: Write, S: Alter>(
         total: Wide::new(0),
         count: 0,
     };
-    match desk.visit_completed_trades_of_broker(alloc, broker, &mut rows) {
+    match desk.visit_broker_trades(alloc, broker, &mut rows) {
         Ok(()) => Ok(rows.count),
         Err(ended) => Err(fault_from_walk_error(ended)),
     }

@@ -1,11 +1,13 @@
-//! Visitors that write a line for each record, and count the records.
+//! Visitors that write a line for each record, and count the records. After `Desk` nothing of the
+//! line is written, after `Write` a prefix. Totals and counts are then unchanged, which no clause
+//! states.
 
 use brk_desk::Visitor;
-use brk_explain_lines::{cash_posting_text, open_lot_text};
-use brk_explain_sums::trade_commission_line_text;
+use brk_explain_lines::{open_lot_text, posting_text};
+use brk_explain_sums::commission_text;
 use brk_money::{Fault, Wide};
 use brk_ref::{CashRow, HoldingRow, TradeRow};
-use brk_report::totals::{total_plus_amount, total_plus_commission};
+use brk_report::totals::{plus_amount, plus_commission};
 use brk_report_lines::{LinesFault, write_line};
 use std::alloc::Global;
 use std::io::Write;
@@ -37,17 +39,13 @@ impl<W: Write> Visitor<CashRow, LinesFault> for CashPostingWriter<'_, W> {
     ghost stops = { λ p r e q. FailsWithinLines (cash_posting_line (abstract_cash_row r) (p.balance +ℤ r.amount)
         ∷ []) (W.contents p.writer.now) (W.contents q.writer.now) e };
 
-    /// Adds the amount of the cash row to the balance, in cents, writes the line of the row with
-    /// this new balance, and counts the row. Fails with `Desk(Memory)`, or with `Desk(Store)` if
-    /// the balance or the count overflows; nothing is then written. Fails with `Write` after a
-    /// prefix of the line, perhaps all of it. The balance and the count are unchanged after an
-    /// error (no clause states this).
+    /// Writes the balance after the cash row.
     fn visit(&mut self, item: &CashRow) -> Result<(), LinesFault> {
-        let balance = total_plus_amount(self.balance, item.amount)?;
+        let balance = plus_amount(self.balance, item.amount)?;
         let Some(count) = self.count.checked_add(1) else {
             return Err(LinesFault::Desk(Fault::Store));
         };
-        write_line(self.writer, cash_posting_text(self.alloc, item, balance))?;
+        write_line(self.writer, posting_text(self.alloc, item, balance))?;
         self.balance = balance;
         self.count = count;
         Ok(())
@@ -83,10 +81,6 @@ impl<W: Write> Visitor<HoldingRow, LinesFault> for OpenLotWriter<'_, W> {
 
     ghost stops = { λ p r e q. FailsWithinLines (open_lot_line (abstract_holding_row r) ∷ []) (W.contents p.writer.now) (W.contents q.writer.now) e };
 
-    /// Writes the line of the lot, then counts the lot. Fails with `Desk(Memory)`, or with
-    /// `Desk(Store)` if the count overflows; nothing is then written. Fails with `Write` after a
-    /// prefix of the line, perhaps all of it. The count is unchanged after an error (no clause
-    /// states this).
     fn visit(&mut self, item: &HoldingRow) -> Result<(), LinesFault> {
         let Some(count) = self.count.checked_add(1) else {
             return Err(LinesFault::Desk(Fault::Store));
@@ -130,20 +124,13 @@ impl<W: Write> Visitor<TradeRow, LinesFault> for TradeCommissionWriter<'_, W> {
     ghost stops = { λ p r e q. FailsWithinLines (trade_commission_line (abstract_trade_row r) (p.total +ℤ pos r.commission)
         ∷ []) (W.contents p.writer.now) (W.contents q.writer.now) e };
 
-    /// Adds the commission of the trade to the running total, in cents, writes the line of the
-    /// trade with this new total, and counts the trade. Fails with `Desk(Memory)`, or with
-    /// `Desk(Store)` if the total or the count overflows; nothing is then written. Fails with
-    /// `Write` after a prefix of the line, perhaps all of it. The total and the count are unchanged
-    /// after an error (no clause states this).
+    /// Writes the total after the trade.
     fn visit(&mut self, item: &TradeRow) -> Result<(), LinesFault> {
-        let total = total_plus_commission(self.total, item.commission)?;
+        let total = plus_commission(self.total, item.commission)?;
         let Some(count) = self.count.checked_add(1) else {
             return Err(LinesFault::Desk(Fault::Store));
         };
-        write_line(
-            self.writer,
-            trade_commission_line_text(self.alloc, item, total),
-        )?;
+        write_line(self.writer, commission_text(self.alloc, item, total))?;
         self.total = total;
         self.count = count;
         Ok(())

@@ -7,21 +7,15 @@ pub mod pieces;
 pub mod starts;
 pub mod timestamps;
 
-pub use amounts::{
-    add_amounts, cents_of_wide_amount, subtract_amounts, value_of_shares_at_price,
-    wide_amount_of_cents,
-};
+pub use amounts::{add_amounts, cents_of_wide, shares_value, subtract_amounts, wide_of_cents};
 pub use facts::{
-    put_label, put_labeled_amount, put_labeled_amount_line, put_labeled_day_line,
-    put_labeled_integer_line, put_labeled_number, put_labeled_number_line,
-    put_labeled_right_aligned_line, put_labeled_text, put_labeled_text_line,
+    label_amount, label_number, label_text, put_amount_fact, put_day_fact, put_label,
+    put_number_fact, put_signed_fact, put_text_fact, put_value_fact,
 };
 pub use pieces::{
-    end_line, put_cents_column, put_column, put_integer_column, put_number_column,
-    put_space_and_text, put_space_and_text_line, put_text, put_text_and_number, put_text_line,
-    put_title_line,
+    align_cents, align_integer, align_number, end_line, put_column, put_numbered, put_spaced_line,
+    put_spaced_text, put_text, put_text_line, put_title_line,
 };
 pub use starts::{
-    put_amount_column, put_leading_columns_without_stamp, put_leading_row_columns,
-    put_shares_column, put_value_column, put_word_and_timestamp,
+    align_amount, align_shares, align_value, put_dated_word, put_row_start, put_undated_row,
 };

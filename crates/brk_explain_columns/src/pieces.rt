@@ -1,5 +1,5 @@
-//! Texts with a space or a line feed, and right-aligned columns. The functions fail with `Memory`
-//! only.
+//! Texts with a space or a line feed, and right-aligned columns of at most 22 places, each after a
+//! space. The functions fail with `Memory` only, and may then have appended a part.
 
 ghost use Rattle.std.specs.Fmt.{signed_decimal};
 ghost use Rattle.std.specs.Prelude.{◌≡◌, ◌++◌, ◌∷◌, ◌≤◌, [], Err, OnErr, OnOk, codes, decimal};
@@ -9,11 +9,10 @@ ghost use Rattle.brk_money.specs.declared.fault.Fault.TheVariants.{Memory};
 ghost use Rattle.brk_report_lines.specs.Written.{line_with_line_feed};
 
 use brk_money::{Fault, Id, Wide, write_cents};
-use brk_report_lines::append_right_aligned;
+use brk_report_lines::append_right;
 use itoa::Buffer;
 use std::alloc::Global;
 
-/// Appends to `out` a line feed. Fails with `Memory` only; `out` is then unchanged.
 pub fn end_line(out: &mut Vec<u8>) -> Result<(), Fault>
     ensures ok { OnOk result (out.new.items ≡ out.old.items ++ 10 ∷ []) }
     ensures fault { OnErr result (result ≡ Err Memory) }
@@ -22,7 +21,6 @@ pub fn end_line(out: &mut Vec<u8>) -> Result<(), Fault>
     Ok(())
 }
 
-/// Appends to `out` a text. Fails with `Memory` only; `out` is then unchanged.
 pub fn put_text(out: &mut Vec<u8>, text: &[u8]) -> Result<(), Fault>
     ensures ok { OnOk result (out.new.items ≡ out.old.items ++ text.now) }
     ensures fault { OnErr result (result ≡ Err Memory) }
@@ -31,8 +29,6 @@ pub fn put_text(out: &mut Vec<u8>, text: &[u8]) -> Result<(), Fault>
     Ok(())
 }
 
-/// Appends to `out` a text and a line feed. Fails with `Memory` only; a part of the line may then
-/// be appended.
 pub fn put_text_line(out: &mut Vec<u8>, text: &[u8]) -> Result<(), Fault>
     ensures ok { OnOk result (out.new.items ≡ out.old.items ++ line_with_line_feed text.now) }
     ensures fault { OnErr result (result ≡ Err Memory) }
@@ -41,9 +37,7 @@ pub fn put_text_line(out: &mut Vec<u8>, text: &[u8]) -> Result<(), Fault>
     end_line(out)
 }
 
-/// Appends to `out` a space and a text. Fails with `Memory` only; a part of these bytes may then be
-/// appended.
-pub fn put_space_and_text(out: &mut Vec<u8>, text: &[u8]) -> Result<(), Fault>
+pub fn put_spaced_text(out: &mut Vec<u8>, text: &[u8]) -> Result<(), Fault>
     ensures ok { OnOk result (out.new.items ≡ out.old.items ++ 32 ∷ text.now) }
     ensures fault { OnErr result (result ≡ Err Memory) }
 {
@@ -51,9 +45,7 @@ pub fn put_space_and_text(out: &mut Vec<u8>, text: &[u8]) -> Result<(), Fault>
     put_text(out, text)
 }
 
-/// Appends to `out` a space, a text and a line feed. Fails with `Memory` only; a part of the line
-/// may then be appended.
-pub fn put_space_and_text_line(out: &mut Vec<u8>, text: &[u8]) -> Result<(), Fault>
+pub fn put_spaced_line(out: &mut Vec<u8>, text: &[u8]) -> Result<(), Fault>
     ensures ok { OnOk result (out.new.items ≡ out.old.items ++ 32 ∷ line_with_line_feed text.now) }
     ensures fault { OnErr result (result ≡ Err Memory) }
 {
@@ -61,7 +53,6 @@ pub fn put_space_and_text_line(out: &mut Vec<u8>, text: &[u8]) -> Result<(), Fau
     put_text_line(out, text)
 }
 
-/// Appends to `out` a number in decimal digits. Fails with `Memory` only; `out` is then unchanged.
 pub fn put_number(out: &mut Vec<u8>, n: u64) -> Result<(), Fault>
     ensures ok { OnOk result (out.new.items ≡ out.old.items ++ decimal n) }
     ensures fault { OnErr result (result ≡ Err Memory) }
@@ -70,9 +61,7 @@ pub fn put_number(out: &mut Vec<u8>, n: u64) -> Result<(), Fault>
     put_text(out, buffer.format(n).as_bytes())
 }
 
-/// Appends to `out` a text and, directly after it, a number in decimal digits. Fails with `Memory`
-/// only; a part of these bytes may then be appended.
-pub fn put_text_and_number(out: &mut Vec<u8>, text: &str, n: u64) -> Result<(), Fault>
+pub fn put_numbered(out: &mut Vec<u8>, text: &str, n: u64) -> Result<(), Fault>
     ensures ok { OnOk result (out.new.items ≡ out.old.items ++ text.now ++ decimal n) }
     ensures fault { OnErr result (result ≡ Err Memory) }
 {
@@ -80,32 +69,26 @@ pub fn put_text_and_number(out: &mut Vec<u8>, text: &str, n: u64) -> Result<(), 
     put_number(out, n)
 }
 
-/// Appends to `out` the title line of an explanation: a text, directly after it an id in decimal
-/// digits, the text `, times in UTC`, and a line feed. Fails with `Memory` only; a part of the line
-/// may then be appended.
+/// Appends the title of an explanation, such as `Trade 7, times in UTC`.
 pub fn put_title_line(out: &mut Vec<u8>, text: &str, id: Id) -> Result<(), Fault>
     ensures ok { OnOk result (out.new.items ≡ out.old.items ++ line_with_line_feed (text.now ++ decimal id ++ codes ", times in UTC")) }
     ensures fault { OnErr result (result ≡ Err Memory) }
 {
-    put_text_and_number(out, text, id.get())?;
+    put_numbered(out, text, id.get())?;
     put_text_line(out, b", times in UTC")
 }
 
-/// Appends to `out` a space, and a text, right-aligned in `places` places, at most 22; a longer
-/// text is appended whole. Fails with `Memory` only; a part of these bytes may then be appended.
+/// Appends a space and a text, right-aligned in `places` places; a longer text is appended whole.
 pub fn put_column(out: &mut Vec<u8>, places: usize, text: &[u8]) -> Result<(), Fault>
     requires { places ≤ 22 }
     ensures ok { OnOk result (out.new.items ≡ out.old.items ++ 32 ∷ right_aligned_text places text.now) }
     ensures fault { OnErr result (result ≡ Err Memory) }
 {
     out.push(b' ')?;
-    append_right_aligned(out, places, text)
+    append_right(out, places, text)
 }
 
-/// Appends to `out` a space, and a number in decimal digits, right-aligned in `places` places, at
-/// most 22; a longer number is appended whole. Fails with `Memory` only; a part of these bytes may
-/// then be appended.
-pub fn put_number_column(out: &mut Vec<u8>, places: usize, n: u64) -> Result<(), Fault>
+pub fn align_number(out: &mut Vec<u8>, places: usize, n: u64) -> Result<(), Fault>
     requires { places ≤ 22 }
     ensures ok { OnOk result (out.new.items ≡ out.old.items ++ 32 ∷ right_aligned_text places (decimal n)) }
     ensures fault { OnErr result (result ≡ Err Memory) }
@@ -114,10 +97,7 @@ pub fn put_number_column(out: &mut Vec<u8>, places: usize, n: u64) -> Result<(),
     put_column(out, places, buffer.format(n).as_bytes())
 }
 
-/// Appends to `out` a space, and a number in decimal digits, with a minus sign if it is below 0,
-/// right-aligned in `places` places, at most 22; a longer number is appended whole. Fails with
-/// `Memory` only; a part of these bytes may then be appended.
-pub fn put_integer_column(out: &mut Vec<u8>, places: usize, n: i128) -> Result<(), Fault>
+pub fn align_integer(out: &mut Vec<u8>, places: usize, n: i128) -> Result<(), Fault>
     requires { places ≤ 22 }
     ensures ok { OnOk result (out.new.items ≡ out.old.items ++ 32 ∷ right_aligned_text places (signed_decimal n)) }
     ensures fault { OnErr result (result ≡ Err Memory) }
@@ -126,10 +106,8 @@ pub fn put_integer_column(out: &mut Vec<u8>, places: usize, n: i128) -> Result<(
     put_column(out, places, buffer.format(n).as_bytes())
 }
 
-/// Appends to `out` a space, and an amount in cents, written with two decimal places and
-/// right-aligned in `places` places, at most 22; a longer amount is appended whole. Fails with
-/// `Memory` only; a part of these bytes may then be appended.
-pub fn put_cents_column(
+/// Writes the amount, given in cents, with two decimal places.
+pub fn align_cents(
     alloc: Global,
     out: &mut Vec<u8>,
     places: usize,

@@ -1,4 +1,5 @@
-//! The texts of stamps as date and time. The functions fail with `Memory` only.
+//! The texts of stamps as date and time. The functions fail with `Memory` only, and may then have
+//! appended a part.
 
 ghost use Rattle.std.specs.Prelude.{◌≡◌, ◌++◌, ◌<◌, Err, OnErr, OnOk};
 ghost use Rattle.brk_model_explain.specs.Texts.{time_of_day_text, timestamp_text};
@@ -8,8 +9,6 @@ ghost use Rattle.brk_money.specs.declared.fault.Fault.TheVariants.{Memory};
 
 use brk_money::{Fault, Stamp, day_of, write_day};
 
-// Appends to `out` a number below 100 in two decimal digits. Fails with `Memory` only; `out` is
-// then unchanged.
 #[tactic(auto, using(crate::proofs::Padded::two))]
 fn put_two_digits(out: &mut Vec<u8>, n: u8) -> Result<(), Fault>
     requires { n < 100 }
@@ -21,8 +20,6 @@ fn put_two_digits(out: &mut Vec<u8>, n: u8) -> Result<(), Fault>
     Ok(())
 }
 
-// Appends to `out` a number below 1000 in three decimal digits. Fails with `Memory` only; `out` is
-// then unchanged.
 #[tactic(auto, using(crate::proofs::Padded::three))]
 fn put_three_digits(out: &mut Vec<u8>, n: u16) -> Result<(), Fault>
     requires { n < 1000 }
@@ -38,8 +35,7 @@ fn put_three_digits(out: &mut Vec<u8>, n: u16) -> Result<(), Fault>
     Ok(())
 }
 
-// Appends to `out` the time of day, such as `09:05:00.021`, of a number of milliseconds after
-// midnight, below 86,400,000. Fails with `Memory` only; a part of these bytes may then be appended.
+// Writes a text such as `09:05:00.021`.
 #[tactic(auto, unfolding(brk_model_explain::specs::Texts::time_of_day_text))]
 fn put_time_of_day(out: &mut Vec<u8>, millis: u32) -> Result<(), Fault>
     requires { millis < milliseconds_per_day }
@@ -55,8 +51,7 @@ fn put_time_of_day(out: &mut Vec<u8>, millis: u32) -> Result<(), Fault>
     put_three_digits(out, (millis % 1000) as u16)
 }
 
-/// Appends to `out` the text of a stamp as date and time in UTC, such as `2024-03-01 09:05:00.021`.
-/// Fails with `Memory` only; a part of these bytes may then be appended.
+/// Appends a date and time in UTC, such as `2024-03-01 09:05:00.021`.
 #[tactic(auto, unfolding(brk_model_explain::specs::Texts::timestamp_text))]
 pub fn put_timestamp(out: &mut Vec<u8>, stamp: Stamp) -> Result<(), Fault>
     ensures ok { OnOk result (out.new.items ≡ out.old.items ++ timestamp_text stamp) }

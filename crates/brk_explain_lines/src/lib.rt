@@ -11,8 +11,5 @@ mod tax_lines;
 pub mod trade;
 mod waiting_lines;
 
-pub use account::{
-    account_header_text, balance_and_lot_header_text, cash_posting_text, holding_and_total_text,
-    open_lot_text,
-};
-pub use trade::trade_explanation_text;
+pub use account::{end_text, header_text, lots_head_text, open_lot_text, posting_text};
+pub use trade::explained_trade;

@@ -1,4 +1,5 @@
-//! The lines of the lots that a completed trade closed and opened, and of its gain.
+//! The lines of the lots that a completed trade closed and opened, and of its gain. After an error
+//! a part of them may be appended.
 
 ghost use Rattle.std.specs.Prelude.{◌≡◌, ◌++◌, Err, IfErr, OnErr, OnOk, map, nat_abs, option_map};
 ghost use Rattle.brk_ref.specs.Rows.{abstract_lot_change_row, abstract_trade_row};
@@ -15,39 +16,29 @@ use crate::sums::{
     shares_of_closing, total_closed_shares,
 };
 use brk_explain_columns::{
-    end_line, put_labeled_amount_line, put_labeled_number_line, put_leading_row_columns,
-    put_shares_column, put_text_line, put_value_column, subtract_amounts, wide_amount_of_cents,
+    align_shares, align_value, end_line, put_amount_fact, put_number_fact, put_row_start,
+    put_text_line, subtract_amounts, wide_of_cents,
 };
 use brk_explain_rows::{Closing, OrderDetails, ResultDetails};
 use brk_money::{Fault, Price, Side, Wide};
 use brk_ref::{LotChange, TradeRow};
 use std::alloc::Global;
 
-// Appends to `out` the line of the price of a completed trade, and the line of the column headings
-// of its lots. Fails with `Memory` only; a part of the lines may then be appended.
 #[tactic(auto, unfolding(brk_model_explain::specs::TradeLines::price_and_lot_header_lines))]
-fn put_price_and_lot_header_lines(
-    alloc: Global,
-    out: &mut Vec<u8>,
-    details: &ResultDetails,
-) -> Result<(), Fault>
+fn put_close_head(alloc: Global, out: &mut Vec<u8>, details: &ResultDetails) -> Result<(), Fault>
     ensures ok { OnOk result (out.new.items ≡ out.old.items ++ text_of_lines (lines.price_and_lot_header_lines (abstract_result_details details.now))) }
     ensures fault { OnErr result (result ≡ Err Memory) }
 {
-    put_labeled_amount_line(alloc, out, "Price", Wide::from(details.price))?;
+    put_amount_fact(alloc, out, "Price", Wide::from(details.price))?;
     put_text_line(
         out,
         b"#      opened                            lot      shares      price       bought for         sold for        left",
     )
 }
 
-// Appends to `out` the line of a closing by a trade on `side` at `price`: the word `Closed`, the
-// stamp and the id of the trade that opened the lot, the number of closed shares, the lot's price,
-// the buy value and the sell value of these shares, and the lot's quantity after the closing. Fails
-// with `Memory` or `Store`; with `Store` if a value overflows. After an error a part of the line
-// may be appended.
+// `side` and `price` belong to the trade; the line shows the price of the lot.
 #[tactic(auto, unfolding(brk_model_explain::specs::TradeLines::lot_closing_line))]
-fn put_lot_closing_line(
+fn put_closing(
     alloc: Global,
     out: &mut Vec<u8>,
     side: Side,
@@ -57,10 +48,10 @@ fn put_lot_closing_line(
     ensures ok { OnOk result (out.new.items ≡ out.old.items ++ line_with_line_feed (lines.lot_closing_line side price (abstract_closing closing.now))) }
     ensures fault { IfErr result IsCallFault }
 {
-    let bought = wide_amount_of_cents(buy_value_of_closing(side, price, closing))?;
-    let sold = wide_amount_of_cents(sell_value_of_closing(side, price, closing))?;
+    let bought = wide_of_cents(buy_value_of_closing(side, price, closing))?;
+    let sold = wide_of_cents(sell_value_of_closing(side, price, closing))?;
     let shares = i128::from(shares_of_closing(closing));
-    put_leading_row_columns(
+    put_row_start(
         alloc,
         out,
         "Closed",
@@ -69,16 +60,13 @@ fn put_lot_closing_line(
         shares,
         closing.price,
     )?;
-    put_value_column(alloc, out, bought)?;
-    put_value_column(alloc, out, sold)?;
-    put_shares_column(out, closing.after)?;
+    align_value(alloc, out, bought)?;
+    align_value(alloc, out, sold)?;
+    align_shares(out, closing.after)?;
     end_line(out)
 }
 
-// Appends to `out` a line for each closing by a trade on `side` at `price`, in the order of
-// `closings`. Fails with `Memory` or `Store`; with `Store` if a value overflows. After an error a
-// part of the lines may be appended.
-fn put_lot_closing_lines(
+fn put_closings(
     alloc: Global,
     out: &mut Vec<u8>,
     side: Side,
@@ -89,16 +77,13 @@ fn put_lot_closing_lines(
     ensures fault { IfErr result IsCallFault }
 {
     for closing in closings {
-        put_lot_closing_line(alloc, out, side, price, closing)?;
+        put_closing(alloc, out, side, price, closing)?;
     }
     Ok(())
 }
 
-// Appends to `out` the line of the lot that `trade` opened at `price`: the word `Opened`, the stamp
-// and the id of the trade, the quantity after the change `lot`, and the price. Fails with `Memory`
-// only; a part of the line may then be appended.
 #[tactic(auto, unfolding(brk_model_explain::specs::TradeLines::opened_lot_line))]
-fn put_opened_lot_line(
+fn put_opening(
     alloc: Global,
     out: &mut Vec<u8>,
     trade: &TradeRow,
@@ -110,14 +95,12 @@ fn put_opened_lot_line(
     ensures fault { OnErr result (result ≡ Err Memory) }
 {
     let shares = i128::from(lot.after);
-    put_leading_row_columns(alloc, out, "Opened", trade.stamp, trade.id, shares, price)?;
+    put_row_start(alloc, out, "Opened", trade.stamp, trade.id, shares, price)?;
     end_line(out)
 }
 
-// Appends to `out` the line of the lot that `trade` opened at `price` by the change `lot`, or
-// nothing if `lot` is `None`. Fails with `Memory` only; a part of these bytes may then be appended.
 #[tactic(auto, unfolding(brk_model_explain::specs::TradeLines::opened_lot_lines))]
-fn put_opened_lot_line_if_any(
+fn put_opened_lot(
     alloc: Global,
     out: &mut Vec<u8>,
     trade: &TradeRow,
@@ -129,13 +112,12 @@ fn put_opened_lot_line_if_any(
     ensures fault { OnErr result (result ≡ Err Memory) }
 {
     match lot {
-        Some(lot) => put_opened_lot_line(alloc, out, trade, price, lot),
+        Some(lot) => put_opening(alloc, out, trade, price, lot),
         None => Ok(()),
     }
 }
 
-// Returns the number of shares of the lot that the trade opened; 0 if it opened none.
-fn count_of_opened_shares(details: &ResultDetails) -> u64
+fn opened_count(details: &ResultDetails) -> u64
     ensures { result ≡ nat_abs (trades.opened_quantity (abstract_result_details details.now)) }
 {
     match &details.own_lot {
@@ -144,24 +126,18 @@ fn count_of_opened_shares(details: &ResultDetails) -> u64
     }
 }
 
-// Appends to `out` the lines of the number of shares that a trade closed and of the number of
-// shares that it opened. Fails with `Memory` or `Store`; with `Store` if the number of closed
-// shares overflows. After an error a part of the lines may be appended.
 #[tactic(auto, unfolding(brk_model_explain::specs::TradeLines::share_count_lines))]
-fn put_share_count_lines(out: &mut Vec<u8>, details: &ResultDetails) -> Result<(), Fault>
+fn put_share_lines(out: &mut Vec<u8>, details: &ResultDetails) -> Result<(), Fault>
     ensures ok { OnOk result (out.new.items ≡ out.old.items ++ text_of_lines (lines.share_count_lines (abstract_result_details details.now))) }
     ensures fault { IfErr result IsCallFault }
 {
     let closed = total_closed_shares(&details.closings)?;
-    put_labeled_number_line(out, "Shares closed", closed)?;
-    put_labeled_number_line(out, "Shares opened", count_of_opened_shares(details))
+    put_number_fact(out, "Shares closed", closed)?;
+    put_number_fact(out, "Shares opened", opened_count(details))
 }
 
-// Appends to `out` the lines of the buy value, the sell value and the realised gain of the shares
-// that a trade closed. Fails with `Memory` or `Store`; with `Store` if an amount overflows. After
-// an error a part of the lines may be appended.
 #[tactic(auto, unfolding(brk_model_explain::specs::TradeLines::realised_gain_lines))]
-fn put_realised_gain_lines(
+fn put_gain_lines(
     alloc: Global,
     out: &mut Vec<u8>,
     order: &OrderDetails,
@@ -175,18 +151,13 @@ fn put_realised_gain_lines(
     let bought = buy_value_of_closings(side, details.price, &details.closings)?;
     let sold = sell_value_of_closings(side, details.price, &details.closings)?;
     let gain = subtract_amounts(sold, bought)?;
-    put_labeled_amount_line(alloc, out, "BUY", bought)?;
-    put_labeled_amount_line(alloc, out, "SELL", sold)?;
-    put_labeled_amount_line(alloc, out, "Realised gain", gain)
+    put_amount_fact(alloc, out, "BUY", bought)?;
+    put_amount_fact(alloc, out, "SELL", sold)?;
+    put_amount_fact(alloc, out, "Realised gain", gain)
 }
 
-/// Appends to `out` the lines of the price of a completed trade, of the column headings of its
-/// lots, of each of its closings, in their order, of the lot that it opened, if any, of the numbers
-/// of closed and opened shares, and of the buy value, the sell value and the realised gain. Fails
-/// with `Memory` or `Store`; with `Store` if a number of shares or an amount overflows. After an
-/// error a part of the lines may be appended.
 #[tactic(auto, unfolding(brk_model_explain::specs::TradeLines::lot_and_gain_lines, brk_model_explain::specs::TradeLines::lot_closing_lines))]
-pub(crate) fn put_lot_and_gain_lines(
+pub(crate) fn put_booking(
     alloc: Global,
     out: &mut Vec<u8>,
     order: &OrderDetails,
@@ -197,9 +168,9 @@ pub(crate) fn put_lot_and_gain_lines(
     ensures fault { IfErr result IsCallFault }
 {
     let side = order.trade.kind.side();
-    put_price_and_lot_header_lines(alloc, out, details)?;
-    put_lot_closing_lines(alloc, out, side, details.price, &details.closings)?;
-    put_opened_lot_line_if_any(alloc, out, &order.trade, details.price, &details.own_lot)?;
-    put_share_count_lines(out, details)?;
-    put_realised_gain_lines(alloc, out, order, details)
+    put_close_head(alloc, out, details)?;
+    put_closings(alloc, out, side, details.price, &details.closings)?;
+    put_opened_lot(alloc, out, &order.trade, details.price, &details.own_lot)?;
+    put_share_lines(out, details)?;
+    put_gain_lines(alloc, out, order, details)
 }

@@ -1,4 +1,5 @@
-//! The lines of the settlement of a completed trade. The functions fail with `Memory` only.
+//! The lines of the settlement of a completed trade. The functions fail with `Memory` only, and may
+//! then have appended a part.
 
 ghost use Rattle.std.specs.Prelude.{◌≡◌, ◌++◌, Err, OnErr, OnOk, codes};
 ghost use Rattle.std.specs.Option.{option_map_or};
@@ -10,20 +11,16 @@ ghost use Rattle.brk_money.specs.Spelling.{day_text};
 ghost use Rattle.brk_money.specs.declared.fault.Fault.TheVariants.{Memory};
 ghost use Rattle.brk_report_lines.specs.Written.{line_with_line_feed};
 
-use crate::sums::{negated_charge, negated_commission, negated_withheld_tax, signed_trade_value};
-use brk_explain_columns::{
-    put_labeled_amount_line, put_labeled_day_line, put_labeled_number_line, put_labeled_text_line,
-};
+use crate::sums::{less_charge, less_commission, less_tax, signed_trade_value};
+use brk_explain_columns::{put_amount_fact, put_day_fact, put_number_fact, put_text_fact};
 use brk_explain_rows::{OrderDetails, ResultDetails};
 use brk_money::{Day, Fault, Wide, day_of};
 use brk_trade_rows::days_to_settlement;
 use std::alloc::Global;
 
-/// Appends to `out` the lines of the value of a completed trade, negated for a purchase, of its
-/// charge, its commission and its withheld tax, each negated, of its recorded settlement amount,
-/// and of its cash type. Fails with `Memory` only; a part of the lines may then be appended.
+/// Negates the amounts that the account pays. The settlement amount is the recorded one.
 #[tactic(auto, unfolding(brk_model_explain::specs::TradeLines::trade_settlement_lines))]
-pub(crate) fn put_settlement_lines(
+pub(crate) fn put_settlement(
     alloc: Global,
     out: &mut Vec<u8>,
     order: &OrderDetails,
@@ -33,17 +30,17 @@ pub(crate) fn put_settlement_lines(
         ≡ out.old.items ++ text_of_lines (lines.trade_settlement_lines (abstract_order_details order.now) (abstract_result_details details.now))) }
     ensures fault { OnErr result (result ≡ Err Memory) }
 {
-    put_labeled_amount_line(alloc, out, "Value", signed_trade_value(order, details))?;
-    put_labeled_amount_line(alloc, out, "Charge", negated_charge(order))?;
-    put_labeled_amount_line(alloc, out, "Commission", negated_commission(order))?;
-    put_labeled_amount_line(alloc, out, "Tax withheld", negated_withheld_tax(order))?;
-    put_labeled_amount_line(
+    put_amount_fact(alloc, out, "Value", signed_trade_value(order, details))?;
+    put_amount_fact(alloc, out, "Charge", less_charge(order))?;
+    put_amount_fact(alloc, out, "Commission", less_commission(order))?;
+    put_amount_fact(alloc, out, "Tax withheld", less_tax(order))?;
+    put_amount_fact(
         alloc,
         out,
         "Settlement",
         Wide::from(details.settlement.amount),
     )?;
-    put_labeled_text_line(
+    put_text_fact(
         out,
         "Cash type",
         details.settlement.cash_type.text().as_bytes(),
@@ -51,25 +48,20 @@ pub(crate) fn put_settlement_lines(
     Ok(())
 }
 
-// Appends to `out` the line of a label, left-aligned in 15 places (a longer one whole), a space,
-// and a day in the format YYYY-MM-DD, or `none` if `day` is `None`. Fails with `Memory` only; a
-// part of the line may then be appended.
-fn put_day_or_none_line(out: &mut Vec<u8>, label: &str, day: Option<Day>) -> Result<(), Fault>
+fn put_some_day(out: &mut Vec<u8>, label: &str, day: Option<Day>) -> Result<(), Fault>
     ensures ok { OnOk result (out.new.items ≡ out.old.items ++ line_with_line_feed (labeled_text label.now (option_map_or day_text day (codes "none")))) }
     ensures fault { OnErr result (result ≡ Err Memory) }
 {
     match day {
-        Some(day) => put_labeled_day_line(out, label, day),
-        None => put_labeled_text_line(out, label, b"none"),
+        Some(day) => put_day_fact(out, label, day),
+        None => put_text_fact(out, label, b"none"),
     }
 }
 
-/// Appends to `out` the lines of the UTC day of completion of a trade, of the current first day of
-/// one-day settlement (`none` if it is not set), of the number of days to settle that follows from
-/// these two days, and of the recorded due day. Fails with `Memory` only; a part of the lines may
-/// then be appended.
+/// The number of days follows from the current start of one-day settlement; the due day is the
+/// recorded one.
 #[tactic(auto, unfolding(brk_model_explain::specs::TradeLines::due_day_lines))]
-pub(crate) fn put_due_day_lines(
+pub(crate) fn put_due_days(
     out: &mut Vec<u8>,
     order: &OrderDetails,
     details: &ResultDetails,
@@ -80,8 +72,8 @@ pub(crate) fn put_due_day_lines(
 {
     let completed = day_of(order.trade.stamp);
     let days = days_to_settlement(details.rule, completed);
-    put_labeled_day_line(out, "Completed on", completed)?;
-    put_day_or_none_line(out, "One day from", details.rule)?;
-    put_labeled_number_line(out, "Days to settle", u64::from(days))?;
-    put_labeled_day_line(out, "Due on", details.settlement.due_day)
+    put_day_fact(out, "Completed on", completed)?;
+    put_some_day(out, "One day from", details.rule)?;
+    put_number_fact(out, "Days to settle", u64::from(days))?;
+    put_day_fact(out, "Due on", details.settlement.due_day)
 }

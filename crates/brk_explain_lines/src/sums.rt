@@ -1,4 +1,4 @@
-//! The amounts of a completed trade. A sum that overflows is the fault `Store`.
+//! The amounts of a completed trade, in cents. A sum that overflows is the fault `Store`.
 
 ghost use Rattle.std.specs.Prelude.{◌≡◌, ◌*◌, IfErr, IfOk, map, neg_ℤ, pos, if◌then◌else◌};
 ghost use Rattle.brk_model_explain.specs.Trades as trades;
@@ -8,21 +8,18 @@ ghost use Rattle.brk_model.specs.Run.{IsCallFault};
 ghost use Rattle.brk_money.specs.Amounts as amounts;
 ghost use Rattle.brk_ref.specs.Records.{abstract_tax_rate};
 
-use brk_explain_columns::{cents_of_wide_amount, subtract_amounts, wide_amount_of_cents};
+use brk_explain_columns::{cents_of_wide, subtract_amounts, wide_of_cents};
 use brk_explain_rows::{Closing, OrderDetails, ResultDetails};
 use brk_money::{Amount, Fault, Price, Qty, Side, TaxRate, TaxStatus, Wide, commission, tax};
 use brk_ref::{Tax, is_taxable_status, tax_sum};
 
-/// Returns the number of shares that a closing closed: the absolute difference of the lot's
-/// quantities before and after it.
 pub(crate) fn shares_of_closing(closing: &Closing) -> u64
     ensures { result ≡ trades.shares_of_closing (abstract_closing closing.now) }
 {
     (i128::from(closing.before) - i128::from(closing.after)).unsigned_abs() as u64
 }
 
-/// Returns the buy value of a closing by a trade on `side` at `price`, in cents: the closed shares
-/// times `price` for a purchase, and times the lot's price for a sale.
+/// Returns the closed shares times `price` for a purchase, and times the lot's price for a sale.
 pub(crate) fn buy_value_of_closing(side: Side, price: Price, closing: &Closing) -> u128
     ensures { result ≡ trades.buy_value_of_closing side price (abstract_closing closing.now) }
 {
@@ -32,8 +29,7 @@ pub(crate) fn buy_value_of_closing(side: Side, price: Price, closing: &Closing) 
     }
 }
 
-/// Returns the sell value of a closing by a trade on `side` at `price`, in cents: the closed shares
-/// times `price` for a sale, and times the lot's price for a purchase.
+/// Returns the closed shares times `price` for a sale, and times the lot's price for a purchase.
 pub(crate) fn sell_value_of_closing(side: Side, price: Price, closing: &Closing) -> u128
     ensures { result ≡ trades.sell_value_of_closing side price (abstract_closing closing.now) }
 {
@@ -43,8 +39,6 @@ pub(crate) fn sell_value_of_closing(side: Side, price: Price, closing: &Closing)
     }
 }
 
-/// Returns the sum of the numbers of shares that the closings closed, 0 if there are none. Fails
-/// with `Store` if the sum overflows.
 pub(crate) fn total_closed_shares(closings: &[Closing]) -> Result<u64, Fault>
     ensures total { IfOk result (λ total. total ≡ trades.total_closed_shares (map abstract_closing closings.now)) }
     ensures fault { IfErr result IsCallFault }
@@ -59,8 +53,6 @@ pub(crate) fn total_closed_shares(closings: &[Closing]) -> Result<u64, Fault>
     Ok(total)
 }
 
-/// Returns the sum of the buy values of closings by a trade on `side` at `price`, in cents, 0 if
-/// there are none. Fails with `Store` if the sum overflows.
 pub(crate) fn buy_value_of_closings(
     side: Side,
     price: Price,
@@ -76,11 +68,9 @@ pub(crate) fn buy_value_of_closings(
         };
         total = sum;
     }
-    wide_amount_of_cents(total)
+    wide_of_cents(total)
 }
 
-/// Returns the sum of the sell values of closings by a trade on `side` at `price`, in cents, 0 if
-/// there are none. Fails with `Store` if the sum overflows.
 pub(crate) fn sell_value_of_closings(
     side: Side,
     price: Price,
@@ -96,18 +86,16 @@ pub(crate) fn sell_value_of_closings(
         };
         total = sum;
     }
-    wide_amount_of_cents(total)
+    wide_of_cents(total)
 }
 
-/// Returns the realised gain of closings by a trade on `side` at `price`, in cents: the sum of
-/// their sell values minus the sum of their buy values. Fails with `Store` if a sum or the
-/// difference overflows.
-pub(crate) fn realised_gain_of_closings(
+/// Returns the sell values minus the buy values.
+pub(crate) fn gain_of_closings(
     side: Side,
     price: Price,
     closings: &[Closing],
 ) -> Result<Wide, Fault>
-    ensures gain { IfOk result (λ gain. gain ≡ trades.realised_gain_of_closings side price (map abstract_closing closings.now)) }
+    ensures gain { IfOk result (λ gain. gain ≡ trades.gain_of_closings side price (map abstract_closing closings.now)) }
     ensures fault { IfErr result IsCallFault }
 {
     let bought = buy_value_of_closings(side, price, closings)?;
@@ -115,8 +103,7 @@ pub(crate) fn realised_gain_of_closings(
     subtract_amounts(sold, bought)
 }
 
-/// Returns the sum of the tax rates, in hundred-thousandths, 0 if there are none. Fails with
-/// `Store` if the sum exceeds the greatest tax rate.
+/// Returns hundred-thousandths. Fails with `Store` above the greatest tax rate.
 pub(crate) fn sum_of_tax_rates(rates: &[Tax]) -> Result<TaxRate, Fault>
     ensures total { IfOk result (λ total. total ≡ trades.sum_of_tax_rates (map abstract_tax_rate rates.now)) }
     ensures fault { IfErr result IsCallFault }
@@ -127,9 +114,9 @@ pub(crate) fn sum_of_tax_rates(rates: &[Tax]) -> Result<TaxRate, Fault>
     }
 }
 
-// Returns the tax, in whole cents, rounded half up, on the gain `gain`, in cents, at the sum of tax
-// rates `rates`; 0 if the gain is negative or gains are not taxable at the tax status. Fails with
-// `Store` if gains are taxable and the absolute value of `gain` exceeds the greatest amount.
+// Rounds half up to whole cents, and returns 0 for a loss, or if the status is not taxable. Fails
+// with `Store` if the status is taxable and the absolute value of the gain is above
+// `Cents::GREATEST`.
 fn tax_on_gain(status: TaxStatus, gain: Wide, rates: TaxRate) -> Result<Wide, Fault>
     ensures tax { IfOk result (λ tax. tax ≡ pos (if base.is_taxable_status status then amounts.tax gain rates else 0)) }
     ensures fault { IfErr result IsCallFault }
@@ -137,14 +124,11 @@ fn tax_on_gain(status: TaxStatus, gain: Wide, rates: TaxRate) -> Result<Wide, Fa
     if !is_taxable_status(status) {
         return Ok(Wide::new(0));
     }
-    let gain = cents_of_wide_amount(gain)?;
+    let gain = cents_of_wide(gain)?;
     Ok(Wide::from(tax(gain, rates)))
 }
 
-/// Returns the tax, in whole cents, rounded half up, on the realised gain of a trade at the sum of
-/// its customer's current tax rates; 0 if the account is not taxable or the gain is negative. Fails
-/// with `Store` if a sum overflows, if the tax rates total more than the greatest rate, or if the
-/// account is taxable and the absolute value of the gain exceeds the greatest amount.
+/// Uses the rates that the customer pays now, not those at the completion of the trade.
 pub(crate) fn tax_at_current_rates(
     order: &OrderDetails,
     details: &ResultDetails,
@@ -152,22 +136,14 @@ pub(crate) fn tax_at_current_rates(
     ensures tax { IfOk result (λ tax. tax ≡ pos (trades.tax_at_current_rates (abstract_order_details order.now) (abstract_result_details details.now))) }
     ensures fault { IfErr result IsCallFault }
 {
-    let gain = realised_gain_of_closings(
-        order.trade.kind.side(),
-        details.price,
-        &details.closings,
-    )?;
+    let gain = gain_of_closings(order.trade.kind.side(), details.price, &details.closings)?;
     let rates = sum_of_tax_rates(&details.rates)?;
     tax_on_gain(order.account.account.tax_status, gain, rates)
 }
 
-/// Returns the commission of a completed trade at the rate of its current commission band, in whole
-/// cents, rounded half up, or `None` if there is no band.
-pub(crate) fn commission_in_current_band(
-    order: &OrderDetails,
-    details: &ResultDetails,
-) -> Option<Amount>
-    ensures { result ≡ trades.commission_in_current_band (abstract_order_details order.now) (abstract_result_details details.now) }
+/// Uses the band that applies now, and rounds half up to whole cents.
+pub(crate) fn current_commission(order: &OrderDetails, details: &ResultDetails) -> Option<Amount>
+    ensures { result ≡ trades.current_commission (abstract_order_details order.now) (abstract_result_details details.now) }
 {
     match &details.band {
         Some(band) => { Some(commission(band.rate, order.trade.qty, details.price).unsigned_abs()) }
@@ -175,15 +151,13 @@ pub(crate) fn commission_in_current_band(
     }
 }
 
-// Returns the product of the quantity `qty` and the price `price`, in cents.
 fn value_at_price(qty: Qty, price: Price) -> i128
     ensures { result ≡ pos (qty * price) }
 {
     i128::from(u64::from(qty.get()) * u64::from(price.get()))
 }
 
-/// Returns the quantity of a trade times its completion price, in cents, negated if it is a
-/// purchase.
+/// Returns a value below 0 for a purchase, which the account pays.
 pub(crate) fn signed_trade_value(order: &OrderDetails, details: &ResultDetails) -> Wide
     ensures { result ≡ trades.signed_trade_value (abstract_order_details order.now) (abstract_result_details details.now) }
 {
@@ -194,23 +168,20 @@ pub(crate) fn signed_trade_value(order: &OrderDetails, details: &ResultDetails) 
     }
 }
 
-/// Returns the charge of a trade, in cents, negated.
-pub(crate) fn negated_charge(order: &OrderDetails) -> Wide
+pub(crate) fn less_charge(order: &OrderDetails) -> Wide
     ensures { result ≡ neg_ℤ (pos (abstract_order_details order.now).trade.charge) }
 {
     Wide::new(-i128::from(order.trade.charge.get()))
 }
 
-/// Returns the recorded commission of a trade, in cents, negated.
-pub(crate) fn negated_commission(order: &OrderDetails) -> Wide
+pub(crate) fn less_commission(order: &OrderDetails) -> Wide
     ensures { result ≡ neg_ℤ (pos (abstract_order_details order.now).trade.commission) }
 {
     Wide::new(-i128::from(order.trade.commission.get()))
 }
 
-/// Returns the recorded tax of a trade, in cents, negated, if the tax status of its account is
-/// `Withheld`; otherwise 0.
-pub(crate) fn negated_withheld_tax(order: &OrderDetails) -> Wide
+/// Returns 0 unless the tax status of the account is `Withheld`.
+pub(crate) fn less_tax(order: &OrderDetails) -> Wide
     ensures { result ≡ neg_ℤ (pos (trades.withheld_tax_of_trade (abstract_order_details order.now))) }
 {
     match order.account.account.tax_status {
@@ -219,7 +190,7 @@ pub(crate) fn negated_withheld_tax(order: &OrderDetails) -> Wide
     }
 }
 
-/// Returns the amount of the cash row of a trade, in cents; 0 if it has none.
+/// Returns 0 if the trade has no cash row.
 pub(crate) fn balance_change_of_trade(details: &ResultDetails) -> Wide
     ensures { result ≡ trades.balance_change_of_trade (abstract_result_details details.now) }
 {

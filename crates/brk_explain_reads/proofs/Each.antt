@@ -1,4 +1,4 @@
--- What is made of rows one after another.
+-- Lists that are made of rows one after another.
 use Rattle.std.proofs.Common.{◌≡◌, ◌∙◌, ◌+◌, ◌<◌, ◌&&◌, ℕ, Bool, true, false, cond, List, [], ◌∷◌, ◌++◌, Some, ap, arith, filter, find, get_or, length, map, refl, reverse, sym, take}
 use Rattle.std.proofs.lemmas.List.{append-nil, map-append, reverse-append, take_more}
 use Rattle.std.proofs.lemmas.List.Elements.{filter-append}

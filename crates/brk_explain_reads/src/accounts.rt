@@ -15,10 +15,7 @@ use brk_store_required::require_last_price;
 use sqlite::Alter;
 use std::alloc::Global;
 
-// Returns a holding summary with the last price of its symbol, in cents. If the database is still
-// open, it is unchanged. Fails with `Memory` or `Store`; with `Store` also if the symbol has no
-// last price.
-fn read_priced_holding<S: Alter>(
+fn price_holding<S: Alter>(
     store: &mut Store<S>,
     summary: SummaryRow,
 ) -> Result<PricedHolding, Fault>
@@ -29,10 +26,7 @@ fn read_priced_holding<S: Alter>(
     Ok(PricedHolding { summary, price })
 }
 
-// Returns the holding summaries of an account with the last prices of their symbols, sorted by
-// symbol, ascending. If the database is still open, it is unchanged. Fails with `Memory` or
-// `Store`; with `Store` also if a symbol has no last price.
-fn read_priced_holdings<S: Alter>(
+fn price_holdings<S: Alter>(
     alloc: Global,
     store: &mut Store<S>,
     account: Id,
@@ -43,7 +37,7 @@ fn read_priced_holdings<S: Alter>(
     let mut rest = store.summaries_of(alloc, account)?;
     let mut held = Vec::new(alloc);
     while let Some(summary) = rest.pop() {
-        let one = read_priced_holding(store, summary)?;
+        let one = price_holding(store, summary)?;
         held.push(one)?;
     }
     held.reverse();
@@ -51,12 +45,9 @@ fn read_priced_holdings<S: Alter>(
 }
 
 /// Returns the row of an account and its holding summaries with last prices, sorted by symbol,
-/// ascending, or `None` if the account does not exist.
-///
-/// Fails with `Memory` or `Store` only; with `Store` also if a symbol has no last price. If the
-/// database is still open, it is unchanged, whatever the result. A crash after the call exposes
-/// only states that a crash before the call could expose.
-pub fn read_account_details<S: Alter>(
+/// ascending, or `None` if the account does not exist. Fails with `Store` also if a symbol has no
+/// last price.
+pub fn gather_account<S: Alter>(
     alloc: Global,
     store: &mut Store<S>,
     account: Id,
@@ -67,6 +58,6 @@ pub fn read_account_details<S: Alter>(
     let Some(row) = store.account(account)? else {
         return Ok(None);
     };
-    let held = read_priced_holdings(alloc, store, account)?;
+    let held = price_holdings(alloc, store, account)?;
     Ok(Some(AccountDetails { account: row, held }))
 }

@@ -18,11 +18,7 @@ use std::alloc::Global;
 
 /// Returns the row of a broker and the number of its accounts, or `None` if the broker does not
 /// exist.
-///
-/// Fails with `Memory` or `Store` only. If the database is still open, it is unchanged, whatever
-/// the result. A crash after the call exposes only states that a crash before the call could
-/// expose.
-pub fn read_broker_details<S: Alter>(
+pub fn gather_broker<S: Alter>(
     alloc: Global,
     store: &mut Store<S>,
     broker: Id,
@@ -40,7 +36,6 @@ pub fn read_broker_details<S: Alter>(
     }))
 }
 
-// Returns true if `account` is one of `accounts`.
 fn has_account(accounts: &[Id], account: Id) -> bool
     ensures { result ≡ list_any (λ a. a == account) accounts.now }
 {
@@ -69,8 +64,7 @@ impl<E, V: Visitor<TradeRow, E>> Visitor<TradeRow, E> for AccountFilter<'_, V> {
 
     ghost stops = { λ p r e q. (list_any (λ a. a == r.account) p.accounts.now ≡ true) × V.stops p.visitor.now r e q.visitor.now };
 
-    /// Passes the trade to `visitor` and returns the result of `visitor`, if the account of the
-    /// trade is one of `accounts`. Otherwise does nothing and returns `Ok`.
+    /// Skips the trades of other accounts.
     fn visit(&mut self, item: &TradeRow) -> Result<(), E> {
         if has_account(self.accounts, item.account) {
             return self.visitor.visit(item);
@@ -84,18 +78,9 @@ impl<E, V: Visitor<TradeRow, E>> Visitor<TradeRow, E> for AccountFilter<'_, V> {
 }
 
 /// Passes the completed trades of a broker's accounts to a visitor, sorted by the stamp of
-/// completion and then by id, both ascending. Whether the broker exists is not checked. Returns
-/// `Ok` only after the visitor has taken the last trade.
-///
-/// Fails with `Cause` and the visitor's error, or with `Failed` and the fault `Memory` or `Store`
-/// after a prefix of the trades. If the database is still open, it is unchanged, whatever the
-/// result.
-///
-/// `ready`: the visitor must be ready to take records, and is so after the walk. `leads`: the
-/// visitor's `leads` relates the visitor before the walk to the visitor after it.
-///
-/// A crash after the call exposes only states that a crash before the call could expose.
-pub fn visit_completed_trades_of_broker<S: Alter, E, V: Visitor<TradeRow, E>>(
+/// completion and then by id, both ascending. Does not check that the broker exists. Fails with
+/// `Cause` and the visitor's error, or with `Failed` after a prefix of the trades.
+pub fn visit_broker_trades<S: Alter, E, V: Visitor<TradeRow, E>>(
     alloc: Global,
     store: &mut Store<S>,
     broker: Id,

@@ -18,9 +18,7 @@ pub struct CashSum {
     pub total: Wide,
 }
 
-// Returns `sum` with one more cash row, of `amount` cents. Fails with `Store` if the number or the
-// total overflows.
-fn cash_sum_with_row(sum: &CashSum, amount: Cents) -> Result<CashSum, Fault>
+fn sum_with_row(sum: &CashSum, amount: Cents) -> Result<CashSum, Fault>
     ensures sum { IfOk result (λ more. (more.rows ≡ sum.now.rows + 1) × (more.total ≡ sum.now.total +ℤ amount)) }
     ensures fault { OnErr result (result ≡ Err fault.Store) }
 {
@@ -56,12 +54,11 @@ impl Visitor<CashRow, Fault> for EarlierCashSum {
 
     ghost stops = { λ _ _ e _. e ≡ Store };
 
-    /// If the stamp of the cash row is before `until`, counts the row and adds its amount to the
-    /// total; otherwise does nothing. Fails with `Store`, and changes nothing (no clause states
-    /// this), if the number or the total overflows.
+    /// Skips a row at or after `until`. After an error the sum is unchanged, which no clause
+    /// states.
     fn visit(&mut self, item: &CashRow) -> Result<(), Fault> {
         if item.stamp.get() < self.until.get() {
-            self.sum = cash_sum_with_row(&self.sum, item.amount)?;
+            self.sum = sum_with_row(&self.sum, item.amount)?;
         }
         Ok(())
     }
@@ -71,9 +68,8 @@ impl Visitor<CashRow, Fault> for EarlierCashSum {
     ghost transitive = { λ _ _ _ _ _. tt };
 }
 
-// Returns the fault for a failed walk: `Memory` if the walk failed with `Memory`, otherwise
-// `Store`, also if the visitor stopped the walk. The clause states only that it is one of the two.
-fn fault_of_failed_walk(stop: WalkError<Fault>) -> Fault
+// Returns `Memory` only if the walk failed with it, otherwise `Store`; the clause says less.
+fn fault_of_walk(stop: WalkError<Fault>) -> Fault
     ensures { IsCallFault result }
 {
     match stop {
@@ -82,10 +78,8 @@ fn fault_of_failed_walk(stop: WalkError<Fault>) -> Fault
     }
 }
 
-// Returns the number of the cash rows of an account with stamps before `until`, and the sum of
-// their amounts, in cents. If the database is still open, it is unchanged. Fails with `Memory` or
-// `Store`; with `Store` also if the number or the sum overflows.
-pub(crate) fn read_cash_sum_before<S: Alter>(
+// The walk includes the rows at `until`, and the visitor skips them.
+pub(crate) fn cash_sum_before<S: Alter>(
     store: &mut Store<S>,
     account: Id,
     until: Stamp,
@@ -107,6 +101,6 @@ pub(crate) fn read_cash_sum_before<S: Alter>(
         &mut earlier,
     ) {
         Ok(()) => Ok(earlier.sum),
-        Err(stop) => Err(fault_of_failed_walk(stop)),
+        Err(stop) => Err(fault_of_walk(stop)),
     }
 }

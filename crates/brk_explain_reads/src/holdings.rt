@@ -8,7 +8,7 @@ ghost use Rattle.brk_explain_rows.specs.Details.{AreDetailsOfHolding};
 ghost use Rattle.brk_model.specs.Run.{IsCallFault};
 ghost use Rattle.brk_store_transactions.specs.Holds.{ReadPost};
 
-use crate::holding_trades::{TradesAndLots, read_trades_and_lots_of_holding};
+use crate::holding_trades::{TradesAndLots, held_trades};
 use brk_explain_rows::HoldingDetails;
 use brk_money::{Fault, Id, Planned, Price, Refusal};
 use brk_ref::{AccountRow, Security, SummaryRow, Symbol};
@@ -25,8 +25,7 @@ pub struct QuantityAndPrice {
     pub price: Price,
 }
 
-// Returns the quantity of a holding summary, in shares, or 0 if it is `None`.
-fn quantity_of_summary_or_zero(summary: Option<SummaryRow>) -> i64
+fn qty_or_zero(summary: Option<SummaryRow>) -> i64
     ensures { result ≡ option_map_or (λ r. r.qty) (option_map abstract_summary_row summary) (pos 0) }
 {
     match summary {
@@ -35,17 +34,13 @@ fn quantity_of_summary_or_zero(summary: Option<SummaryRow>) -> i64
     }
 }
 
-// Returns the pair of a number of shares and the last price of their security, in cents.
-fn quantity_and_price(shares: i64, price: Price) -> QuantityAndPrice
+fn priced_quantity(shares: i64, price: Price) -> QuantityAndPrice
     ensures { result ≡ record { shares = shares; price = price } }
 {
     QuantityAndPrice { shares, price }
 }
 
-// Returns the quantity that an account holds of a security, 0 if it has no holding summary, and the
-// last price of the security, in cents. If the database is still open, it is unchanged. Fails with
-// `Memory` or `Store`; with `Store` also if the security has no last price.
-fn read_quantity_and_price<S: Alter>(
+fn quantity_now<S: Alter>(
     store: &mut Store<S>,
     account: Id,
     symbol: &Symbol,
@@ -55,12 +50,10 @@ fn read_quantity_and_price<S: Alter>(
 {
     let summary = store.summary_of(account, symbol)?;
     let price = require_last_price(store, symbol)?;
-    Ok(quantity_and_price(quantity_of_summary_or_zero(summary), price))
+    Ok(priced_quantity(qty_or_zero(summary), price))
 }
 
-// Returns the facts of a holding, put together from its account, its security, its trades and lots
-// (`held`), and its quantity and last price (`now`).
-fn holding_details_of_parts(
+fn holding_details_of(
     account: AccountRow,
     security: Security,
     held: TradesAndLots,
@@ -78,17 +71,11 @@ fn holding_details_of_parts(
     }
 }
 
-/// Returns the facts that the explanation of the holding of an account in a security reads: the
-/// rows of the account and of the security, the completed trades of the account in the security,
-/// the lots that they opened, the quantity and the last price, in cents. Refuses with `NoAccount`
-/// (1) if the account does not exist, and with `NoSecurity` (4) if only the security does not
-/// exist.
-///
-/// Fails with `Memory` or `Store` only; with `Store` also if the security has no last price, or if
-/// another trade that changed one of these lots does not exist or has no price. If the database is
-/// still open, it is unchanged, whatever the result. A crash after the call exposes only states
-/// that a crash before the call could expose.
-pub fn read_holding_details<S: Alter>(
+/// Returns the facts that the explanation of a holding reads. Refuses with `NoAccount` (1) if the
+/// account does not exist, and with `NoSecurity` (4) if only the security does not exist. Fails
+/// with `Store` also if the security has no last price, or if another trade that changed a lot of
+/// the holding does not exist or has no price.
+pub fn gather_holding<S: Alter>(
     alloc: Global,
     store: &mut Store<S>,
     account: Id,
@@ -103,7 +90,7 @@ pub fn read_holding_details<S: Alter>(
     let Some(security) = store.security(symbol)? else {
         return Ok(Err(Refusal::NoSecurity));
     };
-    let held = read_trades_and_lots_of_holding(alloc, store, account, symbol)?;
-    let now = read_quantity_and_price(store, account, symbol)?;
-    Ok(Ok(holding_details_of_parts(row, security, held, now)))
+    let held = held_trades(alloc, store, account, symbol)?;
+    let now = quantity_now(store, account, symbol)?;
+    Ok(Ok(holding_details_of(row, security, held, now)))
 }

@@ -15,7 +15,7 @@ mod terms;
 mod trade_lots;
 pub mod trades;
 
-pub use accounts::read_account_details;
-pub use brokers::{read_broker_details, visit_completed_trades_of_broker};
-pub use holdings::read_holding_details;
-pub use trades::read_trade_details;
+pub use accounts::gather_account;
+pub use brokers::{gather_broker, visit_broker_trades};
+pub use holdings::gather_holding;
+pub use trades::gather_trade;

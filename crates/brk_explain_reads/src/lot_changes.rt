@@ -29,65 +29,49 @@ pub struct OpeningAndLaterChanges {
     pub changes_by_others: Vec<PricedLotChange>,
 }
 
-// Returns true if `change` is by the trade that opened `lot`. The lot has the id of this trade.
-fn is_change_by_opening_trade(change: &LotChange, lot: Id) -> bool
+// A lot has the id of the trade that opened it.
+fn is_opening(change: &LotChange, lot: Id) -> bool
     ensures { result ≡ (change.now.trade == lot) }
 {
     change.trade == lot
 }
 
-// Returns the first of `changes` that is by the trade that opened `lot`, or `None` if there is
-// none.
-fn opening_change_of_lot(changes: &[LotChange], lot: Id) -> Option<LotChange>
+fn opening_of_lot(changes: &[LotChange], lot: Id) -> Option<LotChange>
     ensures { option_map abstract_lot_change_row result ≡ find (λ h. h.trade == lot) (map abstract_lot_change_row changes.now) }
 {
     for change in changes {
-        if is_change_by_opening_trade(change, lot) {
+        if is_opening(change, lot) {
             return Some(*change);
         }
     }
     None
 }
 
-// Appends `change` to `later` unless it is by the trade that opened `lot`. Fails with `Memory`
-// only.
-fn push_unless_by_opening_trade(
-    later: &mut Vec<LotChange>,
-    change: &LotChange,
-    lot: Id,
-) -> Result<(), Fault>
+fn push_later(later: &mut Vec<LotChange>, change: &LotChange, lot: Id) -> Result<(), Fault>
     ensures added { OnOk result (map abstract_lot_change_row later.new.items
         ≡ map abstract_lot_change_row later.old.items ++ filter (λ h. not (h.trade == lot)) (abstract_lot_change_row change.now ∷ [])) }
     ensures fault { OnErr result (result ≡ Err Memory) }
 {
-    if is_change_by_opening_trade(change, lot) {
+    if is_opening(change, lot) {
         return Ok(());
     }
     later.push(*change)?;
     Ok(())
 }
 
-// Returns those of `changes` that are not by the trade that opened `lot`, in the order of
-// `changes`. Fails with `Memory` only.
-fn changes_by_other_trades(
-    alloc: Global,
-    changes: &[LotChange],
-    lot: Id,
-) -> Result<Vec<LotChange>, Fault>
+fn later_changes(alloc: Global, changes: &[LotChange], lot: Id) -> Result<Vec<LotChange>, Fault>
     ensures later { IfOk result (λ later. map abstract_lot_change_row later.items
         ≡ filter (λ h. not (h.trade == lot)) (map abstract_lot_change_row changes.now)) }
     ensures fault { OnErr result (result ≡ Err Memory) }
 {
     let mut later = Vec::new(alloc);
     for change in changes {
-        push_unless_by_opening_trade(&mut later, change, lot)?;
+        push_later(&mut later, change, lot)?;
     }
     Ok(later)
 }
 
-// Returns the change of a lot, with the stamp and the price at which the trade that made it was
-// completed.
-fn priced_lot_change(change: &LotChange, stamp: Stamp, price: Price) -> PricedLotChange
+fn with_price(change: &LotChange, stamp: Stamp, price: Price) -> PricedLotChange
     ensures { result ≡ record { trade = change.now.trade; stamp = stamp; price = price; before = change.now.before; after = change.now.after } }
 {
     PricedLotChange {
@@ -99,13 +83,7 @@ fn priced_lot_change(change: &LotChange, stamp: Stamp, price: Price) -> PricedLo
     }
 }
 
-// Returns a change of a lot, with the stamp and the price of the trade that made it. If the
-// database is still open, it is unchanged. Fails with `Memory` or `Store`; with `Store` also if
-// that trade does not exist or has no price.
-fn read_priced_lot_change<S: Alter>(
-    store: &mut Store<S>,
-    change: &LotChange,
-) -> Result<PricedLotChange, Fault>
+fn read_priced<S: Alter>(store: &mut Store<S>, change: &LotChange) -> Result<PricedLotChange, Fault>
     ensures read { ReadPost S.Store store.old store.new result (λ priced_change t. abstract_priced_lot_change priced_change
         ≡ model.recorded_lot_change t (abstract_lot_change_row change.now)) }
     ensures fault { IfErr result IsCallFault }
@@ -114,13 +92,10 @@ fn read_priced_lot_change<S: Alter>(
     let Some(price) = trade.price else {
         return Err(Fault::Store);
     };
-    Ok(priced_lot_change(change, trade.stamp, price))
+    Ok(with_price(change, trade.stamp, price))
 }
 
-// Returns the change with which a lot was opened, if any, and the lot's changes by other trades,
-// sorted by trade id, ascending. If the database is still open, it is unchanged. Fails with
-// `Memory` or `Store`; with `Store` also if one of the other trades does not exist or has no price.
-fn read_changes_sorted_by_trade<S: Alter>(
+fn read_unsorted<S: Alter>(
     alloc: Global,
     store: &mut Store<S>,
     lot: Id,
@@ -129,11 +104,11 @@ fn read_changes_sorted_by_trade<S: Alter>(
     ensures fault { IfErr result IsCallFault }
 {
     let changes = store.lot_changes_of_lot(alloc, lot)?;
-    let opening = opening_change_of_lot(&changes, lot);
-    let later = changes_by_other_trades(alloc, &changes, lot)?;
+    let opening = opening_of_lot(&changes, lot);
+    let later = later_changes(alloc, &changes, lot)?;
     let mut changes_by_others = Vec::new(alloc);
     for change in &later {
-        let priced_change = read_priced_lot_change(store, change)?;
+        let priced_change = read_priced(store, change)?;
         changes_by_others.push(priced_change)?;
     }
     Ok(OpeningAndLaterChanges {
@@ -142,9 +117,7 @@ fn read_changes_sorted_by_trade<S: Alter>(
     })
 }
 
-// Returns `changes_by_others`, sorted by the stamps of the trades that made them, ascending; the
-// sort is stable. Fails with `Memory` only.
-fn sort_changes_by_stamp(
+fn sort_changes(
     alloc: Global,
     changes_by_others: Vec<PricedLotChange>,
 ) -> Result<Vec<PricedLotChange>, Fault>
@@ -156,11 +129,7 @@ fn sort_changes_by_stamp(
     Ok(sorted)
 }
 
-/// Returns the change with which a lot was opened, if any, and the lot's changes by other trades,
-/// sorted by the stamps of these trades, ascending. If the database is still open, it is unchanged.
-/// Fails with `Memory` or `Store`; with `Store` also if one of the other trades does not exist or
-/// has no price.
-pub(crate) fn read_lot_changes_sorted_by_completion<S: Alter>(
+pub(crate) fn read_changes<S: Alter>(
     alloc: Global,
     store: &mut Store<S>,
     lot: Id,
@@ -168,8 +137,8 @@ pub(crate) fn read_lot_changes_sorted_by_completion<S: Alter>(
     ensures read { ReadPost S.Store store.old store.new result (λ all t. AreLotChangesByCompletion t lot all) }
     ensures fault { IfErr result IsCallFault }
 {
-    let all = read_changes_sorted_by_trade(alloc, store, lot)?;
-    let changes_by_others = sort_changes_by_stamp(alloc, all.changes_by_others)?;
+    let all = read_unsorted(alloc, store, lot)?;
+    let changes_by_others = sort_changes(alloc, all.changes_by_others)?;
     Ok(OpeningAndLaterChanges {
         opening: all.opening,
         changes_by_others,

@@ -16,9 +16,8 @@ use brk_store_required::{require_account, require_security};
 use sqlite::Alter;
 use std::alloc::Global;
 
-// Returns the status changes of the trade with the id `trade`, the oldest first. If the database is
-// still open, it is unchanged. Fails with `Memory` or `Store`.
-fn read_sorted_statuses<S: Alter>(
+// Returns the oldest first.
+fn read_statuses<S: Alter>(
     alloc: Global,
     store: &mut Store<S>,
     trade: Id,
@@ -31,10 +30,7 @@ fn read_sorted_statuses<S: Alter>(
     Ok(statuses)
 }
 
-// Returns the trade with the rows of its account and its security and with its status changes, the
-// oldest first. If the database is still open, it is unchanged. Fails with `Memory` or `Store`;
-// with `Store` also if the trade's account or security does not exist.
-pub(crate) fn read_order_of_trade<S: Alter>(
+pub(crate) fn order_of_trade<S: Alter>(
     alloc: Global,
     store: &mut Store<S>,
     trade: TradeRow,
@@ -44,7 +40,7 @@ pub(crate) fn read_order_of_trade<S: Alter>(
 {
     let account = require_account(store, trade.account)?;
     let security = require_security(store, &trade.symbol)?;
-    let statuses = read_sorted_statuses(alloc, store, trade.id)?;
+    let statuses = read_statuses(alloc, store, trade.id)?;
     Ok(OrderDetails {
         trade,
         account,

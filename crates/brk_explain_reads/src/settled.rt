@@ -21,11 +21,7 @@ pub struct SettlementAndCash {
     pub rule: Option<Day>,
 }
 
-// Returns the settlement and the cash row of the trade with the id `trade`, and the first day of
-// one-day settlement; the cash row is `None` if the trade has none, and the day is `None` if none
-// is set. If the database is still open, it is unchanged. Fails with `Memory` or `Store`; with
-// `Store` also if the trade has no settlement.
-pub(crate) fn read_settlement_cash_and_one_day_start<S: Alter>(
+pub(crate) fn read_settlement<S: Alter>(
     store: &mut Store<S>,
     trade: Id,
 ) -> Result<SettlementAndCash, Fault>
@@ -34,7 +30,7 @@ pub(crate) fn read_settlement_cash_and_one_day_start<S: Alter>(
 {
     let settlement = require_settlement(store, trade)?;
     let cash = store.cash_row(trade)?;
-    let rule = store.one_day_settlement_start()?;
+    let rule = store.one_day_start()?;
     Ok(SettlementAndCash {
         settlement,
         cash,

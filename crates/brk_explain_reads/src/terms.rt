@@ -23,10 +23,7 @@ pub struct TaxRatesAndBand {
     pub band: Option<Band>,
 }
 
-// Returns the tax rates that a customer pays, sorted by id, ascending. If the database is still
-// open, it is unchanged. Fails with `Memory` or `Store`; with `Store` also if one of them does not
-// exist.
-fn read_tax_rates_of_customer<S: Alter>(
+fn customer_rates<S: Alter>(
     alloc: Global,
     store: &mut Store<S>,
     customer: Id,
@@ -43,9 +40,7 @@ fn read_tax_rates_of_customer<S: Alter>(
     Ok(rates)
 }
 
-// Returns `band` if its bounds, both included, contain the quantity, otherwise `other`, which may
-// be `None`.
-fn band_for_quantity_or_other(band: Band, qty: Qty, other: Option<Band>) -> Option<Band>
+fn fitting_band(band: Band, qty: Qty, other: Option<Band>) -> Option<Band>
     ensures { option_map abstract_band result
         ≡ (if nat_le band.from_qty qty && nat_le qty band.to_qty then Some (abstract_band band) else option_map abstract_band other) }
 {
@@ -56,24 +51,20 @@ fn band_for_quantity_or_other(band: Band, qty: Qty, other: Option<Band>) -> Opti
     }
 }
 
-// Returns the first of `bands` whose bounds, both included, contain the quantity, or `None` if
-// there is none.
-fn first_band_with_quantity(bands: Vec<Band>, qty: Qty) -> Option<Band>
+// As `band_for`, but returns the whole band. Goes through the bands from the last one on, so the
+// first match is the last one found.
+fn band_with_quantity(bands: Vec<Band>, qty: Qty) -> Option<Band>
     ensures { option_map abstract_band result ≡ find (λ b. nat_le b.from_qty qty && nat_le qty b.to_qty) (map abstract_band bands.items) }
 {
     let mut rest = bands;
     let mut found = None;
     while let Some(band) = rest.pop() {
-        found = band_for_quantity_or_other(band, qty, found);
+        found = fitting_band(band, qty, found);
     }
     found
 }
 
-// Returns the first commission band, in the order of the table, of the customer tier `tier`, of the
-// type of the order's trade and of the exchange of the order's security, whose bounds, both
-// included, contain the quantity of the trade, or `None` if there is none. If the database is still
-// open, it is unchanged. Fails with `Memory` or `Store`.
-fn read_band_for_tier<S: Alter>(
+fn band_for_tier<S: Alter>(
     alloc: Global,
     store: &mut Store<S>,
     order: &OrderDetails,
@@ -84,14 +75,10 @@ fn read_band_for_tier<S: Alter>(
     ensures fault { IfErr result IsCallFault }
 {
     let bands = store.commission_bands(alloc, tier, order.trade.kind, &order.security.exchange)?;
-    Ok(first_band_with_quantity(bands, order.trade.qty))
+    Ok(band_with_quantity(bands, order.trade.qty))
 }
 
-// Returns the tax rates of the customer of the order's account, sorted by id, ascending, and the
-// commission band of the order's trade, if any, as the tables have them now. If the database is
-// still open, it is unchanged. Fails with `Memory` or `Store`; with `Store` also if the customer or
-// one of the rates does not exist.
-pub(crate) fn read_tax_rates_and_band<S: Alter>(
+pub(crate) fn read_terms<S: Alter>(
     alloc: Global,
     store: &mut Store<S>,
     order: &OrderDetails,
@@ -101,7 +88,7 @@ pub(crate) fn read_tax_rates_and_band<S: Alter>(
 {
     let id = order.account.account.customer;
     let customer = require_customer(store, id)?;
-    let rates = read_tax_rates_of_customer(alloc, store, id)?;
-    let band = read_band_for_tier(alloc, store, order, customer.tier)?;
+    let rates = customer_rates(alloc, store, id)?;
+    let band = band_for_tier(alloc, store, order, customer.tier)?;
     Ok(TaxRatesAndBand { rates, band })
 }

@@ -17,7 +17,7 @@ use Rattle.brk_explain_rows.specs.declared.account_details.PricedHolding as held
 use Rattle.brk_explain_rows.specs.declared.broker_details.BrokerDetails as broker_details
 use Rattle.brk_explain_rows.specs.declared.closing.Closing as closing
 use Rattle.brk_explain_rows.specs.declared.holding_details.HoldingDetails as holding_details
-use Rattle.brk_explain_rows.specs.declared.holding_details.PricedLotChange as priced_lot_change
+use Rattle.brk_explain_rows.specs.declared.holding_details.PricedLotChange as with_price
 use Rattle.brk_explain_rows.specs.declared.holding_details.LotDetails as lot_details
 use Rattle.brk_explain_rows.specs.declared.details.OrderDetails as order_details
 use Rattle.brk_explain_rows.specs.declared.details.ResultDetails as result_details
@@ -80,7 +80,7 @@ AreDetailsOfAccount account (Some s) t =
     (account_row_with_id t account ≡ Some (abstract_account_row s.account)) × (map abstract_priced_holding s.held.items ≡ priced_holdings_of_account t account)
 
 -- The model's change of a lot that has the values of the typed change `c`.
-abbrev pub abstract_priced_lot_change : priced_lot_change.PricedLotChange → LotChange
+abbrev pub abstract_priced_lot_change : with_price.PricedLotChange → LotChange
 abstract_priced_lot_change c = record { trade = c.trade; stamp = c.stamp; price = c.price; before = c.before; after = c.after }
 
 -- The model's lot, with its changes after the opening, that has the values of the typed lot `l`.

@@ -1,4 +1,4 @@
-//! The text of the explanation of a holding.
+//! The text of the explanation of a holding. After an error a part of it may be appended.
 
 ghost use Rattle.std.specs.Prelude.{◌≡◌, ◌++◌, Err, IfErr, IfOk, OnErr, OnOk};
 ghost use Rattle.brk_model_explain.specs.HoldingLines as lines;
@@ -9,44 +9,35 @@ ghost use Rattle.brk_money.specs.declared.fault.Fault.TheVariants.{Memory};
 ghost use Rattle.brk_ref.specs.Records.{abstract_account_row, abstract_security_row};
 ghost use Rattle.brk_report_lines.specs.Written.{line_with_line_feed};
 
-use crate::holding_totals::put_holding_total_lines;
-use crate::lot_rows::put_all_lot_history_lines;
-use crate::trade_rows::put_holding_trade_lines;
-use brk_explain_columns::{put_labeled_text_line, put_text, put_text_and_number, put_text_line};
+use crate::holding_totals::put_holding_end;
+use crate::lot_lines::put_histories;
+use crate::trade_rows::put_held_trades;
+use brk_explain_columns::{put_numbered, put_text, put_text_fact, put_text_line};
 use brk_explain_rows::HoldingDetails;
 use brk_money::{Fault, Id};
 use brk_ref::{AccountRow, Security};
 use std::alloc::Global;
 
-// Appends to `out` the title line of the explanation of a holding, with the account and the symbol.
-// Fails with `Memory` only; a part of the line may then be appended.
-fn put_holding_title_line(out: &mut Vec<u8>, account: Id, symbol: &[u8]) -> Result<(), Fault>
+fn put_head_title(out: &mut Vec<u8>, account: Id, symbol: &[u8]) -> Result<(), Fault>
     ensures ok { OnOk result (out.new.items ≡ out.old.items ++ line_with_line_feed (lines.holding_title account symbol.now)) }
     ensures fault { OnErr result (result ≡ Err Memory) }
 {
-    put_text_and_number(out, "Holding of account ", account.get())?;
+    put_numbered(out, "Holding of account ", account.get())?;
     put_text(out, b" in ")?;
     put_text(out, symbol)?;
     put_text_line(out, b", times in UTC")
 }
 
-// Appends to `out` the title of the explanation of a holding, the names of the account and of the
-// security, and the column headings of the trades. Fails with `Memory` only; a part of the lines
-// may then be appended.
 #[tactic(auto, unfolding(brk_model_explain::specs::HoldingLines::holding_header_lines))]
-fn put_holding_header_lines(
-    out: &mut Vec<u8>,
-    row: &AccountRow,
-    security: &Security,
-) -> Result<(), Fault>
+fn put_head_lines(out: &mut Vec<u8>, row: &AccountRow, security: &Security) -> Result<(), Fault>
     ensures ok { OnOk result (out.new.items
         ≡ out.old.items ++ text_of_lines (lines.holding_header_lines (abstract_account_row row.now) (abstract_security_row security.now))) }
     ensures fault { OnErr result (result ≡ Err Memory) }
 {
     let account = &row.account;
-    put_holding_title_line(out, account.id, security.symbol.as_str().as_bytes())?;
-    put_labeled_text_line(out, "Account name", account.name.as_str().as_bytes())?;
-    put_labeled_text_line(out, "Security", security.name.as_str().as_bytes())?;
+    put_head_title(out, account.id, security.symbol.as_str().as_bytes())?;
+    put_text_fact(out, "Account name", account.name.as_str().as_bytes())?;
+    put_text_fact(out, "Security", security.name.as_str().as_bytes())?;
     put_text_line(
         out,
         b"#      completed                       trade      shares      price            value        held type",
@@ -54,9 +45,7 @@ fn put_holding_header_lines(
     Ok(())
 }
 
-// Appends to `out` the line of the column headings of the lots of a holding. Fails with `Memory`
-// only; a part of the line may then be appended.
-fn put_lot_columns_header(out: &mut Vec<u8>) -> Result<(), Fault>
+fn put_lot_header(out: &mut Vec<u8>) -> Result<(), Fault>
     ensures ok { OnOk result (out.new.items ≡ out.old.items ++ line_with_line_feed lines.lot_columns_header) }
     ensures fault { OnErr result (result ≡ Err Memory) }
 {
@@ -66,37 +55,28 @@ fn put_lot_columns_header(out: &mut Vec<u8>) -> Result<(), Fault>
     )
 }
 
-// Appends to `out` all lines of the explanation of a holding: its header, its completed trades, the
-// column headings of the lots, its lots with their changes, and its totals. Fails with `Memory` or
-// `Store`; with `Store` if an amount, a quantity or a number of lots or changes overflows, or if a
-// trade has no price. After an error a part of the lines may be appended.
 #[tactic(auto, unfolding(brk_model_explain::specs::HoldingLines::holding_lines_from_trades_and_lots))]
-fn put_holding_lines(
-    alloc: Global,
-    out: &mut Vec<u8>,
-    details: &HoldingDetails,
-) -> Result<(), Fault>
+fn put_held_lines(alloc: Global, out: &mut Vec<u8>, details: &HoldingDetails) -> Result<(), Fault>
     ensures ok { OnOk result (out.new.items ≡ out.old.items ++ text_of_lines (lines_of_holding_details details.now)) }
     ensures fault { IfErr result IsCallFault }
 {
     let done = details.done.as_slice();
     let lots = details.lots.as_slice();
-    put_holding_header_lines(out, &details.account, &details.security)?;
-    put_holding_trade_lines(alloc, out, done)?;
-    put_lot_columns_header(out)?;
-    put_all_lot_history_lines(alloc, out, lots)?;
-    put_holding_total_lines(alloc, out, done, lots, details.shares, details.price)?;
+    put_head_lines(out, &details.account, &details.security)?;
+    put_held_trades(alloc, out, done)?;
+    put_lot_header(out)?;
+    put_histories(alloc, out, lots)?;
+    put_holding_end(alloc, out, done, lots, details.shares, details.price)?;
     Ok(())
 }
 
-/// Returns all lines of the explanation of a holding as one text, each line with its line feed.
-/// Fails with `Memory` or `Store`; with `Store` if an amount, a quantity or a number of lots or
-/// changes overflows, or if a trade has no price.
-pub fn holding_explanation_text(alloc: Global, details: &HoldingDetails) -> Result<Vec<u8>, Fault>
+/// Returns all lines of the explanation of a holding. Fails with `Store` if an amount, a quantity
+/// or a count overflows, or if a trade has no price.
+pub fn explained_holding(alloc: Global, details: &HoldingDetails) -> Result<Vec<u8>, Fault>
     ensures text { IfOk result (λ text. text.items ≡ text_of_lines (lines_of_holding_details details.now)) }
     ensures fault { IfErr result IsCallFault }
 {
     let mut text = Vec::new(alloc);
-    put_holding_lines(alloc, &mut text, details)?;
+    put_held_lines(alloc, &mut text, details)?;
     Ok(text)
 }

@@ -1,4 +1,5 @@
-//! The totals of a holding, and the last line of its explanation.
+//! The totals of a holding, and the last line of its explanation. After an error a part of the
+//! lines may be appended.
 
 ghost use Rattle.std.specs.Prelude.{◌≡◌, ◌++◌, Err, IfErr, OnErr, OnOk, map};
 ghost use Rattle.brk_ref.specs.Rows.{abstract_trade_row};
@@ -10,23 +11,20 @@ ghost use Rattle.brk_money.specs.declared.fault.Fault.TheVariants.{Memory};
 ghost use Rattle.brk_report_lines.specs.Written.{line_with_line_feed};
 
 use crate::holding_lots::{
-    count_of_lot_changes, count_of_open_lots, realised_gain_of_lots, remaining_cost_of_lots,
+    count_of_lot_changes, count_open_lots, realised_gain_of_lots, remaining_cost_of_lots,
 };
 use crate::trades::{negated_total_sale_value, total_purchase_value};
 use brk_explain_columns::{
-    end_line, put_labeled_amount_line, put_labeled_integer_line, put_text_and_number,
-    subtract_amounts, value_of_shares_at_price,
+    end_line, put_amount_fact, put_numbered, put_signed_fact, shares_value, subtract_amounts,
 };
 use brk_explain_rows::LotDetails;
 use brk_money::{Fault, Price, Wide};
 use brk_ref::TradeRow;
 use std::alloc::Global;
 
-// Appends to `out` the lines of the total purchases `bought`, the negated total sales `sold`, the
-// realised gain `gain` and the cost basis `cost` of a holding, in cents. Fails with `Memory` only;
-// a part of the lines may then be appended.
+// `sold` is the total of the sales, negated.
 #[tactic(auto, unfolding(brk_model_explain::specs::HoldingLines::purchase_sale_gain_and_cost_lines))]
-fn put_purchase_sale_gain_and_cost_lines(
+fn put_trading(
     alloc: Global,
     out: &mut Vec<u8>,
     bought: Wide,
@@ -37,18 +35,15 @@ fn put_purchase_sale_gain_and_cost_lines(
     ensures ok { OnOk result (out.new.items ≡ out.old.items ++ text_of_lines (lines.purchase_sale_gain_and_cost_lines bought sold gain cost)) }
     ensures fault { OnErr result (result ≡ Err Memory) }
 {
-    put_labeled_amount_line(alloc, out, "Purchases", bought)?;
-    put_labeled_amount_line(alloc, out, "Sales", sold)?;
-    put_labeled_amount_line(alloc, out, "Realised gain", gain)?;
-    put_labeled_amount_line(alloc, out, "Cost basis", cost)
+    put_amount_fact(alloc, out, "Purchases", bought)?;
+    put_amount_fact(alloc, out, "Sales", sold)?;
+    put_amount_fact(alloc, out, "Realised gain", gain)?;
+    put_amount_fact(alloc, out, "Cost basis", cost)
 }
 
-// Appends to `out` the lines of the quantity `shares`, the last price `price`, the market value,
-// which is `shares` times `price`, and the unrealised gain of a holding, which is the market value
-// minus the cost basis `cost`; `price` and `cost` are given in cents. Fails with `Memory` or
-// `Store`; with `Store` if an amount overflows. After an error a part of the lines may be appended.
+// The unrealised gain is the worth minus `cost`, the cost basis.
 #[tactic(auto, unfolding(brk_model_explain::specs::HoldingLines::holding_value_lines))]
-fn put_holding_value_lines(
+fn put_worth(
     alloc: Global,
     out: &mut Vec<u8>,
     shares: i64,
@@ -58,18 +53,15 @@ fn put_holding_value_lines(
     ensures ok { OnOk result (out.new.items ≡ out.old.items ++ text_of_lines (lines.holding_value_lines shares price cost)) }
     ensures fault { IfErr result IsCallFault }
 {
-    let worth = value_of_shares_at_price(shares, price)?;
+    let worth = shares_value(shares, price)?;
     let gain = subtract_amounts(worth, cost)?;
-    put_labeled_integer_line(out, "Shares", shares)?;
-    put_labeled_amount_line(alloc, out, "Last price", Wide::from(price))?;
-    put_labeled_amount_line(alloc, out, "Worth", worth)?;
-    put_labeled_amount_line(alloc, out, "Unrealised gain", gain)
+    put_signed_fact(out, "Shares", shares)?;
+    put_amount_fact(alloc, out, "Last price", Wide::from(price))?;
+    put_amount_fact(alloc, out, "Worth", worth)?;
+    put_amount_fact(alloc, out, "Unrealised gain", gain)
 }
 
-// Appends to `out` the last line of the explanation of a holding: the numbers of its completed
-// trades, of its lots, of the lots that are not fully closed, and of the changes of its lots after
-// their opening. Fails with `Memory` only; a part of the line may then be appended.
-fn put_holding_counts_line(
+fn put_lot_counts(
     out: &mut Vec<u8>,
     trades: usize,
     lots: usize,
@@ -79,21 +71,15 @@ fn put_holding_counts_line(
     ensures ok { OnOk result (out.new.items ≡ out.old.items ++ line_with_line_feed (lines.holding_counts_line trades lots open_lots changes)) }
     ensures fault { OnErr result (result ≡ Err Memory) }
 {
-    put_text_and_number(out, "Trades ", trades as u64)?;
-    put_text_and_number(out, ", lots ", lots as u64)?;
-    put_text_and_number(out, ", open lots ", open_lots)?;
-    put_text_and_number(out, ", changes ", changes)?;
+    put_numbered(out, "Trades ", trades as u64)?;
+    put_numbered(out, ", lots ", lots as u64)?;
+    put_numbered(out, ", open lots ", open_lots)?;
+    put_numbered(out, ", changes ", changes)?;
     end_line(out)
 }
 
-/// Appends to `out` the last lines of the explanation of a holding, from its completed trades
-/// `done`, its `lots`, its quantity `shares` and the last price `price`: the total purchases, the
-/// total sales, negated, the realised gain, the cost basis, the quantity, the last price, the
-/// market value, the unrealised gain, and the numbers of trades, lots, open lots and changes. Fails
-/// with `Memory` or `Store`; with `Store` if an amount or a number of lots or changes overflows, or
-/// if a trade has no price. After an error a part of the lines may be appended.
 #[tactic(auto, unfolding(brk_model_explain::specs::HoldingLines::holding_total_lines))]
-pub(crate) fn put_holding_total_lines(
+pub(crate) fn put_holding_end(
     alloc: Global,
     out: &mut Vec<u8>,
     done: &[TradeRow],
@@ -109,10 +95,10 @@ pub(crate) fn put_holding_total_lines(
     let sold = negated_total_sale_value(done)?;
     let gain = realised_gain_of_lots(lots)?;
     let cost = remaining_cost_of_lots(lots)?;
-    let open_lots = count_of_open_lots(lots)?;
+    let open_lots = count_open_lots(lots)?;
     let changes = count_of_lot_changes(lots)?;
-    put_purchase_sale_gain_and_cost_lines(alloc, out, bought, sold, gain, cost)?;
-    put_holding_value_lines(alloc, out, shares, price, cost)?;
-    put_holding_counts_line(out, done.len(), lots.len(), open_lots, changes)?;
+    put_trading(alloc, out, bought, sold, gain, cost)?;
+    put_worth(alloc, out, shares, price, cost)?;
+    put_lot_counts(out, done.len(), lots.len(), open_lots, changes)?;
     Ok(())
 }

@@ -5,9 +5,9 @@ pub mod broker;
 pub mod holding;
 mod holding_lots;
 mod holding_totals;
-mod lot_rows;
+mod lot_lines;
 mod trade_rows;
 mod trades;
 
-pub use broker::{broker_header_text, broker_total_text, trade_commission_line_text};
-pub use holding::holding_explanation_text;
+pub use broker::{broker_end_text, broker_head, commission_text};
+pub use holding::explained_holding;

@@ -1,5 +1,5 @@
-//! The quantities and values of completed trades, and their totals. A trade without a price, and a
-//! product or a sum that overflows, are the fault `Store`.
+//! The quantities of completed trades, their values in cents, and their totals. A trade without a
+//! price, and a product or a sum that overflows, are the fault `Store`.
 
 ghost use Rattle.std.specs.Prelude.{◌≡◌, ◌+ℤ◌, IfErr, IfOk, if◌then◌else◌, int_lt, map, pos};
 ghost use Rattle.brk_ref.specs.Rows.{abstract_trade_row};
@@ -7,12 +7,11 @@ ghost use Rattle.brk_model_explain.specs.Holdings as holdings;
 ghost use Rattle.brk_model_explain.specs.Trades as details;
 ghost use Rattle.brk_model.specs.Run.{IsCallFault};
 
-use brk_explain_columns::{add_amounts, value_of_shares_at_price};
+use brk_explain_columns::{add_amounts, shares_value};
 use brk_money::{Fault, Price, Side, Wide};
 use brk_ref::TradeRow;
 
-/// Returns the price at which a trade was completed. Fails with `Store` if its row has no price.
-pub(crate) fn completion_price_of_trade(row: &TradeRow) -> Result<Price, Fault>
+pub(crate) fn completed_price(row: &TradeRow) -> Result<Price, Fault>
     ensures price { IfOk result (λ price. price ≡ details.completion_price_or_zero (abstract_trade_row row.now)) }
     ensures fault { IfErr result IsCallFault }
 {
@@ -22,7 +21,7 @@ pub(crate) fn completion_price_of_trade(row: &TradeRow) -> Result<Price, Fault>
     }
 }
 
-/// Returns the quantity of a trade, in shares: below 0 for a sale.
+/// Returns a number below 0 for a sale.
 pub(crate) fn signed_quantity_of_trade(row: &TradeRow) -> i64
     ensures { result ≡ holdings.signed_quantity_of_trade (abstract_trade_row row.now) }
 {
@@ -33,19 +32,16 @@ pub(crate) fn signed_quantity_of_trade(row: &TradeRow) -> i64
     }
 }
 
-/// Returns the product of the quantity and the price of a trade, in cents: below 0 for a sale.
-/// Fails with `Store` if the product overflows, or if the trade has no price.
+/// Returns an amount below 0 for a sale.
 pub(crate) fn signed_value_of_trade(row: &TradeRow) -> Result<Wide, Fault>
     ensures value { IfOk result (λ value. value ≡ holdings.signed_value_of_trade (abstract_trade_row row.now)) }
     ensures fault { IfErr result IsCallFault }
 {
-    let price = completion_price_of_trade(row)?;
-    value_of_shares_at_price(signed_quantity_of_trade(row), price)
+    let price = completed_price(row)?;
+    shares_value(signed_quantity_of_trade(row), price)
 }
 
-/// Returns the quantity `held` before a trade plus the quantity of the trade if it is a purchase,
-/// or minus it if it is a sale. Fails with `Store` if the result overflows.
-pub(crate) fn quantity_held_after_trade(held: i64, row: &TradeRow) -> Result<i64, Fault>
+pub(crate) fn next_held(held: i64, row: &TradeRow) -> Result<i64, Fault>
     ensures held { IfOk result (λ after. after ≡ held +ℤ holdings.signed_quantity_of_trade (abstract_trade_row row.now)) }
     ensures fault { IfErr result IsCallFault }
 {
@@ -55,31 +51,26 @@ pub(crate) fn quantity_held_after_trade(held: i64, row: &TradeRow) -> Result<i64
     }
 }
 
-// Returns true if the amount `one` is below the amount `other`.
 fn is_below(one: Wide, other: Wide) -> bool
     ensures { result ≡ int_lt one other }
 {
     one.get() < other.get()
 }
 
-// Returns the amount if it is above 0, otherwise 0.
-fn amount_if_above_zero(amount: Wide) -> Wide
+fn positive_part(amount: Wide) -> Wide
     ensures { result ≡ (if int_lt (pos 0) amount then amount else pos 0) }
 {
     let zero = Wide::new(0);
     if is_below(zero, amount) { amount } else { zero }
 }
 
-// Returns the amount if it is below 0, otherwise 0.
-fn amount_if_below_zero(amount: Wide) -> Wide
+fn negative_part(amount: Wide) -> Wide
     ensures { result ≡ (if int_lt amount (pos 0) then amount else pos 0) }
 {
     let zero = Wide::new(0);
     if is_below(amount, zero) { amount } else { zero }
 }
 
-/// Returns the sum of the values of the purchases among the completed trades, in cents: 0 if there
-/// is none. Fails with `Store` if a value or the sum overflows, or if a trade has no price.
 pub(crate) fn total_purchase_value(done: &[TradeRow]) -> Result<Wide, Fault>
     ensures total { IfOk result (λ total. total ≡ holdings.total_purchase_value (map abstract_trade_row done.now)) }
     ensures fault { IfErr result IsCallFault }
@@ -87,14 +78,12 @@ pub(crate) fn total_purchase_value(done: &[TradeRow]) -> Result<Wide, Fault>
     let mut total = Wide::new(0);
     for row in done {
         let value = signed_value_of_trade(row)?;
-        total = add_amounts(total, amount_if_above_zero(value))?;
+        total = add_amounts(total, positive_part(value))?;
     }
     Ok(total)
 }
 
-/// Returns the sum of the values of the sales among the completed trades, in cents and negated:
-/// below 0, or 0 if there is none. Fails with `Store` if a value or the sum overflows, or if a
-/// trade has no price.
+/// Returns an amount below 0, or 0 if there is no sale.
 pub(crate) fn negated_total_sale_value(done: &[TradeRow]) -> Result<Wide, Fault>
     ensures total { IfOk result (λ total. total ≡ holdings.negated_total_sale_value (map abstract_trade_row done.now)) }
     ensures fault { IfErr result IsCallFault }
@@ -102,7 +91,7 @@ pub(crate) fn negated_total_sale_value(done: &[TradeRow]) -> Result<Wide, Fault>
     let mut total = Wide::new(0);
     for row in done {
         let value = signed_value_of_trade(row)?;
-        total = add_amounts(total, amount_if_below_zero(value))?;
+        total = add_amounts(total, negative_part(value))?;
     }
     Ok(total)
 }

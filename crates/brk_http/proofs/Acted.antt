@@ -1,4 +1,4 @@
--- What calls of a desk do to the bases whose books it kept.
+-- The effects of calls on the bases that a desk represents.
 use Rattle.std.proofs.Common.{◌≡◌, ℕ, Option, [], ◌∷◌, refl, subst, sym}
 use Rattle.std.specs.Prelude.{Result, Ok, Err}
 use Rattle.sqlite_trees.specs.declared.store.Store.{Ghosts}

@@ -9,7 +9,7 @@ use Rattle.brk_money.specs.Moments.{CivilDate, civil_date_of_day}
 use Rattle.brk_money.specs.Kinds.{trade_status_code}
 use Rattle.brk_money.specs.declared.status.Status.{Status}
 use Rattle.brk_money.specs.declared.status.Status.TheVariants.{Completed, Active, Submitted, Pending, Canceled}
-use Rattle.brk_model.specs.Commands.{Reply, Booked, Ordered, Ticked, CanceledTrade, CompletedTrade, Changed, Estimate, Completion, MovedCash}
+use Rattle.brk_model.specs.Commands.{Reply, Booked, Ordered, Ticked, CanceledTrade, CompletedTrade, Changed, Estimate, Completion, Estimated, MovedCash}
 use Rattle.brk_model.specs.Rows.{completion_fields, estimate_fields, line_text, reply_fields}
 use Rattle.brk_model_http.specs.Routes.{split_at_byte}
 
@@ -94,6 +94,7 @@ fields (CanceledTrade stamp) = (number stamp, ((refl, (refl, (refl, (refl, tt)))
 fields (CompletedTrade stamp c) = (number stamp, completion c)
 fields (Changed stamp count) = (number stamp, (number count, tt))
 fields (MovedCash stamp move balance) = (number stamp, (number move, (cents balance, tt)))
+fields (Estimated e) = estimate e
 
 -- ---- cutting
 
@@ -122,3 +123,4 @@ fields_cut (CanceledTrade stamp) = cut _ _ (fields (CanceledTrade stamp))
 fields_cut (CompletedTrade stamp c) = cut _ _ (fields (CompletedTrade stamp c))
 fields_cut (Changed stamp count) = cut _ _ (fields (Changed stamp count))
 fields_cut (MovedCash stamp move balance) = cut _ _ (fields (MovedCash stamp move balance))
+fields_cut (Estimated e) = cut _ _ (fields (Estimated e))

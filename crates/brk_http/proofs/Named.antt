@@ -1,4 +1,4 @@
--- The views that a desk knows.
+-- The names of the views of a desk.
 use Rattle.std.proofs.Common.{◌≡◌, Option, Some, None, MatchOption, true, false, refl, subst}
 use Rattle.std.specs.Prelude.{bytes_eq}
 use Rattle.std.specs.List.{list_any}

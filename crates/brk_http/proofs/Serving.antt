@@ -1,4 +1,4 @@
--- The calls that a stream asks for, as the program makes them.
+-- The calls of a stream, as calls of a desk.
 use Rattle.std.proofs.Common.{◌≡◌, ℕ, ◌≤◌, List, [], ◌∷◌, length, map, Option, Some, None, IfSome, refl, ap, arith, subst, subst₂, sym}
 use Rattle.std.specs.Prelude.{Result}
 use Rattle.std.proofs.lemmas.List.{length-map}

@@ -7,11 +7,11 @@ ghost use Rattle.brk_view_rows.specs.ViewNames.{text_of_view_name};
 ghost use Rattle.brk_view_rows.specs.Views.{records_of_view};
 
 use brk_desk::{Answer, Command, Desk, Query, View, line_text, parse_row, view_fields};
-use brk_http_engine::{Service, fields_between_commas};
+use brk_http_engine::{Service, comma_fields};
 use brk_money::{Fault, Planned, Stamp};
 use brk_ref::Key;
 use brk_trade::Reply;
-use brk_view_rows::{ViewName, parse_query_of_view};
+use brk_view_rows::{ViewName, parse_for_view};
 use sqlite::Alter;
 use std::alloc::{AllocError, Global};
 use std::marker::PhantomData;
@@ -48,27 +48,18 @@ impl<S: Alter> Service for DeskService<S> {
 
     ghost shown = { records_of_view };
 
-    /// Parses the fields of a row: returns a command, or the refusal of a malformed row. Fails with
-    /// `Memory` only.
     fn parse_row(alloc: Global, row: &[&[u8]]) -> Planned<Command> {
         parse_row(alloc, row)
     }
 
-    /// Returns the name of a view that has the text `name`, or `None` if no view has this name.
     fn view_name_from_text(name: &str) -> Option<ViewName> {
         ViewName::from_text(name)
     }
 
-    /// Parses the arguments of a view: returns a query, or the refusal of a malformed query. Fails
-    /// with `Memory` only.
     fn parse_query(alloc: Global, view: ViewName, arguments: &[&[u8]]) -> Planned<Query> {
-        parse_query_of_view(alloc, view, arguments)
+        parse_for_view(alloc, view, arguments)
     }
 
-    /// Executes a command at the clock reading `now` by `Desk::call`, under its key or without one,
-    /// and returns its answer. Fails with `Memory` or `Store` only. A fault changes nothing in a
-    /// store that is still open; after a fault that closed the store, a crash may expose the
-    /// command as committed.
     fn call(
         desk: &mut Desk<S>,
         alloc: Global,
@@ -79,22 +70,17 @@ impl<S: Alter> Service for DeskService<S> {
         desk.call(alloc, now, command, key)
     }
 
-    /// Executes a query by `Desk::ask`, and returns its view or its refusal. Fails with `Memory` or
-    /// `Store` only. If the database is still open, it is unchanged, whatever the result.
     fn ask(desk: &mut Desk<S>, alloc: Global, query: &Query) -> Planned<View> {
         desk.ask(alloc, query)
     }
 
-    /// Returns the fields of a reply, in order. Fails only if memory runs out.
     fn reply_fields(alloc: Global, reply: &Reply) -> Result<Vec<String>, AllocError> {
         match line_text(alloc, reply) {
-            Ok(line) => fields_between_commas(alloc, line.as_str()),
+            Ok(line) => comma_fields(alloc, line.as_str()),
             Err(_) => Err(AllocError),
         }
     }
 
-    /// Returns the records of a view, in order, each a list of texts. Fails only if memory runs
-    /// out.
     fn view_records(alloc: Global, view: &View) -> Result<Vec<Vec<String>>, AllocError> {
         match view_fields(alloc, view) {
             Ok(records) => Ok(records),

@@ -23,17 +23,12 @@ const DRAIN_TIMEOUT_MILLISECONDS: u64 = 250;
 // The greatest number of reads after the last reply.
 const MAXIMUM_DRAIN_READS: u32 = 128;
 
-// Sets the time limits of a socket: after `Ok` each read or write that waits for more than 30
-// seconds fails. Fails if a limit cannot be set; the limit of reads may then be set.
-fn set_socket_time_limits(stream: &TcpStream) -> io::Result<()> {
+fn set_time_limits(stream: &TcpStream) -> io::Result<()> {
     stream.set_read_timeout(Some(Duration::from_secs(STREAM_TIMEOUT_SECONDS)))?;
     stream.set_write_timeout(Some(Duration::from_secs(STREAM_TIMEOUT_SECONDS)))
 }
 
-// Shuts down the writing side of a socket, and then reads and drops bytes until the peer closes its
-// side or after 128 reads. A reset that loses the last reply is then less likely. Fails if the
-// shutdown fails, the time limit of 250 ms for each read cannot be set, or a read fails or waits
-// longer.
+// Drops what the peer still sends: a reset that loses the last reply is then less likely.
 fn drain_before_close(stream: &TcpStream) -> io::Result<()> {
     stream.shutdown(Shutdown::Write)?;
     stream.set_read_timeout(Some(Duration::from_millis(DRAIN_TIMEOUT_MILLISECONDS)))?;
@@ -62,21 +57,16 @@ impl<C: Clock, S: Alter> StreamServer for SocketServer<C, S> {
 
     ghost serves = { DeskServesStream S.Store C.gives };
 
-    /// Serves the requests of a TCP stream, and returns the number of replies. Fails with the fault
-    /// that ended the stream, `Read`, `Write` or `Memory`, and the number of replies before it.
-    ///
-    /// The contract says only that the desk changed by a sequence of its calls, at most one for
-    /// each reply and one more after `Write` or `Memory`, and that there are at most 1,000 replies,
-    /// fewer before a fault (`ServesStreamByCalls`). Tested only: the time limits of the socket,
-    /// the fault `Read` before any request if these limits cannot be set, and the draining of the
-    /// socket after the last reply, whose failure is ignored.
-    fn serve_accepted_stream(
+    /// Serves the requests of a TCP stream. Tested only: the time limits of the socket, the fault
+    /// `Read` before any request if they cannot be set, and the draining after the last reply,
+    /// whose failure is ignored.
+    fn serve_accepted(
         alloc: Global,
         stream: TcpStream,
         clock: &mut C,
         desk: &mut Desk<S>,
     ) -> Result<u64, ServeFault> {
-        if set_socket_time_limits(&stream).is_err() {
+        if set_time_limits(&stream).is_err() {
             return Err(ServeFault {
                 done: 0,
                 kind: FaultKind::Read,

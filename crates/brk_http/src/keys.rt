@@ -11,18 +11,15 @@ ghost use Rattle.brk_model_http.specs.Bodies.{json_texts_object};
 ghost use Rattle.brk_model_http.specs.Replies.{answer_body};
 ghost use Rattle.brk_model_http.specs.Routes.{split_at_byte};
 
-/// Proves that the line of a reply, split at its commas, results in the fields of the reply. Proves
-/// also that the body of the reply to a retry has exactly the fields of the first reply, in the
-/// member `again`.
+/// Proves that the line of a reply splits at its commas into the fields of the reply, which the
+/// body of a retry's reply has too.
 pub fn reply_line_splits_into_its_fields()
     ensures fields { (reply : Reply) → split_at_byte 44 (line_text reply) ≡ reply_fields reply }
     ensures retry_body { (reply : Reply) → answer_body (Again (line_text reply)) ≡ json_texts_object (codes "again") (reply_fields reply) }
 {}
 
-/// Proves that batches and requests share keys. If a batch accepted a row, a request with the row
-/// under its key returns the stored reply, unless the call fails. If a request accepted a row, the
-/// step of a batch for the row under its key returns the stored reply. Any calls may be executed
-/// between the acceptance and the retry, and the retry leaves the base unchanged.
+/// Proves that a row that a batch or a request accepted gets the stored reply from the other,
+/// unless its call fails, and changes nothing.
 pub fn key_is_idempotent_across_interfaces()
     ensures accepted_in_batch { (base mid after : Base) (now later : ℕ) (command : Command) (key : Key) (reply : Reply) (calls : List (ℕ
         × Call)) (outcomes : List Outcome)

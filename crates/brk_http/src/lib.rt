@@ -1,5 +1,5 @@
-//! Serves HTTP requests to a desk: rows with or without keys, and queries, with replies in JSON.
-//! The streams of a listener are served in sequence. Theorems say that a key is shared with batches.
+//! Serves HTTP requests to a desk: rows with or without keys, and queries, with replies in JSON. The
+//! streams of a listener are served in sequence. Theorems say that a key is shared with batches.
 #![tactic(auto)]
 
 mod at_desk;
@@ -12,5 +12,5 @@ pub use at_desk::DeskService;
 pub use at_socket::STREAM_TIMEOUT_SECONDS;
 pub use brk_http_engine::{AcceptFault, FaultKind, ListenFault, Listener, ServeFault};
 pub use brk_import::Clock;
-pub use listening::serve_on;
+pub use listening::serve_listener;
 pub use streams::serve_stream;

@@ -10,18 +10,14 @@ use sqlite::Alter;
 use std::alloc::Global;
 use std::net::TcpStream;
 
-/// Accepts and serves `streams` streams of a listener, in sequence: each is served to its end
-/// before the next one is accepted. A stream that its peer broke off, or that ended with `Read` or
-/// `Write`, counts as one, and the next one is served. (An idle stream ends with `Read` or `Write`
-/// after `STREAM_TIMEOUT_SECONDS`; this is only tested.)
+/// Accepts and serves `streams` streams of a listener, in sequence. A stream that its peer broke
+/// off, or that ended with `Read` or `Write`, counts as one. An idle stream ends so after
+/// `STREAM_TIMEOUT_SECONDS` (tested only).
 ///
 /// Fails with `Stream` at the first stream that ended because memory ran out, and with `Net` at the
-/// first accept that failed for another reason than that the peer broke off. No stream is accepted
-/// after a fault.
-///
-/// Whatever the result, the desk changes only by a sequence of its calls, for which the promises of
-/// `Desk::run` hold, also for a crash.
-pub fn serve_on<L: Listener<Stream = TcpStream>, C: Clock, S: Alter>(
+/// first accept that failed for another reason than that the peer broke off. The promises of
+/// `Desk::run` hold for the calls of all streams, also for a crash.
+pub fn serve_listener<L: Listener<Stream = TcpStream>, C: Clock, S: Alter>(
     alloc: Global,
     listener: &mut L,
     streams: u32,

@@ -21,26 +21,15 @@ use sqlite::Alter;
 use std::alloc::Global;
 use std::io::{Read, Write};
 
-/// Serves the requests of a stream, at most 1,000, and returns the number of replies. No request is
-/// executed after a reply that was not written.
+/// Serves the requests of a stream, at most 1,000, and returns the number of replies. `POST /rows`
+/// and `POST /rows/BATCH/N` with a JSON list of texts execute a row, without a key or with the key
+/// (BATCH, N); `POST /ask/VIEW` executes a query. A fault of the desk is answered with status 503,
+/// as the last reply.
 ///
-/// `POST /rows` and `POST /rows/BATCH/N` with a JSON list of texts execute a row, without a key or
-/// with the key (BATCH, N), under which it is accepted at most once. `POST /ask/VIEW` executes a
-/// query. The clock is read once for each well-formed row. A stream ends with its input, and after
-/// a reply with `Connection: close`. A fault of the desk is answered with status 503, and this
-/// reply is the last one.
-///
-/// Fails with `Read`, `Write` or `Memory`, and the number of replies before it, at the request
-/// after those that were answered. After `Read` that request was not executed. After `Write` a part
-/// of its reply may have been written. After `Write` or `Memory` it may have been executed: retry
-/// it under its key.
-///
-/// For any reader the contract limits the number of requests and of calls. It specifies the
-/// requests and the replies only for a reader whose content is specified; the content of a socket
-/// is not.
-///
-/// The desk changes only by a sequence of its calls, for which the promises of `Desk::run` hold,
-/// also for a crash.
+/// Fails with `Read`, `Write` or `Memory` and the number of replies before the fault. After `Read`
+/// the next request was not executed; after `Write` or `Memory` it may have been: retry it under
+/// its key. The promises of `Desk::run` hold for the calls, also for a crash. Requests and replies
+/// are specified only for a reader with specified content, which a socket is not.
 pub fn serve_stream<R: Read + Drop, W: Write, C: Clock, S: Alter>(
     alloc: Global,
     reader: R,

@@ -1,4 +1,4 @@
--- What a request asks, check by check.
+-- The demand of a request, check by check.
 use Rattle.std.proofs.Common.{◌≡◌, List, Some, None, true, false, refl, codes}
 use Rattle.std.specs.Prelude.{bytes_eq}
 use Rattle.brk_money.specs.Spelling.{Text}

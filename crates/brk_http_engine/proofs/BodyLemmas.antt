@@ -1,4 +1,4 @@
--- Lists of values that are texts.
+-- JSON lists whose values are all strings.
 use Rattle.std.proofs.Common.{◌≡◌, ◌≢◌, ℕ, zero, suc, ◌<◌, List, [], ◌∷◌, length, map, get_or, Option, Some, None, refl, ap, ◌∙◌, sym, arith, Bool, true, false, cond, IfNone, IfSome, IfOk}
 use Rattle.std.specs.Prelude.{option_map, Result, Ok, Err, String}
 use Rattle.std.specs.Global.{Global, Vec}

@@ -1,4 +1,4 @@
--- The calls of a desk that were made, one after another.
+-- Calls of a desk in sequence, and their number.
 use Rattle.std.proofs.Common.{◌≡◌, ℕ, ◌+◌, ◌≤◌, List, [], ◌∷◌, ◌++◌, length, refl, arith, subst, sym, ap, ◌∙◌}
 use Rattle.std.proofs.lemmas.List.{length-append}
 use Rattle.brk_io.proofs.Calls.{made_then}

@@ -1,4 +1,4 @@
--- A stream that is told by a script makes no more calls than its result allows.
+-- A stream that follows a script makes no more calls than its result allows.
 use Rattle.std.proofs.Common.{◌≡◌, ℕ, ◌+◌, ◌≤◌, List, [], ◌∷◌, length, ap, arith, inl, inr}
 use Rattle.std.specs.Prelude.{Result, Ok, Err}
 use Rattle.brk_money.specs.Spelling.{Text}

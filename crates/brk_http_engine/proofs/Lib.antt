@@ -12,5 +12,8 @@ pub mod Called
 pub mod Counted
 pub mod RouteLemmas
 pub mod Seeking
+pub mod Sought
+pub mod Walked
+pub mod Matched
 pub mod Routing
 pub mod Taking

@@ -1,4 +1,4 @@
--- From what a stream does over a desk's own states to what it promises.
+-- From the effects of a stream on the states of a desk to the promises of the stream.
 use Rattle.std.proofs.Common.{◌≡◌, ℕ, ◌+◌, List, [], ◌∷◌, length, Option, refl, sym, subst, inl, inr}
 use Rattle.std.specs.Prelude.{Result, Ok, Err}
 use Rattle.brk_money.specs.Spelling.{Text}

@@ -1,4 +1,4 @@
--- The lines of a reply, one after another.
+-- The lines of a reply, in sequence.
 use Rattle.std.proofs.Common.{◌≡◌, ℕ, [], ◌∷◌, ◌++◌, Bool, refl, length, codes, append_assoc}
 use Rattle.std.specs.Prelude.{decimal, unwrap_or}
 use Rattle.http.specs.StatusCode.{code_digits, reason_phrase}

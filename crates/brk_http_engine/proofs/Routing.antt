@@ -1,9 +1,8 @@
--- Whatever has a route, the router finds.
-use Rattle.std.proofs.Common.{◌≡◌, ℕ, suc, ◌<◌, List, [], ◌∷◌, ◌++◌, get_or, Bool, true, false, cond, eqb, Some, None, refl, sym, ap, ◌∙◌, subst, arith, codes}
+-- The router finds every target that has a route.
+use Rattle.std.proofs.Common.{◌≡◌, ℕ, ◌<◌, List, [], ◌∷◌, ◌++◌, get_or, Bool, true, false, cond, eqb, Some, None, refl, sym, ap, ◌∙◌, subst, codes}
 use Rattle.std.specs.Prelude.{⊤, ◌==◌, ◌&&◌, ◌||◌, Ok, Err, bytes_eq, is_some, option_map}
 use Rattle.std.specs.Fmt.{digits}
 use Rattle.std.specs.List.{join_with_byte, list_all, list_any, onto_first, slice_split}
-use Rattle.std.proofs.lemmas.Bool.Decides.{nat_tests}
 use Rattle.std.proofs.lemmas.Slice.Eq.{bytes_eq-Decides}
 use Rattle.std.proofs.lemmas.List.Splits.{join_with_byte-slice_split}
 use Rattle.matchit.specs.Seek.{first, has_slash, param_step, seek}
@@ -12,30 +11,19 @@ use Rattle.brk_money.specs.declared.refusal.Refusal.TheVariants.{BadText}
 use Rattle.brk_model.specs.Forms.{ReadResult, read_id}
 use Rattle.brk_model.specs.Records.{Key}
 use Rattle.brk_model_http.specs.Routes.{Route, ToRow, has_first_segment, split_at_byte, route_of_segments, key_of_batch_row}
-use Rattle.brk_http_engine.specs.Rows.{is_nonempty, all_router_rows}
+use Rattle.brk_http_engine.specs.Rows.{is_nonempty, all_router_rows, keyed_row, view_row}
 use Rattle.brk_http_engine.proofs.Seeking.{seek_last, seek_two, seek_word}
+use Rattle.brk_http_engine.proofs.Sought.{HasNoCodeOf256, are_bytes}
 
 -- ---- the parts of a target
 
 abbrev is_slash : ℕ → Bool
 is_slash b = eqb b 47
 
--- No element of the text is the number 256.
-abbrev HasNoCodeOf256 : Text → Type 0
-HasNoCodeOf256 [] = ⊤
-HasNoCodeOf256 (b ∷ text) = ((256 == b) ≡ false) × HasNoCodeOf256 text
-
 -- No segment contains the number 256 or a slash.
 abbrev ArePlainSegments : List Text → Type 0
 ArePlainSegments [] = ⊤
 ArePlainSegments (part ∷ parts) = (HasNoCodeOf256 part × (has_slash part ≡ false)) × ArePlainSegments parts
-
-are_bytes : (text : Text) → ((k : ℕ) → get_or text k 0 < 256) → HasNoCodeOf256 text
-are_bytes [] fits = tt
-are_bytes (b ∷ text) fits = (no_token b (fits 0), are_bytes text (λ k. fits (suc k)))
-  where
-    no_token : (n : ℕ) → n < 256 → (256 == n) ≡ false
-    no_token n h = grind (arith, nat_tests)
 
 are_parts : (text : Text) → HasNoCodeOf256 text → ArePlainSegments (slice_split is_slash text)
 are_parts [] s = ((tt, refl), tt)
@@ -54,13 +42,15 @@ found_row = refl
 
 found_view : (b : ℕ) (v : Text) → (256 == b) ≡ false → has_slash (b ∷ v) ≡ false → is_some (first all_router_rows (codes "/ask/" ++ b ∷ v)) ≡ true
 found_view b v byte plain =
-    ap is_some (seek_word (codes "/ask/") (b ∷ v) all_router_rows ((refl, refl, (refl, refl, (refl, refl, (refl, refl, (refl, refl, tt)))))) ∙ seek_last _ b v byte plain)
+    ap is_some (seek_word (codes "/ask/") (b ∷ v) all_router_rows ((refl, refl, (refl, refl, (refl, refl, (refl, refl, (refl, refl, tt)))))) ∙ seek_last view_row.1 b v byte
+    ∙ ap (λ (t : Bool). cond t None (Some view_row.1)) plain)
 
 found_keyed : (b c : ℕ) (v w : Text) → (256 == b) ≡ false → has_slash (b ∷ v) ≡ false → (256 == c) ≡ false → has_slash (c ∷ w) ≡ false
     → is_some (first all_router_rows (codes "/rows/" ++ ((b ∷ v) ++ 47 ∷ c ∷ w))) ≡ true
 found_keyed b c v w byte plain byte2 plain2 =
     ap is_some (seek_word (codes "/rows/") ((b ∷ v) ++ 47 ∷ c ∷ w) all_router_rows
-    ((refl, refl, (refl, refl, (refl, refl, (refl, refl, (refl, refl, (refl, refl, tt))))))) ∙ seek_two _ b c v w byte plain byte2 plain2)
+    ((refl, refl, (refl, refl, (refl, refl, (refl, refl, (refl, refl, (refl, refl, tt))))))) ∙ seek_two keyed_row.1 b v (c ∷ w) byte plain
+    ∙ seek_last keyed_row.1 c w byte2 ∙ ap (λ (t : Bool). cond t None (Some keyed_row.1)) plain2)
 
 clash : {A : Type 0} {b : Bool} → b ≡ true → b ≡ false → A
 clash is not_so = let e : true ≡ false = sym is ∙ not_so in absurd (cc)

@@ -1,4 +1,4 @@
--- What the router answers for a path of which nothing is known.
+-- The router's search for a path of which nothing is known.
 use Rattle.std.proofs.Common.{◌≡◌, ℕ, zero, suc, ◌-◌, ◌<◌, List, [], ◌∷◌, ◌++◌, length, Bool, true, false, cond, ltb, Option, Some, None, refl, sym, ap, ◌∙◌, subst, arith}
 use Rattle.std.specs.Prelude.{◌==◌}
 use Rattle.std.proofs.lemmas.List.{length-append, drop_at}
@@ -10,7 +10,7 @@ use Rattle.matchit.specs.Seek.{seek, step, own, or_else, param_step, has_slash, 
 abbrev no_rows_with_length : {K : Type 0} → Bool → ℕ → ℕ × RowsOf K
 no_rows_with_length c n = cond c (0, []) (n, [])
 
-seek_nil : {K : Type 0} (k : ℕ) (path : List ℕ) → seek {K = K} k [] path ≡ None
+pub seek_nil : {K : Type 0} (k : ℕ) (path : List ℕ) → seek {K = K} k [] path ≡ None
 unfolding seek param_step
 seek_nil k [] = refl
 seek_nil (suc k) (b ∷ path) = seek_nil k path
@@ -46,6 +46,8 @@ pub seek_word : {K : Type 0} (w path : List ℕ) (rs : RowsOf K) → HasNoParame
 seek_word [] path rs p = refl
 seek_word (b ∷ w) path rs (p, q, r) = seek_byte rs b (w ++ path) p q ∙ seek_word w path (step b rs) r
 
+-- ---- a parameter
+
 seek_skip : {K : Type 0} (v path : List ℕ) (rs : RowsOf K) → seek (length v) rs (v ++ path) ≡ seek 0 rs path
 unfolding seek
 seek_skip [] path rs = refl
@@ -56,15 +58,29 @@ unfolding seek
 seek_end [] rs = refl
 seek_end (b ∷ v) rs = seek_end v rs
 
+or_none : {K : Type 0} (x : Option K) → or_else x None ≡ x
+or_none None = refl
+or_none (Some key) = refl
+
+-- with only a parameter next, the path goes on after what the parameter takes
+pub seek_param : {K : Type 0} (key : K) (t : List ℕ) (b : ℕ) (v : List ℕ) → (256 == b) ≡ false
+    → seek 0 ((param_token ∷ t, key) ∷ []) (b ∷ v) ≡ seek ((param_step ((t, key) ∷ []) (b ∷ v)).0 - 1) (param_step ((t, key) ∷ []) (b ∷ v)).1 v
+unfolding seek
+seek_param {K} key t b v byte = rw (byte, seek_nil {K = K} 0 v) (or_none (seek ((param_step ((t, key) ∷ []) (b ∷ v)).0 - 1) (param_step ((t, key) ∷ []) (b ∷ v)).1 v))
+
 -- a parameter at the end takes one byte or more without a slash
-pub seek_last : {K : Type 0} (key : K) (b : ℕ) (v : List ℕ) → (256 == b) ≡ false → has_slash (b ∷ v) ≡ false → seek 0 ((param_token ∷ [], key) ∷ []) (b ∷ v) ≡ Some key
-unfolding seek param_step
-seek_last {K} key b v byte plain =
-    let e : suc (length v) - 1 ≡ length v = omega arith in
-    rw (byte, seek_nil {K = K} 0 v, plain, e, seek_end {K = K} v (([], key) ∷ [])) refl
+pub seek_last : {K : Type 0} (key : K) (b : ℕ) (v : List ℕ) → (256 == b) ≡ false
+    → seek 0 ((param_token ∷ [], key) ∷ []) (b ∷ v) ≡ cond (has_slash (b ∷ v)) None (Some key)
+unfolding param_step
+seek_last {K} key b v byte = seek_param key [] b v byte ∙ by (has_slash (b ∷ v))
+  where
+    by : (t : Bool) → seek ((cond {A = ℕ × RowsOf K} t (0, []) (suc (length v), (([], key) ∷ []))).0 - 1) (cond {A = ℕ × RowsOf K} t (0, []) (suc (length v), (([], key) ∷ []))).1 v
+        ≡ cond t None (Some key)
+    by true = seek_nil {K = K} 0 v
+    by false = let e : suc (length v) - 1 ≡ length v = omega arith in rw e (seek_end {K = K} v (([], key) ∷ []))
 
 -- the first segment is what stands before the slash, with it
-segment_cut : (v w : List ℕ) → has_slash v ≡ false → segment (v ++ 47 ∷ w) ≡ v ++ 47 ∷ []
+pub segment_cut : (v w : List ℕ) → has_slash v ≡ false → segment (v ++ 47 ∷ w) ≡ v ++ 47 ∷ []
 segment_cut [] w plain = refl
 segment_cut (b ∷ v) w plain = by (b == 47) refl plain (segment_cut v w)
   where
@@ -102,12 +118,11 @@ step_is {K} key b v w plain =
         ≡ (length (b ∷ v), (47 ∷ param_token ∷ [], key) ∷ [])
     by t m e f = rw e (rw f refl)
 
--- two parameters, with a slash between
-pub seek_two : {K : Type 0} (key : K) (b c : ℕ) (v w : List ℕ) → (256 == b) ≡ false → has_slash (b ∷ v) ≡ false → (256 == c) ≡ false → has_slash (c ∷ w) ≡ false
-    → seek 0 ((param_token ∷ 47 ∷ param_token ∷ [], key) ∷ []) ((b ∷ v) ++ 47 ∷ c ∷ w) ≡ Some key
-unfolding seek
-seek_two {K} key b c v w byte plain byte2 plain2 =
+-- of two parameters with a slash between, the first takes one byte or more before the first slash
+pub seek_two : {K : Type 0} (key : K) (b : ℕ) (v w : List ℕ) → (256 == b) ≡ false → has_slash (b ∷ v) ≡ false
+    → seek 0 ((param_token ∷ 47 ∷ param_token ∷ [], key) ∷ []) ((b ∷ v) ++ 47 ∷ w) ≡ seek 0 ((param_token ∷ [], key) ∷ []) w
+seek_two {K} key b v w byte plain =
     let e : suc (length v) - 1 ≡ length v = omega arith in
-    let skipped : seek {K = K} (length v) ((47 ∷ param_token ∷ [], key) ∷ []) (v ++ 47 ∷ c ∷ w) ≡ Some key =
-    seek_skip v (47 ∷ c ∷ w) ((47 ∷ param_token ∷ [], key) ∷ []) ∙ seek_byte ((47 ∷ param_token ∷ [], key) ∷ []) 47 (c ∷ w) refl refl ∙ seek_last key c w byte2 plain2 in
-    rw (byte, seek_nil {K = K} 0 (v ++ 47 ∷ c ∷ w), step_is key b v (c ∷ w) plain, e, skipped) refl
+    let rs : RowsOf K = (47 ∷ param_token ∷ [], key) ∷ [] in
+    seek_param key (47 ∷ param_token ∷ []) b (v ++ 47 ∷ w) byte ∙ ap (λ (s : ℕ × RowsOf K). seek (s.0 - 1) s.1 (v ++ 47 ∷ w)) (step_is key b v w plain)
+    ∙ ap (λ (k : ℕ). seek k rs (v ++ 47 ∷ w)) e ∙ seek_skip v (47 ∷ w) rs ∙ seek_byte rs 47 w refl refl

@@ -1,4 +1,4 @@
--- What is true of a desk's own states is true of the bases that it stands for.
+-- Facts about the states of a desk hold for the bases that it represents.
 use Rattle.std.proofs.Common.{ℕ, ◌+◌, List, [], ◌∷◌, refl, sym, subst}
 use Rattle.brk_money.specs.Spelling.{Text}
 use Rattle.brk_model.specs.Run.{Call, Outcome}

@@ -1,4 +1,4 @@
--- One turn more of a stream.
+-- A stream with one more exchange.
 use Rattle.std.proofs.Common.{◌≡◌, ℕ, ◌+◌, List, [], ◌∷◌, ◌++◌, length, Option, Some, None, refl, sym, ap, ◌∙◌, subst, IfSome, append_assoc, arith, inl}
 use Rattle.std.specs.Prelude.{Ok}
 use Rattle.std.specs.List.{concat}

@@ -1,4 +1,4 @@
--- From what was found at the front to a turn of the stream.
+-- From the request at the front of the input to an exchange of the stream.
 use Rattle.std.proofs.Common.{◌≡◌, ℕ, [], ◌++◌, drop, take, Bool, true, false, Option, Some, None, refl, ap, ◌∙◌, subst, IfSome, inl, inr}
 use Rattle.std.specs.Io.KnownBytes.{Appends, prepend_known}
 use Rattle.brk_money.specs.Spelling.{Text}

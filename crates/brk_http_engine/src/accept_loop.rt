@@ -6,12 +6,8 @@ use crate::stream_server::StreamServer;
 use brk_io::stream_fault::FaultKind;
 use std::alloc::Global;
 
-// Accepts the next stream of a listener and serves it to its end. A stream that its peer broke off
-// before it was accepted is not served, and is no failure here. Nor is a fault of the stream's
-// reader or writer.
-//
-// Fails with `Stream` if the stream ended because memory ran out, and with `Net` if the accept
-// failed with `Failed`. Unless a stream was accepted, the clock and the desk are unchanged.
+// A stream that its peer broke off before it was accepted is no failure, and neither is a fault of
+// a stream's reader or writer.
 fn serve_next_stream<L: Listener, H: StreamServer<Stream = L::Stream>>(
     alloc: Global,
     listener: &mut L,
@@ -26,7 +22,7 @@ fn serve_next_stream<L: Listener, H: StreamServer<Stream = L::Stream>>(
         Err(AcceptFault::Aborted) => return Ok(()),
         Err(AcceptFault::Failed) => return Err(ListenFault::Net),
     };
-    let Err(fault) = H::serve_accepted_stream(alloc, stream, clock, desk) else {
+    let Err(fault) = H::serve_accepted(alloc, stream, clock, desk) else {
         return Ok(());
     };
     match fault.kind {
@@ -41,8 +37,7 @@ fn serve_next_stream<L: Listener, H: StreamServer<Stream = L::Stream>>(
 /// as one, and so does one that a fault of its reader or writer ended early.
 ///
 /// Fails with `Stream` at the first stream that ended because memory ran out, and with `Net` at the
-/// first accept that failed with `Failed`. No stream is accepted after a fault. The clock and the
-/// desk change only by the serving of accepted streams, whose changes remain at a fault.
+/// first accept that failed with `Failed`. The changes of the streams before remain.
 pub fn serve_each_stream<L: Listener, H: StreamServer<Stream = L::Stream>>(
     alloc: Global,
     listener: &mut L,

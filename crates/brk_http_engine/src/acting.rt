@@ -32,9 +32,7 @@ pub enum ServiceResponse<R, V> {
     Failed(Fault),
 }
 
-// Executes a command at the clock reading `now`, with or without a key, and returns the response:
-// the reply, the stored reply, the refusal, or the fault of the desk.
-fn execute_row_command<D: Service>(
+fn row_response<D: Service>(
     alloc: Global,
     desk: &mut D::Desk,
     now: Stamp,
@@ -52,8 +50,7 @@ fn execute_row_command<D: Service>(
     }
 }
 
-// Executes a query, without a reading of the clock, and returns the response: the view, the
-// refusal, or the fault of the desk.
+// A query reads no clock; its timestamp in the model is 0.
 fn execute_query<D: Service>(
     alloc: Global,
     desk: &mut D::Desk,
@@ -69,11 +66,9 @@ fn execute_query<D: Service>(
     }
 }
 
-/// Executes the call of a request, if it makes one, and returns the response: the reply, the stored
-/// reply, the view, the refusal, or the fault of the desk; without a call, the problem of the
-/// request or the refusal of its malformed row or query. Reads the clock once for a well-formed
-/// row, and not for any other request.
-pub fn execute_call_of_request<C: Clock, D: Service>(
+/// Executes the call of a request, if it makes one, and returns the response. Reads the clock once
+/// for a well-formed row, and not for any other request.
+pub fn respond<C: Clock, D: Service>(
     alloc: Global,
     clock: &mut C,
     desk: &mut D::Desk,
@@ -88,7 +83,7 @@ pub fn execute_call_of_request<C: Clock, D: Service>(
         RequestedCall::BadQuery(refusal) => ServiceResponse::NoView(refusal),
         RequestedCall::Row(command, key) => {
             let now = clock.now();
-            execute_row_command::<D>(alloc, desk, now, &command, &key)
+            row_response::<D>(alloc, desk, now, &command, &key)
         }
         RequestedCall::View(query) => execute_query::<D>(alloc, desk, &query),
     }

@@ -1,3 +1,5 @@
+//! The call that a request asks for, from its route and its body.
+
 ghost use Rattle.std.specs.Prelude.{◌≡◌, Bool, Err, IfOk, OnErr, map, string_bytes};
 ghost use Rattle.std.specs.List.{list_all};
 ghost use Rattle.brk_http_engine.specs.Rows.{is_nonempty, all_router_rows};
@@ -11,7 +13,7 @@ use crate::routes::{Route, route_of_target};
 use crate::service::Service;
 use brk_model_http::RequestProblem;
 use brk_money::{Fault, Refusal};
-use brk_ref::{Key, borrow_bytes_of_texts};
+use brk_ref::{Key, borrow_texts};
 use http::Method;
 use matchit::Router;
 use std::alloc::Global;
@@ -31,10 +33,7 @@ pub enum RequestedCall<X, Q> {
     View(Q),
 }
 
-// Parses the texts of a body for the route `route`: as the fields of a row or as the arguments of a
-// view. Returns the call, or the refusal if the row or the query is malformed. Fails with `Memory`
-// only.
-fn parse_call_of_route<D: Service>(
+fn call_of_texts<D: Service>(
     alloc: Global,
     route: Route<D::ViewName>,
     texts: &[String],
@@ -43,7 +42,7 @@ fn parse_call_of_route<D: Service>(
         ≡ demand_of_texts D.forms (route_in_model D.view_text route) (map string_bytes texts.now)) }
     ensures fault { OnErr result (result ≡ Err Memory) }
 {
-    let fields = borrow_bytes_of_texts(alloc, texts)?;
+    let fields = borrow_texts(alloc, texts)?;
     match route {
         Route::ToRow(key) => match D::parse_row(alloc, &fields)? {
             Ok(command) => Ok(RequestedCall::Row(command, key)),
@@ -56,13 +55,12 @@ fn parse_call_of_route<D: Service>(
     }
 }
 
-/// Returns the call that a request makes, or the first reason, in this order, why it makes none:
-/// its target has no route (`NotFound`), its method is not POST (`NotAllowed`), its body is not a
-/// JSON list of strings in UTF-8 (`BadRequest`), or its row or query is malformed (`BadRow`,
-/// `BadQuery`). The result does not depend on the close flag of the request. The router must have
-/// exactly the three routes, and no view may have an empty name. Fails with `Memory` only.
+/// Returns the call that a request makes, or the first reason why it makes none, in this order: its
+/// target has no route (`NotFound`), its method is not POST (`NotAllowed`), its body is not a JSON
+/// list of strings in UTF-8 (`BadRequest`), or its row or query is malformed (`BadRow`,
+/// `BadQuery`).
 #[tactic(auto, unfolding(brk_model_http::specs::Asked::demand_of_request), using(crate::proofs::AskLemmas::demand_checks))]
-pub fn parse_call_of_request<D: Service>(
+pub fn requested_call<D: Service>(
     alloc: Global,
     router: &Router<RouteKind>,
     method: &[u8],
@@ -84,5 +82,5 @@ pub fn parse_call_of_request<D: Service>(
     let Some(texts) = texts_of_body(alloc, body)? else {
         return Ok(RequestedCall::Wrong(RequestProblem::BadRequest));
     };
-    parse_call_of_route::<D>(alloc, route, &texts)
+    call_of_texts::<D>(alloc, route, &texts)
 }

@@ -8,8 +8,6 @@ ghost use Rattle.brk_http_engine.specs.Words.{member_name_text};
 use serde_json::{Value, json};
 use std::alloc::{AllocError, Global};
 
-// Returns the texts of the JSON values `values`, in order, or `None` if one of the values is not a
-// string. Fails only if memory runs out.
 fn texts_of_values(alloc: Global, values: &[Value]) -> Result<Option<Vec<String>>, AllocError>
     ensures found { IfOk result (λ o. IfSome o (λ v. map view values.now ≡ map string (map string_bytes v.items))) }
     ensures none { IfOk result (λ o. IfNone o ((ts : List (List ℕ)) → map view values.now ≢ map string ts)) }
@@ -24,8 +22,7 @@ fn texts_of_values(alloc: Global, values: &[Value]) -> Result<Option<Vec<String>
     Ok(Some(texts))
 }
 
-/// Parses a body as a JSON list of strings in UTF-8. Returns their texts, or `None` if the body is
-/// anything else. Fails only if memory runs out.
+/// Parses a body as a JSON list of strings in UTF-8; returns `None` if it is anything else.
 #[tactic(auto, using(crate::proofs::BodyLemmas::no_value))]
 pub fn texts_of_body(alloc: Global, body: &[u8]) -> Result<Option<Vec<String>>, AllocError>
     ensures { IfOk result (λ found. option_map bytes_of_texts found ≡ spec.texts_of_body body.now) }
@@ -63,8 +60,7 @@ pub enum MemberName {
     Error,
 }
 
-// Returns the JSON list of the texts `texts`, as strings, in order. Fails only if memory runs out.
-fn json_list_of_texts(alloc: Global, texts: &[String]) -> Result<Value, AllocError>
+fn json_texts(alloc: Global, texts: &[String]) -> Result<Value, AllocError>
     ensures { IfOk result (λ v. view v ≡ spec.json_array_of_texts (map string_bytes texts.now)) }
 {
     let mut list = Vec::new(alloc);
@@ -74,21 +70,17 @@ fn json_list_of_texts(alloc: Global, texts: &[String]) -> Result<Value, AllocErr
     Ok(Value::Array(list))
 }
 
-// Returns the JSON list of the records `records`, in order, each a list of strings. Fails only if
-// memory runs out.
-fn json_list_of_records(alloc: Global, records: &[Vec<String>]) -> Result<Value, AllocError>
+fn json_records(alloc: Global, records: &[Vec<String>]) -> Result<Value, AllocError>
     ensures { IfOk result (λ v. view v ≡ array (items_of (map spec.json_array_of_texts (map bytes_of_texts records.now)))) }
 {
     let mut list = Vec::new(alloc);
     for record in records {
-        list.push(json_list_of_texts(alloc, record)?)?;
+        list.push(json_texts(alloc, record)?)?;
     }
     Ok(Value::Array(list))
 }
 
-// Returns the JSON object whose one member has the name `word` and the value `value`. Fails only if
-// memory runs out.
-fn json_object_of_member(alloc: Global, word: MemberName, value: Value) -> Result<Value, AllocError>
+fn json_member(alloc: Global, word: MemberName, value: Value) -> Result<Value, AllocError>
     ensures { IfOk result (λ v. view v ≡ object (member (member_name_text word) (view value) no_members)) }
 {
     match word {
@@ -100,42 +92,35 @@ fn json_object_of_member(alloc: Global, word: MemberName, value: Value) -> Resul
     }
 }
 
-/// Returns the JSON text `{"NAME":["TEXT",..]}` of the object whose one member has the name `word`
-/// and the list of `texts`. Fails only if memory runs out.
-pub fn json_object_with_texts(
-    alloc: Global,
-    word: MemberName,
-    texts: &[String],
-) -> Result<String, AllocError>
+/// Returns the JSON text `{"NAME":["TEXT",..]}`.
+pub fn texts_object(alloc: Global, word: MemberName, texts: &[String]) -> Result<String, AllocError>
     ensures { IfOk result (λ s. string_bytes s ≡ spec.json_texts_object (member_name_text word) (map string_bytes texts.now)) }
 {
-    let list = json_list_of_texts(alloc, texts)?;
-    let told = json_object_of_member(alloc, word, list)?;
+    let list = json_texts(alloc, texts)?;
+    let told = json_member(alloc, word, list)?;
     told.to_string(alloc)
 }
 
-/// Returns the JSON text `{"view":[["TEXT",..],..]}` of these records. Fails only if memory runs
-/// out.
-pub fn json_text_of_view(alloc: Global, records: &[Vec<String>]) -> Result<String, AllocError>
+/// Returns the JSON text `{"view":[["TEXT",..],..]}`.
+pub fn json_view(alloc: Global, records: &[Vec<String>]) -> Result<String, AllocError>
     ensures { IfOk result (λ s. string_bytes s ≡ spec.json_records_object (codes "view") (map bytes_of_texts records.now)) }
 {
-    let list = json_list_of_records(alloc, records)?;
-    let told = json_object_of_member(alloc, MemberName::View, list)?;
+    let list = json_records(alloc, records)?;
+    let told = json_member(alloc, MemberName::View, list)?;
     told.to_string(alloc)
 }
 
-// Returns the JSON string with this text. Fails only if memory runs out.
 fn json_string(alloc: Global, text: &str) -> Result<Value, AllocError>
     ensures { IfOk result (λ v. view v ≡ string text.now) }
 {
     Ok(Value::String(String::from_str(alloc, text)?))
 }
 
-/// Returns the JSON text `{"error":"TEXT"}` with the text `words`. Fails only if memory runs out.
-pub fn json_text_of_error(alloc: Global, words: &str) -> Result<String, AllocError>
+/// Returns the JSON text `{"error":"TEXT"}`.
+pub fn json_error(alloc: Global, words: &str) -> Result<String, AllocError>
     ensures { IfOk result (λ s. string_bytes s ≡ spec.json_error_object words.now) }
 {
     let text = json_string(alloc, words)?;
-    let told = json_object_of_member(alloc, MemberName::Error, text)?;
+    let told = json_member(alloc, MemberName::Error, text)?;
     told.to_string(alloc)
 }

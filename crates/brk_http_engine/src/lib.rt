@@ -1,5 +1,5 @@
-//! Serves streams of HTTP requests on any desk. Requests are executed in order: the reply to one is
-//! written before the next one is parsed. The streams of any listener are served in sequence, by any server.
+//! Serves streams of HTTP requests on any desk. The reply to a request is written before the next
+//! one is parsed. The streams of any listener are served in sequence, by any server.
 #![tactic(auto)]
 
 mod accept_loop;
@@ -18,11 +18,11 @@ mod stream_server;
 mod turning;
 
 pub use accept_loop::serve_each_stream;
-pub use bodies::json_text_of_view;
+pub use bodies::json_view;
 pub use brk_io::stream_fault::{FaultKind, ServeFault};
 pub use listen_faults::{AcceptFault, ListenFault};
 pub use listener::Listener;
-pub use replying::fields_between_commas;
+pub use replying::comma_fields;
 pub use service::Service;
 pub use stream::serve_requests;
 pub use stream_server::StreamServer;

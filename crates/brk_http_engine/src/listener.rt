@@ -14,20 +14,14 @@ pub trait Listener {
     /// holds for a listener that defines no relation of its own.
     ghost accepts: { Self → Result Self.Stream AcceptFault → Self → Type 0 } = { λ _ _ _. Unit {0} };
 
-    /// Waits for the next stream of a peer, accepts it and returns it.
-    ///
-    /// Fails with `Aborted` if the peer broke the stream off before it was accepted, and with
-    /// `Failed` if the accept failed for another reason.
+    /// Waits for the next stream of a peer and accepts it.
     fn accept_next(&mut self) -> Result<Self::Stream, AcceptFault>
         ensures { accepts self.old result self.new };
 }
 
-impl Listener for TcpListener {
+impl Listener for &TcpListener {
     type Stream = TcpStream;
 
-    /// Waits for the next TCP stream, accepts it and returns it. Fails with `Aborted` if the peer
-    /// broke the stream off before it was accepted, and with `Failed` if the accept failed for
-    /// another reason.
     fn accept_next(&mut self) -> Result<TcpStream, AcceptFault> {
         match self.accept() {
             Ok((stream, _)) => Ok(stream),

@@ -6,8 +6,8 @@ ghost use Rattle.brk_http_engine.specs.Codes.{bytes_of_texts};
 use std::alloc::{AllocError, Global};
 
 /// Returns the parts of `text` before, between and after the occurrences of the ASCII character
-/// `cut`, in order. A part may be empty; without an occurrence the text, also if it is empty, is
-/// the only part. Fails only if memory runs out.
+/// `cut`. A part may be empty; without an occurrence the text, even if it is empty, is the only
+/// part.
 #[tactic(auto, unfolding(brk_model_http::specs::Routes::split_at_byte))]
 pub fn split_at_byte(alloc: Global, cut: char, text: &str) -> Result<Vec<&str>, AllocError>
     requires ascii { cut < 128 }
@@ -16,7 +16,7 @@ pub fn split_at_byte(alloc: Global, cut: char, text: &str) -> Result<Vec<&str>, 
     text.split(cut).collect(alloc)
 }
 
-/// Returns owned copies of the texts, in order. Fails only if memory runs out.
+/// Returns owned copies of the texts, in order.
 pub fn copy_texts(alloc: Global, parts: &[&str]) -> Result<Vec<String>, AllocError>
     ensures { IfOk result (λ all. bytes_of_texts all ≡ slices parts.now) }
 {

@@ -10,7 +10,7 @@ ghost use Rattle.brk_http_engine.specs.Lines.{first_head_lines, status_text};
 ghost use Rattle.brk_http_engine.specs.Codes.{bytes_of_texts, response_in_model};
 
 use crate::acting::ServiceResponse;
-use crate::bodies::{MemberName, json_object_with_texts, json_text_of_error, json_text_of_view};
+use crate::bodies::{MemberName, json_error, json_view, texts_object};
 use crate::pieces::{copy_texts, split_at_byte};
 use crate::service::Service;
 use brk_model_http::RequestProblem;
@@ -18,9 +18,7 @@ use brk_money::{Fault, Refusal};
 use http::StatusCode;
 use std::alloc::{AllocError, Global};
 
-// Returns the HTTP status of the reply to a request with this problem: 413 for `TooLarge`, 400 for
-// `BadRequest`, 501 for `NotImplemented`, 404 for `NotFound`, or 405 for `NotAllowed`.
-fn status_of_problem(problem: RequestProblem) -> StatusCode
+fn problem_status(problem: RequestProblem) -> StatusCode
     ensures { status_text result ≡ http_status_of_problem problem }
 {
     match problem {
@@ -32,8 +30,6 @@ fn status_of_problem(problem: RequestProblem) -> StatusCode
     }
 }
 
-// Returns the text in the body of the error reply to a request with this problem, such as `too
-// large`.
 fn text_of_problem(problem: RequestProblem) -> &'static str
     ensures { result.now ≡ text_of_problem problem }
 {
@@ -46,8 +42,6 @@ fn text_of_problem(problem: RequestProblem) -> &'static str
     }
 }
 
-// Returns the text in the body of the error reply for a fault of the desk: `memory` for `Memory`,
-// and `store` for `Store` and `Damaged`.
 fn fault_word(fault: Fault) -> &'static str
     ensures { result.now ≡ fault_word fault }
 {
@@ -57,13 +51,11 @@ fn fault_word(fault: Fault) -> &'static str
     }
 }
 
-// Returns the HTTP status of a response: 200 for a reply, a stored reply or a view, 409 for a
-// refusal, 503 for a fault of the desk, otherwise the status of its problem (`status_of_problem`).
-fn status_of_response<R, V>(response: &ServiceResponse<R, V>) -> StatusCode
+fn response_status<R, V>(response: &ServiceResponse<R, V>) -> StatusCode
     ensures { (reply : R → model.Reply) (shown : V → queries.View) → status_text result ≡ http_status_of_response (response_in_model reply shown response.now) }
 {
     match response {
-        ServiceResponse::Wrong(problem) => status_of_problem(*problem),
+        ServiceResponse::Wrong(problem) => problem_status(*problem),
         ServiceResponse::NoRow(_) => StatusCode::CONFLICT,
         ServiceResponse::NoView(_) => StatusCode::CONFLICT,
         ServiceResponse::Done(_) => StatusCode::OK,
@@ -73,8 +65,6 @@ fn status_of_response<R, V>(response: &ServiceResponse<R, V>) -> StatusCode
     }
 }
 
-// Returns true if the response is the problem `NotAllowed`: the method of the request is not POST,
-// and the reply names the allowed method.
 fn is_method_not_allowed<R, V>(response: &ServiceResponse<R, V>) -> bool
     ensures { (reply : R → model.Reply) (shown : V → queries.View) → result ≡ is_method_not_allowed (response_in_model reply shown response.now) }
 {
@@ -84,7 +74,6 @@ fn is_method_not_allowed<R, V>(response: &ServiceResponse<R, V>) -> bool
     }
 }
 
-/// Returns true if the response is a fault of the desk.
 pub fn is_fault_response<R, V>(response: &ServiceResponse<R, V>) -> bool
     ensures { (reply : R → model.Reply) (shown : V → queries.View) → result ≡ is_fault_response (response_in_model reply shown response.now) }
 {
@@ -94,28 +83,25 @@ pub fn is_fault_response<R, V>(response: &ServiceResponse<R, V>) -> bool
     }
 }
 
-/// Returns copies of the fields of a line, split at its commas, in order; a line without a comma is
-/// one field. Fails only if memory runs out.
-pub fn fields_between_commas(alloc: Global, line: &str) -> Result<Vec<String>, AllocError>
+/// Returns copies of the fields of a line; a line without a comma is one field.
+pub fn comma_fields(alloc: Global, line: &str) -> Result<Vec<String>, AllocError>
     ensures { IfOk result (λ fields. bytes_of_texts fields ≡ split_at_byte 44 line.now) }
 {
     let parts = split_at_byte(alloc, ',', line)?;
     copy_texts(alloc, &parts)
 }
 
-// Returns the body of the reply to a refused row or query, `{"no":["NUMBER",..]}`: the number of
-// the refusal and, for `WrongStatus` the code of the trade's status, for `Range` the word of the
-// limit. Fails only if memory runs out.
+// `{"no":["NUMBER",..]}`: the number of the refusal and, for `WrongStatus`, the code of the status,
+// for `Range` the word of the limit.
 #[tactic(auto, using(crate::proofs::PieceLemmas::refusal_parts))]
 fn refusal_body(alloc: Global, refusal: Refusal) -> Result<String, AllocError>
     ensures { IfOk result (λ s. string_bytes s ≡ response_body (FromOutcome (run.NoView refusal))) }
 {
     let line = format!(in alloc; "{refusal}")?;
-    let fields = fields_between_commas(alloc, line.as_str())?;
-    json_object_with_texts(alloc, MemberName::No, &fields)
+    let fields = comma_fields(alloc, line.as_str())?;
+    texts_object(alloc, MemberName::No, &fields)
 }
 
-// Returns the JSON body of the reply with this response. Fails only if memory runs out.
 fn response_body<D: Service>(
     alloc: Global,
     response: &ServiceResponse<D::Reply, D::View>,
@@ -123,48 +109,42 @@ fn response_body<D: Service>(
     ensures { IfOk result (λ s. string_bytes s ≡ response_body (response_in_model D.told D.shown response.now)) }
 {
     match response {
-        ServiceResponse::Wrong(problem) => json_text_of_error(alloc, text_of_problem(*problem)),
+        ServiceResponse::Wrong(problem) => json_error(alloc, text_of_problem(*problem)),
         ServiceResponse::NoRow(refusal) | ServiceResponse::NoView(refusal) => refusal_body(
             alloc, *refusal,
         ),
         ServiceResponse::Done(reply) => {
             let fields = D::reply_fields(alloc, reply)?;
-            json_object_with_texts(alloc, MemberName::Ok, &fields)
+            texts_object(alloc, MemberName::Ok, &fields)
         }
         ServiceResponse::Again(line) => {
-            let fields = fields_between_commas(alloc, line.as_str())?;
-            json_object_with_texts(alloc, MemberName::Again, &fields)
+            let fields = comma_fields(alloc, line.as_str())?;
+            texts_object(alloc, MemberName::Again, &fields)
         }
         ServiceResponse::Saw(view) => {
             let records = D::view_records(alloc, view)?;
-            json_text_of_view(alloc, &records)
+            json_view(alloc, &records)
         }
-        ServiceResponse::Failed(fault) => json_text_of_error(alloc, fault_word(*fault)),
+        ServiceResponse::Failed(fault) => json_error(alloc, fault_word(*fault)),
     }
 }
 
-// Appends a line and its line end, CR LF, to the head. Fails only if memory runs out; a part of the
-// line may then be appended.
-fn append_head_line(head: &mut String, line: &str) -> Result<(), AllocError>
+fn append_line(head: &mut String, line: &str) -> Result<(), AllocError>
     ensures { OnOk result (string_bytes head.new ≡ string_bytes head.old ++ http_head_line line.now) }
 {
     write!(head, "{line}\r\n")
 }
 
-// Appends a line and its line end, CR LF, to the head if the flag `is_wanted` is true, and
-// otherwise nothing. Fails only if memory runs out; a part of the line may then be appended.
-fn append_head_line_if(head: &mut String, is_wanted: bool, line: &str) -> Result<(), AllocError>
+fn append_wanted(head: &mut String, is_wanted: bool, line: &str) -> Result<(), AllocError>
     ensures { OnOk result (string_bytes head.new ≡ string_bytes head.old ++ head_line_if is_wanted line.now) }
 {
     if is_wanted {
-        append_head_line(head, line)
+        append_line(head, line)
     } else {
         Ok(())
     }
 }
 
-// Returns the reason phrase of an HTTP status, for example `Not Found`, or an empty text if it has
-// none.
 fn status_phrase(code: StatusCode) -> &'static str
     ensures { result.now ≡ unwrap_or (reason_phrase code) [] }
 {
@@ -174,9 +154,7 @@ fn status_phrase(code: StatusCode) -> &'static str
     }
 }
 
-// Returns the three digits of an HTTP status, a space, and its reason phrase, which is empty if it
-// has none. Fails only if memory runs out.
-fn status_digits_and_phrase(alloc: Global, code: StatusCode) -> Result<String, AllocError>
+fn full_status(alloc: Global, code: StatusCode) -> Result<String, AllocError>
     ensures { IfOk result (λ s. string_bytes s ≡ status_text code) }
 {
     let mut line = String::from_str(alloc, code.as_str())?;
@@ -185,9 +163,7 @@ fn status_digits_and_phrase(alloc: Global, code: StatusCode) -> Result<String, A
     Ok(line)
 }
 
-// Returns a text that consists of a label and then a value, with nothing between them. Fails only
-// if memory runs out.
-fn join_label_and_value(alloc: Global, label: &str, value: &str) -> Result<String, AllocError>
+fn labelled(alloc: Global, label: &str, value: &str) -> Result<String, AllocError>
     ensures { IfOk result (λ s. string_bytes s ≡ label.now ++ value.now) }
 {
     let mut text = String::from_str(alloc, label)?;
@@ -195,32 +171,26 @@ fn join_label_and_value(alloc: Global, label: &str, value: &str) -> Result<Strin
     Ok(text)
 }
 
-// Returns the decimal digits of a number. Fails only if memory runs out.
 fn decimal_digits(alloc: Global, n: usize) -> Result<String, AllocError>
     ensures { IfOk result (λ s. string_bytes s ≡ decimal n) }
 {
     format!(in alloc; "{n}")
 }
 
-// Returns the first three lines of the head of a reply, each ended by CR LF: the status line with
-// the text `status`, the content type `application/json`, and the content length `len` in bytes.
-// Fails only if memory runs out.
+// The status line, the content type and the content length, in bytes.
 fn first_head_lines(alloc: Global, status: &str, len: usize) -> Result<String, AllocError>
     ensures { IfOk result (λ s. string_bytes s ≡ first_head_lines status.now len) }
 {
-    let first = join_label_and_value(alloc, "HTTP/1.1 ", status)?;
+    let first = labelled(alloc, "HTTP/1.1 ", status)?;
     let digits = decimal_digits(alloc, len)?;
-    let third = join_label_and_value(alloc, "Content-Length: ", digits.as_str())?;
+    let third = labelled(alloc, "Content-Length: ", digits.as_str())?;
     let mut head = String::new(alloc);
-    append_head_line(&mut head, first.as_str())?;
-    append_head_line(&mut head, "Content-Type: application/json")?;
-    append_head_line(&mut head, third.as_str())?;
+    append_line(&mut head, first.as_str())?;
+    append_line(&mut head, "Content-Type: application/json")?;
+    append_line(&mut head, third.as_str())?;
     Ok(head)
 }
 
-// Returns the bytes of a reply with this status and this JSON body; with an `Allow: POST` line if
-// `asks_post` is true, and a `Connection: close` line if `closes` is true. Fails only if memory
-// runs out.
 fn reply_bytes(
     alloc: Global,
     code: StatusCode,
@@ -230,18 +200,17 @@ fn reply_bytes(
 ) -> Result<String, AllocError>
     ensures { IfOk result (λ s. string_bytes s ≡ reply_bytes (status_text code) asks_post closes body.now) }
 {
-    let status = status_digits_and_phrase(alloc, code)?;
+    let status = full_status(alloc, code)?;
     let mut text = first_head_lines(alloc, status.as_str(), body.len())?;
-    append_head_line_if(&mut text, asks_post, "Allow: POST")?;
-    append_head_line_if(&mut text, closes, "Connection: close")?;
-    append_head_line(&mut text, "")?;
+    append_wanted(&mut text, asks_post, "Allow: POST")?;
+    append_wanted(&mut text, closes, "Connection: close")?;
+    append_line(&mut text, "")?;
     text.push_str(body)?;
     Ok(text)
 }
 
-/// Returns the bytes of the reply that reports this response: the head, with its status, and the
-/// JSON body. The head has an `Allow: POST` line if the response is the problem `NotAllowed`, and a
-/// `Connection: close` line if `closes` is true. Fails only if memory runs out.
+/// Returns the bytes of the reply to a response: its head and its JSON body. The head has an
+/// `Allow: POST` line after `NotAllowed`, and a `Connection: close` line if `closes` is true.
 pub fn reply_text<D: Service>(
     alloc: Global,
     response: &ServiceResponse<D::Reply, D::View>,
@@ -252,7 +221,7 @@ pub fn reply_text<D: Service>(
     let body = response_body::<D>(alloc, response)?;
     reply_bytes(
         alloc,
-        status_of_response(response),
+        response_status(response),
         is_method_not_allowed(response),
         closes,
         body.as_str(),

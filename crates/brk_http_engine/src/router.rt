@@ -1,7 +1,6 @@
 //! The router of request targets.
 
-ghost use Rattle.std.specs.Prelude.{◌≡◌, IfOk, is_some};
-ghost use Rattle.matchit.specs.Seek.{first};
+ghost use Rattle.std.specs.Prelude.{◌≡◌, IfOk};
 ghost use Rattle.brk_http_engine.specs.Rows.{all_router_rows};
 
 use matchit::{InsertError, Router};
@@ -18,8 +17,8 @@ pub enum RouteKind {
     View,
 }
 
-/// Creates the router of the three routes `/rows`, `/rows/{batch}/{n}` and `/ask/{view}`. Fails if
-/// the router refuses a route or memory runs out.
+/// Creates the router of `/rows`, `/rows/{batch}/{n}` and `/ask/{view}`. Fails if memory runs out;
+/// no clause says that the router refuses none of the routes.
 pub fn new_router(alloc: Global) -> Result<Router<RouteKind>, InsertError>
     ensures { IfOk result (λ router. router ≡ all_router_rows) }
 {
@@ -28,11 +27,4 @@ pub fn new_router(alloc: Global) -> Result<Router<RouteKind>, InsertError>
     router.insert("/rows/{batch}/{n}", RouteKind::KeyedRow)?;
     router.insert("/ask/{view}", RouteKind::View)?;
     Ok(router)
-}
-
-/// Returns true if one of the routes of the router matches `target`.
-pub fn matches_any_route(router: &Router<RouteKind>, target: &str) -> bool
-    ensures { result ≡ is_some (first router.now target.now) }
-{
-    router.at(target).is_ok()
 }

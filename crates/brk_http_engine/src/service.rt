@@ -58,26 +58,23 @@ pub trait Service {
     /// The model's view, a list of records of texts, that a view represents.
     ghost shown: { Self.View → queries.View };
 
-    /// Parses the fields of a row: returns a command, or the refusal of a malformed row. Fails with
-    /// `Memory` only.
+    /// Parses the fields of a row: a command, or the refusal of a malformed row.
     fn parse_row(alloc: Global, row: &[&[u8]]) -> Planned<Self::Command>
         ensures read { IfOk result (λ read. ParsesAs command_of read (forms.row (texts_of_fields row.now))) }
         ensures fault { OnErr result (result ≡ Err Memory) };
 
-    /// Returns the name of a view that has the text `name`, or `None` if no view has this name.
+    /// Returns the name of the view with the text `name`, or `None` if there is no such view.
     fn view_name_from_text(name: &str) -> Option<Self::ViewName>
         ensures { MatchOption result
             (list_any (λ v. bytes_eq v name.now) forms.views ≡ Bool.false)
             (λ view. (view_text view ≡ name.now) × (list_any (λ v. bytes_eq v name.now) forms.views ≡ Bool.true)) };
 
-    /// Parses the arguments of the view with the name `view`: returns a query, or the refusal of a
-    /// malformed query. Fails with `Memory` only.
+    /// Parses the arguments of a view: a query, or the refusal of a malformed query.
     fn parse_query(alloc: Global, view: Self::ViewName, arguments: &[&[u8]]) -> Planned<Self::Query>
         ensures read { IfOk result (λ read. ParsesAs query_of read (forms.query (view_text view) (texts_of_fields arguments.now))) }
         ensures fault { OnErr result (result ≡ Err Memory) };
 
-    /// Executes a command at the clock reading `now`, under its key or without one, and returns its
-    /// answer. Fails with a fault of the desk.
+    /// Executes a command at the clock reading `now`, under its key or without one.
     fn call(
         desk: &mut Self::Desk,
         alloc: Global,
@@ -87,16 +84,15 @@ pub trait Service {
     ) -> Result<Answer<Self::Reply>, Fault>
         ensures { acts desk.old now (Do (command_of command.now) (key_in_model (option_copied key.entry))) (abstract_command_outcome told result) desk.new };
 
-    /// Executes a query and returns its view or its refusal. Fails with a fault of the desk.
+    /// Executes a query.
     fn ask(desk: &mut Self::Desk, alloc: Global, query: &Self::Query) -> Planned<Self::View>
         ensures { acts desk.old 0 (Ask (query_of query.now)) (query_outcome_in_model shown result) desk.new };
 
-    /// Returns the fields of a reply, in order. Fails only if memory runs out.
+    /// Returns the fields of a reply, in order.
     fn reply_fields(alloc: Global, reply: &Self::Reply) -> Result<Vec<String>, AllocError>
         ensures { IfOk result (λ fields. bytes_of_texts fields ≡ reply_fields (told reply.now)) };
 
-    /// Returns the records of a view, in order, each a list of texts. Fails only if memory runs
-    /// out.
+    /// Returns the records of a view, in order, each a list of texts.
     fn view_records(alloc: Global, view: &Self::View) -> Result<Vec<Vec<String>>, AllocError>
         ensures { IfOk result (λ records. bytes_of_records records ≡ shown view.now) };
 }

@@ -8,22 +8,15 @@ ghost use Rattle.brk_http_engine.specs.Turns.{IsStreamResult};
 
 use crate::router::{RouteKind, new_router};
 use crate::service::Service;
-use crate::turning::{ExchangeResult, serve_next_request};
+use crate::turning::{ExchangeResult, serve_request};
 use brk_io::Clock;
 use brk_io::stream_fault::{FaultKind, ServeFault};
 use matchit::Router;
 use std::alloc::Global;
 use std::io::{Read, Write};
 
-// Serves the requests of a stream, in order, until the input ends or a reply is the last of the
-// stream, at the latest after 1,000 requests, and returns the number of replies. The router must
-// have exactly the three routes, and no view may have an empty name.
-//
-// Fails with the fault, `Read`, `Write` or `Memory`, and the number of replies before it. If the
-// content of the reader is specified: after a fault of memory or of the writer, the next request
-// may have been executed; after a fault of the reader it was not. After a fault of the writer, a
-// prefix of the reply to the next request is written, perhaps all of it.
-fn serve_with_router<R: Read + Drop, W: Write, C: Clock, D: Service>(
+// Has the contract of `serve_requests`, for a router that was created before.
+fn serve_routed<R: Read + Drop, W: Write, C: Clock, D: Service>(
     alloc: Global,
     router: &Router<RouteKind>,
     mut reader: R,
@@ -33,21 +26,16 @@ fn serve_with_router<R: Read + Drop, W: Write, C: Clock, D: Service>(
 ) -> Result<u64, ServeFault>
     requires routes { router.now ≡ all_router_rows }
     requires named { list_all is_nonempty D.forms.views ≡ Bool.true }
-    // At most 1,000 requests are answered, and fewer before a fault.
     ensures few { IfOk result (λ count. count ≤ most_requests_per_stream) }
     ensures early { IfErr result (λ fault. fault.done < most_requests_per_stream) }
-    // The desk changed only by its calls: at most one for each reply, and one more after a fault of
-    // memory or of the writer. The clock was read once for each command, and not otherwise.
     ensures called { ChangesOnlyByCalls (CallWithClock D.acts C.gives) (call_limit_of_stream result) (desk.old, clock.old) (desk.new, clock.new) }
-    // For a reader whose content is specified, the calls, the replies and the result follow from
-    // its requests (`IsStreamResult`).
     ensures gives { IfSome (R.remaining reader) (λ input. IsStreamResult D.forms D.acts C.gives input
         (record { base = desk.old; after = desk.new; clock = clock.old; later = clock.new; old = W.contents writer.old; new = W.contents writer.new }) result) }
 {
     let mut buffer = Vec::new(alloc);
     let mut done = 0;
     'serving: loop {
-        match serve_next_request::<R, W, C, D>(
+        match serve_request::<R, W, C, D>(
             alloc,
             router,
             &mut reader,
@@ -65,15 +53,14 @@ fn serve_with_router<R: Read + Drop, W: Write, C: Clock, D: Service>(
     }
 }
 
-/// Serves the requests of a stream, in order, until the input ends or a reply is the last of the
-/// stream, at the latest after 1,000 requests, and returns the number of replies. No view may have
-/// an empty name.
+/// Serves the requests of a stream, in order, until the input ends or a reply is the last, at the
+/// latest after 1,000 requests, and returns the number of replies. Each request makes at most one
+/// call of the desk.
 ///
-/// Each request makes at most one call of the desk. Fails with the fault, `Read`, `Write` or
-/// `Memory`, and the number of replies before it; with `Memory` and 0 also if the router cannot be
-/// created. If the content of the reader is specified: after a fault of memory or of the writer,
-/// the next request may have been executed; after a fault of the reader it was not. After a fault
-/// of the writer, a prefix of the reply to the next request is written, perhaps all of it.
+/// Fails with `Read`, `Write` or `Memory` and the number of replies before the fault; with `Memory`
+/// and 0 also if the router cannot be created. If the content of the reader is specified: after
+/// `Read` the next request was not executed; after `Write` or `Memory` it may have been, and after
+/// `Write` a prefix of its reply is written, perhaps all of it.
 pub fn serve_requests<R: Read + Drop, W: Write, C: Clock, D: Service>(
     alloc: Global,
     reader: R,
@@ -94,7 +81,7 @@ pub fn serve_requests<R: Read + Drop, W: Write, C: Clock, D: Service>(
         (record { base = desk.old; after = desk.new; clock = clock.old; later = clock.new; old = W.contents writer.old; new = W.contents writer.new }) result) }
 {
     match new_router(alloc) {
-        Ok(router) => serve_with_router::<R, W, C, D>(alloc, &router, reader, writer, clock, desk),
+        Ok(router) => serve_routed::<R, W, C, D>(alloc, &router, reader, writer, clock, desk),
         Err(_) => Err(ServeFault {
             done: 0,
             kind: FaultKind::Memory,

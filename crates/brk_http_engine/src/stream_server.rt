@@ -19,9 +19,8 @@ pub trait StreamServer {
     /// result.
     ghost serves: { Self.Clock → Self.Desk → Self.Stream → Result ℕ ServeFault → Self.Clock → Self.Desk → Type 0 };
 
-    /// Serves a stream to its end, and returns the number of requests that were answered. Fails
-    /// with the fault that ended the stream early.
-    fn serve_accepted_stream(
+    /// Serves a stream to its end, and returns the number of requests that were answered.
+    fn serve_accepted(
         alloc: Global,
         stream: Self::Stream,
         clock: &mut Self::Clock,

@@ -9,14 +9,12 @@ ghost use Rattle.brk_http_engine.specs.Limits.{call_limit_of_exchange};
 ghost use Rattle.brk_http_engine.specs.Promises.{CallWithClock, ChangesOnlyByCalls};
 ghost use Rattle.brk_http_engine.specs.Turns.{ExecutesRequest, ExchangeFailsWith, ExchangeCompletesWith};
 
-use crate::acting::{ServiceResponse, execute_call_of_request};
-use crate::asking::parse_call_of_request;
+use crate::acting::{ServiceResponse, respond};
+use crate::asking::requested_call;
 use crate::replying::{is_fault_response, reply_text};
 use crate::router::RouteKind;
 use crate::service::Service;
-use brk_http_reader::{
-    InputFault, NextRequest, RequestPositions, read_next_request, remove_front_bytes,
-};
+use brk_http_reader::{InputFault, NextRequest, RequestPositions, read_request, remove_front};
 use brk_io::stream_fault::FaultKind;
 use brk_io::{Clock, write_all_bytes};
 use matchit::Router;
@@ -37,9 +35,6 @@ pub enum ExchangeResult {
     Closed,
 }
 
-// Returns true if the reply after `done` replies, which must be fewer than 1,000, is the last of
-// its stream: it is the reply number 1,000, the request asks to close the stream (`closes`), or the
-// desk failed (`failed`).
 fn is_last_reply(done: u64, closes: bool, failed: bool) -> bool
     requires few { done < most_requests_per_stream }
     ensures { result ≡ ((done + 1 == most_requests_per_stream) || closes || failed) }
@@ -63,15 +58,8 @@ enum OutOfMemoryPoint {
     After,
 }
 
-// Executes the request that has the positions `places` in the buffer, after `done` replies, and
-// returns its reply with a flag that is true if this reply is the last of the stream. Makes at most
-// one call of the desk. `done` must be less than 1,000, the positions must be within the buffer,
-// the router must have exactly the three routes, and no view may have an empty name.
-//
-// Fails with `Before` if memory ran out before the desk was called or the clock was read, and with
-// `After` if it ran out after the request was executed. A fault of the desk, also `Memory`, is no
-// failure: the reply reports it.
-fn execute_and_format_reply<C: Clock, D: Service>(
+// A fault of the desk, even `Memory`, is no failure: the reply reports it.
+fn draft_reply<C: Clock, D: Service>(
     alloc: Global,
     router: &Router<RouteKind>,
     clock: &mut C,
@@ -102,10 +90,10 @@ fn execute_and_format_reply<C: Clock, D: Service>(
     let method = places.method.of(buffer);
     let target = places.target.of(buffer);
     let body = places.body.of(buffer);
-    let Ok(asking) = parse_call_of_request::<D>(alloc, router, method, target, body) else {
+    let Ok(asking) = requested_call::<D>(alloc, router, method, target, body) else {
         return Err(OutOfMemoryPoint::Before);
     };
-    let told = execute_call_of_request::<C, D>(alloc, clock, desk, asking);
+    let told = respond::<C, D>(alloc, clock, desk, asking);
     let closes = is_last_reply(done, places.closes, is_fault_response(&told));
     match reply_text::<D>(alloc, &told, closes) {
         Ok(text) => Ok(FormattedReply { text, closes }),
@@ -113,17 +101,14 @@ fn execute_and_format_reply<C: Clock, D: Service>(
     }
 }
 
-/// Reads the next request, after `done` replies, executes it and writes its reply. Returns `Ended`
-/// if no input is left, `Closed` if the reply is the last of the stream, otherwise `Open`; at
-/// `Open` the buffer is without the request. A request that cannot be read is not executed: the
-/// reply names its problem and is the last.
+/// Reads the next request, after `done` replies, executes it and writes its reply. At `Open` the
+/// buffer is without the request. A request that cannot be read is not executed: the reply names
+/// its problem and is the last.
 ///
-/// Fails with `Read` if the reader fails, with `Memory` if memory runs out, or with `Write` if the
-/// writer fails or accepts no byte. If the content of the reader is specified: at `Read` no request
-/// was executed and nothing was written; at `Memory` nothing was written, and the request may have
-/// been executed; at `Write` the request has a reply, and a prefix of this reply was written,
-/// perhaps empty or all of it.
-pub fn serve_next_request<R: Read, W: Write, C: Clock, D: Service>(
+/// If the content of the reader is specified: at `Read` no request was executed and nothing
+/// written; at `Memory` nothing was written, and the request may have been executed; at `Write` a
+/// prefix of its reply was written, perhaps empty or all of it.
+pub fn serve_request<R: Read, W: Write, C: Clock, D: Service>(
     alloc: Global,
     router: &Router<RouteKind>,
     reader: &mut R,
@@ -149,7 +134,7 @@ pub fn serve_next_request<R: Read, W: Write, C: Clock, D: Service>(
     ensures err { IfErr result (λ kind. IfSome (R.remaining reader.old) (λ xs. ExchangeFailsWith D.forms D.acts C.gives done (buffer.old.items ++ xs)
         (record { base = desk.old; after = desk.new; clock = clock.old; later = clock.new; old = W.contents writer.old; new = W.contents writer.new }) kind)) }
 {
-    let front = match read_next_request(reader, buffer) {
+    let front = match read_request(reader, buffer) {
         Ok(front) => front,
         Err(InputFault::Read) => return Err(FaultKind::Read),
         Err(InputFault::Memory) => return Err(FaultKind::Memory),
@@ -166,7 +151,7 @@ pub fn serve_next_request<R: Read, W: Write, C: Clock, D: Service>(
             }
         }
         NextRequest::Whole(places) => {
-            let draft = match execute_and_format_reply::<C, D>(
+            let draft = match draft_reply::<C, D>(
                 alloc, router, clock, desk, buffer, places, done,
             ) {
                 Ok(draft) => draft,
@@ -177,7 +162,7 @@ pub fn serve_next_request<R: Read, W: Write, C: Clock, D: Service>(
                 Ok(()) => {}
                 Err(_) => return Err(FaultKind::Write),
             }
-            remove_front_bytes(buffer, places.body.end);
+            remove_front(buffer, places.body.end);
             if draft.closes {
                 Ok(ExchangeResult::Closed)
             } else {

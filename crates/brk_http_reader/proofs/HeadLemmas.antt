@@ -1,4 +1,4 @@
--- A head ends in its first empty line, so nothing stands after it in the bytes up to there.
+-- A head ends with its first empty line, so the bytes up to there contain nothing after it.
 use Rattle.std.proofs.Common.{◌≡◌, ℕ, zero, suc, ◌+◌, ◌≤◌, List, [], ◌∷◌, ◌++◌, length, take, Option, Some, None, refl, sym, ap, ◌∙◌, subst, arith, append_assoc, IfSome, Bool, true, false}
 use Rattle.std.specs.Prelude.{◌==◌, ◌&&◌, if◌then◌else◌, nat_le}
 use Rattle.std.specs.List.{flat_map}

@@ -1,4 +1,4 @@
--- From what the code saw to what stands at the front of all the input.
+-- From the bytes in the buffer to the first request of the whole input.
 use Rattle.std.proofs.Common.{◌≡◌, ℕ, ◌+◌, ◌-◌, ◌<◌, ◌≤◌, List, [], ◌++◌, length, take, drop, Option, Some, None, refl, sym, ap, ◌∙◌, subst, arith}
 use Rattle.std.proofs.Common.{append_assoc, IfSome, Bool, true, false, inl, inr, Ok, Err}
 use Rattle.std.specs.Prelude.{nat_lt}

@@ -24,7 +24,7 @@ request_at_positions buffer r = record {
   body = span_bytes buffer r.body;
 }
 
--- The result of `read_next_request`, the first argument, represents `found`, the result of reading
+-- The result of `read_request`, the first argument, represents `found`, the result of reading
 -- the first request in the model: no byte left, a request that cannot be read because of this
 -- problem, or a complete request. After a complete request, the bytes of `buffer` after its body
 -- and the bytes `left` in the reader are together the rest of the input; false if `left` is

@@ -22,29 +22,25 @@ pub struct FieldFacts {
     pub closes: bool,
 }
 
-// Returns true if two texts are equal, apart from upper and lower case of ASCII letters.
 fn is_equal_ignoring_case(a: &[u8], b: &[u8]) -> bool
     ensures { result ≡ spec.is_equal_ignoring_case a.now b.now }
 {
     a.eq_ignore_ascii_case(b)
 }
 
-// Returns true if every byte of `value` is an ASCII digit, also if `value` is empty.
-fn every_byte_is_digit(value: &[u8]) -> bool
+fn is_all_digits(value: &[u8]) -> bool
     ensures { result ≡ list_all is_ascii_digit value.now }
 {
     value.iter().all(|b| b.is_ascii_digit())
 }
 
-/// Returns true if `value` consists of one or more ASCII digits.
+// False for an empty value.
 fn has_only_digits(value: &[u8]) -> bool
     ensures { result ≡ spec.has_only_digits value.now }
 {
-    value.len() > 0 && every_byte_is_digit(value)
+    value.len() > 0 && is_all_digits(value)
 }
 
-/// Returns the number whose decimal digits are `value`, at most nine ASCII digits; 0 if `value` is
-/// empty.
 fn value_of_digits(value: &[u8]) -> usize
     requires few { length value.now ≤ 9 }
     requires digits { list_all is_ascii_digit value.now ≡ true }
@@ -57,10 +53,7 @@ fn value_of_digits(value: &[u8]) -> usize
     number
 }
 
-/// Parses the value of a `Content-Length` field: the length of the body in bytes, at most 65,536.
-///
-/// Fails with `BadRequest` if `value` is not one or more digits, and with `TooLarge` if it has more
-/// than nine digits or exceeds the limit.
+// A value of more than nine digits is `TooLarge`, even if it has leading zeros.
 fn body_length_of_value(value: &[u8]) -> Result<usize, RequestProblem>
     ensures value { result ≡ spec.body_length_of_value value.now }
     ensures small { IfOk result (λ n. n ≤ spec.most_body_bytes) }
@@ -92,10 +85,8 @@ struct FieldFactsSoFar {
     len: Result<usize, RequestProblem>,
 }
 
-/// Returns the facts `seen` of the fields that were read so far, updated for one more field with
-/// this name and value. After a second `Content-Length` field the length is the problem
-/// `BadRequest`. If `seen` has no length above 65,536, neither has the result.
-fn facts_with_one_more_field(seen: FieldFactsSoFar, name: &[u8], value: &[u8]) -> FieldFactsSoFar
+// A second `Content-Length` field is `BadRequest`, even if it equals the first.
+fn with_field(seen: FieldFactsSoFar, name: &[u8], value: &[u8]) -> FieldFactsSoFar
     ensures value { result ≡ facts_with_field seen (name.now, value.now) }
     ensures small { IfOk seen.len (λ n. n ≤ spec.most_body_bytes) → IfOk result.len (λ n. n ≤ spec.most_body_bytes) }
 {
@@ -117,14 +108,13 @@ fn facts_with_one_more_field(seen: FieldFactsSoFar, name: &[u8], value: &[u8]) -
     }
 }
 
-/// Returns the body length and the close flag that the fields of a head give. `headers` are the
-/// positions of their names and values in `front`, and must be within it.
+/// Returns the body length and the close flag of a head with the fields `headers` in `front`. The
+/// length is at most 65,536 bytes, and 0 without a `Content-Length` field.
 ///
-/// The length is at most 65,536 bytes, and 0 without a `Content-Length` field. Instead of a length
-/// the result has the problem `NotImplemented` if there is a `Transfer-Encoding` field; otherwise
-/// `BadRequest` if `Content-Length` is repeated or not one or more digits, and `TooLarge` if it has
-/// more than nine digits or exceeds the limit.
-pub fn facts_from_fields(front: &[u8], headers: &[HeaderSpan]) -> FieldFacts
+/// The problem is `NotImplemented` if there is a `Transfer-Encoding` field; otherwise `BadRequest`
+/// if `Content-Length` is repeated or not one or more digits, and `TooLarge` if it has more than
+/// nine digits or exceeds the limit.
+pub fn field_facts(front: &[u8], headers: &[HeaderSpan]) -> FieldFacts
     requires { All (IsHeaderWithin (length front.now)) headers.now }
     ensures len { result.len ≡ spec.body_length_of_fields (map (header_bytes front.now) headers.now) }
     ensures small { IfOk result.len (λ n. n ≤ spec.most_body_bytes) }
@@ -137,7 +127,7 @@ pub fn facts_from_fields(front: &[u8], headers: &[HeaderSpan]) -> FieldFacts
         len: Ok(0),
     };
     for header in headers {
-        seen = facts_with_one_more_field(seen, header.name.of(front), header.value.of(front));
+        seen = with_field(seen, header.name.of(front), header.value.of(front));
     }
     FieldFacts {
         len: if seen.chunked {

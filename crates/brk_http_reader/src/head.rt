@@ -6,7 +6,7 @@ ghost use Rattle.brk_model_http.specs.Fields.{most_body_bytes};
 ghost use Rattle.brk_model_http.specs.Found.{IsRequestHead};
 ghost use Rattle.brk_http_reader.specs.Heads.{FactsDescribeHead};
 
-use crate::fields::facts_from_fields;
+use crate::fields::field_facts;
 use brk_model_http::RequestProblem;
 use httparse::Status;
 use httparse::spans::{EMPTY_HEADER_SPAN, Span, parse_request};
@@ -26,17 +26,14 @@ pub struct HeadFacts {
     pub len: Result<usize, RequestProblem>,
 }
 
-// Returns true if at least one of `a` and `b` is true.
 fn is_either_true(a: bool, b: bool) -> bool
     ensures { result ≡ (a || b) }
 {
     a || b
 }
 
-/// Parses the head with which the bytes `front` begin. Returns the positions of its method and
-/// target, which are within `front`, its close flag, and its body length, at most 65,536 bytes, or
-/// the problem with the fields that give it. Returns `None` if `front` does not begin with a head
-/// of at most 100 fields, and does not return `None` if `front` is exactly such a head.
+/// Parses the head with which `front` begins; returns `None` if `front` begins with no head of at
+/// most 100 fields. The clause `none` says only that `front` is then not exactly such a head.
 pub fn parse_head(front: &[u8]) -> Option<HeadFacts>
     ensures within { IfSome result (λ facts. IsWithin (length front.now) facts.method × IsWithin (length front.now) facts.target) }
     ensures small { IfSome result (λ facts. IfOk facts.len (λ n. n ≤ most_body_bytes)) }
@@ -46,7 +43,7 @@ pub fn parse_head(front: &[u8]) -> Option<HeadFacts>
     let mut headers = [EMPTY_HEADER_SPAN; MAXIMUM_HEAD_FIELDS];
     match parse_request(front, &mut headers) {
         Ok(Status::Complete(found)) => {
-            let fields = facts_from_fields(front, &headers[..found.headers]);
+            let fields = field_facts(front, &headers[..found.headers]);
             Some(HeadFacts {
                 method: found.method,
                 target: found.path,

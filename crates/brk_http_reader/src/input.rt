@@ -1,4 +1,5 @@
-//! Reads of a request's head and body from a reader into a buffer.
+//! Reads of a request's head and body from a reader into a buffer. After a fault, no clause states
+//! what the buffer and the reader contain.
 ghost use Rattle.std.specs.Prelude.{◌≡◌, ℕ, ◌+◌, ◌<◌, ◌≤◌, ◌++◌, List, length, true, false, Ok, IfOk, OnOk, IfSome};
 ghost use Rattle.std.specs.Io.KnownBytes.{IsAtEnd};
 ghost use Rattle.brk_model_http.specs.Heads as spec;
@@ -25,15 +26,12 @@ impl From<AllocError> for InputFault {
 
     ghost from_gives = { λ _ e. e ≡ Memory };
 
-    /// Returns `Memory`: an allocation was refused.
     fn from(_error: AllocError) -> InputFault {
         InputFault::Memory
     }
 }
 
-/// Returns the length in bytes of the line end at the front of `bytes`, 1 for LF and 2 for CR LF,
-/// or `None` if `bytes` do not begin with a line end.
-fn line_end_length_in_bytes(bytes: &[u8]) -> Option<usize>
+fn leading_line_end(bytes: &[u8]) -> Option<usize>
     ensures { result ≡ spec.leading_line_end_length bytes.now }
 {
     match bytes {
@@ -43,22 +41,19 @@ fn line_end_length_in_bytes(bytes: &[u8]) -> Option<usize>
     }
 }
 
-/// Returns the length in bytes of the line end at the front of `rest` if `byte` is LF, so that the
-/// two form an empty line. Returns `None` if `byte` is not LF or `rest` does not begin with a line
-/// end.
+// LF and a line end after it form an empty line.
 fn line_end_length_after_line_feed(byte: u8, rest: &[u8]) -> Option<usize>
     ensures { result ≡ spec.line_end_length_after_line_feed byte rest.now }
 {
     if byte == b'\n' {
-        line_end_length_in_bytes(rest)
+        leading_line_end(rest)
     } else {
         None
     }
 }
 
-/// Returns the number of bytes up to and including the first empty line, an LF followed by a line
-/// end, which ends a head, or `None` if there is no empty line.
-pub fn head_length_in_bytes(bytes: &[u8]) -> Option<usize>
+/// Returns the number of bytes up to and including the first empty line, which ends a head.
+pub fn length_of_head(bytes: &[u8]) -> Option<usize>
     ensures value { result ≡ spec.head_length bytes.now }
     ensures within { IfSome result (λ n. n ≤ length bytes.now) }
 {
@@ -71,12 +66,8 @@ pub fn head_length_in_bytes(bytes: &[u8]) -> Option<usize>
     None
 }
 
-/// Reads at most 1,024 bytes, by one read, and appends them to the buffer. Returns false at the end
-/// of the input, otherwise true.
-///
-/// Fails with `Read` if the reader fails, or with `Memory` if memory runs out. No clause states
-/// what the buffer and the reader then contain.
-pub fn read_into_buffer<R: Read>(reader: &mut R, buffer: &mut Vec<u8>) -> Result<bool, InputFault>
+/// Appends at most 1,024 bytes, by one read. Returns false at the end of the input.
+pub fn fill_buffer<R: Read>(reader: &mut R, buffer: &mut Vec<u8>) -> Result<bool, InputFault>
     ensures moves { OnOk result (ReadsIntoBuffer (R.remaining reader.old) (R.remaining reader.new) buffer.old.items buffer.new.items) }
     ensures more { result ≡ Ok true → length buffer.old.items < length buffer.new.items }
     ensures end { result ≡ Ok false → IsAtEnd (R.remaining reader.new) × (buffer.new.items ≡ buffer.old.items) }
@@ -89,14 +80,9 @@ pub fn read_into_buffer<R: Read>(reader: &mut R, buffer: &mut Vec<u8>) -> Result
     Ok(count > 0)
 }
 
-/// Reads until the buffer begins with a whole head, has 16,384 bytes without the end of a head, or
-/// the input has ended. Returns `At` with the position at which the head ends, which is within the
-/// buffer, or the reason why it has no end: `Nothing` if the buffer was empty and the input had no
-/// byte left, `TooLong` if there are at least 16,384 bytes and the first 16,384 do not contain its
-/// end, or `Cut` if the input ended earlier.
-///
-/// Fails with `Read` if the reader fails, or with `Memory` if memory runs out. No clause states
-/// what the buffer and the reader then contain.
+/// Reads until the buffer begins with a whole head, and returns where it ends (`At`). Returns
+/// `TooLong` if the first 16,384 bytes do not contain its end, `Cut` if the input ends before it,
+/// and `Nothing` if no byte is left.
 pub fn read_head<R: Read>(reader: &mut R, buffer: &mut Vec<u8>) -> Result<HeadEnd, InputFault>
     ensures moves { OnOk result (ReadsIntoBuffer (R.remaining reader.old) (R.remaining reader.new) buffer.old.items buffer.new.items) }
     ensures within { IfOk result (λ end. HeadEndIsWithin end (length buffer.new.items)) }
@@ -105,14 +91,14 @@ pub fn read_head<R: Read>(reader: &mut R, buffer: &mut Vec<u8>) -> Result<HeadEn
     'filling: loop {
         let len = buffer.len();
         let seen = len.min(MAXIMUM_HEAD_BYTES);
-        match head_length_in_bytes(&buffer[..seen]) {
+        match length_of_head(&buffer[..seen]) {
             Some(n) => return Ok(HeadEnd::At(n)),
             None => {}
         }
         if len >= MAXIMUM_HEAD_BYTES {
             return Ok(HeadEnd::TooLong);
         }
-        if !read_into_buffer(reader, buffer)? {
+        if !fill_buffer(reader, buffer)? {
             if len == 0 {
                 return Ok(HeadEnd::Nothing);
             }
@@ -121,11 +107,7 @@ pub fn read_head<R: Read>(reader: &mut R, buffer: &mut Vec<u8>) -> Result<HeadEn
     }
 }
 
-/// Reads until the buffer has at least `len` bytes, and returns true. Returns false if the input
-/// ends before the buffer has `len` bytes; all bytes that the reader still had are then appended.
-///
-/// Fails with `Read` if the reader fails, or with `Memory` if memory runs out. No clause states
-/// what the buffer and the reader then contain.
+/// Reads until the buffer has at least `len` bytes; returns false if the input ends before.
 pub fn read_to_length<R: Read>(
     reader: &mut R,
     buffer: &mut Vec<u8>,
@@ -139,7 +121,7 @@ pub fn read_to_length<R: Read>(
         if buffer.len() >= len {
             return Ok(true);
         }
-        if !read_into_buffer(reader, buffer)? {
+        if !fill_buffer(reader, buffer)? {
             return Ok(false);
         }
     }

@@ -1,4 +1,5 @@
-//! The next request of a stream.
+//! The next request of a stream. After a fault, no clause states what the buffer and the reader
+//! contain.
 ghost use Rattle.std.specs.Prelude.{◌≡◌, ◌++◌, List, ℕ, length, IfOk, OnOk, IfSome};
 ghost use Rattle.brk_model_http.specs.Found.{RequestReading, ReadsFirstRequest};
 ghost use Rattle.brk_http_reader.specs.Moves.{ReadsIntoBuffer};
@@ -31,19 +32,13 @@ pub enum NextRequest {
     Whole(RequestPositions),
 }
 
-/// Reads the request with which the buffer and the input after it begin into the buffer, up to the
-/// end of its body or beyond it, and returns the positions of its parts, which are within the
-/// buffer.
+/// Reads the next request into the buffer, up to the end of its body or beyond it, and returns the
+/// positions of its parts.
 ///
-/// Returns `Ended` if no byte is left, and `Broken` with a problem if no request can be read:
-/// `TooLarge` if there are at least 16,384 bytes and the first 16,384 do not contain the end of a
-/// head; `BadRequest` if the input ends earlier within the head, or if the head is malformed or has
-/// more than 100 fields; otherwise the problem with the body length (`facts_from_fields`), or
-/// `BadRequest` if the input ends within the body.
-///
-/// Fails with `Read` if the reader fails, or with `Memory` if memory runs out. No clause states
-/// what the buffer and the reader then contain.
-pub fn read_next_request<R: Read>(
+/// Returns `Broken` with the first problem: `TooLarge` if the first 16,384 bytes do not contain the
+/// end of the head; `BadRequest` if the head is cut, malformed or has more than 100 fields; the
+/// problem with the body length (`field_facts`); `BadRequest` if the body is cut.
+pub fn read_request<R: Read>(
     reader: &mut R,
     buffer: &mut Vec<u8>,
 ) -> Result<NextRequest, InputFault>

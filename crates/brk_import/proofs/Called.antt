@@ -1,4 +1,4 @@
--- The calls of the rows, as the program makes them.
+-- The calls of the rows of a batch, as calls of a desk.
 use Rattle.std.proofs.Common.{◌≡◌, ℕ, List, [], ◌∷◌, map, Option, refl, subst₂, sym}
 use Rattle.std.specs.Prelude.{Result}
 use Rattle.sqlite_trees.specs.declared.store.Store.{Ghosts}

@@ -51,15 +51,10 @@ impl<S: Alter> Rows for DeskRows<S> {
 
     ghost step = { step_of_row };
 
-    /// Parses the fields of a row: returns a command, or the refusal of a malformed row. Fails with
-    /// `Memory` only.
     fn parse(alloc: Global, row: &[&[u8]]) -> Planned<Command> {
         parse_row(alloc, row)
     }
 
-    /// Executes a command under its key at the clock reading `now`, by `Desk::call`, and returns
-    /// its answer. Fails with `Memory` or `Store`. A fault changes nothing in a store that is still
-    /// open; after a fault that closed the store, a crash may expose the command as committed.
     fn call(
         desk: &mut Desk<S>,
         alloc: Global,
@@ -70,7 +65,6 @@ impl<S: Alter> Rows for DeskRows<S> {
         desk.call(alloc, now, command, Some(key))
     }
 
-    /// Returns the fields of a reply, joined by commas. Fails only if memory runs out.
     fn reply_line(alloc: Global, reply: &Reply) -> Result<String, AllocError> {
         match line_text(alloc, reply) {
             Ok(line) => Ok(line),

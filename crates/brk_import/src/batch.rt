@@ -22,28 +22,14 @@ use sqlite::Alter;
 use std::alloc::Global;
 use std::io::{Read, Write};
 
-/// Reads a batch of rows, executes them on the desk in order, and writes a line for each. Returns
-/// the counts of the answers.
+/// Reads a batch of rows, executes them on the desk in order, and writes a line for each. The input
+/// is `batch,NAME`, the rows, then `end,N` with their number, in at most 67,108,864 bytes. A row is
+/// executed only if a record follows it; without an end record the last row is refused with 18
+/// (`BadText`). Row n has the key (NAME, n), under which it is accepted at most once. The lines are
+/// `n,ok,FIELDS`, `n,again,FIELDS` or `n,no,FIELDS`, and at last `end,OK,AGAIN,NO`.
 ///
-/// The input is comma-separated: `batch,NAME`, then the rows, then `end,N` with the number of rows.
-/// Only its first 67,108,864 bytes are read. A row is executed only if a record follows it. If
-/// these bytes end without an end record, their last row is not executed: it is refused with 18
-/// (`BadText`).
-///
-/// Row n of batch NAME has the key (NAME, n), under which it is accepted at most once. Each decided
-/// row that is well-formed and has a record after it is one call of the desk; one more call may
-/// have failed at the end. The clock is read once for each call, and not otherwise. The lines are
-/// `n,ok,FIELDS`, `n,again,FIELDS` or `n,no,FIELDS`, and after the correct end record
-/// `end,OK,AGAIN,NO`.
-///
-/// A fault ends the batch and is returned with the number of decided rows: `BadHeader`, `NoEnd` or
-/// `BadEnd`, if the header or the end record is missing or wrong; `Read` or `Write`; or `Desk` with
-/// `Memory` or `Store`. The changes of the decided rows remain. To continue, retry the batch under
-/// its name.
-///
-/// Under the disk assumption, if a crash before the batch exposes only the tables that the desk
-/// then has, a crash after it exposes only the tables after the decided rows or, after a fault of
-/// the desk, perhaps those with the next row committed too.
+/// A fault ends the batch, with the number of decided rows, whose changes remain; a crash after a
+/// fault of the desk may expose the next row too. To continue, retry the batch under its name.
 pub fn run_batch<R: Read + Drop, W: Write, C: Clock, S: Alter>(
     alloc: Global,
     reader: R,

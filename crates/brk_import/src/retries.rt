@@ -1,4 +1,5 @@
-//! Theorem: a batch that was interrupted can be retried.
+//! Theorem: a batch that was interrupted can be retried. It is under the disk assumption and for a
+//! reader with specified content.
 
 ghost use Rattle.std.specs.Prelude.{◌≡◌, ℕ, List, None, Ok, Result, Some};
 ghost use Rattle.brk_desk.specs.Reopening.{IsNewConnectionAfterCrash, RepresentsDurableBase};
@@ -20,15 +21,13 @@ ghost use Rattle.sqlite.specs.State.{HasCleanDisk};
 use brk_io::Clock;
 use sqlite::Alter;
 
-/// Proves, under the disk assumption and for a reader with specified content, that adopting a crash
-/// state of a batch never reports damage, if a crash before the batch exposed only the tables of
-/// the base that the desk represented. If the batch is then retried and completes, both runs are
-/// equivalent to one run, whatever rows they refused: first the rows that the first run accepted,
-/// then the rows of the retry that were not stored by then (`RunAndRetryEqualOneRun`). If the first
-/// run refused none of the rows that it answered, both runs equal one uninterrupted run of the
-/// batch (`RetryCompletesBatch`). Both statements also cover a row that was committed but not
-/// answered.
+/// Proves that a crash state of a batch is adopted without damage, and that the batch and a
+/// completed retry are equivalent to one run.
 pub fn an_interrupted_batch_can_be_retried<S: Alter, C: Clock>()
+    // The one run has first the rows that the first run accepted, then the rows of the retry that
+    // were not stored by then (`RunAndRetryEqualOneRun`). If the first run refused none of the rows
+    // that it answered, it is one uninterrupted run of the batch (`RetryCompletesBatch`). Both also
+    // cover a row that was committed but not answered.
     ensures { (input : List ℕ) (base : Base) (first left conn store last : Held S) (one two : ClockAndWriterChange C)
         (ended : Result counted.Counts faults.BatchFault)
         (taken : Result (Unit {0}) money.Fault) (counts : counted.Counts) → RepresentsDurableBase S.Store first base

@@ -1,4 +1,4 @@
--- One more row, answer, moment or line at the end.
+-- Lists of rows, answers, clock readings and lines with one more element at the end.
 use Rattle.std.proofs.Common.{◌≡◌, ◌+◌, ◌++◌, ◌∷◌, [], ℕ, List, sym, ap, ◌∙◌, refl, length, arith, append_assoc, add-zero, subst, map}
 use Rattle.std.specs.Prelude.{Bool, Ok, Err}
 use Rattle.std.proofs.lemmas.List.{append-nil, length-append, map-append}

@@ -1,4 +1,4 @@
--- The progress of a batch, whatever is known of its desk.
+-- The progress of a batch, whatever its desk represents.
 use Rattle.std.proofs.Common.{◌≡◌, ◌+◌, ◌++◌, ◌∷◌, [], ℕ, List, Ok, Err, inl, inr, sym, ap, ◌∙◌, refl, length, arith, map, subst}
 use Rattle.std.specs.Prelude.{Bool, true, false, IfErr, Option, Result}
 use Rattle.std.specs.Io.KnownBytes.{Appends}

@@ -15,8 +15,6 @@ use brk_ref::{Answer, BatchName, Key, RowNumber};
 use csv::ByteRecord;
 use std::alloc::Global;
 
-// Returns the key of row `n` of the batch with the name `batch`: this name and `n`, which must be
-// from 1 to 67,108,864, both included. Fails with `Memory` only.
 fn row_key(batch: &BatchName, n: u64) -> Result<Key, Fault>
     requires first { 1 ≤ n }
     requires last { n ≤ most_input_bytes }
@@ -28,13 +26,9 @@ fn row_key(batch: &BatchName, n: u64) -> Result<Key, Fault>
     Ok(Key { batch, n: row })
 }
 
-/// Executes row `n` of `batch` on the desk and returns its answer; `n` must be from 1 to
-/// 67,108,864, both included. A well-formed row reads the clock once and is one call of the desk,
-/// under its key; a malformed one does neither and is refused.
-///
-/// Fails with `Memory` or `Store`; the clock was then read at most once, for the call that failed.
-/// Under the disk assumption the desk then represents every base that it represented before, but a
-/// crash may expose the row as committed.
+/// Executes row `n`, 1 to 67,108,864, of `batch` on the desk and returns its answer. A well-formed
+/// row reads the clock once and is one call of the desk, under its key; a malformed one does
+/// neither and is refused. After a failed call a crash may expose the row as committed.
 pub fn execute_row<C: Clock, D: Rows>(
     alloc: Global,
     desk: &mut D::Desk,

@@ -17,16 +17,13 @@ pub struct Counts {
 }
 
 impl Counts {
-    // The counts of a batch before its first row: three zeros.
+    // The counts before the first row.
     pub(crate) const NONE: Counts = Counts {
         ok: 0,
         again: 0,
         no: 0,
     };
 
-    // Returns the counts with 1 added to one of them, by the kind of `answer`: to the number of
-    // accepted rows (`ok`), of repeated rows (`again`) or of refused rows (`no`). Each count must
-    // be less than 2^64 - 1.
     pub(crate) fn with_answer<R>(self, answer: &Answer<R>) -> Counts
         requires ok { self.ok + 1 < 2 ^ 64 }
         requires again { self.again + 1 < 2 ^ 64 }

@@ -15,10 +15,10 @@ ghost use Rattle.brk_import_engine.specs.RowSteps.{FirstReadEndsBatchWith, NextR
 
 use crate::answer::execute_row;
 use crate::counts::Counts;
-use crate::lines::{end_line_of_counts, row_answer_line};
+use crate::lines::{counts_line, row_answer_line};
 use crate::records::{
-    MAXIMUM_INPUT_BYTES, batch_name_in_header, begins_with_end_field, is_correct_end_record,
-    new_record_reader, read_record,
+    MAXIMUM_INPUT_BYTES, batch_in_header, begins_with_end, is_correct_end, read_record,
+    record_reader,
 };
 use crate::rows::Rows;
 use brk_io::{BatchFault, Clock, FaultKind, write_all_bytes};
@@ -29,12 +29,7 @@ use std::alloc::Global;
 use std::io::{Read, Take, Write};
 use std::mem;
 
-// Writes the line of the answer `answer` to row `n`: `n,ok,FIELDS`, `n,again,FIELDS` or
-// `n,no,FIELDS`.
-//
-// Fails with `Write`, after a prefix of the line, perhaps all of it, or with `Desk(Memory)` and
-// nothing written.
-fn write_answer_line<W: Write, D: Rows>(
+fn write_answer<W: Write, D: Rows>(
     alloc: Global,
     writer: &mut W,
     n: u64,
@@ -53,25 +48,17 @@ fn write_answer_line<W: Write, D: Rows>(
     }
 }
 
-// Writes the line that refuses row `n`, the last row of an input without an end record, with
-// `BadText`. Returns the fault that ends the batch: `NoEnd` if the line was written, `Write` if the
-// writer failed after a prefix of the line, perhaps all of it, or `Desk(Memory)` if memory ran out
-// and nothing was written.
-fn write_refusal_of_last_row<W: Write, D: Rows>(alloc: Global, writer: &mut W, n: u64) -> FaultKind
+// Returns the fault that ends the batch: `NoEnd` if the line was written.
+fn refuse_last_row<W: Write, D: Rows>(alloc: Global, writer: &mut W, n: u64) -> FaultKind
     ensures { LastRowEndsBatchWith (W.contents writer.old) (W.contents writer.new) (answer_line n (Refused BadText)) result }
 {
-    match write_answer_line::<W, D>(alloc, writer, n, &Answer::Refused(Refusal::BadText)) {
+    match write_answer::<W, D>(alloc, writer, n, &Answer::Refused(Refusal::BadText)) {
         Ok(()) => FaultKind::NoEnd,
         Err(kind) => kind,
     }
 }
 
-// Checks that the record `row` is the correct end record of a batch of `n` rows, and writes the end
-// line with the counts `counts`.
-//
-// Fails, with `n` decided rows, with `BadEnd` if the record is wrong, or with `Desk(Memory)`, and
-// nothing is then written; or with `Write` after a prefix of the line, perhaps all of it.
-fn check_end_record_and_write_end_line<W: Write>(
+fn finish<W: Write>(
     alloc: Global,
     writer: &mut W,
     row: &ByteRecord,
@@ -83,13 +70,13 @@ fn check_end_record_and_write_end_line<W: Write>(
     ensures rows { IfErr result (λ fault. fault.rows ≡ n) }
     ensures err { IfErr result (λ fault. EndRecordFailsWith (W.contents writer.old) (W.contents writer.new) (fields_of row.now) n counts fault.kind) }
 {
-    if !is_correct_end_record(row, n) {
+    if !is_correct_end(row, n) {
         return Err(BatchFault {
             rows: n,
             kind: FaultKind::BadEnd,
         });
     }
-    let Ok(text) = end_line_of_counts(alloc, counts) else {
+    let Ok(text) = counts_line(alloc, counts) else {
         return Err(BatchFault {
             rows: n,
             kind: FaultKind::Desk(Fault::Memory),
@@ -104,10 +91,6 @@ fn check_end_record_and_write_end_line<W: Write>(
     }
 }
 
-// Reads the first record, the header `batch,NAME`, and returns the name of the batch.
-//
-// Fails with `BadHeader` if there is no record or the first one is no such header with a
-// well-formed name, with `Read` if the reader fails, and with `Desk(Memory)` if memory runs out.
 fn read_batch_name<R: Read>(alloc: Global, records: &mut Reader<R>) -> Result<BatchName, FaultKind>
     // The reader has the settings for a batch, before the call and, at `Ok`, after it.
     requires { IsBatchReader records.old }
@@ -126,22 +109,14 @@ fn read_batch_name<R: Read>(alloc: Global, records: &mut Reader<R>) -> Result<Ba
     if !read_record(records, &mut header)? {
         return Err(FaultKind::BadHeader);
     }
-    match batch_name_in_header(alloc, &header) {
+    match batch_in_header(alloc, &header) {
         Ok(Some(name)) => Ok(name),
         Ok(None) => Err(FaultKind::BadHeader),
         Err(_) => Err(FaultKind::Desk(Fault::Memory)),
     }
 }
 
-// Reads the first record after the header, the first row or the end record, into `row`. The reader
-// must have the settings for a batch (`IsBatchReader`), and at `Ok` still has them.
-//
-// Fails with `NoEnd` if no record is left, `Read` if the reader fails, or `Desk(Memory)`; no row is
-// then decided.
-fn read_record_after_header<R: Read>(
-    records: &mut Reader<R>,
-    row: &mut ByteRecord,
-) -> Result<(), BatchFault>
+fn read_first<R: Read>(records: &mut Reader<R>, row: &mut ByteRecord) -> Result<(), BatchFault>
     requires { IsBatchReader records.old }
     ensures setup { OnOk result (IsBatchReader records.new) }
     ensures read { OnOk result (ReadsOneRecord R.remaining records.old records.new (fields_of row.new)) }
@@ -160,15 +135,9 @@ fn read_record_after_header<R: Read>(
     Ok(())
 }
 
-// Reads the record after row `settled + 1` into `after`, and writes nothing. If no record is left,
-// writes the line that refuses this row with `BadText`. `settled` must be less than 67,108,864. The
-// reader must have the settings for a batch (`IsBatchReader`), and at `Ok` still has them.
-//
-// Fails with `Read` or `Desk(Memory)`, and nothing written, if the record could not be read; the
-// row is then not decided. If no record is left, fails with `NoEnd` after the line, with `Write`
-// after a prefix of the line, perhaps all of it, or with `Desk(Memory)` and nothing written; the
-// row is then decided.
-fn read_record_or_refuse_last_row<R: Read, W: Write, D: Rows>(
+// Reads the record after row `settled + 1`. If there is none, this row is the last, without an end
+// record after it: it is refused with `BadText` and counts as decided.
+fn look_ahead<R: Read, W: Write, D: Rows>(
     alloc: Global,
     records: &mut Reader<R>,
     writer: &mut W,
@@ -193,21 +162,13 @@ fn read_record_or_refuse_last_row<R: Read, W: Write, D: Rows>(
     };
     let n = settled + 1;
     if !has_next {
-        let kind = write_refusal_of_last_row::<W, D>(alloc, writer, n);
+        let kind = refuse_last_row::<W, D>(alloc, writer, n);
         return Err(BatchFault { rows: n, kind });
     }
     Ok(())
 }
 
-// Executes row `settled + 1` of the batch `name` on the desk, and writes its line. Returns the
-// counts with its answer added. `settled` must be less than 67,108,864 and equal the sum of the
-// counts.
-//
-// Fails with `Desk(Memory)` or `Desk(Store)`, and nothing written, if the row is not decided; under
-// the disk assumption the desk then represents every base that it represented before, but a crash
-// may expose the row as committed. If the row is decided, fails with `Write` after a prefix of its
-// line, perhaps all of it, or with `Desk(Memory)` and nothing written.
-fn execute_row_and_write_line<W: Write, C: Clock, D: Rows>(
+fn answer_row<W: Write, C: Clock, D: Rows>(
     alloc: Global,
     name: &BatchName,
     writer: &mut W,
@@ -237,26 +198,15 @@ fn execute_row_and_write_line<W: Write, C: Clock, D: Rows>(
             });
         }
     };
-    if let Err(kind) = write_answer_line::<W, D>(alloc, writer, n, &told) {
+    if let Err(kind) = write_answer::<W, D>(alloc, writer, n, &told) {
         return Err(BatchFault { rows: n, kind });
     }
     Ok(counts.with_answer(&told))
 }
 
-// Executes the rows after the header of the batch `name`, writes their lines and the end line, and
-// returns the counts of the answers. Reads one record ahead: a row is executed only after the
-// record that follows it has been read. Each record has at least one byte, which limits the number
-// of rows, and of turns of the loop, to the number of bytes. The reader must have the settings for
-// a batch (`IsBatchReader`), and the name must be well-formed.
-//
-// At an error returns the fault with the number of decided rows, whose changes remain: `NoEnd` if
-// the input ends without an end record (its last row, if it has one, is then refused with
-// `BadText`), `BadEnd` if the end record is wrong, `Read` or `Write` if the reader or the writer
-// fails, or `Desk` with `Memory` or `Store`. The lines of the decided rows are then written; but
-// after `Write` the line of the last one, or the end line, is written in part, perhaps not at all
-// or whole, and after `Desk(Memory)` the line of the last one may be missing. After a fault of the
-// desk, a crash may also expose the next row as committed.
-fn execute_rows_and_write_lines<R: Read, W: Write, C: Clock, D: Rows>(
+// Reads one record ahead, because a row is executed only if a record follows it. Each record has at
+// least one byte, which limits the turns of the loop to the number of bytes.
+fn answer_rows<R: Read, W: Write, C: Clock, D: Rows>(
     alloc: Global,
     records: &mut Reader<R>,
     name: &BatchName,
@@ -273,16 +223,14 @@ fn execute_rows_and_write_lines<R: Read, W: Write, C: Clock, D: Rows>(
     let mut counts = Counts::NONE;
     let mut row = ByteRecord::new(alloc);
     let mut after = ByteRecord::new(alloc);
-    read_record_after_header(records, &mut row)?;
+    read_first(records, &mut row)?;
     for settled in 0..MAXIMUM_INPUT_BYTES {
-        if begins_with_end_field(&row) {
-            check_end_record_and_write_end_line(alloc, writer, &row, settled, counts)?;
+        if begins_with_end(&row) {
+            finish(alloc, writer, &row, settled, counts)?;
             return Ok(counts);
         }
-        read_record_or_refuse_last_row::<R, W, D>(alloc, records, writer, settled, &mut after)?;
-        counts = execute_row_and_write_line::<W, C, D>(
-            alloc, name, writer, clock, desk, settled, counts, &row,
-        )?;
+        look_ahead::<R, W, D>(alloc, records, writer, settled, &mut after)?;
+        counts = answer_row::<W, C, D>(alloc, name, writer, clock, desk, settled, counts, &row)?;
         mem::swap(&mut row, &mut after);
     }
     Err(BatchFault {
@@ -291,19 +239,14 @@ fn execute_rows_and_write_lines<R: Read, W: Write, C: Clock, D: Rows>(
     })
 }
 
-/// Reads a batch, executes its rows in order, and writes their lines and the end line. Returns the
-/// counts of the answers. Only the first `MAXIMUM_INPUT_BYTES` bytes are read, a byte order mark at
-/// their start is skipped, and records after the first end record are ignored. A row is executed
-/// only if a record follows it.
+/// Reads a batch, executes its rows in order, and writes their lines and the end line. Only the
+/// first `MAXIMUM_INPUT_BYTES` bytes are read, a byte order mark at their start is skipped, and
+/// records after the first end record are ignored. A row is executed only if a record follows it.
 ///
-/// At an error returns the fault with the number of decided rows, whose changes remain: `BadHeader`
-/// if the input has no header (nothing is then executed or written), `NoEnd` if there is no end
-/// record (the last row, if there is one, is then refused with `BadText`), `BadEnd` if the end
-/// record is wrong, `Read` or `Write` if the reader or the writer fails, or `Desk` with `Memory` or
-/// `Store`. The lines of the decided rows are then written; but after `Write` the line of the last
-/// one, or the end line, is written in part, perhaps not at all or whole, and after `Desk(Memory)`
-/// the line of the last one may be missing. After a fault of the desk, a crash may also expose the
-/// next row as committed.
+/// At an error the changes of the decided rows remain, and their lines are written; but after
+/// `Write` the line of the last one, or the end line, is written in part, perhaps not at all or
+/// whole, and after `Desk(Memory)` the line of the last one may be missing. After a fault of the
+/// desk, a crash may also expose the next row as committed.
 pub fn execute_batch_on_desk<R: Read + Drop, W: Write, C: Clock, D: Rows>(
     alloc: Global,
     reader: R,
@@ -320,9 +263,9 @@ pub fn execute_batch_on_desk<R: Read + Drop, W: Write, C: Clock, D: Rows>(
         (option_map input_text (R.remaining reader)) desk.old desk.new
         (record { clock = clock.old; later = clock.new; old = W.contents writer.old; new = W.contents writer.new }) result }
 {
-    let mut records = new_record_reader(alloc, reader);
+    let mut records = record_reader(alloc, reader);
     match read_batch_name(alloc, &mut records) {
-        Ok(name) => execute_rows_and_write_lines::<Take<R>, W, C, D>(
+        Ok(name) => answer_rows::<Take<R>, W, C, D>(
             alloc,
             &mut records,
             &name,

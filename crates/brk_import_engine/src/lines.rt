@@ -10,8 +10,6 @@ use brk_ref::Answer;
 use itoa::Buffer;
 use std::alloc::{AllocError, Global};
 
-// Returns the text of an answer: `ok`, `again` or `no`, a comma, and the fields of the reply, of
-// the stored reply or of the refusal, separated by commas. Fails only if memory runs out.
 fn answer_text<D: Rows>(alloc: Global, answer: &Answer<D::Reply>) -> Result<String, AllocError>
     ensures { IfOk result (λ text. string_bytes text ≡ answer_text (abstract_answer D.told answer.now)) }
 {
@@ -25,8 +23,7 @@ fn answer_text<D: Rows>(alloc: Global, answer: &Answer<D::Reply>) -> Result<Stri
     }
 }
 
-/// Returns the line of row `n` with the answer `answer`, `n,ok,FIELDS`, `n,again,FIELDS` or
-/// `n,no,FIELDS`, with its line feed. Fails only if memory runs out.
+/// Returns the line `n,ok,FIELDS`, `n,again,FIELDS` or `n,no,FIELDS`, with its line feed.
 pub fn row_answer_line<D: Rows>(
     alloc: Global,
     n: u64,
@@ -43,9 +40,8 @@ pub fn row_answer_line<D: Rows>(
     Ok(line)
 }
 
-/// Returns the end line of a batch with these counts, `end,OK,AGAIN,NO`, with its line feed. Fails
-/// only if memory runs out.
-pub fn end_line_of_counts(alloc: Global, counts: Counts) -> Result<Vec<u8>, AllocError>
+/// Returns the line `end,OK,AGAIN,NO`, with its line feed.
+pub fn counts_line(alloc: Global, counts: Counts) -> Result<Vec<u8>, AllocError>
     ensures { IfOk result (λ line. line.items ≡ end_line_with_counts counts) }
 {
     let mut line = Vec::from_slice(alloc, b"end,")?;

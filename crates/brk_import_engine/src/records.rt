@@ -22,9 +22,9 @@ use std::io::{Read, Take};
 pub const MAXIMUM_INPUT_BYTES: u64 = 67_108_864;
 
 /// Returns a reader of the records in the first `MAXIMUM_INPUT_BYTES` bytes of `reader`, without a
-/// byte order mark at their start. The fields of a record are separated by commas and not trimmed,
-/// a record has any number of fields, and the first record is not skipped as a header.
-pub fn new_record_reader<R: Read + Drop>(alloc: Global, reader: R) -> Reader<Take<R>>
+/// byte order mark at their start. A record has any number of fields, separated by commas and not
+/// trimmed; the first record is not skipped as a header.
+pub fn record_reader<R: Read + Drop>(alloc: Global, reader: R) -> Reader<Take<R>>
     ensures setup { IsBatchReader result }
     ensures start { ReaderIsAfterRecords (option_map input_text (R.remaining reader)) [] (reader_state result) (source_of (take_remaining R.remaining) result) }
 {
@@ -34,11 +34,8 @@ pub fn new_record_reader<R: Read + Drop>(alloc: Global, reader: R) -> Reader<Tak
         .from_reader(alloc, reader.take(MAXIMUM_INPUT_BYTES))
 }
 
-/// Reads the next record into `row` and returns true, or returns false if no record is left. The
-/// reader must have the settings for a batch (`IsBatchReader`), and at `Ok` still has them.
-///
-/// Fails with `Read` if the reader fails, or with `Desk(Memory)` if memory runs out. No clause
-/// states what `row` and the reader then contain.
+/// Reads the next record into `row`; returns false if no record is left. After a fault no clause
+/// states what `row` and the reader contain.
 pub fn read_record<R: Read>(
     records: &mut Reader<R>,
     row: &mut ByteRecord,
@@ -64,8 +61,7 @@ pub fn read_record<R: Read>(
     }
 }
 
-/// Returns the bytes of each field of a record, in the order of the fields. Fails only if memory
-/// runs out.
+/// Returns the bytes of each field, in order.
 pub fn record_fields(alloc: Global, row: &ByteRecord) -> Result<Vec<&[u8]>, AllocError>
     ensures { IfOk result (λ all. texts_of_fields all.items ≡ fields_of row.now) }
 {
@@ -76,8 +72,6 @@ pub fn record_fields(alloc: Global, row: &ByteRecord) -> Result<Vec<&[u8]>, Allo
     Ok(all)
 }
 
-// Returns true if the record has a field at index `i`, counted from 0, and this field equals
-// `text`.
 fn field_equals(row: &ByteRecord, i: usize, text: &[u8]) -> bool
     ensures { IsTrue result ↔ (field_at (fields_of row.now) i ≡ Some text.now) }
 {
@@ -87,9 +81,8 @@ fn field_equals(row: &ByteRecord, i: usize, text: &[u8]) -> bool
     }
 }
 
-// Returns true if a record has exactly two fields, `first` and then `second`.
 #[tactic(auto, using(crate::proofs::Reading::pair_found, crate::proofs::Reading::pair_fields))]
-fn has_exactly_these_two_fields(row: &ByteRecord, first: &[u8], second: &[u8]) -> bool
+fn is_pair(row: &ByteRecord, first: &[u8], second: &[u8]) -> bool
     ensures { IsTrue result ↔ (fields_of row.now ≡ first.now ∷ second.now ∷ []) }
 {
     if row.len() != 2 {
@@ -101,26 +94,24 @@ fn has_exactly_these_two_fields(row: &ByteRecord, first: &[u8], second: &[u8]) -
     field_equals(row, 1, second)
 }
 
-/// Returns true if the first field of a record is `end`, whatever its other fields.
-pub fn begins_with_end_field(row: &ByteRecord) -> bool
+/// Returns true if the first field is `end`, whatever the others are.
+pub fn begins_with_end(row: &ByteRecord) -> bool
     ensures { IsTrue result ↔ IsEndRecord (fields_of row.now) }
 {
     field_equals(row, 0, b"end")
 }
 
-/// Returns true if a record is the correct end record after `n` rows: exactly the two fields `end`
-/// and `n` in decimal digits.
-pub fn is_correct_end_record(row: &ByteRecord, n: u64) -> bool
+/// Returns true if the record has exactly the fields `end` and `n`, in decimal digits.
+pub fn is_correct_end(row: &ByteRecord, n: u64) -> bool
     ensures { IsTrue result ↔ (fields_of row.now ≡ correct_end_record n) }
 {
     let mut buffer = Buffer::new();
-    has_exactly_these_two_fields(row, b"end", buffer.format(n).as_bytes())
+    is_pair(row, b"end", buffer.format(n).as_bytes())
 }
 
-/// Returns the name of the batch if the record is a header, which is exactly the two fields `batch`
-/// and a well-formed name, otherwise `None`. Fails with `Memory` only.
+/// Returns the name of the batch if the record is exactly `batch` and a well-formed name.
 #[tactic(auto, using(crate::proofs::Reading::header_name_is))]
-pub fn batch_name_in_header(alloc: Global, row: &ByteRecord) -> Result<Option<BatchName>, Fault>
+pub fn batch_in_header(alloc: Global, row: &ByteRecord) -> Result<Option<BatchName>, Fault>
     ensures header { IfOk result (λ found. MatchOption found
         ((name : List ℕ) → IsBatchName name → fields_of row.now ≡ batch_header name → ⊥)
         (λ name. IsBatchName name × (fields_of row.now ≡ batch_header name))) }
@@ -129,7 +120,7 @@ pub fn batch_name_in_header(alloc: Global, row: &ByteRecord) -> Result<Option<Ba
     let Some(name) = row.get(1) else {
         return Ok(None);
     };
-    if !has_exactly_these_two_fields(row, b"batch", name) {
+    if !is_pair(row, b"batch", name) {
         return Ok(None);
     }
     BatchName::parse(alloc, name)

@@ -58,16 +58,12 @@ pub trait Rows {
     /// The model's answer to a command under a key at a timestamp, and the base after it.
     ghost step: { RowStep Base Asked };
 
-    /// Parses the fields of a row: returns a command, or the refusal of a malformed row. Fails with
-    /// `Memory` only.
+    /// Parses the fields of a row: a command, or the refusal of a malformed row.
     fn parse(alloc: Global, row: &[&[u8]]) -> Planned<Self::Command>
         ensures read { IfOk result (λ read. ParsesAs asked read (form (texts_of_fields row.now))) }
         ensures fault { OnErr result (result ≡ Err Memory) };
 
-    /// Executes a command under its key at the clock reading `now`, and returns its answer.
-    ///
-    /// Fails with `Memory` or `Store`. Under the disk assumption the desk then represents every
-    /// base that it represented before, but a crash may expose the command as committed.
+    /// Executes a command under its key at the clock reading `now`.
     fn call(
         desk: &mut Self::Desk,
         alloc: Global,
@@ -89,7 +85,7 @@ pub trait Rows {
             (asked command.now) (abstract_key key.now)) }
         ensures fault { IfErr result IsCallFault };
 
-    /// Returns the fields of a reply, joined by commas. Fails only if memory runs out.
+    /// Returns the fields of a reply, joined by commas.
     fn reply_line(alloc: Global, reply: &Self::Reply) -> Result<String, AllocError>
         ensures { IfOk result (λ line. string_bytes line ≡ line_text (told reply.now)) };
 }

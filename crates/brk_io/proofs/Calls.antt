@@ -1,4 +1,4 @@
--- Calls after calls.
+-- Two sequences of calls, joined to one.
 use Rattle.std.proofs.Common.{ℕ, List, [], ◌∷◌, ◌++◌, subst}
 use Rattle.brk_io.specs.Calls.{IsCallSequence}
 

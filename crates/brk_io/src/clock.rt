@@ -8,7 +8,7 @@ pub trait Clock {
     /// timestamp. Always holds for a clock that defines no relation of its own.
     ghost gives: { Self → ℕ → Self → Type 0 } = { λ _ _ _. Unit {0} };
 
-    /// Reads the clock once and returns its timestamp.
+    /// Reads the clock once.
     fn now(&mut self) -> Stamp
         ensures { gives self.old result self.new };
 }

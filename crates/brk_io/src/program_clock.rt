@@ -15,9 +15,8 @@ pub enum ProgramClock<'a, R> {
     Machine(&'a R),
 }
 
-/// Returns the stamp of a time of the machine: its whole milliseconds since 1970-01-01 UTC, or the
-/// greatest stamp if the time is later than this stamp. No `SystemTime` is before 1970.
-pub fn stamp_of_system_time(time: SystemTime) -> Stamp
+/// Returns the stamp of the time, at most the greatest stamp. No `SystemTime` is before 1970.
+pub fn system_stamp(time: SystemTime) -> Stamp
     ensures { result ≡ stamp_of_time time }
 {
     match time.duration_since(UNIX_EPOCH) {
@@ -29,18 +28,16 @@ pub fn stamp_of_system_time(time: SystemTime) -> Stamp
     }
 }
 
-// Reads the machine's clock and returns the stamp of its time, or 0 if the clock cannot be read or
-// is set before 1970. It has no contract.
-fn read_machine_clock<R: rt::Clock>(clock: &R) -> Stamp {
+// Returns 0 if the clock cannot be read or is set before 1970.
+fn machine_stamp<R: rt::Clock>(clock: &R) -> Stamp {
     match SystemTime::now(clock) {
-        Ok(time) => stamp_of_system_time(time),
+        Ok(time) => system_stamp(time),
         Err(_) => Stamp::nearest(0),
     }
 }
 
 impl<'a, R: rt::Clock> ProgramClock<'a, R> {
-    /// Creates a clock that always returns the timestamp `at`, or, without `at`, one that reads the
-    /// machine's clock `clock`.
+    /// Creates a clock that always returns `at` if it is given, and otherwise reads `clock`.
     pub fn new(clock: &'a R, at: Option<Stamp>) -> ProgramClock<'a, R>
         ensures { result ≡ program_clock clock.entry at }
     {
@@ -56,13 +53,10 @@ impl<'a, R: rt::Clock> ProgramClock<'a, R> {
 impl<R: rt::Clock> Clock for ProgramClock<'_, R> {
     ghost gives = { ReturnsReading };
 
-    /// Returns the fixed timestamp, or the stamp of the time of the machine's clock
-    /// (`stamp_of_system_time`), which is 0 if this clock cannot be read or is set before 1970.
-    /// Does not change the clock.
     fn now(&mut self) -> Stamp {
         match self {
             ProgramClock::At(stamp) => *stamp,
-            ProgramClock::Machine(clock) => read_machine_clock(*clock),
+            ProgramClock::Machine(clock) => machine_stamp(*clock),
         }
     }
 }

@@ -28,8 +28,6 @@ pub enum ReportFault {
 impl From<LinesFault> for ReportFault {
     ghost from_gives = { λ fault report. report ≡ report_fault_of_lines_fault fault };
 
-    /// Converts a fault of writing lines into a fault of the report: `Desk` with the fault of the
-    /// desk, or `Write`.
     fn from(fault: LinesFault) -> ReportFault {
         match fault {
             LinesFault::Desk(fault) => ReportFault::Desk(fault),

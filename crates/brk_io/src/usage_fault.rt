@@ -14,7 +14,6 @@ pub enum UsageFault {
 }
 
 impl From<AllocError> for UsageFault {
-    /// Returns the usage fault `Memory`, for an allocation that was refused.
     fn from(_error: AllocError) -> UsageFault {
         UsageFault::Memory
     }

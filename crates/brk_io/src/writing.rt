@@ -7,10 +7,8 @@ use std::io::Write;
 #[derive(Clone, Copy, Debug, PartialEq, Eq)]
 pub struct NotWritten;
 
-/// Writes all of `bytes` to `writer`, by repeated calls of its `write`.
-///
-/// Fails at the first call that returns the count 0 or an error; an interrupted write is an error
-/// too. A prefix of the bytes, of unknown length, is then written.
+/// Writes all of `bytes`. Fails at the first `write` that returns 0 or an error, an interruption
+/// too; a prefix of unknown length is then written.
 pub fn write_all_bytes<W: Write>(writer: &mut W, bytes: &[u8]) -> Result<(), NotWritten>
     ensures ok { OnOk result (Appends (W.contents writer.old) (W.contents writer.new) bytes.now) }
     ensures err { OnErr result ((k : ℕ) × Appends (W.contents writer.old) (W.contents writer.new) (take k bytes.now)) }

@@ -1,4 +1,4 @@
--- Sums over whole histories.
+-- Sums over the shares and the lots of whole histories.
 use Rattle.std.proofs.Common.{◌≡◌, ℕ, zero, suc, ℤ, pos, negsuc, ◌+ℤ◌, ◌-ℤ◌, ◌*ℤ◌, ◌+◌, ◌*◌, ◌-◌, ◌≤◌, min, Bool, true, false, not, cond, List, [], ◌∷◌, ◌++◌}
 use Rattle.std.proofs.Common.{length, take, replicate, unsigned_abs, refl, sym, ap, ◌∙◌, arith}
 use Rattle.std.specs.Prelude.{fold}

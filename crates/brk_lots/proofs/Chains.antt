@@ -1,4 +1,4 @@
--- The history of a lot is a chain.
+-- The changes of a lot form a chain from 0 to its quantity.
 use Rattle.std.proofs.Common.{◌≡◌, ◌≢◌, ℕ, zero, suc, ℤ, pos, negsuc, ◌-ℤ◌, ◌-◌, ◌≤◌, eqb, Bool, true, false, not, cond, List, [], ◌∷◌, filter, length, map}
 use Rattle.std.proofs.Common.{refl, sym, ap, ◌∙◌, subst, arith, ◌⊎◌, inl, inr}
 use Rattle.std.specs.Prelude.{fold}

@@ -1,4 +1,4 @@
--- What the drop of shares changes, lot by lot.
+-- The changes of lots when the first shares of a list are dropped.
 use Rattle.std.proofs.Common.{◌≡◌, ◌≢◌, ℕ, zero, suc, ◌+◌, ◌*◌, ◌-◌, ◌<◌, min, eqb, Bool, true, false, not, cond, List, [], ◌∷◌, ◌++◌, take, drop, map}
 use Rattle.std.proofs.Common.{replicate, unsigned_abs, refl, sym, ap, ◌∙◌, arith}
 use Rattle.std.specs.Bool.{⊤}

@@ -1,4 +1,4 @@
--- What a walk over lots takes is what a deal closes of their shares.
+-- The lots that a walk takes hold the shares that a deal closes, at their cost.
 use Rattle.std.proofs.Common.{◌≡◌, ℕ, ◌+◌, ◌*◌, ◌-◌, ◌<◌, min, Bool, true, false, List, ◌∷◌, length, take, unsigned_abs, refl, sym, ap, ◌∙◌, arith}
 use Rattle.std.proofs.lemmas.List.{length-reverse, length-map}
 use Rattle.brk_money.specs.Kinds.{is_same_side}

@@ -1,4 +1,4 @@
--- What the rows of a closing leave of a position.
+-- The lots that the rows of a closing leave of a position, and their shares.
 use Rattle.std.proofs.Common.{◌≡◌, ◌≢◌, ℕ, zero, suc, ℤ, pos, ◌-◌, ◌<◌, min, eqb, Bool, true, false, cond, List, [], ◌∷◌, ◌++◌, length, drop, replicate}
 use Rattle.std.proofs.Common.{reverse, unsigned_abs, refl, sym, ap, ◌∙◌, subst, arith, append-nil, inl, inr}
 use Rattle.std.specs.List.{AllByRecursion}

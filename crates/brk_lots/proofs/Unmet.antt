@@ -1,4 +1,4 @@
--- Of a position that has nothing on the other side of a trade the trade closes nothing.
+-- A trade closes no share of a position that has none on the other side.
 use Rattle.std.proofs.Common.{◌≡◌, ℕ, ◌*◌, zero, suc, min, true, false, cond, List, Bool, length, refl, sym, ap, ◌∙◌, arith}
 use Rattle.std.proofs.lemmas.Bool.{ltb-false}
 use Rattle.brk_money.specs.Kinds.{is_same_side}

@@ -1,4 +1,4 @@
--- The rows of a closing are what its deal does to the shares of the position.
+-- The rows of a closing are the changes that its deal makes to the shares of the position.
 use Rattle.std.proofs.Common.{◌≡◌, ◌≢◌, ℕ, ◌+◌, ◌-◌, eqb, Bool, true, false, not, cond, List, [], ◌∷◌, ◌++◌, Option, drop, map, reverse, replicate, refl, sym, ap, ◌∙◌, append-nil}
 use Rattle.std.specs.List.{filter}
 use Rattle.std.specs.Option.{option_to_list}

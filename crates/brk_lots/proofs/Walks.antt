@@ -1,4 +1,4 @@
--- Closing lot by lot.
+-- A walk that closes lots one after another, and one lot more.
 use Rattle.std.proofs.Common.{◌≡◌, ℕ, ◌+◌, ◌*◌, ◌-◌, ◌<◌, min, eqb, true, false, cond, List, [], ◌∷◌, length, unsigned_abs, refl, sym, ap, ◌∙◌, arith}
 use Rattle.std.proofs.lemmas.Bool.{ne_eqb}
 use Rattle.brk_money.specs.Kinds.{is_same_side}

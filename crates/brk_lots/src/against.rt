@@ -15,8 +15,8 @@ use crate::closing::{ClosedLots, opened_lot};
 use brk_money::{Amount, Id, Price, Qty, Side, Stamp};
 use std::alloc::Global;
 
-/// Returns true if a trade of the side closes lots of a position that holds `held` shares (HS_QTY):
-/// a purchase if `held` is below 0, a sale if it is above 0.
+/// Returns true if a trade of the side closes lots of a position that holds `held` shares (HS_QTY),
+/// below 0 if they were sold short.
 pub fn is_trade_closing_lots(side: Side, held: i64) -> bool
     ensures { result ≡ is_trade_closing_lots side held }
 {
@@ -27,11 +27,8 @@ pub fn is_trade_closing_lots(side: Side, held: i64) -> bool
 }
 
 /// Returns the effect of a trade that closes no lot: it opens a lot of all its shares
-/// (Trade-Result). The buy value and the sell value of the closed shares are 0.
-///
-/// The effect is specified only over the lots of a position, none of which `trade` opened, and only
-/// if the trade closes none of them (`is_trade_closing_lots`), which the caller checks.
-pub fn effect_of_trade_closing_no_lot(
+/// (Trade-Result). The caller checks with `is_trade_closing_lots` that it closes none.
+pub fn opening_effect(
     alloc: Global,
     side: Side,
     qty: Qty,
@@ -48,13 +45,13 @@ pub fn effect_of_trade_closing_no_lot(
     ClosedLots {
         touched: Vec::new(alloc),
         opened: opened_lot(side, qty.get(), trade, price, stamp),
-        values: zero_closing_values(),
+        values: zero_values(),
     }
 }
 
-/// Returns a buy value and a sell value of 0. They are the values of the closed shares of an order
-/// that closes no lot of a position (`is_trade_closing_lots`), which the caller checks.
-pub fn zero_closing_values() -> Values
+/// Returns the values of a trade that closes no lot, which the caller checks with
+/// `is_trade_closing_lots`.
+pub fn zero_values() -> Values
     ensures values { (d : model.Deal) (ls : List Lot) → IsPositionInAnyOrder ls → is_trade_closing_lots d.side (lot_quantity_sum ls) ≡ false
         → result ≡ closing_values_of_deal d (shares_of_lots ls) }
     ensures bought { result.buy_value ≡ 0 }

@@ -11,11 +11,10 @@ pub struct Values {
     pub sell_value: Amount,
 }
 
-/// Returns the buy value and the sell value, in cents, of `shares` shares that a trade of the side
-/// closes at `price` and that were opened at the value `opened`: for a purchase the buy value is
-/// the value at `price` and the sell value `opened`, and for a sale the reverse. The value at
-/// `price` and `opened` must be at most the greatest `Amount`, 10^17 cents.
-pub fn values_of_closed_shares(side: Side, shares: u32, price: Price, opened: u64) -> Values
+/// Returns the values of `shares` shares that a trade closes at `price` and that were opened at the
+/// value `opened`, in cents: a purchase closes shares that were sold for `opened`, a sale shares
+/// that were bought for it.
+pub fn share_values(side: Side, shares: u32, price: Price, opened: u64) -> Values
     requires traded { shares * price ≤ greatest_amount }
     requires opened { opened ≤ greatest_amount }
     ensures { result ≡ closing_values_by_side side (shares * price) opened }

@@ -31,18 +31,12 @@ pub struct ClosedLots {
 /// sums over many shares.
 #[derive(Drop)]
 pub struct Closing {
-    /// The lots that it closes or reduces, in the sequence in which the source returns them.
     pub touched: Vec<Touch>,
-    /// The lot that it opens with the remaining shares, or `None` if none remain.
     pub opened: Option<Lot>,
-    /// Buy value of the closed shares, in cents.
     pub buy_value: Wide,
-    /// Sell value of the closed shares, in cents.
     pub sell_value: Wide,
 }
 
-// Returns the lot that a trade opens with `shares` shares, or `None` if `shares` is 0. `price` is
-// in cents, and the quantity of the lot is below 0 for a sale.
 pub(crate) fn opened_lot(
     side: Side,
     shares: u32,
@@ -64,19 +58,8 @@ pub(crate) fn opened_lot(
     })
 }
 
-/// Closes lots of the other side until the quantity is used up, the source has no further lot, or
-/// the next lot has the side of the trade, and opens a lot with the remaining shares, if any
-/// (Trade-Result). Returns the changes of the lots, the opened lot, if any, and the buy value and
-/// the sell value of the closed shares as `Amount`s. They are specified as the effect of the trade
-/// only over the lots of a position, none of which `trade` opened, and only under the disk
-/// assumption.
-///
-/// Requests at most one lot for each share of the trade. At `Ok` it requests at most one lot more
-/// than it closes or reduces. Over the lots of a position, none of which `trade` opened, under the
-/// disk assumption, it requests at most one lot more than the trade closes or reduces, also if it
-/// fails. Fails with a fault of the source or with `Memory`. The lots that it did not take remain
-/// in the source, also if it fails, under the disk assumption.
-pub fn close_lots_and_open_rest<L: LotSource>(
+/// Closes lots and opens a lot with the rest, as `close` does, with the values as `Amount`s.
+pub fn close_lots<L: LotSource>(
     alloc: Global,
     source: &mut L,
     side: Side,
@@ -122,16 +105,11 @@ pub fn close_lots_and_open_rest<L: LotSource>(
 
 /// Closes lots of the other side until the quantity is used up, the source has no further lot, or
 /// the next lot has the side of the trade, and opens a lot with the remaining shares, if any
-/// (Trade-Result). Returns the changes of the lots, the opened lot, if any, and the buy value and
-/// the sell value of the closed shares as `Wide` (`close_lots_and_open_rest` returns them as
-/// `Amount`s). They are specified as the effect of the trade only over the lots of a position, none
-/// of which `trade` opened, and only under the disk assumption.
+/// (Trade-Result).
 ///
-/// Requests at most one lot for each share of the trade. At `Ok` it requests at most one lot more
-/// than it closes or reduces. Over the lots of a position, none of which `trade` opened, under the
-/// disk assumption, it requests at most one lot more than the trade closes or reduces, also if it
-/// fails. Fails with a fault of the source or with `Memory`. The lots that it did not take remain
-/// in the source, also if it fails, under the disk assumption.
+/// Under the disk assumption, the result over the lots of a position, none of which `trade` opened,
+/// is the effect of the trade; the lots that it did not take remain in the source, also if it
+/// fails. Requests at most one lot for each share. Fails with `Memory` or a fault of the source.
 pub fn close<L: LotSource>(
     alloc: Global,
     source: &mut L,
@@ -167,7 +145,7 @@ pub fn close<L: LotSource>(
     ensures remaining { (ls : List Lot) → AreLotsOfFaithfulSource (L.reads_faithfully source.new) (L.remaining source.old) ls
         → (n : ℕ) × L.remaining source.new (drop n ls) }
 {
-    let closed = close_lots_and_open_rest(alloc, source, side, qty, trade, price, stamp)?;
+    let closed = close_lots(alloc, source, side, qty, trade, price, stamp)?;
     Ok(Closing {
         touched: closed.touched,
         opened: closed.opened,

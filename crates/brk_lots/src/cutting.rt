@@ -6,11 +6,8 @@ ghost use Rattle.brk_lots.specs.Walks.{touches_of_first_shares, lots_after_touch
 
 use crate::lot::{Lot, Touch};
 
-// Closes the lots before the index `last`, which must be the index of a lot, and sets the quantity
-// of the lot at `last` to `qty`, or closes this lot too if `qty` is 0. Returns the index of the
-// first remaining lot, or the length of the vector if no lot remains. The closed lots before this
-// index are not removed from the vector.
-fn close_front_lots(lots: &mut Vec<Lot>, last: usize, qty: i64) -> usize
+// Closed lots stay in the vector, before the returned index, so that no lot is moved.
+fn close_front(lots: &mut Vec<Lot>, last: usize, qty: i64) -> usize
     // `last` is the index of a lot.
     requires { last < vec_len lots.old }
 
@@ -30,9 +27,7 @@ fn close_front_lots(lots: &mut Vec<Lot>, last: usize, qty: i64) -> usize
     last
 }
 
-// Removes the lots after the index `last`, which must be the index of a lot, from the vector, and
-// sets the quantity of the lot at `last` to `qty`, or removes this lot too if `qty` is 0.
-fn remove_back_lots(lots: &mut Vec<Lot>, last: usize, qty: i64)
+fn remove_back(lots: &mut Vec<Lot>, last: usize, qty: i64)
     // `last` is the index of a lot.
     requires { last < vec_len lots.old }
 
@@ -52,12 +47,9 @@ fn remove_back_lots(lots: &mut Vec<Lot>, last: usize, qty: i64)
     lots[last].qty = qty;
 }
 
-// Applies the lot changes `touched` to the lots from the index `first` on, which must form a
-// position. `touched` must have one change for each of the first, or of the last, of these lots, in
-// sequence from that end; each change closes its lot, except that the last change may reduce its
-// lot instead. Returns the index of the first remaining lot, or the length of the vector if no lot
-// remains; closed lots before this index are not removed from the vector.
-pub(crate) fn apply_touches_to_lots(lots: &mut Vec<Lot>, first: usize, touched: &[Touch]) -> usize
+// Returns the index of the first remaining lot; closed lots may stay in the vector before it. Each
+// change closes its lot, except that the last may only reduce it.
+pub(crate) fn apply_touches(lots: &mut Vec<Lot>, first: usize, touched: &[Touch]) -> usize
     // The lots from `first` on form a position; the changes close its first or last `k` shares.
     requires within { first ≤ vec_len lots.old }
     requires walk { IsPositionInAnyOrder (drop first lots.old.items) }
@@ -77,9 +69,9 @@ pub(crate) fn apply_touches_to_lots(lots: &mut Vec<Lot>, first: usize, touched: 
     }
     let qty = touched[count - 1].after;
     if touched[0].lot == lots[first].trade {
-        return close_front_lots(lots, first + count - 1, qty);
+        return close_front(lots, first + count - 1, qty);
     }
     let last = lots.len() - count;
-    remove_back_lots(lots, last, qty);
+    remove_back(lots, last, qty);
     first
 }

@@ -7,7 +7,6 @@ pub struct Deal {
     pub trade: Id,
     pub side: Side,
     pub qty: Qty,
-    /// The price of a share, in cents.
     pub price: Price,
     /// The stamp of the completion.
     pub stamp: Stamp,

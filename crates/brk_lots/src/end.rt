@@ -18,8 +18,6 @@ pub struct PositionEnd<'a> {
 }
 
 impl<'a> PositionEnd<'a> {
-    // Creates a source of the lots `lots`, which returns them from the last to the first if `lifo`
-    // is true, otherwise from the first to the last. None of the lots may have 0 shares.
     pub(crate) fn new(lots: &'a [Lot], lifo: bool) -> PositionEnd<'a>
         requires { All (λ l. l.qty ≢ pos 0) lots.now }
         ensures remaining { ⟦<PositionEnd<'static> as LotSource>⟧.remaining result (list_reversed_if_lifo lifo lots.now) }
@@ -47,8 +45,6 @@ impl LotSource for PositionEnd<'_> {
 
     ghost fails = { λ _ _ _. ⊥ };
 
-    // Returns the last remaining lot if the source is `lifo`, otherwise the first one, or `None` if
-    // no lot remains. Never fails.
     fn next(&mut self) -> Result<Option<Lot>, Fault> {
         if self.lifo {
             let [rest @ .., last] = self.lots else {

@@ -19,9 +19,9 @@ pub mod source;
 pub mod values;
 mod walk;
 
-pub use against::{effect_of_trade_closing_no_lot, is_trade_closing_lots, zero_closing_values};
-pub use closed_values::{Values, values_of_closed_shares};
-pub use closing::{ClosedLots, Closing, close, close_lots_and_open_rest};
+pub use against::{is_trade_closing_lots, opening_effect, zero_values};
+pub use closed_values::{Values, share_values};
+pub use closing::{ClosedLots, Closing, close, close_lots};
 pub use deal::Deal;
 pub use end::PositionEnd;
 pub use lot::{Lot, Touch, are_same_side, signed_qty};
@@ -29,4 +29,4 @@ pub use position::Position;
 pub use replay::DealTouch;
 pub use shares::shares_to_close;
 pub use source::LotSource;
-pub use values::estimate_closing_values;
+pub use values::estimate_values;

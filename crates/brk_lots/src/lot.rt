@@ -12,9 +12,7 @@ use brk_money::{Id, Price, Side, Stamp};
 pub struct Lot {
     /// The trade that opened it.
     pub trade: Id,
-    /// The price of a share, in cents.
     pub price: Price,
-    /// The number of its shares, below 0 if they were sold short.
     pub qty: i64,
     /// The stamp of the trade's completion.
     pub stamp: Stamp,
@@ -32,24 +30,19 @@ pub struct Touch {
 }
 
 impl Lot {
-    /// Returns the side of the trade that opened the lot: `Sell` if the quantity is below 0,
-    /// otherwise `Buy`.
     pub fn side(&self) -> Side
         ensures { result ≡ side_of_qty self.now.qty }
     {
         if self.qty < 0 { Side::Sell } else { Side::Buy }
     }
 
-    /// Returns the number of shares: the quantity without its sign.
     pub fn share_count(&self) -> u64
         ensures { result ≡ unsigned_abs self.now.qty }
     {
         self.qty.unsigned_abs()
     }
 
-    // Returns the signed quantity of the lot after `shares` of its shares are closed. `shares` must
-    // be at most the number of its shares.
-    fn quantity_after_closing(&self, shares: u32) -> i64
+    fn left_after(&self, shares: u32) -> i64
         requires { shares ≤ unsigned_abs self.now.qty }
         ensures { result ≡ signed_by_side (side_of_qty self.now.qty) (unsigned_abs self.now.qty - shares) }
     {
@@ -60,10 +53,7 @@ impl Lot {
         }
     }
 
-    // Returns the lot change that closes `shares` shares of the lot: the trade that opened the lot,
-    // and the signed quantity of the lot before and after. `shares` must be at most the number of
-    // shares of the lot.
-    pub(crate) fn touch_closing_shares(&self, shares: u32) -> Touch
+    pub(crate) fn touch_closing(&self, shares: u32) -> Touch
         requires { shares ≤ unsigned_abs self.now.qty }
         ensures { result
             ≡ record { lot = self.now.trade; before = self.now.qty; after = signed_by_side (side_of_qty self.now.qty) (unsigned_abs self.now.qty - shares) } }
@@ -71,12 +61,11 @@ impl Lot {
         Touch {
             lot: self.trade,
             before: self.qty,
-            after: self.quantity_after_closing(shares),
+            after: self.left_after(shares),
         }
     }
 }
 
-/// Returns true if the two sides are equal.
 pub fn are_same_side(a: Side, b: Side) -> bool
     ensures { result ≡ is_same_side a b }
 {

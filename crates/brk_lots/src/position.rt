@@ -5,9 +5,9 @@ ghost use Rattle.brk_lots.specs.Position.{IsPosition, IsPositionInAnyOrder, AreO
 ghost use Rattle.brk_lots.specs.Closing.{IsApplicableClosing};
 
 use crate::closing::Closing;
-use crate::cutting::apply_touches_to_lots;
+use crate::cutting::apply_touches;
 use crate::end::PositionEnd;
-use crate::lawful::{is_new_trade_after_lots, is_position};
+use crate::lawful::{is_later_trade, is_position};
 use crate::lot::Lot;
 use crate::source::LotSource;
 use brk_money::{Fault, Id, Stamp};
@@ -37,7 +37,6 @@ impl Model for Position {
 }
 
 impl Position {
-    /// Creates a position without lots.
     pub fn new(alloc: Global) -> Position
         ensures { result ≡ [] }
     {
@@ -47,9 +46,8 @@ impl Position {
         }
     }
 
-    /// Returns the position with the lots `lots`, the oldest first. Returns `None` if they form no
-    /// position: a lot has 0 shares, two lots differ in side or are of the same trade, or the
-    /// stamps do not ascend strictly. Takes no allocator.
+    /// Returns `None` if the lots, the oldest first, form no position: a lot has 0 shares, two
+    /// differ in side or are of one trade, or the stamps do not ascend strictly.
     pub fn from_lots(mut lots: Vec<Lot>) -> Option<Position>
         ensures { MatchOption result (IsPosition lots.items → ⊥) (λ position. (position ≡ lots.items) × IsPosition lots.items) }
     {
@@ -60,7 +58,7 @@ impl Position {
         }
     }
 
-    /// Returns the lots of the position, the oldest first.
+    /// Returns the lots, the oldest first.
     pub fn lots(&self) -> &[Lot]
         ensures lots { result.now ≡ self.now }
         ensures position { IsPosition self.now }
@@ -69,19 +67,16 @@ impl Position {
         &self.lots[self.first..]
     }
 
-    /// Returns true if a trade with the id `trade` and the stamp `stamp` can be applied to the
-    /// position: it opened none of the lots, and its stamp is later than the stamps of all lots.
+    /// Returns true if the trade opened none of the lots and its stamp is later than those of all
+    /// lots.
     pub fn accepts_trade(&self, trade: Id, stamp: Stamp) -> bool
         ensures { IsTrue result ↔ (AreOpenedByOtherTrades trade self.now × AreOpenedBeforeStamp stamp self.now) }
     {
-        is_new_trade_after_lots(self.lots(), trade, stamp)
+        is_later_trade(self.lots(), trade, stamp)
     }
 
-    /// Applies `closing`, the effect on this position of a trade that the position accepts
-    /// (`accepts_trade`). The position then has the shares that the trade did not close, followed
-    /// by the shares that the trade opened.
-    ///
-    /// Fails with `Memory` only. The position is then unchanged.
+    /// Applies the effect on this position of a trade that it accepts (`accepts_trade`). Fails with
+    /// `Memory`; the position is then unchanged.
     pub fn apply(&mut self, closing: &Closing) -> Result<(), Fault>
         requires { (d : model.Deal) × IsApplicableClosing d self.old closing.now }
         ensures shares { OnOk result ((d : model.Deal) → IsApplicableClosing d self.old closing.now
@@ -91,15 +86,15 @@ impl Position {
         ensures err { IfErr result (λ fault. (fault ≡ Fault.Memory) × (self.new ≡ self.old)) }
     {
         self.lots.reserve(1)?;
-        self.first = apply_touches_to_lots(&mut self.lots, self.first, &closing.touched);
+        self.first = apply_touches(&mut self.lots, self.first, &closing.touched);
         if let Some(lot) = closing.opened {
             self.lots.push(lot)?;
         }
         Ok(())
     }
 
-    /// Returns a source of the lots of the position: the newest first if `lifo` is true, otherwise
-    /// the oldest first. Takes no allocator.
+    /// Returns a source of the lots: the newest first if `lifo` is true, otherwise the oldest
+    /// first.
     pub fn from_end(&self, lifo: bool) -> PositionEnd<'_>
         ensures remaining { ⟦<PositionEnd<'static> as LotSource>⟧.remaining result (list_reversed_if_lifo lifo self.now) }
         ensures asked { ⟦<PositionEnd<'static> as LotSource>⟧.asked result ≡ 0 }

@@ -20,13 +20,7 @@ pub struct DealTouch {
     pub touch: Touch,
 }
 
-// Appends to `rows` the changes `touched` of the lots that `trade` closed or reduced, in sequence.
-// Fails with `Memory` only; some of the changes may then be appended.
-fn append_closing_changes(
-    rows: &mut Vec<DealTouch>,
-    trade: Id,
-    touched: &[Touch],
-) -> Result<(), Fault>
+fn append_closings(rows: &mut Vec<DealTouch>, trade: Id, touched: &[Touch]) -> Result<(), Fault>
     ensures added { OnOk result (map abstract_deal_touch rows.new.items
         ≡ map abstract_deal_touch rows.old.items ++ map (holding_history_row trade) (map abstract_touch touched.now)) }
     ensures fault { IfErr result (λ fault. fault ≡ Fault.Memory) }
@@ -40,13 +34,7 @@ fn append_closing_changes(
     Ok(())
 }
 
-// Appends to `rows` the change by which `trade` opened the lot `opened`, from 0 to its quantity, or
-// nothing if `opened` is `None`. Fails with `Memory` only.
-fn append_opening_change(
-    rows: &mut Vec<DealTouch>,
-    trade: Id,
-    opened: Option<Lot>,
-) -> Result<(), Fault>
+fn append_opening(rows: &mut Vec<DealTouch>, trade: Id, opened: Option<Lot>) -> Result<(), Fault>
     ensures added { OnOk result (map abstract_deal_touch rows.new.items
         ≡ map abstract_deal_touch rows.old.items ++ map (holding_history_row trade) (map opening_touch (map abstract_lot (option_to_list opened)))) }
     ensures fault { IfErr result (λ fault. fault ≡ Fault.Memory) }
@@ -62,38 +50,31 @@ fn append_opening_change(
     Ok(())
 }
 
-// Appends to `rows` the changes of the lots that `trade` closed or reduced, in sequence, and then
-// the change by which it opened a lot, if it opened one. Fails with `Memory` only; some of the
-// changes may then be appended.
-fn append_lot_changes(rows: &mut Vec<DealTouch>, trade: Id, closing: &Closing) -> Result<(), Fault>
+fn append_changes(rows: &mut Vec<DealTouch>, trade: Id, closing: &Closing) -> Result<(), Fault>
     ensures added { OnOk result (map abstract_deal_touch rows.new.items ≡ map abstract_deal_touch rows.old.items
         ++ map (holding_history_row trade) (map abstract_touch closing.now.touched.items
         ++ map opening_touch (map abstract_lot (option_to_list closing.now.opened)))) }
     ensures fault { IfErr result (λ fault. fault ≡ Fault.Memory) }
 {
-    append_closing_changes(rows, trade, &closing.touched)?;
-    append_opening_change(rows, trade, closing.opened)
+    append_closings(rows, trade, &closing.touched)?;
+    append_opening(rows, trade, closing.opened)
 }
 
 impl Position {
-    /// Returns the position after `deals`, applied in sequence from the empty position on. They
-    /// must have distinct trades and strictly ascending stamps. Fails with `Memory` only.
+    /// Returns the position after `deals`, applied in sequence to the empty position.
     pub fn replay(alloc: Global, deals: &[Deal]) -> Result<Position, Fault>
         requires { AreDistinctAscendingDeals (map abstract_deal deals.now) }
         ensures shares { IfOk result (λ position. shares_of_lots position ≡ replay (map abstract_deal deals.now)) }
         ensures fault { IfErr result (λ fault. fault ≡ Fault.Memory) }
     {
         let mut rows = Vec::new(alloc);
-        Position::replay_and_append_lot_changes(alloc, deals, &mut rows)
+        Position::replay_changes(alloc, deals, &mut rows)
     }
 
-    /// Returns the position after `deals`, applied in sequence from the empty position on. They
-    /// must have distinct trades and strictly ascending stamps.
-    ///
-    /// Appends to `rows`, for each deal in sequence, the changes of the lots that it closed or
-    /// reduced, in the sequence in which it did so, and then the change by which it opened a lot,
-    /// if it opened one. Fails with `Memory` only; some of the changes may then be appended.
-    pub fn replay_and_append_lot_changes(
+    /// Replays `deals` as `replay` does, and appends the changes of lots by each deal in sequence:
+    /// those of the lots that it closes or reduces, then the one that opens its own lot. A call
+    /// that fails may have appended some of them.
+    pub fn replay_changes(
         alloc: Global,
         deals: &[Deal],
         rows: &mut Vec<DealTouch>,
@@ -111,7 +92,7 @@ impl Position {
                 alloc, &mut end, deal.side, deal.qty, deal.trade, deal.price, deal.stamp,
             )?;
             position.apply(&closing)?;
-            append_lot_changes(rows, deal.trade, &closing)?;
+            append_changes(rows, deal.trade, &closing)?;
         }
         Ok(position)
     }

@@ -15,8 +15,6 @@ pub(crate) trait TouchReceiver {
     // The faults with which a call may fail.
     ghost fails: { Fault → Type 0 };
 
-    // Appends the lot change `row` to the lot changes that were added to the receiver before. Fails
-    // with a fault of the receiver (`fails`) only.
     fn add(&mut self, row: Touch) -> Result<(), Fault>
         ensures added { OnOk result ((rows : List Touch) → holds self.old rows → holds self.new (rows ++ row ∷ [])) }
         ensures fault { IfErr result fails };
@@ -28,7 +26,6 @@ impl TouchReceiver for Vec<Touch> {
 
     ghost fails = { λ fault. fault ≡ Memory };
 
-    // Appends the lot change to the vector. Fails with `Memory` only.
     fn add(&mut self, row: Touch) -> Result<(), Fault> {
         self.push(row)?;
         Ok(())
@@ -44,7 +41,6 @@ impl TouchReceiver for TouchDiscarder {
 
     ghost fails = { λ _. ⊥ };
 
-    // Discards the lot change. Never fails.
     fn add(&mut self, _row: Touch) -> Result<(), Fault> {
         Ok(())
     }

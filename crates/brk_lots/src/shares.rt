@@ -2,8 +2,7 @@
 
 ghost use Rattle.std.specs.Prelude.{◌≡◌, min};
 
-/// Returns the number of shares that a trade closes of a lot of `held` shares if it has `left`
-/// shares left to close: the smaller of the two numbers.
+/// Returns the smaller of the shares that the lot holds and those that the trade has left.
 pub fn shares_to_close(held: u64, left: u32) -> u32
     ensures { result ≡ min left held }
 {

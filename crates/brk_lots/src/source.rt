@@ -30,9 +30,8 @@ pub trait LotSource {
     /// The effect of a call that fails: the source before it, the fault, and the source after it.
     ghost fails: { Self → Fault → Self → Type 0 };
 
-    /// Returns the next lot, or `None` after the last, under the disk assumption. Never returns a
-    /// lot of 0 shares, also without that assumption. Fails with a fault of the source only. A call
-    /// that fails does not change the remaining lots, and may be retried.
+    /// Returns the next lot, or `None` after the last, under the disk assumption. A call that fails
+    /// leaves the remaining lots as they were, and may be repeated.
     fn next(&mut self) -> Result<Option<Lot>, Fault>
         ensures leads { leads self.old self.new }
         ensures given { IfOk result (λ given. reads_faithfully self.new → (ls : List Lot) → remaining self.old ls →

@@ -12,15 +12,11 @@ use crate::source::LotSource;
 use crate::walk::close_lots_with_values;
 use brk_money::{Fault, Price, Qty, Side};
 
-/// Returns the buy value and the sell value, in cents, of the shares that an order at `price` would
-/// close (Trade-Order). They are specified only over the lots of a position under the disk
-/// assumption.
-///
-/// Requests at most one lot for each share of the order and, over the lots of a position under the
-/// disk assumption, at most one lot more than a trade that opened none of them would close or
-/// reduce, also if it fails. Fails with a fault of the source only. The lots that it did not take
-/// remain in the source, also if it fails, under the disk assumption.
-pub fn estimate_closing_values<L: LotSource>(
+/// Returns the values of the shares that an order at `price` would close (Trade-Order), over the
+/// lots of a position and under the disk assumption; the lots that it did not take then remain in
+/// the source, also if it fails. Requests at most one lot for each share. Fails with a fault of the
+/// source only.
+pub fn estimate_values<L: LotSource>(
     source: &mut L,
     side: Side,
     qty: Qty,

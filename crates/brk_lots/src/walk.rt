@@ -7,7 +7,7 @@ ghost use Rattle.brk_lots.specs.Sources.{AreLotsOfFaithfulSource};
 ghost use Rattle.brk_lots.specs.Values.{IsResultOfTradeAgainstLots};
 ghost use Rattle.brk_lots.specs.Walks.{IsResultOfClosingLots, closed_share_count, touches_of_first_shares};
 
-use crate::closed_values::{Values, values_of_closed_shares};
+use crate::closed_values::{Values, share_values};
 use crate::lot::are_same_side;
 use crate::rows::TouchReceiver;
 use crate::shares::shares_to_close;
@@ -30,13 +30,7 @@ pub(crate) struct CloseValues {
     pub values: Values,
 }
 
-// Closes lots of the other side until the quantity is used up, the source has no further lot, or
-// the next lot has the side of the trade. Adds the change of each lot to `rows`, which must be
-// empty. Returns the quantity that closed no share, and the value, in cents, at which the closed
-// shares were opened. The changes and these values are specified as those of the trade only over
-// the lots of a position under the disk assumption. Fails with a fault of the source or of `rows`;
-// the changes of some lots may then be in `rows`. Requests at most one lot for each share of the
-// quantity, also if it fails.
+// Adds the change of each lot to `rows`, which begins empty; a call that fails may have added some.
 fn close_lots_with_cost<L: LotSource, R: TouchReceiver>(
     source: &mut L,
     side: Side,
@@ -72,20 +66,14 @@ fn close_lots_with_cost<L: LotSource, R: TouchReceiver>(
             break;
         }
         let shares = shares_to_close(lot.share_count(), left);
-        rows.add(lot.touch_closing_shares(shares))?;
+        rows.add(lot.touch_closing(shares))?;
         cost += u64::from(shares) * u64::from(lot.price.get());
         left -= shares;
     }
     Ok(CloseCost { left, cost })
 }
 
-// Closes lots of the other side until the quantity is used up, the source has no further lot, or
-// the next lot has the side of the trade. Adds the change of each lot to `rows`, which must be
-// empty. Returns the quantity that closed no share, and the buy value and the sell value, in cents,
-// of the shares that were closed at `price`. The changes and these values are specified as those of
-// the trade only over the lots of a position under the disk assumption. Fails with a fault of the
-// source or of `rows`; the changes of some lots may then be in `rows`. Requests at most one lot for
-// each share of the quantity, also if it fails.
+// Closes lots as `close_lots_with_cost` does, and values the closed shares at `price` too.
 pub(crate) fn close_lots_with_values<L: LotSource, R: TouchReceiver>(
     source: &mut L,
     side: Side,
@@ -116,6 +104,6 @@ pub(crate) fn close_lots_with_values<L: LotSource, R: TouchReceiver>(
     let closed = qty.get() - walked.left;
     Ok(CloseValues {
         left: walked.left,
-        values: values_of_closed_shares(side, closed, price, walked.cost),
+        values: share_values(side, closed, price, walked.cost),
     })
 }

@@ -83,8 +83,8 @@ pub record Completion : Type 0 where
   pub sell_value : ℕ
   pub balance : ℤ
 
--- The reply to an accepted command, with its stamp and the figures of its kind. Amounts are in
--- cents.
+-- The reply to an accepted command, with its stamp and the figures of its kind, or to an estimate.
+-- Amounts are in cents.
 pub data Reply : Type 0 where
   -- The reply to a reference record or to the first day of one-day settlement: the stamp only.
   Booked : (stamp : ℕ) → Reply
@@ -102,6 +102,8 @@ pub data Reply : Type 0 where
   -- The reply to a deposit or a withdrawal: the number of its cash row, and the balance of the
   -- account after it.
   MovedCash : (stamp move : ℕ) → (balance : ℤ) → Reply
+  -- The reply to an estimate, which books nothing and has no stamp. It is the reply to no command.
+  Estimated : Estimate → Reply
 
 -- The answer to a command: the reply, if the command was accepted now (`Done`), the stored line of
 -- the reply to an earlier attempt under the same key (`Again`), or the refusal (`Refused`).

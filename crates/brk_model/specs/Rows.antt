@@ -8,7 +8,7 @@ use Rattle.brk_money.specs.OrderTypes.{trade_type_of_order_type, price_of_order_
 use Rattle.brk_model.specs.Commands.{Command, Order, Tick, Estimate, Completion, Reply, Booked, Ordered, Ticked, CanceledTrade, CompletedTrade, Changed}
 use Rattle.brk_model.specs.Commands.{MovedCash, AddBroker, AddCustomer, AddAccount, AddPermission, AddSecurity, AddCharge, AddBand, AddTaxRate, AddCustomerTax}
 use Rattle.brk_model.specs.Commands.{PlaceOrder, FeedTicks, CancelTrade, CompleteTrade, ChangeExecutors, ChangeCashTypes, ChangeCashNames, DepositCash}
-use Rattle.brk_model.specs.Commands.{WithdrawCash, SetOneDay}
+use Rattle.brk_model.specs.Commands.{WithdrawCash, SetOneDay, Estimated}
 
 -- The canonical text, such as 12.05, of the amount of `n` cents, which is not negative.
 abbrev pub nonnegative_cents_text : ℕ → Text
@@ -79,7 +79,7 @@ completion_fields c =
     ∷ nonnegative_cents_text c.buy_value ∷ nonnegative_cents_text c.sell_value ∷ cents_text c.balance ∷ []
 
 -- The fields of a reply: its stamp, followed by the canonical texts of its other values; for a
--- cancel, the stamp and the status code `CNCL`.
+-- cancel, the stamp and the status code `CNCL`; for an estimate, its seven fields.
 unfoldable pub reply_fields : Reply → List Text
 reply_fields (Booked stamp) = decimal stamp ∷ []
 reply_fields (Ordered stamp trade status e) = decimal stamp ∷ decimal trade ∷ trade_status_code status ∷ estimate_fields e
@@ -88,6 +88,7 @@ reply_fields (CanceledTrade stamp) = decimal stamp ∷ codes "CNCL" ∷ []
 reply_fields (CompletedTrade stamp c) = decimal stamp ∷ completion_fields c
 reply_fields (Changed stamp count) = decimal stamp ∷ decimal count ∷ []
 reply_fields (MovedCash stamp move balance) = decimal stamp ∷ decimal move ∷ cents_text balance ∷ []
+reply_fields (Estimated e) = estimate_fields e
 
 -- The text of the fields joined by commas.
 abbrev pub comma_separated_text : List Text → Text

@@ -10,7 +10,7 @@ use Rattle.brk_model_explain.specs.Running.{lines_with_running_total}
 use Rattle.brk_model_explain.specs.Trades.{completion_price_or_zero}
 use Rattle.brk_model_explain.specs.Holdings.{LotChange, LotDetails, realised_gain_of_change, count_of_lot_changes}
 use Rattle.brk_model_explain.specs.Holdings.{remaining_cost_of_lot, remaining_cost_of_lots}
-use Rattle.brk_model_explain.specs.Holdings.{completed_trades_in_symbol, realised_gain_of_lots, remaining_quantity_of_lot, lots_opened_in_symbol}
+use Rattle.brk_model_explain.specs.Holdings.{completed_trades_in_symbol, realised_gain_of_lots, remaining_quantity, lots_opened_in_symbol}
 use Rattle.brk_model_explain.specs.Holdings.{lots_not_fully_closed, total_purchase_value, negated_total_sale_value, signed_quantity_of_trade, signed_value_of_trade}
 use Rattle.brk_model_explain.specs.Holdings.{summary_quantity_in_symbol}
 use Rattle.std.specs.Fmt.{signed_decimal}
@@ -62,7 +62,7 @@ lot_change_line price c =
 -- and their product, the cost basis.
 unfoldable pub lot_remainder_line : LotDetails → Text
 lot_remainder_line lot =
-    leading_row_columns (codes "Left") blank_timestamp_text lot.trade.id (remaining_quantity_of_lot lot) (completion_price_or_zero lot.trade)
+    leading_row_columns (codes "Left") blank_timestamp_text lot.trade.id (remaining_quantity lot) (completion_price_or_zero lot.trade)
     ++ value_column (remaining_cost_of_lot lot)
 
 -- A line for each of the `changes` of a lot that was opened at `price`, which is given in cents, by

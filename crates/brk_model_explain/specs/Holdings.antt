@@ -89,13 +89,13 @@ lots_opened_in_symbol tables account symbol =
 
 -- The remaining quantity of `lot`, below 0 if it was sold short: its quantity after the last of
 -- `lot.changes`, or the opened quantity if there is no change.
-abbrev pub remaining_quantity_of_lot : LotDetails → ℤ
-remaining_quantity_of_lot lot = unwrap_or (last_or None (map (λ c. c.after) lot.changes)) lot.opened
+abbrev pub remaining_quantity : LotDetails → ℤ
+remaining_quantity lot = unwrap_or (last_or None (map (λ c. c.after) lot.changes)) lot.opened
 
 -- The cost basis of the remaining shares of `lot`, in cents: their quantity times the price at
 -- which they were opened, never above 0 if they were sold short.
 abbrev pub remaining_cost_of_lot : LotDetails → ℤ
-remaining_cost_of_lot lot = remaining_quantity_of_lot lot *ℤ pos (completion_price_or_zero lot.trade)
+remaining_cost_of_lot lot = remaining_quantity lot *ℤ pos (completion_price_or_zero lot.trade)
 
 -- The sum of the realised gains of the changes of `lot`, in cents.
 abbrev pub realised_gain_of_lot : LotDetails → ℤ
@@ -121,7 +121,7 @@ count_of_lot_changes lots = length (flat_map (λ lot. lot.changes) lots)
 
 -- The lots in the list `lots` whose remaining quantity is not 0.
 abbrev pub lots_not_fully_closed : List LotDetails → List LotDetails
-lots_not_fully_closed lots = filter (λ lot. not (is_zero (remaining_quantity_of_lot lot))) lots
+lots_not_fully_closed lots = filter (λ lot. not (is_zero (remaining_quantity lot))) lots
 
 -- The sum of the values of the purchases among the trades `done`, in cents.
 abbrev pub total_purchase_value : List TradeRow → ℤ

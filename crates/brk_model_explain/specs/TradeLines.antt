@@ -16,16 +16,16 @@ use Rattle.brk_model.specs.Statement.{left_aligned_text, right_aligned_text}
 use Rattle.brk_model_explain.specs.Texts.{labeled_number, labeled_value, timestamp_text, labeled_amount, leading_row_columns, shares_column, value_column}
 use Rattle.brk_model_explain.specs.Texts.{labeled_text}
 use Rattle.brk_model_explain.specs.Trades.{Closing, OrderDetails, ResultDetails, TradeDetails, balance_after_trade, balance_before_trade, buy_value_of_closing}
-use Rattle.brk_model_explain.specs.Trades.{buy_value_of_closings, balance_change_of_trade, commission_in_current_band, days_to_settle_trade}
-use Rattle.brk_model_explain.specs.Trades.{realised_gain_of_closings, opened_quantity, sum_of_tax_rates, sell_value_of_closings, sell_value_of_closing}
+use Rattle.brk_model_explain.specs.Trades.{buy_value_of_closings, balance_change_of_trade, current_commission, days_to_settle_trade}
+use Rattle.brk_model_explain.specs.Trades.{gain_of_closings, opened_quantity, sum_of_tax_rates, sell_value_of_closings, sell_value_of_closing}
 use Rattle.brk_model_explain.specs.Trades.{shares_of_closing, total_closed_shares, tax_at_current_rates, signed_trade_value, withheld_tax_of_trade}
 
 -- ---- the order
 
 -- The text for the order in which a trade closes lots: `last in first out` if `is_lifo`, otherwise
 -- `first in first out`.
-abbrev pub lot_closing_sequence_text : Bool → Text
-lot_closing_sequence_text is_lifo = if is_lifo then codes "last in first out" else codes "first in first out"
+abbrev pub closing_order_text : Bool → Text
+closing_order_text is_lifo = if is_lifo then codes "last in first out" else codes "first in first out"
 
 -- The line of the status change `row`: the word `Status`, its timestamp, and the code and the name
 -- of the status.
@@ -68,7 +68,7 @@ order_terms_lines o =
     ∷ labeled_number (codes "Shares") o.trade.qty
     ∷ labeled_amount (codes "Price asked") (pos o.trade.bid)
     ∷ labeled_text (codes "Settles by") (cash_or_margin_word o.trade.is_cash)
-    ∷ labeled_text (codes "Closes") (lot_closing_sequence_text o.trade.is_lifo)
+    ∷ labeled_text (codes "Closes") (closing_order_text o.trade.is_lifo)
     ∷ []
 
 -- The lines of the title, the parties, the terms of the order, and each status change of the trade.
@@ -166,7 +166,7 @@ unfoldable pub realised_gain_lines : OrderDetails → ResultDetails → List Tex
 realised_gain_lines o r =
     labeled_amount (codes "BUY") (pos (buy_value_of_closings (side_of_trade_type o.trade.kind) r.price r.closings))
     ∷ labeled_amount (codes "SELL") (pos (sell_value_of_closings (side_of_trade_type o.trade.kind) r.price r.closings))
-    ∷ labeled_amount (codes "Realised gain") (realised_gain_of_closings (side_of_trade_type o.trade.kind) r.price r.closings)
+    ∷ labeled_amount (codes "Realised gain") (gain_of_closings (side_of_trade_type o.trade.kind) r.price r.closings)
     ∷ []
 
 -- The lines of the price, of the lots that the trade closed and opened, of the numbers of shares,
@@ -223,7 +223,7 @@ current_commission_line (Some amount) = labeled_amount (codes "Commission now") 
 
 -- The line of the current commission band, and the line of the commission at its rate.
 unfoldable pub band_and_commission_lines : OrderDetails → ResultDetails → List Text
-band_and_commission_lines o r = commission_band_line r.band ∷ current_commission_line (commission_in_current_band o r) ∷ []
+band_and_commission_lines o r = commission_band_line r.band ∷ current_commission_line (current_commission o r) ∷ []
 
 -- The lines of the settlement: the value of the trade, negated for a purchase, the negated charge,
 -- commission and withheld tax, the recorded settlement amount, and the cash type.

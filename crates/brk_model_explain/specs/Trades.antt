@@ -228,8 +228,8 @@ sell_value_of_closings side price closings = sum_by (sell_value_of_closing side 
 
 -- The realised gain of `closings` by a trade on `side` at `price`, in cents: the sum of their sell
 -- values minus the sum of their buy values.
-abbrev pub realised_gain_of_closings : Side → ℕ → List Closing → ℤ
-realised_gain_of_closings side price closings = pos (sell_value_of_closings side price closings) -ℤ pos (buy_value_of_closings side price closings)
+abbrev pub gain_of_closings : Side → ℕ → List Closing → ℤ
+gain_of_closings side price closings = pos (sell_value_of_closings side price closings) -ℤ pos (buy_value_of_closings side price closings)
 
 -- The quantity of the lot that the trade opened, below 0 if it sold short; 0 if it opened no lot.
 abbrev pub opened_quantity : ResultDetails → ℤ
@@ -244,13 +244,13 @@ sum_of_tax_rates rates = sum_by (λ rate. rate.rate) rates
 abbrev pub tax_at_current_rates : OrderDetails → ResultDetails → ℕ
 tax_at_current_rates o r =
     if is_taxable_status o.tax_status
-    then tax (realised_gain_of_closings (side_of_trade_type o.trade.kind) r.price r.closings) (sum_of_tax_rates r.rates)
+    then tax (gain_of_closings (side_of_trade_type o.trade.kind) r.price r.closings) (sum_of_tax_rates r.rates)
     else 0
 
 -- The commission of the trade, in whole cents, rounded half up, at the rate of its current
 -- commission band; none if there is no such band.
-abbrev pub commission_in_current_band : OrderDetails → ResultDetails → Option ℕ
-commission_in_current_band o r = option_map (λ b. commission b.rate o.trade.qty r.price) r.band
+abbrev pub current_commission : OrderDetails → ResultDetails → Option ℕ
+current_commission o r = option_map (λ b. commission b.rate o.trade.qty r.price) r.band
 
 -- The proceeds of the trade, in cents: its quantity times its completion price, negated if it is a
 -- purchase.

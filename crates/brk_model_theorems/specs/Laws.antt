@@ -5,7 +5,7 @@ use Rattle.std.specs.Prelude.{is_none}
 use Rattle.brk_money.specs.Spelling.{Text}
 use Rattle.brk_model.specs.Records.{Key, Kept}
 use Rattle.brk_model.specs.Base.{Base, empty_base}
-use Rattle.brk_model.specs.Commands.{Command, Reply, Booked, Ordered, Ticked, CanceledTrade, CompletedTrade, Changed, MovedCash, Answer, Done, Again, Refused}
+use Rattle.brk_model.specs.Commands.{Command, Reply, Booked, Ordered, Ticked, CanceledTrade, CompletedTrade, Changed, MovedCash, Estimated, Answer, Done, Again, Refused}
 use Rattle.brk_model.specs.Rows.{line_text, row_text}
 use Rattle.brk_model.specs.Keyed.{stored_row_with_key, keyed_step, answer_and_base_of_retry}
 use Rattle.brk_model.specs.Answers.{Fields}
@@ -16,7 +16,7 @@ use Rattle.brk_model.specs.Lines.{refused_answer_count}
 use Rattle.brk_model.specs.Batch.{BatchRowsAreDecided, BatchResult, CorrectEnd, IsResultOfTextWithHeader, step_of_row}
 use Rattle.brk_model.specs.Run.{Call, Do, Ask, Outcome, Did, Saw, NoView, Failed, Run}
 
--- The stamp of a reply, in milliseconds since 1970-01-01 UTC.
+-- The stamp of a reply, in milliseconds since 1970-01-01 UTC; 0 for an estimate, which has none.
 abbrev pub stamp_of_reply : Reply → ℕ
 stamp_of_reply (Booked stamp) = stamp
 stamp_of_reply (Ordered stamp trade status estimate) = stamp
@@ -25,6 +25,7 @@ stamp_of_reply (CanceledTrade stamp) = stamp
 stamp_of_reply (CompletedTrade stamp completion) = stamp
 stamp_of_reply (Changed stamp count) = stamp
 stamp_of_reply (MovedCash stamp move balance) = stamp
+stamp_of_reply (Estimated e) = 0
 
 -- The stamp of the reply if the outcome accepts a command, as a list of one element; the empty list
 -- for other outcomes.

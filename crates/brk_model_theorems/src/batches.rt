@@ -18,10 +18,8 @@ ghost use Rattle.brk_model_theorems.specs.Laws.{IsBaseAfterInterruption, IsCompl
 ghost use Rattle.brk_model_theorems.specs.Laws.{answer_to_retry, answers_for_new_keys, call_of_batch_row};
 ghost use Rattle.brk_model_theorems.specs.Laws.{calls_with_new_keys, accepted_answers, accepted_calls};
 
-/// Proves that the rows of a batch have given answers, one for each row, and lead from `base` to
-/// `after`, if and only if `RowsAreAnsweredByCalls` holds: each malformed row is answered with its
-/// refusal, and the well-formed rows are executed as calls in sequence, each with its key and the
-/// next clock reading, of which none is left over.
+/// A batch answers its well-formed rows as calls in sequence under their keys, and refuses the
+/// malformed ones.
 pub fn rows_are_answered_by_their_calls()
     ensures called { (form : Fields → ReadResult Command) (name : List ℕ) (base after : Base) (moments : List ℕ) (rows : List Fields) (answers : List Answer)
         → RowsAreAnswered form step_of_row name base moments rows answers after → length answers ≡ length rows
@@ -31,26 +29,21 @@ pub fn rows_are_answered_by_their_calls()
         → RowsAreAnswered form step_of_row name base moments rows answers after × (length answers ≡ length rows) }
 {}
 
-/// Proves that `result_of_batch_input` computes the specified result of an input with the first `n`
-/// clock readings, for some `n`, if there are at least as many clock readings as the text of the
-/// input (`input_text`) has records, with the header and the end record.
+/// `result_of_batch_input` computes the specified result of an input, if there is a clock reading
+/// for each of its records.
 pub fn batch_computes_the_specified_result()
     ensures { (base : Base) (moments : List ℕ) (input : List ℕ) → length (records default_config (input_text input)) ≤ length moments
         → (n : ℕ) × IsResultOfBatch parse_row step_of_row base (take n moments) input (result_of_batch_input base moments input) }
 {}
 
-/// Proves that calls of batch rows are a run: if the calls, executed in sequence, have the answers
-/// `answers` and lead from `base` to `after`, a run of these calls, each under its key, has the
-/// outcomes `answers` and leads from `base` to `after`.
+/// The calls of a batch's rows, each under its key, are a run with the same answers and base.
 pub fn batch_rows_form_a_run()
     ensures { (base after : Base) (calls : List (RowCall Command)) (answers : List Answer) → CallsHaveAnswers step_of_row base calls answers after
         → Run base (map call_of_batch_row calls) (map Did answers) after }
 {}
 
-/// Proves that a retry of a complete batch that refused no row completes, changes nothing and is
-/// answered with the stored lines. The retry may start from the base after the batch, or from any
-/// base that a run reaches from that base, at any clock readings. The theorem holds for any format
-/// check of rows.
+/// A retry of a complete batch without refusals changes nothing and returns the stored lines, also
+/// after other calls.
 pub fn a_retried_batch_changes_nothing()
     ensures { (form : Fields
         → ReadResult Command) (base later : Base) (moments others : List ℕ) (input : List ℕ) (answers : List Answer) (first second : BatchResult Base)
@@ -59,10 +52,8 @@ pub fn a_retried_batch_changes_nothing()
         → second ≡ result_of_complete_batch (map answer_to_retry answers, later) }
 {}
 
-/// Proves that the rows that a retry of a complete batch without refusals decides change nothing
-/// and are answered with the stored lines. The theorem holds for any number of decided rows, also
-/// if the retry then fails. The retry may start from the base after the batch, or from any base
-/// that a run reaches from that base.
+/// The rows that a retry of a complete batch without refusals decides change nothing, even if it
+/// then fails.
 pub fn retried_rows_change_nothing()
     ensures { (form : Fields → ReadResult Command) (base later last : Base) (moments others : List ℕ) (input : List ℕ) (answers told : List Answer)
         (first : BatchResult Base) (name : List ℕ) (rows : List Fields) → IsCompleteBatchWithoutRefusals form base moments input answers first
@@ -71,21 +62,16 @@ pub fn retried_rows_change_nothing()
         → (told ≡ map answer_to_retry (take (length rows) answers)) × (last ≡ later) }
 {}
 
-/// Proves that rows whose keys a base stores change nothing: leaving them out changes neither the
-/// answers to the other rows, executed in sequence, nor the base after these. A row that equals the
-/// stored row of its key is answered with the stored line, and any other row under a stored key is
-/// refused with `KeyReused`.
+/// Rows whose keys a base stores change nothing; they are answered with the stored line or refused
+/// with `KeyReused`.
 pub fn rows_with_stored_keys_change_nothing()
     ensures { (base after : Base) (calls : List (RowCall Command)) (answers : List Answer) → CallsHaveAnswers step_of_row base calls answers after
         → CallsHaveAnswers step_of_row base (calls_with_new_keys base calls) (answers_for_new_keys base calls answers) after
         × AnswersMatchStoredReplies base calls answers }
 {}
 
-/// Proves that two attempts at rows, the second from the base after the first, equal one run,
-/// whichever rows either attempt refuses. The run has the rows that the first attempt accepted, and
-/// then the rows of the second attempt whose keys the base after the first attempt does not store,
-/// each with the answer and the clock reading of its attempt. That base stores every row that the
-/// first attempt accepted, with its reply, under its key.
+/// Two attempts at rows equal one run of the rows that the first accepted and of the second's rows
+/// with new keys.
 pub fn two_attempts_equal_one_run()
     ensures run { (base mid last : Base) (first again : List (RowCall Command)) (answers told : List Answer)
         → CallsHaveAnswers step_of_row base first answers mid
@@ -96,10 +82,8 @@ pub fn two_attempts_equal_one_run()
         → AcceptedCallsAreStored mid first answers }
 {}
 
-/// Proves that a batch whose first rows were decided without a refusal, and whose rows are then all
-/// decided by a retry from the base after the first rows, equals one uninterrupted run. In this run
-/// the first rows have the answers and the clock readings of the first attempt, and the other rows
-/// those of the retry. The retry answers the first rows with the stored lines.
+/// A retry completes a batch whose first rows were decided without a refusal, as one uninterrupted
+/// run.
 pub fn partial_batch_is_completed_by_retry()
     ensures { (form : Fields → ReadResult Command) (name : List ℕ) (base mid last : Base) (moments others : List ℕ) (front more : List Fields)
         (answers told : List Answer) → refused_answer_count answers ≡ 0 → BatchRowsAreDecided form step_of_row name base moments front answers mid
@@ -109,11 +93,8 @@ pub fn partial_batch_is_completed_by_retry()
         (answers ++ drop (length front) told) last }
 {}
 
-/// Proves that an interrupted batch, whose first rows were decided without a refusal, equals one
-/// uninterrupted run after a retry has decided all rows. The row after the first rows may have been
-/// executed without being acknowledged; the run has this row with the answer and the clock reading
-/// of that execution, or with those of the retry. The retry answers the first rows with the stored
-/// lines.
+/// A retry completes a batch that was interrupted without a refusal, whether or not the next row
+/// was executed.
 pub fn interrupted_batch_is_completed_by_retry()
     ensures { (form : Fields → ReadResult Command) (name : List ℕ) (base mid stood last : Base) (moments others : List ℕ) (front more : List Fields)
         (answers told : List Answer) → refused_answer_count answers ≡ 0 → BatchRowsAreDecided form step_of_row name base moments front answers mid

@@ -9,24 +9,18 @@ ghost use Rattle.brk_model.specs.Rows.{line_text, row_text};
 ghost use Rattle.brk_model.specs.Keyed.{keyed_step};
 ghost use Rattle.brk_model_theorems.specs.KeyedRows.{AcceptedRow, RefusedRow, IsUnusedKey, RunNotAcceptingKeyLeadsTo, IsAcceptedIfStepAccepts};
 
-/// Proves that a retry of an accepted row under its key, from the base after the accepted row and
-/// at any clock reading, returns the stored line and changes nothing.
+/// A retry of an accepted row returns the stored line and changes nothing.
 pub fn retry_returns_the_stored_line()
     ensures { (row : AcceptedRow) (later : ℕ) → keyed_step row.after later row.command (Some row.key) ≡ (Again (line_text row.reply), row.after) }
 {}
 
-/// Proves that a row with another text under the key of an accepted row, from the base after the
-/// accepted row and at any clock reading, is refused with `KeyReused` and changes nothing.
+/// Another row under the key of an accepted row is refused with `KeyReused` and changes nothing.
 pub fn other_row_under_same_key_is_refused()
     ensures { (row : AcceptedRow) (later : ℕ) (other : Command) → bytes_eq (row_text row.command) (row_text other) ≡ false
         → keyed_step row.after later other (Some row.key) ≡ (Refused KeyReused, row.after) }
 {}
 
-/// Proves that a row that is refused under an unused key changes nothing and stores no key. Proves
-/// also that the key of a row that is refused, and not with `KeyReused`, was unused; and that an
-/// unused key stays unused in any run that accepts no row under it. If `step` accepts the command
-/// of a row under an unused key, the row is accepted with the reply of `step`, and its text and
-/// this reply are stored under the key.
+/// A key stays unused until a row under it is accepted; a refusal stores no key.
 pub fn unused_keys_stay_unused_until_acceptance()
     ensures stores_nothing { (row : RefusedRow) → IsUnusedKey row.base row.key → (row.after ≡ row.base) × IsUnusedKey row.after row.key }
     ensures key_was_unused { (row : RefusedRow) → row.refusal ≢ KeyReused → IsUnusedKey row.base row.key }

@@ -1,4 +1,5 @@
-//! Theorems about the model alone, which relate its definitions.
+//! Theorems about the model alone, which relate its definitions. Their functions do nothing at run
+//! time.
 #![tactic(auto)]
 
 pub mod batches;

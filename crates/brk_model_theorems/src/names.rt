@@ -6,9 +6,8 @@ ghost use Rattle.brk_model.specs.Run.{Call, Outcome, Run};
 ghost use Rattle.brk_model_theorems.specs.Laws.{IsReachableFromEmptyBase};
 ghost use Rattle.brk_model_theorems.specs.Names.{BaseReferencesResolve};
 
-/// Proves that any run of calls preserves `BaseReferencesResolve`: every record that another one
-/// refers to exists, and trades are numbered from 1, in sequence. Proves also that every base that
-/// a run reaches from the empty base satisfies `BaseReferencesResolve`.
+/// Runs preserve that every record that another refers to exists and that trades are numbered
+/// from 1.
 pub fn runs_preserve_references()
     ensures run { (base after : Base) (calls : List (ℕ × Call)) (outcomes : List Outcome) → BaseReferencesResolve base → Run base calls outcomes after
         → BaseReferencesResolve after }

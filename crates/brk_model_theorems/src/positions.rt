@@ -11,16 +11,12 @@ ghost use Rattle.brk_model.specs.Tables.{tables_of_base};
 ghost use Rattle.brk_model_theorems.specs.Names.{BaseReferencesResolve};
 ghost use Rattle.brk_model_theorems.specs.Positions.{AllSharesHaveSameSide, is_row_of_position};
 
-/// Proves that the shares of a position after any list of deals, applied from the empty position
-/// on, all have one side.
+/// After any deals, all shares of a position have one side.
 pub fn all_shares_have_one_side()
     ensures { (deals : List Deal) → AllSharesHaveSameSide (replay deals) }
 {}
 
-/// Proves that the signed quantities of the lots (rows of HOLDING) of an account in a symbol total
-/// the shares bought less the shares sold by its completed trades in the symbol
-/// (`holding_summary_quantity`), if trades are numbered 1, 2, 3 and so on. Proves this also after
-/// any run of calls from a base that satisfies `BaseReferencesResolve`.
+/// If trades are numbered from 1, the lots of a position total the shares bought less those sold.
 pub fn lots_sum_to_the_summary()
     ensures numbered { (base : Base) (account : ℕ) (symbol : List ℕ) → TradesAreNumberedFrom 1 base.trades
         → total_by (λ row. row.qty) (filter (is_row_of_position account symbol) (tables_of_base base).holdings)

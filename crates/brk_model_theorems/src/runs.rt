@@ -9,7 +9,7 @@ ghost use Rattle.brk_model.specs.Keyed.{keyed_step};
 ghost use Rattle.brk_model.specs.Run.{Call, Outcome, Run};
 ghost use Rattle.brk_model_theorems.specs.Laws.{StampsAscendFrom, base_after_accepted_commands, accepted_stamps};
 
-/// Proves that a command that is refused, or answered with a stored line, does not change the base.
+/// A command that is refused, or answered with a stored line, does not change the base.
 pub fn refusals_and_retries_change_nothing()
     ensures refused { (base after : Base) (now : ℕ) (command : Command) (key : Option Key) (refusal : Refusal)
         → keyed_step base now command key ≡ (Refused refusal, after) → after ≡ base }
@@ -17,15 +17,13 @@ pub fn refusals_and_retries_change_nothing()
         → after ≡ base }
 {}
 
-/// Proves that the base after a run of calls equals the base after exactly its accepted commands,
-/// executed in sequence from the base before the run.
+/// The accepted commands of a run alone determine the base after it.
 pub fn accepted_commands_determine_the_base()
     ensures { (base after : Base) (calls : List (ℕ × Call)) (outcomes : List Outcome) → Run base calls outcomes after
         → after ≡ base_after_accepted_commands base calls outcomes }
 {}
 
-/// Proves that the stamps of a run's accepted commands are strictly ascending, and greater than the
-/// last stamp before the run if there is one.
+/// The stamps of a run's accepted commands ascend strictly, from the last stamp before the run on.
 pub fn accepted_stamps_ascend_strictly()
     ensures { (base after : Base) (calls : List (ℕ × Call)) (outcomes : List Outcome) → Run base calls outcomes after
         → StampsAscendFrom base.last (accepted_stamps outcomes) }

@@ -4,9 +4,8 @@ ghost use Rattle.std.specs.Prelude.{◌≡◌, ◌≤◌, ◌++◌, ℕ, false, 
 ghost use Rattle.brk_model.specs.Lists.{contains_text, replace_text};
 ghost use Rattle.brk_model_theorems.specs.Texts.{OccursNowhereBefore};
 
-/// Proves that `replace_text`, for a part that is not empty, returns the text before the first
-/// occurrence of the part, then the new text, then the result of `replace_text` on the text after
-/// this occurrence. If the part does not occur, `replace_text` returns the text unchanged.
+/// `replace_text` replaces each occurrence of a part that is not empty, from the left, and nothing
+/// else.
 pub fn occurrences_are_replaced_from_left()
     ensures first_occurrence { (part new before after : List ℕ) → 1 ≤ length part → OccursNowhereBefore (length before) part (before ++ part ++ after)
         → replace_text part new (before ++ part ++ after) ≡ before ++ new ++ replace_text part new after }

@@ -1,7 +1,7 @@
--- The date that the definitions count to is the one of the calendar.
-use Rattle.std.proofs.Common.{◌≡◌, ℕ, zero, suc, ◌+◌, ◌-◌, ◌*◌, ◌/◌, ◌<◌, ◌≤◌, Bool, true, false, nat_lt, pos, ◌≤ℤ◌, refl, sym, ap, subst, ◌∙◌, arith}
+-- The civil date that the definitions reach by counting days is the date of the calendar.
+use Rattle.std.proofs.Common.{◌≡◌, ℕ, zero, suc, ◌+◌, ◌-◌, ◌*◌, ◌/◌, ◌<◌, ◌≤◌, Bool, true, false, nat_lt, pos, refl, sym, ap, subst, ◌∙◌, arith}
 use Rattle.std.proofs.lemmas.Bool.{ltb-true, ltb-false}
-use Rattle.jiff.specs.Words.{IsDate, IsYmd, days_in_month, days_in_year, epoch_day}
+use Rattle.jiff.specs.Words.{IsYmd, days_in_month, days_in_year, epoch_day}
 use Rattle.jiff.proofs.Family.{epoch_day_injective, epoch_day_range}
 use Rattle.jiff.proofs.SpanFacts.{signed_arith}
 use Rattle.jiff_core.specs.Calendar.{day_count}
@@ -120,34 +120,10 @@ epoch_day-first d e =
     let day : d.day ≡ 1 = omega (arith, signed_arith, e.2) in
     rw (e.0, month, day) (omega (arith, signed_arith, days_from_civil-day_count (pos 1970) 1 1, day_count-epoch))
 
--- no date of a day is before the year 0
-pub from_zero : (d : Date) (n : ℕ) → epoch_day d ≡ pos n → pos 0 ≤ℤ d.year
-from_zero d n e = rw ((parts_of d n e).0) (omega (arith, signed_arith))
-
--- the date of a day is one of the calendar
-pub is_date : (n : ℕ) → n ≤ 2_932_896 → IsDate (pos (civil_date_of_day n).year) (pos (civil_date_of_day n).month) (pos (civil_date_of_day n).day)
-is_date n h =
-    let d = civil_at n in
-    let high = last_year (civil_date_of_day n) n h d in (
-      (omega (arith, signed_arith), omega (arith, signed_arith, high)),
-      (omega (arith, signed_arith, d.month_in), omega (arith, signed_arith, d.month_in)),
-      (omega (arith, signed_arith, d.day_in), omega (arith, signed_arith, d.day_in)),
-    )
-
--- its parts have four, two and two digits
+-- the parts of the date of a day have four, two and two digits
 pub is_short : (n : ℕ) → n ≤ 2_932_896 → ((civil_date_of_day n).year < 10000) × ((civil_date_of_day n).month < 100) × ((civil_date_of_day n).day < 100)
 is_short n h =
     let d = civil_at n in
     let high = last_year (civil_date_of_day n) n h d in
     let long = days_in_month_bounds (pos (civil_date_of_day n).year) (civil_date_of_day n).month in
     (omega (arith, high), omega (arith, d.month_in), omega (arith, d.day_in, long))
-
--- days with one date are one day
-pub same_day : (m n : ℕ) → (civil_date_of_day m).year ≡ (civil_date_of_day n).year → (civil_date_of_day m).month ≡ (civil_date_of_day n).month
-    → (civil_date_of_day m).day ≡ (civil_date_of_day n).day → m ≡ n
-same_day m n year month day =
-    let a = (civil_at m).counted in
-    let b = (civil_at n).counted in
-    let same : day_count (pos (civil_date_of_day m).year) (civil_date_of_day m).month (civil_date_of_day m).day
-    ≡ day_count (pos (civil_date_of_day n).year) (civil_date_of_day n).month (civil_date_of_day n).day = rw (year, month, day) refl in
-    omega (arith, a, b, same)

@@ -1,4 +1,4 @@
--- The text of a day spells the day.
+-- The text of a day is read as that day.
 use Rattle.std.proofs.Common.{◌≡◌, ℕ, zero, suc, ◌+◌, ◌-◌, ◌*◌, ◌/◌, ◌%◌, ◌<◌, ◌≤◌, List, [], ◌∷◌, pos, ap, ◌∙◌, arith}
 use Rattle.std.specs.Prelude.{Some, fold}
 use Rattle.jiff.specs.Words.{days_in_month}
@@ -6,9 +6,10 @@ use Rattle.jiff.proofs.SpanFacts.{signed_arith}
 use Rattle.jiff_core.specs.Calendar.{day_count}
 use Rattle.jiff_core.proofs.CalendarLemmas.{day_count-day, day_count-epoch, day_count-next_month, day_count-next_year}
 use Rattle.brk_money.specs.Moments.{CivilDate, civil_date_of_day, day_of_civil_date, days_in_months, days_in_years, greatest_day}
-use Rattle.brk_money.specs.Spelling.{Text, civil_date_from_ascii_digits, date_text_by_digits, day_of_text, day_text, number_from_ascii_digits}
+use Rattle.brk_money.specs.Spelling.{Text, civil_date_from_ascii_digits, day_of_text, day_text, number_from_ascii_digits}
 use Rattle.brk_money.proofs.Calendar.{civil_at, is_short}
 use Rattle.brk_money.proofs.DayTexts.{day_text-digits}
+use Rattle.brk_money.proofs.Padded.{date_text_by_digits}
 use Rattle.brk_money.proofs.Spellings.{digit_kept, spells}
 
 -- ---- the number of a date

@@ -1,4 +1,4 @@
--- How digits read, and what `decimal` gives of them.
+-- Numbers that are read from digits, and the digits that `decimal` writes.
 use Rattle.std.proofs.Common.{◌≡◌, ◌+◌, ◌-◌, ◌*◌, ◌<◌, ◌≤◌, ◌^◌, ℕ, List, [], ◌∷◌, arith, true, sym, ap, rules, get_or, length}
 use Rattle.std.specs.Prelude.{suc, zero}
 use Rattle.std.specs.Str.{all_ascii_digits}

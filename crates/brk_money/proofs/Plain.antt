@@ -1,4 +1,4 @@
--- Cents without a sign, cut before the point.
+-- Amounts without a sign, cut before the point.
 use Rattle.std.proofs.Common.{◌≡◌, ◌+◌, ◌-◌, ◌*◌, ◌/◌, ◌%◌, ◌<◌, ◌≤◌, ◌^◌, ◌++◌, ℕ, List, [], ◌∷◌, arith, true, refl, sym, ap, get_or, length, take, drop, ◌∙◌}
 use Rattle.std.specs.Prelude.{suc, ℤ, pos, negsuc}
 use Rattle.std.specs.Fmt.{decimal}

@@ -1,4 +1,4 @@
--- An amount as it is printed: its sign, its whole units and its two digits.
+-- The printed text of an amount: its sign, its whole units and its two digits.
 use Rattle.std.proofs.Common.{rules, ◌≡◌, ◌/◌, ◌%◌, ◌++◌, ℕ, true, false, [], ◌∷◌, arith, refl}
 use Rattle.std.specs.Prelude.{suc, ℤ, pos, negsuc, nat_abs}
 use Rattle.std.specs.Fmt.{decimal}

@@ -1,4 +1,4 @@
--- A text has a value just where it is the value's one spelling.
+-- A text has a value if and only if it is the canonical text of the value.
 use Rattle.std.proofs.Common.{◌≡◌, ◌≢◌, ◌+◌, ◌-◌, ◌*◌, ◌/◌, ◌%◌, ◌≤◌, ◌^◌, ℕ, List, [], ◌∷◌, Bool, true, false, arith, refl, sym, ap, ◌∙◌, rules, cond, ◌&&◌}
 use Rattle.std.specs.Prelude.{suc, ℤ, pos, negsuc, neg_ℤ, Option, Some, None, IfSome, IfNone, fold, filter, nat_le, nat_abs, slice_index, ◌==◌}
 use Rattle.std.specs.Char.{is_ascii_digit}

@@ -68,13 +68,6 @@ padded_decimal places n = replicate (places - length (decimal n)) 48 ++ decimal 
 abbrev pub date_text : CivilDate → Text
 date_text d = padded_decimal 4 d.year ++ 45 ∷ padded_decimal 2 d.month ++ 45 ∷ padded_decimal 2 d.day
 
--- The ten bytes of the text of a date, such as 2024-03-01, digit by digit, for a year `y` below
--- 10000, a month `m` below 100 and a day `d` below 100.
-abbrev pub date_text_by_digits : ℕ → ℕ → ℕ → Text
-date_text_by_digits y m d =
-    (48 + y / 100 / 10) ∷ (48 + y / 100 % 10) ∷ (48 + y % 100 / 10) ∷ (48 + y % 100 % 10) ∷ 45 ∷ (48 + m / 10) ∷ (48 + m % 10) ∷ 45 ∷ (48 + d / 10)
-    ∷ (48 + d % 10) ∷ []
-
 -- The canonical text, such as 2024-03-01, of a day, which is given in days since 1970-01-01.
 abbrev pub day_text : ℕ → Text
 day_text day = date_text (civil_date_of_day day)

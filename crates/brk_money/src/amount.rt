@@ -26,7 +26,6 @@ impl Amount {
     /// The greatest amount, in cents.
     pub const GREATEST: u64 = 100_000_000_000_000_000;
 
-    /// Returns the amount of `cents` cents, or `None` if `cents` is above `GREATEST`.
     pub fn new(cents: u64) -> Option<Amount>
         ensures { SomeIff result (cents ≤ Amount.GREATEST) cents }
     {
@@ -37,7 +36,6 @@ impl Amount {
         }
     }
 
-    /// Returns the amount in cents.
     pub fn get(self) -> u64
         ensures value { result ≡ self }
         ensures high { self ≤ Amount.GREATEST }
@@ -47,7 +45,6 @@ impl Amount {
 }
 
 impl Cents {
-    /// Returns the absolute value of the amount, in cents.
     pub fn unsigned_abs(self) -> Amount
         ensures { result ≡ nat_abs self }
     {
@@ -58,7 +55,6 @@ impl Cents {
 impl From<Amount> for Wide {
     ghost from_gives = { λ amount wide. wide ≡ pos amount };
 
-    /// Returns the amount, in cents, as a `Wide`.
     fn from(amount: Amount) -> Wide {
         Wide::new(i128::from(amount.get()))
     }
@@ -68,8 +64,6 @@ impl From<Amount> for Wide {
 impl fmt::Display for Amount {
     ghost output = { λ amount. Some (cents_text (pos amount)) };
 
-    /// Writes the canonical text of the amount, such as `12.05`. Fails if the formatter fails; a
-    /// prefix of the text may then be written.
     fn fmt<W: fmt::Write>(&self, f: &mut fmt::Formatter<W>) -> fmt::Result {
         fmt::Display::fmt(&Wide::from(*self), f)
     }

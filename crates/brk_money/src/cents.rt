@@ -2,7 +2,7 @@ ghost use Rattle.std.specs.Prelude.{◌≡◌, ◌≢◌, ◌≤◌, ◌+◌, �
 ghost use Rattle.brk_money.specs.declared.cents.TheConstants.Cents;
 ghost use Rattle.brk_money.specs.Spelling.{cents_text, unsigned_cents_text, IsWithinAmountLimit};
 
-use crate::whole::parse_whole_number;
+use crate::whole::parse_whole;
 use std::marker::Model;
 
 /// An amount in whole cents: -10^17 to 10^17, both included.
@@ -23,8 +23,6 @@ impl Cents {
     /// The greatest absolute value, in cents.
     pub const GREATEST: u64 = 100_000_000_000_000_000;
 
-    /// Returns the amount of `cents` cents, or `None` if the absolute value of `cents` is above
-    /// `GREATEST`.
     pub fn new(cents: i64) -> Option<Cents>
         ensures { SomeIff result
             ((neg_ℤ (pos Cents.GREATEST) ≤ℤ cents) × (cents ≤ℤ pos Cents.GREATEST)) cents }
@@ -36,7 +34,6 @@ impl Cents {
         }
     }
 
-    /// Returns the amount in cents.
     pub fn get(self) -> i64
         ensures value { result ≡ self }
         ensures low { neg_ℤ (pos Cents.GREATEST) ≤ℤ self }
@@ -46,10 +43,8 @@ impl Cents {
     }
 }
 
-// Parses the canonical text of an amount that is not negative, such as `12.05`, and returns the
-// amount in cents. Returns `None` for any other bytes, and for an amount above `Cents::GREATEST`.
 #[tactic(auto, using(crate::proofs::Plain::plain_split, crate::proofs::Plain::plain_joined))]
-fn parse_cents_without_sign(bytes: &[u8]) -> Option<u64>
+fn parse_unsigned(bytes: &[u8]) -> Option<u64>
     ensures found { IfSome result (λ n. (n ≤ Cents.GREATEST) × (bytes.now ≡ unsigned_cents_text n)) }
     ensures none { IfNone result ((n : ℕ) → n ≤ Cents.GREATEST → bytes.now ≢ unsigned_cents_text n) }
 {
@@ -62,7 +57,7 @@ fn parse_cents_without_sign(bytes: &[u8]) -> Option<u64>
     if rest[0] != b'.' || tens < b'0' || tens > b'9' || ones < b'0' || ones > b'9' {
         return None;
     }
-    let Some(units) = parse_whole_number(whole, Cents::GREATEST / 100) else {
+    let Some(units) = parse_whole(whole, Cents::GREATEST / 100) else {
         return None;
     };
     let n = units * 100 + (tens - b'0') as u64 * 10 + (ones - b'0') as u64;
@@ -72,10 +67,8 @@ fn parse_cents_without_sign(bytes: &[u8]) -> Option<u64>
     Some(n)
 }
 
-/// Parses the canonical text of an amount, such as `-12.05`: a minus if it is negative, the whole
-/// units in decimal digits, without a leading zero unless they are 0, a point and two digits.
-/// Returns `None` for any other bytes, such as `-0.00`, `010.00` and `10.0`, and for an
-/// amount whose absolute value is above `Cents::GREATEST` cents.
+/// Parses the canonical text of an amount, such as `-12.05`. Returns `None` for any other bytes,
+/// such as `-0.00`, `010.00` and `10.0`, and for an absolute value above `Cents::GREATEST`.
 #[tactic(auto, using(crate::proofs::Plain::plain_split))]
 pub fn parse_cents(bytes: &[u8]) -> Option<Cents>
     ensures found { IfSome result (λ cents. IsWithinAmountLimit cents × (bytes.now ≡ cents_text cents)) }
@@ -83,7 +76,7 @@ pub fn parse_cents(bytes: &[u8]) -> Option<Cents>
 {
     match bytes {
         [b'-', rest @ ..] => {
-            let Some(n) = parse_cents_without_sign(rest) else {
+            let Some(n) = parse_unsigned(rest) else {
                 return None;
             };
             if n == 0 {
@@ -92,7 +85,7 @@ pub fn parse_cents(bytes: &[u8]) -> Option<Cents>
             Some(Cents(-(n as i64)))
         }
         _ => {
-            let Some(n) = parse_cents_without_sign(bytes) else {
+            let Some(n) = parse_unsigned(bytes) else {
                 return None;
             };
             Some(Cents(n as i64))
@@ -100,8 +93,7 @@ pub fn parse_cents(bytes: &[u8]) -> Option<Cents>
     }
 }
 
-/// Proof-only: does nothing at run time. Proves that two amounts whose absolute values are at most
-/// `Cents::GREATEST` cents are equal if their canonical texts are.
+/// Proof-only: different amounts within `Cents::GREATEST` have different canonical texts.
 pub fn amounts_have_distinct_texts()
     ensures { (y z : ℤ) → IsWithinAmountLimit y → IsWithinAmountLimit z → cents_text y ≡ cents_text z → y ≡ z }
 {}

@@ -29,8 +29,6 @@ impl Day {
     /// The greatest day: 9999-12-31.
     pub const GREATEST: i32 = 2_932_896;
 
-    /// Returns the day `days` days after 1970-01-01, or `None` if `days` is not within 0 to
-    /// `GREATEST`.
     pub fn new(days: i32) -> Option<Day>
         ensures found { IfSome result (λ day. days ≡ pos day) }
         ensures limits { SomeIff (option_map (λ day. pos day) result) ((pos 0 ≤ℤ days) × (days ≤ℤ pos spec.greatest_day)) days }
@@ -42,7 +40,6 @@ impl Day {
         }
     }
 
-    /// Returns the number of days since 1970-01-01.
     pub fn get(self) -> i32
         ensures value { result ≡ pos self }
         ensures high { self ≤ spec.greatest_day }
@@ -50,7 +47,7 @@ impl Day {
         self.0
     }
 
-    /// Returns the day `days` days after this day, or `None` if that day is after 9999-12-31.
+    /// Returns the day `days` days after this one, or `None` if it is after 9999-12-31.
     pub fn days_later(self, days: u16) -> Option<Day>
         ensures { SomeIff result (self + days ≤ spec.greatest_day) (self + days) }
     {

@@ -38,7 +38,7 @@ pub enum Condition {
 }
 
 impl Condition {
-    /// Returns the lower-case word that represents the condition in output, such as `cash`.
+    /// Returns the word for the condition in output, such as `cash`.
     pub fn output_word(self) -> &'static str
         ensures { result.now ≡ condition_word self }
     {
@@ -74,8 +74,7 @@ pub enum Fault {
 }
 
 impl Fault {
-    /// Returns the number that represents the fault: 90 for `Memory`, 91 for `Store`, and 92 for
-    /// `Damaged` with any condition.
+    /// Returns the number of the fault in output, 90 to 92.
     pub fn number(self) -> u8
         ensures { result ≡ fault_number self }
     {
@@ -90,7 +89,6 @@ impl Fault {
 impl From<AllocError> for Fault {
     ghost from_gives = { λ _ fault. fault ≡ Memory };
 
-    /// Returns the fault `Memory`.
     fn from(_error: AllocError) -> Fault {
         Fault::Memory
     }
@@ -99,7 +97,6 @@ impl From<AllocError> for Fault {
 impl<T: Drop> From<AllocFailed<T>> for Fault {
     ghost from_gives = { λ _ fault. fault ≡ Memory };
 
-    /// Returns the fault `Memory`.
     fn from(_error: AllocFailed<T>) -> Fault {
         Fault::Memory
     }

@@ -22,7 +22,6 @@ impl Id {
     /// The greatest id.
     pub const GREATEST: u64 = 1_000_000_000_000;
 
-    /// Returns the id `number`, or `None` if it is not within 1 to `GREATEST`.
     pub fn new(number: u64) -> Option<Id>
         ensures { SomeIff result ((1 ≤ number) × (number ≤ Id.GREATEST)) number }
     {
@@ -33,7 +32,6 @@ impl Id {
         }
     }
 
-    /// Returns the number of the id.
     pub fn get(self) -> u64
         ensures value { result ≡ self }
         ensures low { 1 ≤ self }

@@ -43,5 +43,5 @@ pub use status::Status;
 pub use tax_rate::TaxRate;
 pub use tax_status::TaxStatus;
 pub use trade_type::TradeType;
-pub use whole::parse_whole_number;
+pub use whole::parse_whole;
 pub use wide::{Wide, write_cents};

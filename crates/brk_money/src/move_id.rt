@@ -23,7 +23,6 @@ impl MoveId {
     /// The greatest number.
     pub const GREATEST: u64 = 2_000_000_000_000;
 
-    /// Returns the number `number` of a cash row, or `None` if it is not within 1 to `GREATEST`.
     pub fn new(number: u64) -> Option<MoveId>
         ensures { SomeIff result ((1 ≤ number) × (number ≤ MoveId.GREATEST)) number }
     {
@@ -34,7 +33,6 @@ impl MoveId {
         }
     }
 
-    /// Returns the number of the cash row.
     pub fn get(self) -> u64
         ensures value { result ≡ self }
         ensures low { 1 ≤ self }

@@ -29,7 +29,6 @@ impl OrderType {
         }
     }
 
-    /// Returns the price per share that the order asks for, or `None` for a market type.
     pub fn price(self) -> Option<Price>
         ensures { result ≡ price_of_order_type self }
     {

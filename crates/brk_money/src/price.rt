@@ -21,8 +21,6 @@ impl Price {
     /// The greatest price, in cents.
     pub const GREATEST: u32 = 9_999_999;
 
-    /// Returns the price of `cents` cents per share, or `None` if `cents` is not within 1 to
-    /// `GREATEST`.
     pub fn new(cents: u32) -> Option<Price>
         ensures { SomeIff result ((1 ≤ cents) × (cents ≤ Price.GREATEST)) cents }
     {
@@ -33,7 +31,6 @@ impl Price {
         }
     }
 
-    /// Returns the price in cents.
     pub fn get(self) -> u32
         ensures value { result ≡ self }
         ensures low { 1 ≤ self }

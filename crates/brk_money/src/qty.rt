@@ -21,8 +21,6 @@ impl Qty {
     /// The greatest quantity.
     pub const GREATEST: u32 = 9_999_999;
 
-    /// Returns the quantity of `shares` shares, or `None` if `shares` is not within 1 to
-    /// `GREATEST`.
     pub fn new(shares: u32) -> Option<Qty>
         ensures { SomeIff result ((1 ≤ shares) × (shares ≤ Qty.GREATEST)) shares }
     {
@@ -33,7 +31,6 @@ impl Qty {
         }
     }
 
-    /// Returns the number of shares.
     pub fn get(self) -> u32
         ensures value { result ≡ self }
         ensures low { 1 ≤ self }

@@ -21,8 +21,6 @@ impl Rate {
     /// The greatest rate, 100 percent: the commission is the whole value of the trade.
     pub const GREATEST: u32 = 10_000;
 
-    /// Returns the rate of `hundredths` hundredths of a percent, or `None` if it is above
-    /// `GREATEST`.
     pub fn new(hundredths: u32) -> Option<Rate>
         ensures { SomeIff result (hundredths ≤ Rate.GREATEST) hundredths }
     {
@@ -33,7 +31,6 @@ impl Rate {
         }
     }
 
-    /// Returns the rate in hundredths of a percent.
     pub fn get(self) -> u32
         ensures value { result ≡ self }
         ensures high { self ≤ Rate.GREATEST }

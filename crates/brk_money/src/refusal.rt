@@ -30,7 +30,7 @@ pub enum Limit {
 }
 
 impl Limit {
-    /// Returns the word that a refusal prints for the limit.
+    /// Returns the word for the limit in the fields of a refusal.
     pub fn output_word(self) -> &'static str
         ensures { result.now ≡ limit_word self }
     {
@@ -135,9 +135,6 @@ impl Refusal {
 impl fmt::Display for Refusal {
     ghost output = { λ refusal. Some (refusal_text refusal) };
 
-    /// Writes the number of the refusal; if it has a status or a limit, also a comma and the status
-    /// code or the word of the limit. Fails if the formatter fails; a prefix of the text may then
-    /// be written.
     fn fmt<W: fmt::Write>(&self, f: &mut fmt::Formatter<W>) -> fmt::Result {
         let number = self.number();
         match self {

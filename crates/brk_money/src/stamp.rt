@@ -28,8 +28,6 @@ impl Stamp {
     /// The greatest stamp: the last millisecond of 9999-12-31 UTC.
     pub const GREATEST: i64 = 253_402_300_799_999;
 
-    /// Returns the stamp `millis` milliseconds after 1970-01-01 UTC, or `None` if `millis` is not
-    /// within 0 to `GREATEST`.
     pub fn new(millis: i64) -> Option<Stamp>
         ensures found { IfSome result (λ stamp. millis ≡ pos stamp) }
         ensures limits { SomeIff (option_map (λ stamp. pos stamp) result) ((pos 0 ≤ℤ millis) × (millis ≤ℤ pos spec.greatest_stamp)) millis }
@@ -41,8 +39,8 @@ impl Stamp {
         }
     }
 
-    /// Returns the stamp `millis` milliseconds after 1970-01-01 UTC, or the nearest stamp if that
-    /// is out of range.
+    /// Returns the stamp `millis` milliseconds after 1970-01-01 UTC, or the first or last stamp if
+    /// that is out of range.
     pub fn nearest(millis: i64) -> Stamp
         ensures within { pos 0 ≤ℤ millis → millis ≤ℤ pos spec.greatest_stamp → pos result ≡ millis }
         ensures below { millis ≤ℤ pos 0 → result ≡ 0 }
@@ -51,7 +49,6 @@ impl Stamp {
         Stamp(millis.max(0).min(Stamp::GREATEST))
     }
 
-    /// Returns the milliseconds since 1970-01-01 UTC.
     pub fn get(self) -> i64
         ensures value { result ≡ pos self }
         ensures high { self ≤ spec.greatest_stamp }
@@ -60,9 +57,8 @@ impl Stamp {
     }
 }
 
-/// Returns the stamp of an accepted command: the later of the clock reading `now` and the
-/// millisecond after the last stamp `last`, or `now` if there is no last stamp. Returns `None` if
-/// `last` is the greatest stamp.
+/// Returns the stamp of an accepted command: the clock's reading `now`, or the millisecond after
+/// `last` if that is later. Returns `None` if `last` is the greatest stamp.
 pub fn stamp_after(last: Option<Stamp>, now: Stamp) -> Option<Stamp>
     ensures { result ≡ spec.stamp_after last now }
 {

@@ -17,7 +17,7 @@ pub enum Status {
 }
 
 impl Status {
-    /// Returns the four-letter code of the status, as in tables and replies.
+    /// Returns the four-letter code of the status in tables and replies.
     pub fn code(self) -> &'static str
         ensures { result.now ≡ trade_status_code self }
     {

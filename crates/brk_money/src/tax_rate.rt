@@ -22,7 +22,6 @@ impl TaxRate {
     /// The greatest rate, 100 percent: the tax is the whole gain.
     pub const GREATEST: u32 = 100_000;
 
-    /// Returns the rate of `parts` hundred-thousandths, or `None` if it is above `GREATEST`.
     pub fn new(parts: u32) -> Option<TaxRate>
         ensures { SomeIff result (parts ≤ TaxRate.GREATEST) parts }
     {
@@ -33,7 +32,6 @@ impl TaxRate {
         }
     }
 
-    /// Returns the rate in hundred-thousandths.
     pub fn get(self) -> u32
         ensures value { result ≡ self }
         ensures high { self ≤ TaxRate.GREATEST }

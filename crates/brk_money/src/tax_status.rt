@@ -13,8 +13,7 @@ pub enum TaxStatus {
 }
 
 impl TaxStatus {
-    /// Returns the number of the tax status, as in tables and rows: 0 for `Untaxed`, 1 for
-    /// `Withheld`, 2 for `Reported`.
+    /// Returns the number of the status in tables and rows, 0 to 2.
     pub fn number(self) -> u8
         ensures { result ≡ tax_status_number self }
     {
@@ -25,7 +24,6 @@ impl TaxStatus {
         }
     }
 
-    /// Returns the tax status with the number `number`, or `None` if `number` is above 2.
     pub fn from_number(number: u64) -> Option<TaxStatus>
         ensures { result ≡ tax_status_with_number number }
     {

@@ -15,7 +15,7 @@ pub enum TradeType {
 }
 
 impl TradeType {
-    /// Returns the three-letter code of the type, as in tables and rows.
+    /// Returns the three-letter code of the type in tables and rows.
     pub fn code(self) -> &'static str
         ensures { result.now ≡ trade_type_code self }
     {
@@ -41,7 +41,6 @@ impl TradeType {
         }
     }
 
-    /// Returns the side, `Buy` or `Sell`, of a trade of this type.
     pub fn side(self) -> Side
         ensures { result ≡ side_of_trade_type self }
     {
@@ -58,8 +57,7 @@ impl TradeType {
         self.side() == Side::Sell
     }
 
-    /// Returns true if a trade of this type is executed at the market price (TT_IS_MRKT):
-    /// `MarketBuy` or `MarketSell`.
+    /// Returns true if a trade of this type is executed at the market price (TT_IS_MRKT).
     pub fn is_market(self) -> bool
         ensures { result ≡ is_market_type self }
     {

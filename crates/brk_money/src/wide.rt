@@ -22,14 +22,12 @@ impl Model for Wide {
 }
 
 impl Wide {
-    /// Returns the amount of `cents` cents, which may be any `i128`.
     pub fn new(cents: i128) -> Wide
         ensures { result ≡ cents }
     {
         Wide(cents)
     }
 
-    /// Returns the amount in cents.
     pub fn get(self) -> i128
         ensures { result ≡ self }
     {
@@ -40,7 +38,6 @@ impl Wide {
 impl From<Cents> for Wide {
     ghost from_gives = { λ cents wide. wide ≡ cents };
 
-    /// Returns the amount, in cents, as a `Wide`.
     fn from(cents: Cents) -> Wide {
         Wide(i128::from(cents.get()))
     }
@@ -49,7 +46,6 @@ impl From<Cents> for Wide {
 impl From<Price> for Wide {
     ghost from_gives = { λ price wide. wide ≡ pos price };
 
-    /// Returns the price, in cents, as a `Wide`.
     fn from(price: Price) -> Wide {
         Wide(i128::from(price.get()))
     }
@@ -59,8 +55,6 @@ impl From<Price> for Wide {
 impl fmt::Display for Wide {
     ghost output = { λ amount. Some (cents_text amount) };
 
-    /// Writes the canonical text of the amount, such as `-12.05`. Fails if the formatter fails; a
-    /// prefix of the text may then be written.
     fn fmt<W: fmt::Write>(&self, f: &mut fmt::Formatter<W>) -> fmt::Result {
         let amount = self.get();
         let cents = amount.unsigned_abs();
@@ -79,8 +73,6 @@ impl fmt::Display for Wide {
 impl fmt::Display for Cents {
     ghost output = { λ cents. Some (cents_text cents) };
 
-    /// Writes the canonical text of the amount, such as `-12.05`. Fails if the formatter fails; a
-    /// prefix of the text may then be written.
     fn fmt<W: fmt::Write>(&self, f: &mut fmt::Formatter<W>) -> fmt::Result {
         fmt::Display::fmt(&Wide::from(*self), f)
     }
@@ -90,22 +82,12 @@ impl fmt::Display for Cents {
 impl fmt::Display for Price {
     ghost output = { λ price. Some (cents_text (pos price)) };
 
-    /// Writes the canonical text of the price, such as `12.05`. Fails if the formatter fails; a
-    /// prefix of the text may then be written.
     fn fmt<W: fmt::Write>(&self, f: &mut fmt::Formatter<W>) -> fmt::Result {
         fmt::Display::fmt(&Wide::from(*self), f)
     }
 }
 
-// Appends the bytes of `first`, `second` and `third`, in this sequence, to `out`.
-//
-// Fails with `Memory` only; `out` is then unchanged.
-fn append_three_texts(
-    out: &mut Vec<u8>,
-    first: &[u8],
-    second: &[u8],
-    third: &[u8],
-) -> Result<(), Fault>
+fn append_texts(out: &mut Vec<u8>, first: &[u8], second: &[u8], third: &[u8]) -> Result<(), Fault>
     ensures ok { OnOk result (out.new.items ≡ out.old.items ++ (first.now ++ (second.now ++ third.now))) }
     ensures err { OnErr result (out.new.items ≡ out.old.items) }
     ensures fault { OnErr result (result ≡ Err Memory) }
@@ -121,10 +103,7 @@ fn append_three_texts(
     Err(Fault::Memory)
 }
 
-/// Appends the canonical text of an amount, such as `-12.05`, to `out`: a minus if the amount is
-/// negative, the whole units in decimal digits, a point and two digits for the cents.
-///
-/// Fails with `Memory` only; `out` is then unchanged.
+/// Appends the canonical text of an amount, such as `-12.05`.
 pub fn write_cents(out: &mut Vec<u8>, amount: Wide) -> Result<(), Fault>
     ensures ok { OnOk result (out.new.items ≡ out.old.items ++ cents_text amount) }
     ensures err { OnErr result (out.new.items ≡ out.old.items) }
@@ -136,8 +115,8 @@ pub fn write_cents(out: &mut Vec<u8>, amount: Wide) -> Result<(), Fault>
     let mut buffer = Buffer::new();
     let whole = buffer.format(cents / 100).as_bytes();
     if amount.0 < 0 {
-        append_three_texts(out, b"-", whole, &tail)
+        append_texts(out, b"-", whole, &tail)
     } else {
-        append_three_texts(out, b"", whole, &tail)
+        append_texts(out, b"", whole, &tail)
     }
 }

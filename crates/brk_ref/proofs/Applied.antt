@@ -1,4 +1,4 @@
--- Values that are read side by side, where a refusal can only be of text.
+-- Fields that are read side by side, where the only refusal is `BadText`.
 use Rattle.std.proofs.Common.{◌≡◌, Bool, true, false, refl, arith, cond, ◌&&◌}
 use Rattle.std.specs.Prelude.{Option, Some, None, Ok, Err, IfErr, nat_le, nat_abs}
 use Rattle.brk_money.specs.declared.refusal.Refusal.{Refusal}

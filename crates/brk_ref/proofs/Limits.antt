@@ -1,4 +1,4 @@
--- Numbers that are read within two limits.
+-- Numbers that are read within a lower and an upper limit.
 use Rattle.std.proofs.Common.{◌≡◌, ◌≤◌, ◌≤ℤ◌, ◌<ℤ◌, ℕ, Bool, true, false, refl, ◌∙◌, ap, cond, arith, subst, ◌&&◌}
 use Rattle.std.specs.Prelude.{Option, Some, None, Ok, Err, MatchOption, SomeIff, nat_le, ℤ, pos, negsuc, nat_abs, ◌^◌}
 use Rattle.std.specs.Option.{ok_or, option_and_then}

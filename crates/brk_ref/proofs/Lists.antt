@@ -1,4 +1,4 @@
--- A test of mapped elements.
+-- Searches of a list after a map, and tests one after another.
 use Rattle.std.proofs.Common.{◌≡◌, Bool, true, false, cond, List, [], ◌∷◌, refl, ap, map, Some}
 use Rattle.std.specs.Prelude.{find, option_map, ◌||◌}
 use Rattle.std.specs.List.{list_any}

@@ -1,4 +1,4 @@
--- A number of milliseconds that is a stamp.
+-- Numbers of milliseconds that are stamps.
 use Rattle.std.proofs.Common.{◌≡◌, ◌≤◌, ℕ, ℤ, pos, ◌≤ℤ◌, Option, Some, None, sym, ◌∙◌, arith}
 use Rattle.std.specs.Prelude.{IfSome, SomeIff, option_map}
 use Rattle.std.proofs.lemmas.Int.{ints}

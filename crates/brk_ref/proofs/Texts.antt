@@ -1,4 +1,4 @@
--- Texts of a form, and how many fields a record has.
+-- Texts of a format, and records with a wrong number of fields.
 use Rattle.std.proofs.Common.{◌≡◌, ℕ, Bool, true, false, refl, sym, arith, ◌&&◌, ◌≤◌, ◌<◌, length, List, [], ◌∷◌}
 use Rattle.std.specs.Prelude.{nat_le, not, chars}
 use Rattle.std.specs.List.{list_all}

@@ -5,11 +5,11 @@ ghost use Rattle.brk_ref.specs.Records.{abstract_account};
 ghost use Rattle.brk_ref.specs.Fields.{ParsesAs, texts_of_fields};
 
 use crate::name::Name;
-use crate::numbers::{parse_id, parse_opening_balance, parse_tax_status};
+use crate::numbers::{parse_balance, parse_id, parse_tax_status};
 use brk_money::{Cents, Id, Planned, Refusal, TaxStatus};
 use std::alloc::Global;
 
-/// An account: its id, customer, broker, name, tax status and opening balance.
+/// An account of a customer at a broker.
 #[derive(Clone, Drop)]
 pub struct Account {
     pub id: Id,
@@ -28,9 +28,7 @@ pub struct AccountRow {
     pub balance: Cents,
 }
 
-// Parses an account from its six fields. Refuses with `BadText` if one is malformed or out of
-// range. Fails with `Memory` only.
-fn parse_account_fields(
+fn parse_account(
     alloc: Global,
     id: &[u8],
     customer: &[u8],
@@ -58,7 +56,7 @@ fn parse_account_fields(
     let Some(tax_status) = parse_tax_status(tax_status) else {
         return Ok(Err(Refusal::BadText));
     };
-    let Some(opening) = parse_opening_balance(opening) else {
+    let Some(opening) = parse_balance(opening) else {
         return Ok(Err(Refusal::BadText));
     };
     Ok(Ok(Account {
@@ -71,10 +69,7 @@ fn parse_account_fields(
     }))
 }
 
-// Parses an account from its six fields, of which `terms` has the last three: NAME, TAXST and
-// OPENING. Refuses with `BadText` if `terms` does not have exactly three fields, or if a field is
-// malformed or out of range. Fails with `Memory` only.
-fn parse_account_with_last_fields(
+fn parse_account_terms(
     alloc: Global,
     id: &[u8],
     customer: &[u8],
@@ -87,13 +82,10 @@ fn parse_account_with_last_fields(
     let [name, tax_status, opening] = terms else {
         return Ok(Err(Refusal::BadText));
     };
-    parse_account_fields(alloc, id, customer, broker, name, tax_status, opening)
+    parse_account(alloc, id, customer, broker, name, tax_status, opening)
 }
 
-/// Parses an account from the fields ID, CUSTOMER, BROKER, NAME, TAXST and OPENING.
-///
-/// Refuses with `BadText` (18) if there are not exactly six fields, or if one is malformed or out
-/// of range. Fails with `Memory` only.
+/// Parses the fields ID, CUSTOMER, BROKER, NAME, TAXST and OPENING. Refuses with `BadText` (18).
 pub fn check_account(alloc: Global, fields: &[&[u8]]) -> Planned<Account>
     ensures read { IfOk result (λ read. ParsesAs abstract_account read (read_account (texts_of_fields fields.now))) }
     ensures fault { OnErr result (result ≡ Err Memory) }
@@ -101,5 +93,5 @@ pub fn check_account(alloc: Global, fields: &[&[u8]]) -> Planned<Account>
     let [id, customer, broker, terms @ ..] = fields else {
         return Ok(Err(Refusal::BadText));
     };
-    parse_account_with_last_fields(alloc, id, customer, broker, terms)
+    parse_account_terms(alloc, id, customer, broker, terms)
 }

@@ -8,8 +8,7 @@ use crate::text::{Form, Text};
 /// The rights of a permission (AP_ACL): four characters, each 0 or 1, which are stored unchanged.
 pub type Acl = Text<AclForm>;
 
-// Returns true if every byte of the text is the ASCII digit 0 or 1.
-fn has_zeros_and_ones_only(text: &[u8]) -> bool
+fn is_binary(text: &[u8]) -> bool
     ensures { result ≡ list_all (λ c. (c == 48) || (c == 49)) text.now }
 {
     text.iter().all(|c| *c == b'0' || *c == b'1')
@@ -22,13 +21,12 @@ pub struct AclForm;
 impl Form for AclForm {
     ghost form = { is_acl };
 
-    /// Returns true if the text has exactly 4 bytes, each the ASCII digit 0 or 1.
     fn has_form(text: &str) -> bool {
         let text = text.as_bytes();
         if text.len() != 4 {
             return false;
         }
-        has_zeros_and_ones_only(text)
+        is_binary(text)
     }
 
     ghost is_utf8 = { acl_is_utf8 };

@@ -6,13 +6,7 @@ ghost use Rattle.brk_ref.specs.Records.{abstract_customer, abstract_executor, ab
 
 use crate::{Customer, Executor, Name, Permission, TaxId};
 
-// Returns true if the executor has this first name, last name and tax id.
-fn executor_has_names_and_tax_id(
-    executor: &Executor,
-    first_name: &Name,
-    last_name: &Name,
-    tax_id: &TaxId,
-) -> bool
+fn has_identity(executor: &Executor, first_name: &Name, last_name: &Name, tax_id: &TaxId) -> bool
     ensures { result ≡ orders.executor_has_identity (abstract_executor executor.now) first_name.now last_name.now tax_id.now }
 {
     executor.first_name.as_str() == first_name.as_str()
@@ -20,11 +14,10 @@ fn executor_has_names_and_tax_id(
         && executor.tax_id.as_str() == tax_id.as_str()
 }
 
-// Returns true if the permission has the first name, the last name and the tax id of the executor.
-fn is_permission_of_executor(permission: &Permission, executor: &Executor) -> bool
+fn permits(permission: &Permission, executor: &Executor) -> bool
     ensures { result ≡ orders.executor_has_identity (abstract_executor executor.now) permission.now.first_name permission.now.last_name permission.now.tax_id }
 {
-    executor_has_names_and_tax_id(
+    has_identity(
         executor,
         &permission.first_name,
         &permission.last_name,
@@ -33,16 +26,18 @@ fn is_permission_of_executor(permission: &Permission, executor: &Executor) -> bo
 }
 
 /// Returns true if the executor may place orders for an account of `customer` with these
-/// permissions (Trade-Order): the executor has the first name, the last name and the tax id of the
-/// customer or of at least one of the permissions.
+/// permissions (Trade-Order): both names and the tax id match the customer's or those of one
+/// permission.
 pub fn permitted(customer: &Customer, permissions: &[Permission], executor: &Executor) -> bool
     ensures { result
         ≡ orders.is_customer_or_has_permission (abstract_customer customer.now) (map abstract_permission permissions.now) (abstract_executor executor.now) }
 {
-    executor_has_names_and_tax_id(
+    has_identity(
         executor,
         &customer.first_name,
         &customer.last_name,
         &customer.tax_id,
-    ) || permissions.iter().any(|permission| is_permission_of_executor(permission, executor))
+    ) || permissions
+        .iter()
+        .any(|permission| permits(permission, executor))
 }

@@ -9,9 +9,9 @@ ghost use Rattle.brk_ref.specs.Records.{abstract_band};
 ghost use Rattle.brk_ref.specs.Fields.{ParsesAs, texts_of_fields};
 
 use crate::exchange::Exchange;
-use crate::numbers::{parse_commission_rate, parse_qty};
+use crate::numbers::{parse_qty, parse_rate};
 use crate::tier::Tier;
-use crate::trade_type::parse_trade_type;
+use crate::trade_type::parse_type;
 use brk_money::{Planned, Qty, Rate, Refusal, TradeType};
 use std::alloc::Global;
 
@@ -27,9 +27,7 @@ pub struct Band {
     pub rate: Rate,
 }
 
-// Parses the two bounds of a band, each a quantity of shares. Returns `None` if one is malformed or
-// out of range, or if `low` exceeds `high`.
-fn parse_quantity_bounds(low: &[u8], high: &[u8]) -> Option<(Qty, Qty)>
+fn parse_qty_range(low: &[u8], high: &[u8]) -> Option<(Qty, Qty)>
     ensures { ok_or result BadQty ≡ read_quantity_bounds low.now high.now }
 {
     let Some(low) = parse_qty(low) else {
@@ -45,11 +43,7 @@ fn parse_quantity_bounds(low: &[u8], high: &[u8]) -> Option<(Qty, Qty)>
     }
 }
 
-// Parses a commission band from its six fields. Refuses with `BadText` if the tier, the exchange or
-// the rate is malformed or out of range; otherwise with `BadQty` if a bound is malformed or out of
-// range, or if `low` exceeds `high`; otherwise with `BadType` if the type is unknown. Fails with
-// `Memory` only.
-fn parse_band_fields(
+fn parse_band(
     alloc: Global,
     tier: &[u8],
     kind: &[u8],
@@ -68,13 +62,13 @@ fn parse_band_fields(
     let Some(exchange) = Exchange::parse(alloc, exchange)? else {
         return Ok(Err(Refusal::BadText));
     };
-    let Some(rate) = parse_commission_rate(rate) else {
+    let Some(rate) = parse_rate(rate) else {
         return Ok(Err(Refusal::BadText));
     };
-    let Some((from_qty, to_qty)) = parse_quantity_bounds(low, high) else {
+    let Some((from_qty, to_qty)) = parse_qty_range(low, high) else {
         return Ok(Err(Refusal::BadQty));
     };
-    let Some(kind) = parse_trade_type(kind) else {
+    let Some(kind) = parse_type(kind) else {
         return Ok(Err(Refusal::BadType));
     };
     Ok(Ok(Band {
@@ -87,10 +81,7 @@ fn parse_band_fields(
     }))
 }
 
-// Parses a commission band from its six fields, of which `terms` has the last three: FROM, TO and
-// RATE. Refuses with `BadText` if `terms` does not have exactly three fields, otherwise with the
-// refusal of `parse_band_fields`, if any. Fails with `Memory` only.
-fn parse_band_with_last_fields(
+fn parse_band_terms(
     alloc: Global,
     tier: &[u8],
     kind: &[u8],
@@ -103,15 +94,11 @@ fn parse_band_with_last_fields(
     let [low, high, rate] = terms else {
         return Ok(Err(Refusal::BadText));
     };
-    parse_band_fields(alloc, tier, kind, exchange, low, high, rate)
+    parse_band(alloc, tier, kind, exchange, low, high, rate)
 }
 
-/// Parses a commission band from the fields TIER, TYPE, EXCHANGE, FROM, TO and RATE.
-///
-/// Refuses with `BadText` (18) if there are not exactly six fields, or if the tier, the exchange or
-/// the rate is malformed or out of range; otherwise with `BadQty` (8) if a bound is malformed or
-/// out of range, or if FROM exceeds TO; otherwise with `BadType` (7) if the type is unknown. Fails
-/// with `Memory` only.
+/// Parses the fields TIER, TYPE, EXCHANGE, FROM, TO and RATE. Refuses with `BadText` (18),
+/// otherwise with `BadQty` (8), also if FROM exceeds TO, otherwise with `BadType` (7).
 pub fn check_band(alloc: Global, fields: &[&[u8]]) -> Planned<Band>
     ensures read { IfOk result (λ read. ParsesAs abstract_band read (read_commission_band (texts_of_fields fields.now))) }
     ensures fault { OnErr result (result ≡ Err Memory) }
@@ -119,20 +106,19 @@ pub fn check_band(alloc: Global, fields: &[&[u8]]) -> Planned<Band>
     let [tier, kind, exchange, terms @ ..] = fields else {
         return Ok(Err(Refusal::BadText));
     };
-    parse_band_with_last_fields(alloc, tier, kind, exchange, terms)
+    parse_band_terms(alloc, tier, kind, exchange, terms)
 }
 
-/// Returns true if the quantity is from the lower to the upper bound of the band, both included.
+/// Returns true if the quantity is within the bounds of the band, both included.
 pub fn band_contains_quantity(band: &Band, qty: Qty) -> bool
     ensures { result ≡ nat_le band.now.from_qty qty && nat_le qty band.now.to_qty }
 {
     band.from_qty.get() <= qty.get() && qty.get() <= band.to_qty.get()
 }
 
-/// Returns true if two bands overlap: their tiers, types and exchanges are equal, and the lower
-/// bound of each is at most the upper bound of the other. If neither has reversed bounds, some
-/// quantity is then within the bounds of both.
-pub fn is_overlapping_band(one: &Band, other: &Band) -> bool
+/// Returns true if tier, type and exchange are equal and the lower bound of each band is at most
+/// the upper bound of the other.
+pub fn overlaps_band(one: &Band, other: &Band) -> bool
     ensures { result ≡ bands_overlap (abstract_band one.now) (abstract_band other.now) }
 {
     one.tier == other.tier
@@ -142,10 +128,8 @@ pub fn is_overlapping_band(one: &Band, other: &Band) -> bool
         && other.from_qty.get() <= one.to_qty.get()
 }
 
-/// Returns the rate, in hundredths of a percent, of the first band whose bounds, both included,
-/// contain the quantity, or `None` if no band does.
-///
-/// The tier, type and exchange of a band are not compared: pass the bands of one combination.
+/// Returns the rate of the first band that contains the quantity. Tier, type and exchange are not
+/// compared: pass the bands of one combination.
 pub fn band_for(bands: &[Band], qty: Qty) -> Option<Rate>
     ensures { result ≡ option_map (λ b. b.rate) (find (λ b. nat_le b.from_qty qty && nat_le qty b.to_qty) (map abstract_band bands.now)) }
 {
@@ -155,10 +139,9 @@ pub fn band_for(bands: &[Band], qty: Qty) -> Option<Rate>
     Some(band.rate)
 }
 
-/// Returns true if one of `bands` overlaps `band`: it has the tier, the type and the exchange of
-/// `band`, and the lower bound of each of the two is at most the upper bound of the other.
+/// Returns true if one of `bands` overlaps `band`.
 pub fn overlaps(bands: &[Band], band: &Band) -> bool
     ensures { result ≡ list_any (bands_overlap (abstract_band band.now)) (map abstract_band bands.now) }
 {
-    bands.iter().any(|other| is_overlapping_band(band, other))
+    bands.iter().any(|other| overlaps_band(band, other))
 }

@@ -9,9 +9,7 @@ use crate::text::{Form, Text};
 /// The name of a batch (K_BATCH): 1 to 40 ASCII letters, digits, points, hyphens and underscores.
 pub type BatchName = Text<BatchNameForm>;
 
-// Returns true if every byte of `text` is an ASCII letter, a digit, a point, a hyphen or an
-// underscore.
-fn has_batch_name_bytes_only(text: &[u8]) -> bool
+fn has_batch_bytes(text: &[u8]) -> bool
     ensures { result ≡ list_all (λ c. is_ascii_alphanumeric c || (c == 46) || (c == 45) || (c == 95)) text.now }
 {
     text.iter().all(|c| c.is_ascii_alphanumeric() || *c == b'.' || *c == b'-' || *c == b'_')
@@ -24,8 +22,6 @@ pub struct BatchNameForm;
 impl Form for BatchNameForm {
     ghost form = { is_batch_name };
 
-    /// Returns true if the text has 1 to 40 bytes, each an ASCII letter, a digit, a point, a hyphen
-    /// or an underscore.
     #[tactic(auto, using(crate::proofs::Texts::too_short, crate::proofs::Texts::too_long, crate::proofs::Texts::word_is))]
     fn has_form(text: &str) -> bool {
         let text = text.as_bytes();
@@ -35,7 +31,7 @@ impl Form for BatchNameForm {
         if text.len() > 40 {
             return false;
         }
-        has_batch_name_bytes_only(text)
+        has_batch_bytes(text)
     }
 
     ghost is_utf8 = { batch_name_is_utf8 };

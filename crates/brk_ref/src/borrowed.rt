@@ -3,8 +3,7 @@ ghost use Rattle.brk_ref.specs.Fields.{texts_of_fields};
 
 use std::alloc::{AllocError, Global};
 
-/// Returns the bytes of the texts as borrowed slices, in order. Fails only if memory runs out.
-pub fn borrow_bytes_of_texts(alloc: Global, texts: &[String]) -> Result<Vec<&[u8]>, AllocError>
+pub fn borrow_texts(alloc: Global, texts: &[String]) -> Result<Vec<&[u8]>, AllocError>
     ensures { IfOk result (λ all. texts_of_fields all.items ≡ map string_bytes texts.now) }
 {
     let mut all = Vec::new(alloc);

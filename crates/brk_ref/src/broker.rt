@@ -9,7 +9,7 @@ use crate::numbers::parse_id;
 use brk_money::{Id, Planned, Refusal};
 use std::alloc::Global;
 
-/// A broker: its id and its name.
+/// A broker, without its totals.
 #[derive(Clone, Drop)]
 pub struct Broker {
     pub id: Id,
@@ -25,10 +25,7 @@ pub struct BrokerRow {
     pub commissions: u64,
 }
 
-/// Parses a broker from the fields ID and NAME.
-///
-/// Refuses with `BadText` (18) if there are not exactly two fields, or if one is malformed or out
-/// of range. Fails with `Memory` only.
+/// Parses the fields ID and NAME. Refuses with `BadText` (18).
 pub fn check_broker(alloc: Global, fields: &[&[u8]]) -> Planned<Broker>
     ensures read { IfOk result (λ read. ParsesAs abstract_broker read (read_broker (texts_of_fields fields.now))) }
     ensures fault { OnErr result (result ≡ Err Memory) }

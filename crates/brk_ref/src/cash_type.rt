@@ -16,8 +16,7 @@ pub enum CashType {
 }
 
 impl CashType {
-    /// Returns the settlement text of the cash type, as the column SE_CASH_TYPE stores it and views
-    /// show it, such as `Cash Account`.
+    /// Returns the text that SE_CASH_TYPE stores and views show, such as `Cash Account`.
     pub fn text(self) -> &'static str
         ensures { result.now ≡ cash_type_text self }
     {

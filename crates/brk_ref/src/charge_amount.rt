@@ -24,7 +24,6 @@ impl ChargeAmount {
     /// The greatest charge, in cents.
     pub const GREATEST: u32 = 1_000_000;
 
-    /// Returns the charge of `cents` cents, or `None` if `cents` exceeds `GREATEST`.
     pub fn new(cents: u32) -> Option<ChargeAmount>
         ensures { SomeIff result (cents ≤ ChargeAmount.GREATEST) cents }
     {
@@ -35,7 +34,6 @@ impl ChargeAmount {
         }
     }
 
-    /// Returns the charge in cents, 0 to 1,000,000.
     pub fn get(self) -> u32
         ensures value { result ≡ self }
         ensures high { self ≤ ChargeAmount.GREATEST }
@@ -48,8 +46,6 @@ impl ChargeAmount {
 impl fmt::Display for ChargeAmount {
     ghost output = { λ amount. Some (cents_text (pos amount)) };
 
-    /// Writes the canonical text of the charge, such as `12.05`. Fails if the formatter fails,
-    /// perhaps after it wrote a part of the text.
     fn fmt<W: fmt::Write>(&self, f: &mut fmt::Formatter<W>) -> fmt::Result {
         fmt::Display::fmt(&Wide::new(i128::from(self.get())), f)
     }

@@ -21,8 +21,6 @@ pub struct Customer {
     pub first_name: Name,
 }
 
-// Parses a customer from its five fields. Refuses with `BadText` if one is malformed or out of
-// range. Fails with `Memory` only.
 fn parse_customer_fields(
     alloc: Global,
     id: &[u8],
@@ -59,10 +57,7 @@ fn parse_customer_fields(
     }))
 }
 
-/// Parses a customer from the fields ID, TIER, TAXID, LAST and FIRST.
-///
-/// Refuses with `BadText` (18) if there are not exactly five fields, or if one is malformed or out
-/// of range. Fails with `Memory` only.
+/// Parses the fields ID, TIER, TAXID, LAST and FIRST. Refuses with `BadText` (18).
 pub fn check_customer(alloc: Global, fields: &[&[u8]]) -> Planned<Customer>
     ensures read { IfOk result (λ read. ParsesAs abstract_customer read (read_customer (texts_of_fields fields.now))) }
     ensures fault { OnErr result (result ≡ Err Memory) }

@@ -12,11 +12,7 @@ pub struct CustomerTax {
     pub tax: Id,
 }
 
-/// Parses the ids of a customer and of a tax that the customer pays, from the fields CUSTOMER and
-/// TAXRATE.
-///
-/// Refuses with `BadText` (18) if there are not exactly two fields, or if one is not an id. Never
-/// allocates.
+/// Parses the fields CUSTOMER and TAXRATE, both ids. Refuses with `BadText` (18).
 pub fn check_customer_tax(fields: &[&[u8]]) -> Result<CustomerTax, Refusal>
     ensures { ParsesAs abstract_customer_tax result (read_customer_tax (texts_of_fields fields.now)) }
 {

@@ -50,9 +50,9 @@ pub use account::{Account, AccountRow, check_account};
 pub use acl::Acl;
 pub use answer::Answer;
 pub use authority::permitted;
-pub use band::{Band, band_contains_quantity, band_for, check_band, is_overlapping_band, overlaps};
+pub use band::{Band, band_contains_quantity, band_for, check_band, overlaps, overlaps_band};
 pub use batch_name::BatchName;
-pub use borrowed::borrow_bytes_of_texts;
+pub use borrowed::borrow_texts;
 pub use broker::{Broker, BrokerRow, check_broker};
 pub use cash_row::CashRow;
 pub use cash_type::CashType;
@@ -71,8 +71,8 @@ pub use lot_change::LotChange;
 pub use moved_amount::MovedAmount;
 pub use name::Name;
 pub use numbers::{
-    parse_charge_amount, parse_commission_rate, parse_id, parse_moved_amount,
-    parse_opening_balance, parse_price, parse_qty, parse_tax_rate, parse_tax_status,
+    parse_balance, parse_charge_amount, parse_id, parse_moved, parse_price, parse_qty, parse_rate,
+    parse_tax_rate, parse_tax_status,
 };
 pub use old_cash_row::OldCashRow;
 pub use permission::{Permission, check_permission};
@@ -90,6 +90,6 @@ pub use taxes::tax_sum;
 pub use text::{Form, Text};
 pub use tier::Tier;
 pub use trade_row::{TradeRow, is_submitted};
-pub use trade_type::parse_trade_type;
+pub use trade_type::parse_type;
 pub use volume::Volume;
 pub use words::{cash_or_margin_word, lifo_or_fifo_word};

@@ -19,9 +19,7 @@ pub struct Listing {
     pub price: Price,
 }
 
-// Parses a listing from its five fields. Refuses with `BadText` if a text is malformed, otherwise
-// with `BadPrice` if the price is malformed or out of range. Fails with `Memory` only.
-fn parse_listing_fields(
+fn parse_listing(
     alloc: Global,
     symbol: &[u8],
     name: &[u8],
@@ -56,12 +54,8 @@ fn parse_listing_fields(
     Ok(Ok(Listing { security, price }))
 }
 
-/// Parses a listing, a security with its first price, from the fields SYMBOL, NAME, EXCHANGE,
-/// SECTOR and PRICE.
-///
-/// Refuses with `BadText` (18) if there are not exactly five fields, or if a text is malformed;
-/// otherwise with `BadPrice` (9) if the price is malformed or out of range. Fails with `Memory`
-/// only.
+/// Parses the fields SYMBOL, NAME, EXCHANGE, SECTOR and PRICE. Refuses with `BadText` (18),
+/// otherwise with `BadPrice` (9).
 pub fn check_security(alloc: Global, fields: &[&[u8]]) -> Planned<Listing>
     ensures read { IfOk result (λ read. ParsesAs abstract_listing read (read_listing (texts_of_fields fields.now))) }
     ensures fault { OnErr result (result ≡ Err Memory) }
@@ -69,5 +63,5 @@ pub fn check_security(alloc: Global, fields: &[&[u8]]) -> Planned<Listing>
     let [symbol, name, exchange, sector, price] = fields else {
         return Ok(Err(Refusal::BadText));
     };
-    parse_listing_fields(alloc, symbol, name, exchange, sector, price)
+    parse_listing(alloc, symbol, name, exchange, sector, price)
 }

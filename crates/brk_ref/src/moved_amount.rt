@@ -24,7 +24,6 @@ impl MovedAmount {
     /// The greatest amount, in cents.
     pub const GREATEST: u64 = 100_000_000_000_000_000;
 
-    /// Returns the amount of `cents` cents, or `None` if `cents` is not within 1 to `GREATEST`.
     pub fn new(cents: u64) -> Option<MovedAmount>
         ensures { SomeIff result ((1 ≤ cents) × (cents ≤ MovedAmount.GREATEST)) cents }
     {
@@ -35,7 +34,6 @@ impl MovedAmount {
         }
     }
 
-    /// Returns the amount in cents, 1 to 10^17.
     pub fn get(self) -> u64
         ensures value { result ≡ self }
         ensures low { 1 ≤ self }
@@ -49,8 +47,6 @@ impl MovedAmount {
 impl fmt::Display for MovedAmount {
     ghost output = { λ amount. Some (cents_text (pos amount)) };
 
-    /// Writes the canonical text of the amount, such as `12.05`. Fails if the formatter fails,
-    /// perhaps after it wrote a part of the text.
     fn fmt<W: fmt::Write>(&self, f: &mut fmt::Formatter<W>) -> fmt::Result {
         fmt::Display::fmt(&Wide::new(i128::from(self.get())), f)
     }

@@ -9,8 +9,7 @@ use crate::text::{Form, Text};
 /// A name or a sector: text of 1 to 60 bytes of UTF-8 without control characters.
 pub type Name = Text<NameForm>;
 
-// Returns true if no character of the text is a control character.
-fn has_no_control_character(text: &str) -> bool
+fn has_no_controls(text: &str) -> bool
     ensures { result ≡ list_all (λ c. not (is_control c)) (chars text.now) }
 {
     text.chars().all(|c| !c.is_control())
@@ -23,7 +22,6 @@ pub struct NameForm;
 impl Form for NameForm {
     ghost form = { is_name };
 
-    /// Returns true if the text has 1 to 60 bytes and no control character.
     fn has_form(text: &str) -> bool {
         if text.is_empty() {
             return false;
@@ -31,7 +29,7 @@ impl Form for NameForm {
         if text.len() > 60 {
             return false;
         }
-        has_no_control_character(text)
+        has_no_controls(text)
     }
 
     ghost is_utf8 = { name_is_utf8 };

@@ -22,9 +22,7 @@ pub struct Permission {
     pub first_name: Name,
 }
 
-// Parses a permission from its five fields. Refuses with `BadText` if one is malformed or out of
-// range. Fails with `Memory` only.
-fn parse_permission_fields(
+fn parse_permission(
     alloc: Global,
     account: &[u8],
     acl: &[u8],
@@ -60,10 +58,7 @@ fn parse_permission_fields(
     }))
 }
 
-/// Parses a permission from the fields ACCOUNT, ACL, TAXID, LAST and FIRST.
-///
-/// Refuses with `BadText` (18) if there are not exactly five fields, or if one is malformed or out
-/// of range. Fails with `Memory` only.
+/// Parses the fields ACCOUNT, ACL, TAXID, LAST and FIRST. Refuses with `BadText` (18).
 pub fn check_permission(alloc: Global, fields: &[&[u8]]) -> Planned<Permission>
     ensures read { IfOk result (λ read. ParsesAs abstract_permission read (read_permission (texts_of_fields fields.now))) }
     ensures fault { OnErr result (result ≡ Err Memory) }
@@ -71,5 +66,5 @@ pub fn check_permission(alloc: Global, fields: &[&[u8]]) -> Planned<Permission>
     let [account, acl, tax_id, last_name, first_name] = fields else {
         return Ok(Err(Refusal::BadText));
     };
-    parse_permission_fields(alloc, account, acl, tax_id, last_name, first_name)
+    parse_permission(alloc, account, acl, tax_id, last_name, first_name)
 }

@@ -21,7 +21,6 @@ impl RowNumber {
     /// The greatest number of a row.
     pub const GREATEST: u64 = 1_000_000_000_000;
 
-    /// Returns the row number `number`, or `None` if it is not within 1 to `GREATEST`.
     pub fn new(number: u64) -> Option<RowNumber>
         ensures { SomeIff result ((1 ≤ number) × (number ≤ RowNumber.GREATEST)) number }
     {
@@ -32,7 +31,6 @@ impl RowNumber {
         }
     }
 
-    /// Returns the number of the row within its batch, 1 to 10^12.
     pub fn get(self) -> u64
         ensures value { result ≡ self }
         ensures low { 1 ≤ self }

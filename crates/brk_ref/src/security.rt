@@ -2,7 +2,7 @@ use crate::exchange::Exchange;
 use crate::name::Name;
 use crate::symbol::Symbol;
 
-/// A security (a row of SECURITY): its symbol, name, exchange and sector.
+/// A security (a row of SECURITY).
 #[derive(Clone, Drop)]
 pub struct Security {
     pub symbol: Symbol,

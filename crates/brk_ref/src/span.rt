@@ -3,7 +3,7 @@ ghost use Rattle.std.specs.Option.{ok_or};
 ghost use Rattle.brk_model.specs.Forms.{read_stamp};
 ghost use Rattle.brk_money.specs.declared.refusal.Refusal.TheVariants.{BadText};
 
-use brk_money::{Stamp, parse_whole_number};
+use brk_money::{Stamp, parse_whole};
 
 /// The stamps from `first` to `last`, both included; none if `first` is later than `last`.
 #[derive(Clone, Copy)]
@@ -12,12 +12,12 @@ pub struct Span {
     pub last: Stamp,
 }
 
-/// Parses a stamp, the number of milliseconds since 1970-01-01 UTC in decimal digits. Returns
-/// `None` if the bytes are malformed or the stamp is later than 9999-12-31 UTC.
+/// Parses milliseconds since 1970-01-01 UTC in decimal digits, up to the last of 9999-12-31.
+/// Returns `None` for any other bytes.
 pub fn parse_stamp(bytes: &[u8]) -> Option<Stamp>
     ensures { ok_or result BadText ≡ read_stamp bytes.now }
 {
-    let Some(millis) = parse_whole_number(bytes, Stamp::GREATEST as u64) else {
+    let Some(millis) = parse_whole(bytes, Stamp::GREATEST as u64) else {
         return None;
     };
     Stamp::new(millis as i64)

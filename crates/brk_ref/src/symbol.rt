@@ -9,8 +9,7 @@ use crate::text::{Form, Text};
 /// The symbol of a security (S_SYMB): 1 to 15 ASCII capital letters, digits, points and hyphens.
 pub type Symbol = Text<SymbolForm>;
 
-// Returns true if every byte of `text` is an ASCII capital letter, a digit, a point or a hyphen.
-fn has_symbol_bytes_only(text: &[u8]) -> bool
+fn has_symbol_bytes(text: &[u8]) -> bool
     ensures { result ≡ list_all (λ c. is_ascii_uppercase c || is_ascii_digit c || (c == 46) || (c == 45)) text.now }
 {
     text.iter().all(|c| c.is_ascii_uppercase() || c.is_ascii_digit() || *c == b'.' || *c == b'-')
@@ -23,8 +22,6 @@ pub struct SymbolForm;
 impl Form for SymbolForm {
     ghost form = { is_symbol };
 
-    /// Returns true if the text has 1 to 15 bytes, each an ASCII capital letter, a digit, a point
-    /// or a hyphen.
     #[tactic(auto, using(crate::proofs::Texts::too_short, crate::proofs::Texts::too_long, crate::proofs::Texts::word_is))]
     fn has_form(text: &str) -> bool {
         let text = text.as_bytes();
@@ -34,7 +31,7 @@ impl Form for SymbolForm {
         if text.len() > 15 {
             return false;
         }
-        has_symbol_bytes_only(text)
+        has_symbol_bytes(text)
     }
 
     ghost is_utf8 = { symbol_is_utf8 };

@@ -17,10 +17,8 @@ pub struct Tax {
     pub rate: TaxRate,
 }
 
-/// Parses a tax from the fields ID, NAME and RATE, the rate in hundred-thousandths.
-///
-/// Refuses with `BadText` (18) if there are not exactly three fields, or if one is malformed or out
-/// of range. Fails with `Memory` only.
+/// Parses the fields ID, NAME and RATE, the rate in hundred-thousandths. Refuses with `BadText`
+/// (18).
 pub fn check_tax(alloc: Global, fields: &[&[u8]]) -> Planned<Tax>
     ensures read { IfOk result (λ read. ParsesAs abstract_tax_rate read (read_tax_rate (texts_of_fields fields.now))) }
     ensures fault { OnErr result (result ≡ Err Memory) }

@@ -9,8 +9,7 @@ use crate::text::{Form, Text};
 /// A tax id (C_TAX_ID): 1 to 20 ASCII letters, digits and hyphens.
 pub type TaxId = Text<TaxIdForm>;
 
-// Returns true if every byte of `text` is an ASCII letter, a digit or a hyphen.
-fn has_tax_id_bytes_only(text: &[u8]) -> bool
+fn has_tax_id_bytes(text: &[u8]) -> bool
     ensures { result ≡ list_all (λ c. is_ascii_alphanumeric c || (c == 45)) text.now }
 {
     text.iter().all(|c| c.is_ascii_alphanumeric() || *c == b'-')
@@ -23,7 +22,6 @@ pub struct TaxIdForm;
 impl Form for TaxIdForm {
     ghost form = { is_tax_id };
 
-    /// Returns true if the text has 1 to 20 bytes, each an ASCII letter, a digit or a hyphen.
     #[tactic(auto, using(crate::proofs::Texts::too_short, crate::proofs::Texts::too_long, crate::proofs::Texts::word_is))]
     fn has_form(text: &str) -> bool {
         let text = text.as_bytes();
@@ -33,7 +31,7 @@ impl Form for TaxIdForm {
         if text.len() > 20 {
             return false;
         }
-        has_tax_id_bytes_only(text)
+        has_tax_id_bytes(text)
     }
 
     ghost is_utf8 = { tax_id_is_utf8 };

@@ -3,8 +3,7 @@ ghost use Rattle.brk_model.specs.Base as spec;
 
 use brk_money::TaxStatus;
 
-/// Returns true if gains are taxable at the tax status: at `Withheld` and `Reported`, but not at
-/// `Untaxed`.
+/// Returns true for `Withheld` and `Reported`.
 pub fn is_taxable_status(status: TaxStatus) -> bool
     ensures { result ≡ spec.is_taxable_status status }
 {

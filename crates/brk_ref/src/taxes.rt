@@ -4,8 +4,7 @@ ghost use Rattle.brk_money.specs.declared.tax_rate.TheConstants.TaxRate;
 use crate::tax::Tax;
 use brk_money::TaxRate;
 
-/// Returns the sum of the rates of `taxes`, in hundred-thousandths, 0 if there is no tax, or `None`
-/// if the sum exceeds `TaxRate::GREATEST`.
+/// Returns the sum of the rates, or `None` if it exceeds `TaxRate::GREATEST`.
 pub fn tax_sum(taxes: &[Tax]) -> Option<TaxRate>
     ensures { SomeIff result (sum_by (λ tax. tax.rate) taxes.now ≤ TaxRate.GREATEST) (sum_by (λ tax. tax.rate) taxes.now) }
 {

@@ -14,7 +14,6 @@ pub trait Form {
     /// True for the bytes of the texts that have the format.
     ghost form: { List ℕ → Bool };
 
-    /// Returns true if `text` has the format (`form`).
     fn has_form(text: &str) -> bool
         ensures { result ≡ form text.now };
 
@@ -38,7 +37,7 @@ impl<F: Form> Model for Text<F> {
 }
 
 impl<F: Form> Text<F> {
-    /// Creates a text of the format `F`. Returns `None` if `text` does not have the format.
+    /// Returns `None` if `text` does not have the format.
     pub fn new(text: String) -> Option<Text<F>>
         ensures { ok_or result BadText ≡ read_valid_text F.form (string_bytes text) }
     {
@@ -52,8 +51,7 @@ impl<F: Form> Text<F> {
         }
     }
 
-    /// Creates a text of the format `F` from a copy of the bytes. Returns `None` if they do not
-    /// have the format. Fails with `Memory` only.
+    /// Copies the bytes, or returns `None` if they do not have the format.
     pub fn parse(alloc: Global, bytes: &[u8]) -> Result<Option<Text<F>>, Fault>
         ensures read { IfOk result (λ text. ok_or text BadText ≡ read_valid_text F.form bytes.now) }
         ensures fault { OnErr result (result ≡ Err Memory) }
@@ -71,15 +69,14 @@ impl<F: Form> Text<F> {
         }))
     }
 
-    /// Returns the text as a string slice.
     pub fn as_str(&self) -> &str
         ensures { result.now ≡ self.now }
     {
         self.text.as_str()
     }
 
-    /// Proves that the text has the format `F`. Does nothing at run time.
-    pub fn prove_text_has_its_format(&self)
+    /// Proof-only: does nothing at run time.
+    pub fn prove_form(&self)
         ensures { F.form self.now ≡ true }
     {
         let _ = &self.text;
@@ -89,7 +86,6 @@ impl<F: Form> Text<F> {
 impl<F: Form> Clone for Text<F> {
     ghost is_clone = { λ one other. other ≡ one };
 
-    /// Returns a copy of the text. Fails if memory runs out.
     fn clone(&self) -> Result<Text<F>, AllocError> {
         let text = self.text.clone()?;
         Ok(Text {

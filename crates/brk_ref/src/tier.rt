@@ -3,7 +3,7 @@ ghost use Rattle.std.specs.Option.{ok_or};
 ghost use Rattle.brk_model.specs.Forms.{read_tier};
 ghost use Rattle.brk_money.specs.declared.refusal.Refusal.TheVariants.{BadText};
 
-use brk_money::parse_whole_number;
+use brk_money::parse_whole;
 use std::marker::Model;
 
 /// A customer's tier (C_TIER), 1 to 3. Charges and commission rates depend on it.
@@ -21,7 +21,6 @@ impl Model for Tier {
 }
 
 impl Tier {
-    /// Returns the tier `number`, or `None` if it is not within 1 to 3.
     pub fn new(number: u64) -> Option<Tier>
         ensures { SomeIff result ((1 ≤ number) × (number ≤ 3)) number }
     {
@@ -32,18 +31,15 @@ impl Tier {
         }
     }
 
-    /// Parses a tier from the canonical text of its number, 1 to 3. Returns `None` if the bytes are
-    /// not the canonical text of a number, or if the number is out of range.
     pub fn parse(bytes: &[u8]) -> Option<Tier>
         ensures { ok_or result BadText ≡ read_tier bytes.now }
     {
-        let Some(number) = parse_whole_number(bytes, 3) else {
+        let Some(number) = parse_whole(bytes, 3) else {
             return None;
         };
         Tier::new(number)
     }
 
-    /// Returns the number of the tier, 1 to 3.
     pub fn get(self) -> u8
         ensures value { result ≡ self }
         ensures low { 1 ≤ self }

@@ -27,7 +27,6 @@ pub struct TradeRow {
     pub is_lifo: bool,
 }
 
-/// Returns true if the status of the trade is `Submitted`.
 pub fn is_submitted(trade: &TradeRow) -> bool
     ensures { result ≡ is_same_trade_status trade.now.status Submitted }
 {

@@ -6,30 +6,29 @@ ghost use Rattle.brk_money.specs.declared.refusal.Refusal.TheVariants.{BadType};
 
 use brk_money::TradeType;
 
-// Returns true if `bytes` equal the code of the trade type `kind`, such as `TMB` for `MarketBuy`.
-fn is_code_of_trade_type(kind: TradeType, bytes: &[u8]) -> bool
+fn type_has_code(kind: TradeType, bytes: &[u8]) -> bool
     ensures { result ≡ bytes_eq (trade_type_code kind) bytes.now }
 {
     kind.code().as_bytes() == bytes
 }
 
-/// Parses a trade type from its code, such as `TMB`. Returns `None` if no type has this code.
-pub fn parse_trade_type(bytes: &[u8]) -> Option<TradeType>
+/// Parses the code of a type, such as `TMB`.
+pub fn parse_type(bytes: &[u8]) -> Option<TradeType>
     ensures { ok_or result BadType ≡ read_trade_type bytes.now }
 {
-    if is_code_of_trade_type(TradeType::MarketBuy, bytes) {
+    if type_has_code(TradeType::MarketBuy, bytes) {
         return Some(TradeType::MarketBuy);
     }
-    if is_code_of_trade_type(TradeType::MarketSell, bytes) {
+    if type_has_code(TradeType::MarketSell, bytes) {
         return Some(TradeType::MarketSell);
     }
-    if is_code_of_trade_type(TradeType::StopLoss, bytes) {
+    if type_has_code(TradeType::StopLoss, bytes) {
         return Some(TradeType::StopLoss);
     }
-    if is_code_of_trade_type(TradeType::LimitSell, bytes) {
+    if type_has_code(TradeType::LimitSell, bytes) {
         return Some(TradeType::LimitSell);
     }
-    if is_code_of_trade_type(TradeType::LimitBuy, bytes) {
+    if type_has_code(TradeType::LimitBuy, bytes) {
         return Some(TradeType::LimitBuy);
     }
     None

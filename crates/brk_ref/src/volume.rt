@@ -22,7 +22,6 @@ impl Volume {
     /// The greatest volume, in shares.
     pub const GREATEST: u64 = Cents::GREATEST;
 
-    /// Returns the volume of `shares` shares, or `None` if it exceeds `GREATEST`.
     pub fn new(shares: u64) -> Option<Volume>
         ensures { SomeIff result (shares ≤ Volume.GREATEST) shares }
     {
@@ -33,14 +32,12 @@ impl Volume {
         }
     }
 
-    /// Returns the volume of a security that was not traded on the market yet: 0 shares.
     pub fn before_first_trade() -> Volume
         ensures { result ≡ 0 }
     {
         Volume(0)
     }
 
-    /// Returns the number of shares, 0 to 10^17.
     pub fn get(self) -> u64
         ensures value { result ≡ self }
         ensures high { self ≤ Volume.GREATEST }

@@ -1,4 +1,4 @@
--- How many fields a cancel, a result and an order have.
+-- The number of fields of a cancel, a result, a movement, a day and an order.
 use Rattle.std.proofs.Common.{◌≡◌, ℕ, refl, length, List, [], ◌∷◌, get_or, arith}
 use Rattle.std.specs.Borrow.{Bor}
 use Rattle.std.specs.Prelude.{Ok, Err}

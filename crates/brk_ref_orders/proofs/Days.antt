@@ -1,4 +1,4 @@
--- A day of the calendar that is read.
+-- A text that is read as a day of the calendar.
 use Rattle.std.proofs.Common.{◌≡◌, ◌≢◌, ◌≤◌, ℕ, Bool, true, false, refl, cond}
 use Rattle.std.specs.Prelude.{Option, Some, None, Ok, Err, nat_le}
 use Rattle.std.specs.Option.{ok_or}

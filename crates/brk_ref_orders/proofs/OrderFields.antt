@@ -1,4 +1,4 @@
--- The texts of an order's fields, and what is read of them.
+-- The texts of an order's ten fields, and the values that are read from them.
 use Rattle.std.proofs.Common.{◌≡◌, Bool, refl}
 use Rattle.std.specs.Prelude.{ℕ, Ok, Err}
 use Rattle.brk_money.specs.Spelling.{Text}

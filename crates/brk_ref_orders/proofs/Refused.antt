@@ -1,4 +1,4 @@
--- Orders of whose fields one is refused.
+-- The refusal of an order when one of its fields is refused.
 use Rattle.std.proofs.Common.{◌≡◌, Bool, true, false, refl, cond, [], ◌∷◌, ◌&&◌, inl, inr}
 use Rattle.std.specs.Prelude.{◌⊎◌, ℕ, Option, Some, None, Ok, Err, IfErr, nat_le}
 use Rattle.std.specs.Option.{ok_or}

@@ -4,11 +4,8 @@ ghost use Rattle.brk_ref.specs.Fields.{ParsesAs, texts_of_fields};
 use brk_money::{Id, Refusal};
 use brk_ref::parse_id;
 
-/// Parses the id of the trade to cancel from the field TRADE.
-///
-/// Refuses with `BadText` (18) if there is not exactly one field, or if the field is not an id.
-/// Never allocates.
-pub fn parse_id_of_trade_to_cancel(fields: &[&[u8]]) -> Result<Id, Refusal>
+/// Parses the field TRADE. Refuses with `BadText` (18).
+pub fn parse_cancel(fields: &[&[u8]]) -> Result<Id, Refusal>
     ensures { ParsesAs (λ trade. trade) result (read_id_of_trade_to_cancel (texts_of_fields fields.now)) }
 {
     let [trade] = fields else {

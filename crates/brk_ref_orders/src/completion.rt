@@ -8,16 +8,12 @@ use brk_ref::{parse_id, parse_price};
 /// The requested completion of a submitted trade (Trade-Result).
 #[derive(Clone, Copy)]
 pub struct Completion {
-    /// The trade that is completed.
     pub trade: Id,
-    /// The price of a share at which it was executed, in cents.
+    /// The price per share at which the trade was executed.
     pub price: Price,
 }
 
-/// Parses a completion from the fields TRADE and PRICE.
-///
-/// Refuses with `BadText` (18) if there are not exactly two fields or TRADE is not an id, otherwise
-/// with `BadPrice` (9) if PRICE is not a price. Never allocates.
+/// Parses the fields TRADE and PRICE. Refuses with `BadText` (18), otherwise with `BadPrice` (9).
 pub fn parse_completion(fields: &[&[u8]]) -> Result<Completion, Refusal>
     ensures { ParsesAs completion_command result (read_complete_trade_command (texts_of_fields fields.now)) }
 {

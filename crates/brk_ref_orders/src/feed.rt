@@ -7,7 +7,7 @@ ghost use Rattle.brk_ref_orders.specs.Reading.{appended_parse_results, abstract_
 ghost use Rattle.brk_ref_orders.specs.Records.{abstract_tick_as_list, abstract_ticks_of_vector, abstract_ticks};
 ghost use Rattle.brk_ref.specs.Fields.{ParsesAs, texts_of_fields};
 
-use crate::tick::{Tick, parse_tick_fields};
+use crate::tick::{Tick, parse_tick};
 use brk_money::{Planned, Refusal};
 use std::alloc::Global;
 use std::marker::Model;
@@ -33,8 +33,8 @@ impl Feed {
     /// The greatest number of ticks of a feed.
     pub const MOST: usize = 20;
 
-    /// Creates a feed of `ticks`. Refuses with `BadText` (18) if `ticks` is empty, and with
-    /// `TooMany` (20) if it has more than 20 elements. Never allocates.
+    /// Refuses with `BadText` (18) if `ticks` is empty, and with `TooMany` (20) if it has more than
+    /// 20.
     pub fn new(ticks: Vec<Tick>) -> Result<Feed, Refusal>
         ensures { ParsesAs abstract_ticks result (one_to_twenty_elements (abstract_ticks ticks.items)) }
     {
@@ -47,7 +47,6 @@ impl Feed {
         Ok(Feed { ticks })
     }
 
-    /// Returns the ticks, in the sequence in which they are applied.
     pub fn ticks(&self) -> &[Tick]
         ensures { result.now ≡ self.now }
     {
@@ -55,9 +54,8 @@ impl Feed {
     }
 }
 
-// Returns the rank of a refusal in the sequence of the format checks: 0 for `BadText`, 1 for
-// `BadQty`, 2 for `BadPrice`, 3 for `BadType`, and 4 for any other refusal.
-fn rank_of_format_refusal(refusal: Refusal) -> u8
+// The refusal of the lowest rank is the one that is returned.
+fn check_rank(refusal: Refusal) -> u8
     ensures { result ≡ forms.format_refusal_rank refusal }
 {
     match refusal {
@@ -69,25 +67,18 @@ fn rank_of_format_refusal(refusal: Refusal) -> u8
     }
 }
 
-// Returns the refusal with the lower rank in the sequence of the format checks, or `one` if both
-// ranks are equal.
-fn refusal_of_earlier_check(one: Refusal, other: Refusal) -> Refusal
+fn earlier_refusal(one: Refusal, other: Refusal) -> Refusal
     ensures { result ≡ (if nat_le (forms.format_refusal_rank one) (forms.format_refusal_rank other) then one else other) }
 {
-    if rank_of_format_refusal(one) <= rank_of_format_refusal(other) {
+    if check_rank(one) <= check_rank(other) {
         one
     } else {
         other
     }
 }
 
-// Appends the parsed tick `tick` to `ticks` and returns the list. If exactly one of the two is a
-// refusal, returns this refusal. If both are, returns the refusal of the earlier format check, or
-// that of `ticks` if neither check is earlier. Fails with `Memory` only.
-fn append_parsed_tick(
-    ticks: Result<Vec<Tick>, Refusal>,
-    tick: Result<Tick, Refusal>,
-) -> Planned<Vec<Tick>>
+// A refusal does not end the ticks: a later one may fail an earlier check.
+fn append_tick(ticks: Result<Vec<Tick>, Refusal>, tick: Result<Tick, Refusal>) -> Planned<Vec<Tick>>
     ensures read { IfOk result (λ read. abstract_parse_result abstract_ticks_of_vector read
         ≡ appended_parse_results (abstract_parse_result abstract_ticks_of_vector ticks) (abstract_parse_result abstract_tick_as_list tick)) }
     ensures fault { OnErr result (result ≡ Err Memory) }
@@ -99,14 +90,10 @@ fn append_parsed_tick(
         }
         (Ok(_), Err(refusal)) => Ok(Err(refusal)),
         (Err(refusal), Ok(_)) => Ok(Err(refusal)),
-        (Err(one), Err(other)) => Ok(Err(refusal_of_earlier_check(one, other))),
+        (Err(one), Err(other)) => Ok(Err(earlier_refusal(one, other))),
     }
 }
 
-// Parses any number of ticks from their fields, three for each: SYMBOL, PRICE and QTY. Refuses with
-// `BadText` if the number of fields is not a multiple of three, otherwise with the refusal of the
-// earliest format check that any tick fails: `BadText`, `BadQty` or `BadPrice`. Fails with `Memory`
-// only.
 fn parse_ticks(alloc: Global, fields: &[&[u8]]) -> Planned<Vec<Tick>>
     ensures read { IfOk result (λ read. ParsesAs abstract_ticks_of_vector read (read_ticks (texts_of_fields fields.now))) }
     ensures fault { OnErr result (result ≡ Err Memory) }
@@ -114,8 +101,8 @@ fn parse_ticks(alloc: Global, fields: &[&[u8]]) -> Planned<Vec<Tick>>
     let mut ticks = Ok(Vec::new(alloc));
     let mut rest = fields;
     while let [symbol, price, qty, after @ ..] = rest {
-        let tick = parse_tick_fields(alloc, symbol, price, qty)?;
-        ticks = append_parsed_tick(ticks, tick)?;
+        let tick = parse_tick(alloc, symbol, price, qty)?;
+        ticks = append_tick(ticks, tick)?;
         rest = after;
     }
     if !rest.is_empty() {
@@ -124,13 +111,9 @@ fn parse_ticks(alloc: Global, fields: &[&[u8]]) -> Planned<Vec<Tick>>
     Ok(ticks)
 }
 
-/// Parses a feed of 1 to 20 ticks from the fields SYMBOL, PRICE and QTY of each tick. Fails with
-/// `Memory` only.
-///
-/// Refuses with `BadText` (18) if there is no tick, a tick is incomplete or a symbol is malformed;
-/// otherwise with `BadQty` (8) if a quantity is malformed or out of range; otherwise with
-/// `BadPrice` (9) if a price is malformed or out of range; otherwise with `TooMany` (20) if there
-/// are more than 20 ticks.
+/// Parses the fields SYMBOL, PRICE and QTY of each of 1 to 20 ticks. Refuses with the first of
+/// these that applies to any tick: `BadText` (18), `BadQty` (8), `BadPrice` (9); otherwise with
+/// `TooMany` (20). Without a tick, it refuses with `BadText`.
 pub fn parse_market_feed(alloc: Global, fields: &[&[u8]]) -> Planned<Feed>
     ensures read { IfOk result (λ read. ParsesAs abstract_ticks read (read_feed (texts_of_fields fields.now))) }
     ensures fault { OnErr result (result ≡ Err Memory) }

@@ -13,14 +13,12 @@ pub mod tick;
 pub mod trade_ids;
 pub mod update;
 
-pub use cancel::parse_id_of_trade_to_cancel;
+pub use cancel::parse_cancel;
 pub use completion::{Completion, parse_completion};
 pub use feed::{Feed, parse_market_feed};
-pub use movement::{Direction, Movement, parse_cash_movement};
-pub use one_day::parse_one_day_settlement_start;
+pub use movement::{Direction, Movement, parse_cash_move};
+pub use one_day::parse_one_day;
 pub use order::{Order, parse_trade_order};
 pub use tick::Tick;
 pub use trade_ids::{TradeIds, parse_trade_ids};
-pub use update::{
-    Update, parse_update_of_cash_names, parse_update_of_cash_types, parse_update_of_executor_names,
-};
+pub use update::{Update, parse_cash_name_update, parse_cash_type_update, parse_executor_update};

@@ -3,7 +3,7 @@ ghost use Rattle.brk_ref_orders.specs.Records.{movement_command, cash_movement_c
 ghost use Rattle.brk_ref.specs.Fields.{ParsesAs, texts_of_fields};
 
 use brk_money::{Id, Refusal};
-use brk_ref::{MovedAmount, parse_id, parse_moved_amount};
+use brk_ref::{MovedAmount, parse_id, parse_moved};
 
 /// The direction of a movement of cash.
 #[derive(Clone, Copy, Debug, PartialEq, Eq)]
@@ -22,11 +22,8 @@ pub struct Movement {
     pub amount: MovedAmount,
 }
 
-/// Parses a deposit or a withdrawal, by `direction`, from the fields ACCOUNT and AMOUNT.
-///
-/// Refuses with `BadText` (18) if there are not exactly two fields, or if a field is malformed or
-/// out of range. Never allocates.
-pub fn parse_cash_movement(direction: Direction, fields: &[&[u8]]) -> Result<Movement, Refusal>
+/// Parses the fields ACCOUNT and AMOUNT. Refuses with `BadText` (18).
+pub fn parse_cash_move(direction: Direction, fields: &[&[u8]]) -> Result<Movement, Refusal>
     ensures { ParsesAs movement_command result (read_movement_command (cash_movement_command direction) (texts_of_fields fields.now)) }
 {
     let [account, amount] = fields else {
@@ -35,7 +32,7 @@ pub fn parse_cash_movement(direction: Direction, fields: &[&[u8]]) -> Result<Mov
     let Some(account) = parse_id(account) else {
         return Err(Refusal::BadText);
     };
-    let Some(amount) = parse_moved_amount(amount) else {
+    let Some(amount) = parse_moved(amount) else {
         return Err(Refusal::BadText);
     };
     Ok(Movement {

@@ -7,9 +7,7 @@ ghost use Rattle.brk_ref.specs.Fields.{ParsesAs, texts_of_fields};
 
 use brk_money::{Day, Refusal, parse_day};
 
-// Parses a day, such as `2024-03-01`. Returns `None` if the bytes are malformed or the day is not
-// within 1970-01-01 to 9999-12-31.
-fn parse_calendar_day(bytes: &[u8]) -> Option<Day>
+fn calendar_day(bytes: &[u8]) -> Option<Day>
     ensures { ok_or result BadText ≡ read_day bytes.now }
 {
     let Some(day) = parse_day(bytes) else {
@@ -20,17 +18,14 @@ fn parse_calendar_day(bytes: &[u8]) -> Option<Day>
     Some(day)
 }
 
-/// Parses the first day of one-day settlement, from the field DAY.
-///
-/// Refuses with `BadText` (18) if there is not exactly one field, or if the field is not a day
-/// within 1970-01-01 to 9999-12-31. Never allocates.
-pub fn parse_one_day_settlement_start(fields: &[&[u8]]) -> Result<Day, Refusal>
+/// Parses the field DAY, such as `2024-03-01`. Refuses with `BadText` (18).
+pub fn parse_one_day(fields: &[&[u8]]) -> Result<Day, Refusal>
     ensures { ParsesAs (λ day. day) result (read_one_day_settlement_start (texts_of_fields fields.now)) }
 {
     let [day] = fields else {
         return Err(Refusal::BadText);
     };
-    let Some(day) = parse_calendar_day(day) else {
+    let Some(day) = calendar_day(day) else {
         return Err(Refusal::BadText);
     };
     Ok(day)

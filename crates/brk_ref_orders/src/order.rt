@@ -10,24 +10,20 @@ ghost use Rattle.brk_ref.specs.Records.{abstract_executor};
 ghost use Rattle.brk_ref.specs.Fields.{ParsesAs, texts_of_fields};
 
 use brk_money::{Fault, Id, OrderType, Planned, Price, Qty, Refusal, TradeType};
-use brk_ref::{Executor, Name, Symbol, TaxId, parse_id, parse_price, parse_qty, parse_trade_type};
+use brk_ref::{Executor, Name, Symbol, TaxId, parse_id, parse_price, parse_qty, parse_type};
 use std::alloc::Global;
 
 /// A requested order (Trade-Order).
 #[derive(Drop)]
 pub struct Order {
-    /// The account of the order.
     pub account: Id,
-    /// The type, with the price that it requires.
     pub order_type: OrderType,
     pub symbol: Symbol,
-    /// The number of shares.
     pub qty: Qty,
     /// True if the order creates a cash trade, false if it creates a margin trade.
     pub is_cash: bool,
     /// True if the trade closes the newest lots first, false if it closes the oldest first.
     pub is_lifo: bool,
-    /// The person who places it.
     pub executor: Executor,
 }
 
@@ -46,9 +42,7 @@ struct UnparsedOrder<'a> {
     tax_id: &'a [u8],
 }
 
-// Returns `Some(true)` if the bytes are the word `yes`, otherwise `Some(false)` if they are the
-// word `no`, otherwise `None`.
-fn parse_word_as_boolean(yes: &str, no: &str, bytes: &[u8]) -> Option<bool>
+fn parse_flag(yes: &str, no: &str, bytes: &[u8]) -> Option<bool>
     ensures { ok_or result BadText ≡ read_word_as_boolean yes.now no.now bytes.now }
 {
     if bytes == yes.as_bytes() {
@@ -60,8 +54,6 @@ fn parse_word_as_boolean(yes: &str, no: &str, bytes: &[u8]) -> Option<bool>
     None
 }
 
-// Parses the person who places an order from the first name, the last name and the tax id. Returns
-// `None` if one of them is malformed. Fails with `Memory` only.
 fn parse_executor(
     alloc: Global,
     first_name: &[u8],
@@ -87,12 +79,7 @@ fn parse_executor(
     }))
 }
 
-// Returns `order_type`, which is meant to be a market type, if the text of the price is empty.
-// Otherwise refuses with `BadPrice`.
-fn market_order_type_if_price_empty(
-    order_type: OrderType,
-    price: &[u8],
-) -> Result<OrderType, Refusal>
+fn market_type(order_type: OrderType, price: &[u8]) -> Result<OrderType, Refusal>
     ensures { result ≡ forms.market_type_if_price_is_empty order_type price.now }
 {
     if price.is_empty() {
@@ -102,53 +89,40 @@ fn market_order_type_if_price_empty(
     }
 }
 
-// Parses the price that an order asks for, such as `10.00`. Refuses with `BadPrice` if the text is
-// empty or otherwise malformed, or if the price is out of range.
-fn parse_order_price(price: &[u8]) -> Result<Price, Refusal>
+fn checked_price(price: &[u8]) -> Result<Price, Refusal>
     ensures { result ≡ read_price price.now }
 {
     parse_price(price).ok_or(Refusal::BadPrice)
 }
 
-// Returns the refusal of an order with an unknown type: `BadType` if the text of the price is empty
-// or a price, otherwise `BadPrice`.
-fn refusal_of_unknown_type(price: &[u8]) -> Refusal
+// The price is checked first, so that `BadPrice` comes before `BadType`.
+fn type_refusal(price: &[u8]) -> Refusal
     ensures { forms.refusal_of_unknown_type_by_price_text price.now ≡ Err result }
 {
     if price.is_empty() {
         return Refusal::BadType;
     }
-    match parse_order_price(price) {
+    match checked_price(price) {
         Ok(_) => Refusal::BadType,
         Err(refusal) => refusal,
     }
 }
 
-// Returns the order type of the trade type `kind` with the price that `price` parses as. Refuses
-// with `BadPrice` if `kind` is a market type and `price` is not empty, or if `kind` is another type
-// and `price` is not a price. If `kind` is `None`, as for an unknown type, refuses with the result
-// of `refusal_of_unknown_type`.
+// `kind` is `None` for an unknown type.
 fn order_type_with_price(kind: Option<TradeType>, price: &[u8]) -> Result<OrderType, Refusal>
     ensures { result ≡ forms.order_type_with_price kind price.now }
 {
     match kind {
-        Some(TradeType::MarketBuy) => market_order_type_if_price_empty(OrderType::MarketBuy, price),
-        Some(TradeType::MarketSell) => market_order_type_if_price_empty(
-            OrderType::MarketSell,
-            price,
-        ),
-        Some(TradeType::StopLoss) => Ok(OrderType::StopLoss(parse_order_price(price)?)),
-        Some(TradeType::LimitSell) => Ok(OrderType::LimitSell(parse_order_price(price)?)),
-        Some(TradeType::LimitBuy) => Ok(OrderType::LimitBuy(parse_order_price(price)?)),
-        None => Err(refusal_of_unknown_type(price)),
+        Some(TradeType::MarketBuy) => market_type(OrderType::MarketBuy, price),
+        Some(TradeType::MarketSell) => market_type(OrderType::MarketSell, price),
+        Some(TradeType::StopLoss) => Ok(OrderType::StopLoss(checked_price(price)?)),
+        Some(TradeType::LimitSell) => Ok(OrderType::LimitSell(checked_price(price)?)),
+        Some(TradeType::LimitBuy) => Ok(OrderType::LimitBuy(checked_price(price)?)),
+        None => Err(type_refusal(price)),
     }
 }
 
-// Parses an order from its ten fields. Refuses with `BadText` if the account is malformed or out of
-// range, or if the symbol, CASH, END or a field of the executor is malformed; otherwise with
-// `BadQty` if the quantity is malformed or out of range; otherwise with the refusal of
-// `order_type_with_price`, if any. Fails with `Memory` only.
-fn parse_order_fields(alloc: Global, told: UnparsedOrder<'_>) -> Planned<Order>
+fn order_of_fields(alloc: Global, told: UnparsedOrder<'_>) -> Planned<Order>
     ensures read { IfOk result (λ read. ParsesAs abstract_order read (read_order (texts_of_order_fields told.entry))) }
     ensures fault { OnErr result (result ≡ Err Memory) }
 {
@@ -158,10 +132,10 @@ fn parse_order_fields(alloc: Global, told: UnparsedOrder<'_>) -> Planned<Order>
     let Some(symbol) = Symbol::parse(alloc, told.symbol)? else {
         return Ok(Err(Refusal::BadText));
     };
-    let Some(is_cash) = parse_word_as_boolean("cash", "margin", told.cash) else {
+    let Some(is_cash) = parse_flag("cash", "margin", told.cash) else {
         return Ok(Err(Refusal::BadText));
     };
-    let Some(is_lifo) = parse_word_as_boolean("lifo", "fifo", told.end) else {
+    let Some(is_lifo) = parse_flag("lifo", "fifo", told.end) else {
         return Ok(Err(Refusal::BadText));
     };
     let Some(executor) = parse_executor(alloc, told.first_name, told.last_name, told.tax_id)? else {
@@ -170,7 +144,7 @@ fn parse_order_fields(alloc: Global, told: UnparsedOrder<'_>) -> Planned<Order>
     let Some(qty) = parse_qty(told.qty) else {
         return Ok(Err(Refusal::BadQty));
     };
-    let order_type = match order_type_with_price(parse_trade_type(told.kind), told.price) {
+    let order_type = match order_type_with_price(parse_type(told.kind), told.price) {
         Ok(order_type) => order_type,
         Err(refusal) => return Ok(Err(refusal)),
     };
@@ -185,14 +159,11 @@ fn parse_order_fields(alloc: Global, told: UnparsedOrder<'_>) -> Planned<Order>
     }))
 }
 
-/// Parses an order from the fields ACCOUNT, TYPE, SYMBOL, QTY, PRICE, CASH, END, FIRST, LAST and
-/// TAXID. PRICE must be empty for a market type, a price for the other types, and empty or a price
-/// for an unknown type. Fails with `Memory` only.
+/// Parses the fields ACCOUNT, TYPE, SYMBOL, QTY, PRICE, CASH, END, FIRST, LAST and TAXID. PRICE
+/// must be empty for a market type and a price for the other types.
 ///
-/// Refuses with `BadText` (18) if there are not exactly ten fields, or if one of them except TYPE,
-/// QTY and PRICE is malformed or out of range; otherwise with `BadQty` (8) if QTY is malformed or
-/// out of range; otherwise with `BadPrice` (9) if PRICE is malformed, out of range or does not fit
-/// TYPE; otherwise with `BadType` (7) if TYPE is unknown.
+/// Refuses with the first of these that applies: `BadText` (18), `BadQty` (8), `BadPrice` (9), also
+/// if PRICE does not fit TYPE, and `BadType` (7).
 pub fn parse_trade_order(alloc: Global, fields: &[&[u8]]) -> Planned<Order>
     ensures read { IfOk result (λ read. ParsesAs abstract_order read (read_order (texts_of_fields fields.now))) }
     ensures fault { OnErr result (result ≡ Err Memory) }
@@ -224,5 +195,5 @@ pub fn parse_trade_order(alloc: Global, fields: &[&[u8]]) -> Planned<Order>
         last_name,
         tax_id,
     };
-    parse_order_fields(alloc, told)
+    order_of_fields(alloc, told)
 }

@@ -12,21 +12,11 @@ use std::alloc::Global;
 #[derive(Drop)]
 pub struct Tick {
     pub symbol: Symbol,
-    /// The price of a share, in cents.
     pub price: Price,
-    /// The number of shares that were traded.
     pub qty: Qty,
 }
 
-// Parses a tick from its three fields. Refuses with `BadText` if the symbol is malformed; otherwise
-// with `BadQty` if the quantity is malformed or out of range; otherwise with `BadPrice` if the
-// price is malformed or out of range. Fails with `Memory` only.
-pub(crate) fn parse_tick_fields(
-    alloc: Global,
-    symbol: &[u8],
-    price: &[u8],
-    qty: &[u8],
-) -> Planned<Tick>
+pub(crate) fn parse_tick(alloc: Global, symbol: &[u8], price: &[u8], qty: &[u8]) -> Planned<Tick>
     ensures read { IfOk result (λ read. ParsesAs abstract_tick_as_list read (read_ticks (symbol.now ∷ price.now ∷ qty.now ∷ []))) }
     ensures fault { OnErr result (result ≡ Err Memory) }
 {

@@ -31,9 +31,8 @@ impl TradeIds {
     /// The greatest number of trades that one row names.
     pub const MOST: usize = 20;
 
-    /// Creates the list of the trade ids `ids`, in their sequence. Refuses with `BadText` (18) if
-    /// `ids` is empty or an id occurs twice, otherwise with `TooMany` (20) if there are more than
-    /// 20. Never allocates.
+    /// Refuses with `BadText` (18) if `ids` is empty or an id occurs twice, otherwise with
+    /// `TooMany` (20) if there are more than 20.
     pub fn new(ids: Vec<Id>) -> Result<TradeIds, Refusal>
         ensures { ParsesAs (λ trades. trades) result (one_to_twenty_distinct_ids ids.items) }
     {
@@ -49,7 +48,6 @@ impl TradeIds {
         Ok(TradeIds { ids })
     }
 
-    /// Returns the ids of the trades, in the sequence of the list.
     pub fn ids(&self) -> &[Id]
         ensures { result.now ≡ self.now }
     {
@@ -57,14 +55,12 @@ impl TradeIds {
     }
 }
 
-// Returns true if `id` is one of `ids`.
 fn is_among_ids(id: Id, ids: &[Id]) -> bool
     ensures { result ≡ contains_number id ids.now }
 {
     ids.iter().any(|other| *other == id)
 }
 
-// Returns true if no id occurs twice in `ids`.
 fn has_distinct_ids(ids: &[Id]) -> bool
     ensures { result ≡ all_distinct ids.now }
 {
@@ -76,8 +72,6 @@ fn has_distinct_ids(ids: &[Id]) -> bool
     true
 }
 
-// Parses an id from each field, and returns the ids in the sequence of the fields. Refuses with
-// `BadText` if a field is malformed or out of range. Fails with `Memory` only.
 fn parse_ids(alloc: Global, fields: &[&[u8]]) -> Planned<Vec<Id>>
     ensures read { IfOk result (λ read. ParsesAs ids_of_vector read (read_each_text read_id (texts_of_fields fields.now))) }
     ensures fault { OnErr result (result ≡ Err Memory) }
@@ -92,10 +86,8 @@ fn parse_ids(alloc: Global, fields: &[&[u8]]) -> Planned<Vec<Id>>
     Ok(Ok(ids))
 }
 
-/// Parses 1 to 20 different ids of trades, one from each field. Fails with `Memory` only.
-///
-/// Refuses with `BadText` (18) if there is no field, if a field is not an id, or if an id occurs
-/// twice. Otherwise refuses with `TooMany` (20) if there are more than 20 fields.
+/// Parses an id from each field. Refuses with `BadText` (18), also without fields or if an id
+/// occurs twice, otherwise with `TooMany` (20) above 20 fields.
 pub fn parse_trade_ids(alloc: Global, fields: &[&[u8]]) -> Planned<TradeIds>
     ensures read { IfOk result (λ read. ParsesAs (λ trades. trades) read (read_distinct_ids (texts_of_fields fields.now))) }
     ensures fault { OnErr result (result ≡ Err Memory) }

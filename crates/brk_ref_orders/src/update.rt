@@ -25,12 +25,8 @@ pub enum Update {
     CashNames { symbol: Symbol, span: Span },
 }
 
-/// Parses an update of executors' names from the ids of its trades: 1 to 20 different ids, one in
-/// each field. Fails with `Memory` only.
-///
-/// Refuses with `BadText` (18) if there is no field, if a field is not an id, or if an id occurs
-/// twice. Otherwise refuses with `TooMany` (20) if there are more than 20 fields.
-pub fn parse_update_of_executor_names(alloc: Global, fields: &[&[u8]]) -> Planned<Update>
+/// Parses the ids of the trades, as `parse_trade_ids` does.
+pub fn parse_executor_update(alloc: Global, fields: &[&[u8]]) -> Planned<Update>
     ensures read { IfOk result (λ read. ParsesAs text_update_command read (read_and_wrap ChangeExecutors read_distinct_ids (texts_of_fields fields.now))) }
     ensures fault { OnErr result (result ≡ Err Memory) }
 {
@@ -40,13 +36,9 @@ pub fn parse_update_of_executor_names(alloc: Global, fields: &[&[u8]]) -> Planne
     }
 }
 
-/// Parses an update of cash types (SE_CASH_TYPE) from the fields ACCOUNT, FROM and TO, the last two
-/// of them stamps in milliseconds since 1970-01-01 UTC. FROM may be later than TO; the span is then
-/// empty.
-///
-/// Refuses with `BadText` (18) if there are not exactly three fields, or if one is malformed or out
-/// of range. Never allocates.
-pub fn parse_update_of_cash_types(fields: &[&[u8]]) -> Result<Update, Refusal>
+/// Parses the fields ACCOUNT, FROM and TO, the last two in milliseconds since 1970-01-01 UTC. FROM
+/// may be later than TO; the span is then empty. Refuses with `BadText` (18).
+pub fn parse_cash_type_update(fields: &[&[u8]]) -> Result<Update, Refusal>
     ensures { ParsesAs text_update_command result (read_cash_type_update (texts_of_fields fields.now)) }
 {
     let [account, first, last] = fields else {
@@ -65,13 +57,8 @@ pub fn parse_update_of_cash_types(fields: &[&[u8]]) -> Result<Update, Refusal>
     Ok(Update::CashTypes { account, span })
 }
 
-/// Parses an update of cash names, the texts of cash rows, from the fields SYMBOL, FROM and TO, the
-/// last two of them stamps in milliseconds since 1970-01-01 UTC. FROM may be later than TO; the
-/// span is then empty.
-///
-/// Refuses with `BadText` (18) if there are not exactly three fields, or if one is malformed or out
-/// of range. Fails with `Memory` only.
-pub fn parse_update_of_cash_names(alloc: Global, fields: &[&[u8]]) -> Planned<Update>
+/// Parses the fields SYMBOL, FROM and TO, as `parse_cash_type_update` does.
+pub fn parse_cash_name_update(alloc: Global, fields: &[&[u8]]) -> Planned<Update>
     ensures read { IfOk result (λ read. ParsesAs text_update_command read (read_cash_name_update (texts_of_fields fields.now))) }
     ensures fault { OnErr result (result ≡ Err Memory) }
 {

@@ -1,4 +1,4 @@
--- What a walk over cash rows with a visitor that opens a statement has written.
+-- The lines that a walk over cash rows writes with the visitor that opens a statement.
 use Rattle.std.proofs.Common.{◌≡◌, ℕ, List, [], ◌∷◌, ◌++◌, Option, Result, Ok, Err, inr, map, refl, sym, ap, subst, take, ◌∙◌}
 use Rattle.std.specs.Prelude.{nat_lt}
 use Rattle.std.specs.List.{FoldsTo}

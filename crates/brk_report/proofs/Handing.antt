@@ -1,4 +1,4 @@
--- Why a part broke off is why the whole does.
+-- The whole fails with the fault of the part that fails.
 use Rattle.std.proofs.Common.{◌≡◌, ℕ, ℤ, List, [], ◌∷◌, ◌++◌, Option, Result, Ok, Err, OnErr, IfErr, refl, sym, subst, inl, inr}
 use Rattle.std.specs.Prelude.{IsErrAnd}
 use Rattle.std.specs.Io.KnownBytes.{Appends}

@@ -1,4 +1,4 @@
--- Reads and walks, one after another, change nothing.
+-- Consecutive reads and walks change nothing.
 use Rattle.std.proofs.Common.{Result, arith, inl, refl, ◌∙◌}
 use Rattle.sqlite_trees.specs.declared.store.Store.{Ghosts}
 use Rattle.sqlite.specs.Held.{Held, state}

@@ -1,4 +1,4 @@
--- A report fails as writing its lines does.
+-- A report fails with the fault with which writing its lines fails.
 use Rattle.std.proofs.Common.{◌≡◌, Result, Ok, Err, IfErr, sym, subst}
 use Rattle.std.specs.Prelude.{IsErrAnd}
 use Rattle.brk_money.specs.declared.refusal.Refusal.{Refusal}

@@ -1,4 +1,4 @@
--- What a walk with a visitor that writes lines has written, and what one that adds up has added.
+-- The lines and the count of a walk with a visitor that writes lines, and the fault that ends it.
 use Rattle.std.proofs.Common.{◌≡◌, ℕ, ◌+◌, List, [], ◌∷◌, ◌++◌, IfErr, Option, Result, Ok, Err, length, map, refl, sym, ap, subst, ◌∙◌, arith}
 use Rattle.std.specs.List.{FoldsTo}
 use Rattle.std.specs.Io.KnownBytes.{Appends}

@@ -1,4 +1,5 @@
--- The parts of a statement are the whole, and it is told where it is refused.
+-- The parts of a statement make up the specified statement, and the refusals are the specified
+-- ones.
 use Rattle.std.proofs.Common.{◌≡◌, ℕ, ◌+ℤ◌, ℤ, Bool, true, false, List, [], ◌∷◌, ◌++◌, Option, Some, None, Ok, Err, codes, decimal, length, map, find, ◌==◌, refl, sym, ap, ◌∙◌, inr}
 use Rattle.std.specs.Prelude.{nat_lt}
 use Rattle.std.specs.Io.KnownBytes.{Appends}

@@ -1,4 +1,5 @@
-//! Statements of accounts, written line by line while the desk walks over its rows.
+//! Statements of accounts, written line by line while the desk walks over its rows. After `Desk`
+//! only whole lines are written, after `Write` also a prefix of the next.
 
 mod parts;
 pub mod sections;

@@ -7,9 +7,8 @@ ghost use Rattle.brk_io.specs.declared.report_fault.LinesFault.TheVariants.{Desk
 use brk_money::{Amount, Cents, Fault, Wide};
 use brk_report_lines::LinesFault;
 
-/// Returns `total` plus `amount`, both in cents. Fails with `Desk(Store)` if the sum exceeds the
-/// range of 128 bits.
-pub fn total_plus_amount(total: Wide, amount: Cents) -> Result<Wide, LinesFault>
+/// Returns the sum, in cents. Fails with `Desk(Store)` if it exceeds the range of 128 bits.
+pub fn plus_amount(total: Wide, amount: Cents) -> Result<Wide, LinesFault>
     ensures sum { IfOk result (λ sum. sum ≡ total +ℤ amount) }
     ensures fault { OnErr result (result ≡ Err (Desk fault.Store)) }
 {
@@ -19,9 +18,8 @@ pub fn total_plus_amount(total: Wide, amount: Cents) -> Result<Wide, LinesFault>
     }
 }
 
-/// Returns `total` plus `commission`, both in cents. Fails with `Desk(Store)` if the sum exceeds
-/// the range of 128 bits.
-pub fn total_plus_commission(total: Wide, commission: Amount) -> Result<Wide, LinesFault>
+/// Returns the sum, in cents. Fails with `Desk(Store)` if it exceeds the range of 128 bits.
+pub fn plus_commission(total: Wide, commission: Amount) -> Result<Wide, LinesFault>
     ensures sum { IfOk result (λ sum. sum ≡ total +ℤ pos commission) }
     ensures fault { OnErr result (result ≡ Err (Desk fault.Store)) }
 {

@@ -6,8 +6,7 @@ ghost use Rattle.brk_report.specs.WalkFaults.{fault_of_walk_error};
 use brk_desk::WalkError;
 use brk_report_lines::LinesFault;
 
-/// Converts the error of a failed walk into a fault of writing lines: the fault of the desk for
-/// `Failed`, and the fault with which the visitor stopped the walk for `Cause`.
+/// Returns the fault of the desk for `Failed`, and the visitor's own fault for `Cause`.
 pub fn fault_from_walk_error(stop: WalkError<LinesFault>) -> LinesFault
     ensures { result ≡ fault_of_walk_error stop }
 {

@@ -1,4 +1,4 @@
--- Lines behind lines: how a later part ends is how the whole does.
+-- Lines written after other lines: the whole ends as the last part does.
 use Rattle.std.proofs.Common.{◌≡◌, List, [], ◌∷◌, ◌++◌, Option, Some, None, append-nil, take, refl, sym, ap, subst, ◌∙◌}
 use Rattle.std.specs.Io.KnownBytes.{Appends}
 use Rattle.std.proofs.KnownBytes.{Appends-trans}

@@ -1,4 +1,4 @@
--- A first part of the text of lines is whole lines and a part of the next one.
+-- A prefix of the text of lines is some of the lines and a prefix of the next one.
 use Rattle.std.proofs.Common.{◌≡◌, ℕ, ◌+◌, ◌-◌, ◌≤◌, List, [], ◌∷◌, ◌++◌, Bool, true, false, append-nil, arith, length, nat_le, take, refl, sym, ap, ◌∙◌}
 use Rattle.std.proofs.lemmas.Bool.Decides.{nat_tests}
 use Rattle.std.proofs.lemmas.List.{append_assoc, take-append-le}

@@ -1,4 +1,4 @@
--- The stamps of days.
+-- The stamps from the first of one day to the last of another.
 use Rattle.std.proofs.Common.{◌≡◌, ℕ, ◌+◌, ◌*◌, ◌/◌, ◌≤◌, ◌&&◌, arith}
 use Rattle.std.specs.Prelude.{nat_le}
 use Rattle.std.specs.Cmp.{both_ways}

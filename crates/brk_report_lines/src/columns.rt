@@ -6,8 +6,6 @@ ghost use Rattle.brk_model.specs.Statement.{left_aligned_text, right_aligned_tex
 
 use brk_money::Fault;
 
-// Appends `count` spaces, at most 22. Fails with `Memory` only; no clause states what `out` then
-// contains.
 fn append_spaces(out: &mut Vec<u8>, count: usize) -> Result<(), Fault>
     requires { count ≤ 22 }
     ensures ok { OnOk result (out.new.items ≡ out.old.items ++ replicate count 32) }
@@ -18,9 +16,8 @@ fn append_spaces(out: &mut Vec<u8>, count: usize) -> Result<(), Fault>
     Ok(())
 }
 
-/// Appends `text`, and then spaces up to a width of `places` bytes, at most 22. A longer text is
-/// appended whole. Fails with `Memory` only; a part of these bytes may then be appended.
-pub fn append_left_aligned(out: &mut Vec<u8>, places: usize, text: &[u8]) -> Result<(), Fault>
+/// Appends `text`, padded with spaces on the right to `places` bytes, at most 22.
+pub fn append_left(out: &mut Vec<u8>, places: usize, text: &[u8]) -> Result<(), Fault>
     requires { places ≤ 22 }
     ensures ok { OnOk result (out.new.items ≡ out.old.items ++ left_aligned_text places text.now) }
     ensures fault { OnErr result (result ≡ Err Memory) }
@@ -29,9 +26,8 @@ pub fn append_left_aligned(out: &mut Vec<u8>, places: usize, text: &[u8]) -> Res
     append_spaces(out, places.saturating_sub(text.len()))
 }
 
-/// Appends spaces, and then `text`, to a width of `places` bytes, at most 22. A longer text is
-/// appended whole. Fails with `Memory` only; a part of these bytes may then be appended.
-pub fn append_right_aligned(out: &mut Vec<u8>, places: usize, text: &[u8]) -> Result<(), Fault>
+/// Appends `text`, padded with spaces on the left to `places` bytes, at most 22.
+pub fn append_right(out: &mut Vec<u8>, places: usize, text: &[u8]) -> Result<(), Fault>
     requires { places ≤ 22 }
     ensures ok { OnOk result (out.new.items ≡ out.old.items ++ right_aligned_text places text.now) }
     ensures fault { OnErr result (result ≡ Err Memory) }

@@ -7,15 +7,14 @@ ghost use Rattle.brk_money.specs.declared.fault.Fault.TheVariants.{Memory};
 ghost use Rattle.brk_model.specs.Statement as statement;
 ghost use Rattle.brk_report_lines.specs.Written.{line_with_line_feed};
 
-use crate::columns::{append_left_aligned, append_right_aligned};
+use crate::columns::{append_left, append_right};
 use brk_money::{Day, Fault, Id, Wide, write_cents, write_day};
 use brk_ref::Name;
 use itoa::Buffer;
 use std::alloc::Global;
 
-/// Returns the title line of a statement, `Statement of account ID`, with its line feed. Fails with
-/// `Memory` only.
-pub fn statement_title_line(alloc: Global, account: Id) -> Result<Vec<u8>, Fault>
+/// Returns `Statement of account ID`.
+pub fn title_line(alloc: Global, account: Id) -> Result<Vec<u8>, Fault>
     ensures line { IfOk result (λ line. line.items ≡ line_with_line_feed (codes "Statement of account " ++ decimal account)) }
     ensures fault { OnErr result (result ≡ Err Memory) }
 {
@@ -26,9 +25,7 @@ pub fn statement_title_line(alloc: Global, account: Id) -> Result<Vec<u8>, Fault
     Ok(line)
 }
 
-/// Returns the line of a statement that consists of the name of the account, with its line feed.
-/// Fails with `Memory` only.
-pub fn account_name_line(alloc: Global, name: &Name) -> Result<Vec<u8>, Fault>
+pub fn name_line(alloc: Global, name: &Name) -> Result<Vec<u8>, Fault>
     ensures line { IfOk result (λ line. line.items ≡ line_with_line_feed name.now) }
     ensures fault { OnErr result (result ≡ Err Memory) }
 {
@@ -37,10 +34,8 @@ pub fn account_name_line(alloc: Global, name: &Name) -> Result<Vec<u8>, Fault>
     Ok(line)
 }
 
-/// Returns the line of a statement that has its first day, `from`, and its last day, `to`, both
-/// included: `From DAY to DAY`, with days in the format YYYY-MM-DD, and its line feed. Fails with
-/// `Memory` only.
-pub fn first_and_last_day_line(alloc: Global, from: Day, to: Day) -> Result<Vec<u8>, Fault>
+/// Returns `From DAY to DAY`, with days in the format YYYY-MM-DD.
+pub fn period_line(alloc: Global, from: Day, to: Day) -> Result<Vec<u8>, Fault>
     ensures line { IfOk result (λ line. line.items ≡ line_with_line_feed (codes "From " ++ day_text from ++ codes " to " ++ day_text to)) }
     ensures fault { OnErr result (result ≡ Err Memory) }
 {
@@ -52,9 +47,8 @@ pub fn first_and_last_day_line(alloc: Global, from: Day, to: Day) -> Result<Vec<
     Ok(line)
 }
 
-/// Returns the line, with its line feed, of `word`, left-aligned in 10 bytes, a space, and
-/// `amount`, which is in cents, as text with two decimal places, right-aligned in 22 bytes. A
-/// longer word or amount is written whole. Fails with `Memory` only.
+/// Returns `word`, left-aligned in 10 bytes, a space, and `amount` (in cents), with two decimal
+/// places, right-aligned in 22 bytes.
 pub fn amount_line(alloc: Global, word: &str, amount: Wide) -> Result<Vec<u8>, Fault>
     ensures line { IfOk result (λ line. line.items ≡ line_with_line_feed (statement.amount_line word.now amount)) }
     ensures fault { OnErr result (result ≡ Err Memory) }
@@ -62,15 +56,14 @@ pub fn amount_line(alloc: Global, word: &str, amount: Wide) -> Result<Vec<u8>, F
     let mut cents = Vec::new(alloc);
     write_cents(&mut cents, amount)?;
     let mut line = Vec::new(alloc);
-    append_left_aligned(&mut line, 10, word.as_bytes())?;
+    append_left(&mut line, 10, word.as_bytes())?;
     line.push(b' ')?;
-    append_right_aligned(&mut line, 22, cents.as_slice())?;
+    append_right(&mut line, 22, cents.as_slice())?;
     line.push(b'\n')?;
     Ok(line)
 }
 
-/// Returns the last line of a statement, `Cash rows N, lots N`, with the number of cash rows,
-/// `cash`, and the number of lots, `lots`, and its line feed. Fails with `Memory` only.
+/// Returns `Cash rows N, lots N`, the last line of a statement.
 pub fn row_counts_line(alloc: Global, cash: u64, lots: u64) -> Result<Vec<u8>, Fault>
     ensures line { IfOk result (λ line. line.items ≡ line_with_line_feed (codes "Cash rows " ++ decimal cash ++ codes ", lots " ++ decimal lots)) }
     ensures fault { OnErr result (result ≡ Err Memory) }

@@ -6,15 +6,14 @@ ghost use Rattle.brk_ref.specs.Rows.{abstract_holding_row, abstract_cash_row};
 ghost use Rattle.brk_model.specs.Statement as statement;
 ghost use Rattle.brk_report_lines.specs.Written.{line_with_line_feed};
 
-use crate::columns::{append_left_aligned, append_right_aligned};
+use crate::columns::{append_left, append_right};
 use brk_money::{Fault, Wide, day_of, write_cents, write_day};
 use brk_ref::{CashRow, HoldingRow};
 use itoa::Buffer;
 use std::alloc::Global;
 
-/// Returns the line of a cash row, with its line feed: the UTC day of its stamp (YYYY-MM-DD), its
-/// amount with two decimal places, right-aligned in 22 bytes (a longer one is written whole), and
-/// its name, separated by spaces. Fails with `Memory` only.
+/// Returns the UTC day of the row (YYYY-MM-DD), its amount, right-aligned in 22 bytes, and its
+/// name, separated by spaces.
 pub fn cash_row_line(alloc: Global, row: &CashRow) -> Result<Vec<u8>, Fault>
     ensures line { IfOk result (λ line. line.items ≡ line_with_line_feed (statement.cash_row_line (abstract_cash_row row.now))) }
     ensures fault { OnErr result (result ≡ Err Memory) }
@@ -24,17 +23,16 @@ pub fn cash_row_line(alloc: Global, row: &CashRow) -> Result<Vec<u8>, Fault>
     let mut line = Vec::new(alloc);
     write_day(&mut line, day_of(row.stamp))?;
     line.push(b' ')?;
-    append_right_aligned(&mut line, 22, cents.as_slice())?;
+    append_right(&mut line, 22, cents.as_slice())?;
     line.push(b' ')?;
     line.extend_from_slice(row.name.as_bytes())?;
     line.push(b'\n')?;
     Ok(line)
 }
 
-/// Returns the line of a lot, with its line feed: its symbol in 15 bytes, left-aligned, and,
-/// right-aligned, the id of the trade that opened it in 13, its quantity (below 0 if it was sold
-/// short) in 11 and its price, with two decimal places, in 10 bytes, separated by spaces. A longer
-/// text is written whole. Fails with `Memory` only.
+/// Returns the symbol of the lot, left-aligned in 15 bytes, and, right-aligned, the id of the trade
+/// that opened it in 13, its quantity (below 0 if sold short) in 11 and its price in 10 bytes,
+/// separated by spaces.
 pub fn lot_line(alloc: Global, row: &HoldingRow) -> Result<Vec<u8>, Fault>
     ensures line { IfOk result (λ line. line.items ≡ line_with_line_feed (statement.lot_line (abstract_holding_row row.now))) }
     ensures fault { OnErr result (result ≡ Err Memory) }
@@ -44,13 +42,13 @@ pub fn lot_line(alloc: Global, row: &HoldingRow) -> Result<Vec<u8>, Fault>
     let mut trade = Buffer::new();
     let mut qty = Buffer::new();
     let mut line = Vec::new(alloc);
-    append_left_aligned(&mut line, 15, row.symbol.as_str().as_bytes())?;
+    append_left(&mut line, 15, row.symbol.as_str().as_bytes())?;
     line.push(b' ')?;
-    append_right_aligned(&mut line, 13, trade.format(row.trade.get()).as_bytes())?;
+    append_right(&mut line, 13, trade.format(row.trade.get()).as_bytes())?;
     line.push(b' ')?;
-    append_right_aligned(&mut line, 11, qty.format(row.qty).as_bytes())?;
+    append_right(&mut line, 11, qty.format(row.qty).as_bytes())?;
     line.push(b' ')?;
-    append_right_aligned(&mut line, 10, price.as_slice())?;
+    append_right(&mut line, 10, price.as_slice())?;
     line.push(b'\n')?;
     Ok(line)
 }

@@ -8,9 +8,8 @@ use brk_io::{LinesFault, write_all_bytes};
 use brk_money::Fault;
 use std::io::Write;
 
-/// Writes the line `line`, which must end with its line feed (none is added), or nothing if `line`
-/// is a fault, which must be `Memory` or `Store`. Fails with `Desk` and this fault, or with `Write`
-/// after a prefix of the line, perhaps empty or all of it, if the writer fails or accepts no byte.
+/// Writes `line`, which must end with its line feed. Fails with `Desk` if `line` is a fault, or
+/// with `Write` after a prefix of it.
 pub fn write_line<W: Write>(writer: &mut W, line: Result<Vec<u8>, Fault>) -> Result<(), LinesFault>
     ensures written { (text : Text) → IfOk line (λ l. l.items ≡ line_with_line_feed text) → IfErr line IsCallFault
         → WritesLines (text ∷ []) (W.contents writer.old) (W.contents writer.new) result }
@@ -26,9 +25,7 @@ pub fn write_line<W: Write>(writer: &mut W, line: Result<Vec<u8>, Fault>) -> Res
     Ok(())
 }
 
-/// Writes `text`, which must be one or more lines, each with its line feed, or nothing if `text` is
-/// a fault, which must be `Memory` or `Store`. Fails with `Desk` and this fault, or with `Write`
-/// after a prefix of the text, perhaps empty or all of it, if the writer fails or accepts no byte.
+/// Writes one or more lines, each with its line feed; fails as `write_line` does.
 pub fn write_lines<W: Write>(writer: &mut W, text: Result<Vec<u8>, Fault>) -> Result<(), LinesFault>
     ensures written { (line : Text) (lines : List Text) → IfOk text (λ t. t.items ≡ text_of_lines (line ∷ lines)) → IfErr text IsCallFault
         → WritesLines (line ∷ lines) (W.contents writer.old) (W.contents writer.new) result }

@@ -1,4 +1,4 @@
--- How many cash rows there can be by the number of the last.
+-- Fewer cash rows than the limit, if the next number is below it.
 use Rattle.std.proofs.Common.{◌≡◌, ◌∙◌, ◌≤◌, ◌<◌, ◌+◌, ℕ, true, false, Bool, List, [], ◌∷◌, ◌++◌, filter, is_none, length, nat_le, nat_lt, option_map, reverse, slice_get, unwrap_or, refl, ap, arith}
 use Rattle.std.specs.List.{AllByRecursion}
 use Rattle.std.proofs.lemmas.Bool.Decides.{nat_tests}

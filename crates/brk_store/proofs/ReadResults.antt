@@ -1,4 +1,4 @@
--- What was read of the tables decides on a command.
+-- Results that follow from the rows of a read.
 use Rattle.std.proofs.Common.{◌≡◌, Result, Ok, Err, IfOk, subst}
 use Rattle.std.specs.Prelude.{OnOk}
 use Rattle.sqlite_trees.specs.declared.store.Store.{Ghosts}

@@ -1,4 +1,4 @@
--- What reads tell, told otherwise, and one read after another.
+-- Consequences of the result of a read, and one read after another.
 use Rattle.std.proofs.Common.{Result, Ok, Err, IfOk, OnOk, IsTrue}
 use Rattle.sqlite_trees.specs.declared.store.Store.{Ghosts}
 use Rattle.sqlite.specs.Held.{Held, state}

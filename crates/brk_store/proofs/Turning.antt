@@ -1,4 +1,4 @@
--- A page is turned.
+-- The turn to the next page of lots.
 use Rattle.std.specs.Prelude.{MatchOption, option_map}
 use Rattle.std.proofs.Common.{Option, ◌≡◌, ◌+◌, ℕ, List, [], ◌∷◌, ◌++◌, Bool, true, false, nat_lt, drop, take, length, map, reverse, min, slice_get, refl, sym, ap, ◌∙◌, subst, arith}
 use Rattle.std.proofs.lemmas.Bool.{ltb-true, ltb-false}

@@ -13,18 +13,12 @@ use sqlite::{Alter, Connection};
 use std::alloc::Global;
 
 impl<S: Alter> Store<S> {
-    /// Audits the database by the conditions of schema 3 and writes nothing. Returns `Ok` only if
-    /// its rows pass this audit.
+    /// Audits the database by the conditions of schema 3 and writes nothing. Fails with `Damaged`
+    /// and the first condition that fails, or with `Memory` or `Store`.
     ///
-    /// Fails with `Damaged` and the first condition that fails, or with `Memory` or `Store`. The
-    /// database, if it is still open, is unchanged, whatever the result.
-    ///
-    /// A crash after the call exposes only states that a crash before the call could expose.
-    ///
-    /// The result is specified only if the database satisfies
-    /// `ConnectionTablesWithThirdSchemaNamesAreDeskTables`: if it has all tables of schema 3, by
-    /// their names and column names, these satisfy `HasDeskDefinitions`. Every store that holds a
-    /// desk's tables satisfies it (`stores_that_hold_tables_have_desk_definitions`).
+    /// Specified only if tables with the names and column names of schema 3 satisfy
+    /// `HasDeskDefinitions`, as those of every store that holds a desk do
+    /// (`stores_that_hold_tables_have_desk_definitions`).
     pub fn audit(&mut self, alloc: Global) -> Result<(), Fault>
         ensures audited { AuditPost S.Store self.old self.new result }
         ensures condition { IfErr result (λ f. f ≢ fault.Damaged NotEmpty) }
@@ -32,29 +26,22 @@ impl<S: Alter> Store<S> {
         audit_database(&mut self.conn, alloc)
     }
 
-    /// Audits the database of `conn` by the conditions of its own schema and, if its rows pass this
-    /// audit, opens it as a store. The rows of the store pass the audit of schema 3. A database of
-    /// an older schema is upgraded to schema 3 in one transaction, and the store is open after the
-    /// upgrade; a database of schema 3 is not written, and no clause states that its store is open.
-    /// An upgrade does not change the rows of tables that are not the desk's, unless a foreign key
-    /// of such a table may change or delete them by CASCADE, SET NULL or SET DEFAULT.
+    /// Audits the database of `conn` by the conditions of its own schema and, if its rows pass,
+    /// opens it as a store. An older schema is upgraded to schema 3 in one transaction; the rows of
+    /// other tables are unchanged, unless a foreign key of theirs says CASCADE, SET NULL or SET
+    /// DEFAULT.
     ///
-    /// Errors return the connection; a database that is still open is unchanged. The fault is
-    /// `Memory`, `Store`, or `Damaged` with the first condition that fails (`Schema` if the
-    /// database has none of the three schemas, never `NotEmpty`). The fault `Store` is returned
-    /// also if `conn` is in a transaction, and then the connection is unchanged; otherwise the
-    /// returned connection is in autocommit mode.
+    /// Errors return the connection, in autocommit mode, and leave a database that is still open
+    /// unchanged. The fault is `Memory`, `Store`, or `Damaged` with the first condition that fails,
+    /// `Schema` if the database has none of the three schemas. If `conn` is in a transaction, the
+    /// fault is `Store` and nothing changes.
     ///
-    /// A crash after the call exposes a state that a crash before the call could expose or, if rows
-    /// of an older schema passed their audit, the upgraded tables; after `Ok` of an upgrade only
-    /// the latter. After an error it may expose the upgraded tables only if the database is closed.
+    /// A crash after the call exposes what a crash before it could or, if an older schema passed
+    /// its audit, the upgraded tables: only these after `Ok` of an upgrade; after an error these
+    /// only if the database is closed.
     ///
-    /// The result, the rows of the store and of other tables, the crash states, and that a database
-    /// of schema 3 is not written, are specified only if the database satisfies
-    /// `ConnectionTablesWithDeskNamesAreDeskTables`: if it has all tables of some schema, by their
-    /// names and column names, then these tables satisfy `HasDeskDefinitions`, with a desk's types,
-    /// keys and foreign keys, and no foreign key with CASCADE, SET NULL or SET DEFAULT. A database
-    /// without such tables, for example an empty one, satisfies this premise.
+    /// Specified only if tables of the database with the names and column names of a schema satisfy
+    /// `HasDeskDefinitions`; an empty database has none.
     pub fn adopt(alloc: Global, conn: Connection<S>) -> Result<Store<S>, (Connection<S>, Fault)>
         ensures adopted { MatchResult result (λ store. AdoptPost S.Store conn store (Ok tt)) (λ e. AdoptPost S.Store conn e.0 (Err e.1)) }
         ensures condition { IfErr result (λ e. e.1 ≢ fault.Damaged NotEmpty) }

@@ -19,8 +19,7 @@ use sqlite::Alter;
 use std::alloc::Global;
 
 impl<S: Alter> Store<S> {
-    /// Returns the brokers with the name `name`, sorted by id, ascending. If the database is still
-    /// open, it is unchanged. Fails with `Memory` or `Store`.
+    /// Returns the brokers with the name, sorted by id, ascending.
     pub fn brokers_named(&mut self, alloc: Global, name: &Name) -> Result<Vec<BrokerRow>, Fault>
         ensures read { ReadPost S.Store self.old self.new result (AreMatchingRows Brokers abstract_broker_row (λ r. bytes_eq r.name name.now)) }
         ensures fault { IfErr result IsCallFault }
@@ -29,8 +28,8 @@ impl<S: Alter> Store<S> {
         brk_tables_views::brokers_with_name(&mut tx, alloc, name)
     }
 
-    /// Returns all requests (TRADE_REQUEST: pending trades), sorted by trade, ascending. If the
-    /// database is still open, it is unchanged. Fails with `Memory` or `Store`.
+    /// Returns all rows of TRADE_REQUEST, which are of the pending trades, sorted by trade,
+    /// ascending.
     pub fn all_trade_requests(&mut self, alloc: Global) -> Result<Vec<RequestRow>, Fault>
         ensures read { ReadPost S.Store self.old self.new result (λ all t. map abstract_request_row all.items ≡ t.requests) }
         ensures fault { IfErr result IsCallFault }
@@ -39,8 +38,7 @@ impl<S: Alter> Store<S> {
         brk_tables_views::all_requests(&mut tx, alloc)
     }
 
-    /// Returns the ids of the accounts of a broker, ascending. If the database is still open, it is
-    /// unchanged. Fails with `Memory` or `Store`.
+    /// Returns the ids of the accounts of a broker, ascending.
     pub fn broker_account_ids(&mut self, alloc: Global, broker: Id) -> Result<Vec<Id>, Fault>
         ensures read { ReadPost S.Store self.old self.new result (λ all t. all.items ≡ map (λ r. r.id) (filter (λ r. r.broker == broker) t.accounts)) }
         ensures fault { IfErr result IsCallFault }

@@ -23,20 +23,17 @@ use sqlite::Alter;
 const GREATEST_MOVEMENT_COUNT: u64 = 1_000_000_000_000;
 
 impl<S: Alter> Store<S> {
-    /// Returns the first day of one-day settlement, in days
-    /// since 1970-01-01, or `None` if none is set. If the database is still open, it is unchanged.
-    /// Fails with `Store` only, also if SETTLE_RULE has two rows or more, or a row with another id
-    /// than 1.
-    pub fn one_day_settlement_start(&mut self) -> Result<Option<Day>, Fault>
+    /// Returns the first day of one-day settlement, in days since 1970-01-01. Fails with `Store`
+    /// also if SETTLE_RULE has two rows or more, or one with another id than 1.
+    pub fn one_day_start(&mut self) -> Result<Option<Day>, Fault>
         ensures read { ReadPost S.Store self.old self.new result (λ day t. day ≡ t.rule) }
         ensures fault { OnErr result (result ≡ Err fault.Store) }
     {
         let mut tx = begin_transaction(&mut self.conn);
-        brk_tables_cash::one_day_settlement_start(&mut tx)
+        brk_tables_cash::one_day_start(&mut tx)
     }
 
-    /// Returns the cash row of a trade, or `None` if it has none. If the database is still open, it
-    /// is unchanged. Fails with `Store` only.
+    /// Returns the cash row of a trade.
     pub fn cash_row(&mut self, trade: Id) -> Result<Option<CashRow>, Fault>
         ensures read { ReadPost S.Store self.old self.new result (IsFirstMatch CashMoves abstract_cash_row (is_cash_row_of_trade trade)) }
         ensures fault { OnErr result (result ≡ Err fault.Store) }
@@ -45,30 +42,25 @@ impl<S: Alter> Store<S> {
         brk_tables_cash::cash_row_by_trade(&mut tx, trade)
     }
 
-    // Returns the cash row with the greatest number (CM_ID), or `None` if there is no cash row. If
-    // the database is still open, it is unchanged. Fails with `Store` only.
     fn last_cash_row(&mut self) -> Result<Option<CashRow>, Fault>
         ensures read { ReadPost S.Store self.old self.new result (λ o t. option_map abstract_cash_row o ≡ slice_get (reverse t.moves) 0) }
         ensures fault { OnErr result (result ≡ Err fault.Store) }
     {
         let mut tx = begin_transaction(&mut self.conn);
-        brk_tables_cash::cash_row_with_greatest_number(&mut tx)
+        brk_tables_cash::greatest_cash_row(&mut tx)
     }
 
-    // Returns whether there are at least `GREATEST_MOVEMENT_COUNT` deposits and withdrawals, which
-    // are the cash rows without a trade. The query reads each of these rows, so its time grows with
-    // their number. If the database is still open, it is unchanged. Fails with `Store` only.
-    fn has_reached_movement_limit(&mut self) -> Result<bool, Fault>
+    // Reads each row of a deposit or a withdrawal, so its time grows with their number.
+    fn has_most_movements(&mut self) -> Result<bool, Fault>
         ensures read { ReadPost S.Store self.old self.new result (λ all t. all ≡ nat_le greatest_id (length (filter (λ r. is_none r.trade) t.moves))) }
         ensures fault { OnErr result (result ≡ Err fault.Store) }
     {
         let mut tx = begin_transaction(&mut self.conn);
-        brk_tables_cash::has_reached_movement_limit(&mut tx)
+        brk_tables_cash::has_most_movements(&mut tx)
     }
 
-    /// Returns the number of the next cash row: one more than the greatest number, or 1 if there is
-    /// no cash row. If the database is still open, it is unchanged. Fails with `Store` only, also
-    /// if the greatest `MoveId` is in use.
+    /// Returns the greatest number of a cash row plus 1, or 1 if there is no cash row. Fails with
+    /// `Store` also if the greatest `MoveId` is in use.
     pub fn next_cash_row_number(&mut self) -> Result<MoveId, Fault>
         ensures read { ReadPost S.Store self.old self.new result (λ next t. next ≡ last_cash_row_number_or_zero t + 1) }
         ensures fault { OnErr result (result ≡ Err fault.Store) }
@@ -83,12 +75,9 @@ impl<S: Alter> Store<S> {
         }
     }
 
-    /// Returns a pair: the number of the next cash row, which is one more than the greatest number,
-    /// or 1 if there is no cash row; and whether there are at least `Id::GREATEST`
-    /// (1,000,000,000,000) deposits and withdrawals together, so that no further movement may be
-    /// booked. If the database is still open, it is unchanged. Fails with `Store` only, also if the
-    /// greatest `MoveId` is in use.
-    pub fn next_cash_row_number_and_limit_reached(&mut self) -> Result<(MoveId, bool), Fault>
+    /// Returns the next number (`next_cash_row_number`), and whether at least `Id::GREATEST`
+    /// (1,000,000,000,000) movements are booked, so that no further one may be.
+    pub fn next_movement_number(&mut self) -> Result<(MoveId, bool), Fault>
         ensures read { ReadPost S.Store self.old self.new result (λ number t. (number.0 ≡ last_cash_row_number_or_zero t + 1)
             × (number.1 ≡ nat_le greatest_id (length (filter (λ r. is_none r.trade) t.moves)))) }
         ensures fault { OnErr result (result ≡ Err fault.Store) }
@@ -99,7 +88,7 @@ impl<S: Alter> Store<S> {
         if next.get() < GREATEST_MOVEMENT_COUNT {
             return Ok((next, false));
         }
-        let has_reached_limit = self.has_reached_movement_limit()?;
+        let has_reached_limit = self.has_most_movements()?;
         Ok((next, has_reached_limit))
     }
 }

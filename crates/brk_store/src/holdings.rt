@@ -19,9 +19,8 @@ use std::alloc::Global;
 
 impl<S: Alter> Store<S> {
     /// Returns the ids of the completed trades of an account in a security, sorted by the stamp of
-    /// completion and then by id, both ascending. If the database is still open, it is unchanged.
-    /// Fails with `Memory` or `Store`.
-    pub fn completed_trade_ids_of_position(
+    /// completion and then by id, ascending.
+    pub fn completed_trade_ids(
         &mut self,
         alloc: Global,
         account: Id,
@@ -34,6 +33,6 @@ impl<S: Alter> Store<S> {
         ensures fault { IfErr result IsCallFault }
     {
         let mut tx = begin_transaction(&mut self.conn);
-        brk_tables_views::completed_trade_ids_of_position(&mut tx, alloc, account, symbol)
+        brk_tables_views::completed_trade_ids(&mut tx, alloc, account, symbol)
     }
 }

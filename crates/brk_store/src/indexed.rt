@@ -30,9 +30,9 @@ const PAGE_SIZE: usize = 16;
 
 // A desk with at most so many lots reads a page by a scan of HOLDING, which then takes less time than
 // up to 16 reads by key.
-const MOST_SCANNED_LOTS: usize = 256;
+const MOST_SCANNED_LOTS: usize = 128;
 
-/// Returns the index after row changes, or `None` if it could not be kept.
+/// An index that could not be updated is dropped; the next page of lots makes it again.
 pub(crate) fn index_after_changes(index: Option<LotIndex>, changes: &[Change]) -> Option<LotIndex>
     ensures { (t : Tables) → IsIndexOfTables index t → IsIndexOfTables result (tables_after_changes changes.now t) }
 {
@@ -45,8 +45,6 @@ pub(crate) fn index_after_changes(index: Option<LotIndex>, changes: &[Change]) -
     }
 }
 
-// Returns the stamp of the last accepted command. Fails with `Store` only, also if the database is
-// not open.
 fn read_last_stamp<S: Alter>(conn: &mut Connection<S>) -> Result<Option<Stamp>, Fault>
     requires { conn.old.in_transaction ≡ false }
     ensures mode { conn.new.in_transaction ≡ false }
@@ -57,7 +55,6 @@ fn read_last_stamp<S: Alter>(conn: &mut Connection<S>) -> Result<Option<Stamp>, 
     brk_tables_schema::last_stamp(&mut tx)
 }
 
-// Returns the lot that the trade opened, or `None` if there is none. Fails with `Store` only.
 fn read_lot_by_trade<S: Alter>(
     conn: &mut Connection<S>,
     trade: Id,
@@ -71,7 +68,6 @@ fn read_lot_by_trade<S: Alter>(
     brk_tables_trading::lot_by_trade(&mut tx, trade)
 }
 
-// Returns all lots, sorted by the trade that opened them. Fails with `Memory` or `Store`.
 fn read_all_lots<S: Alter>(
     conn: &mut Connection<S>,
     alloc: Global,
@@ -85,8 +81,7 @@ fn read_all_lots<S: Alter>(
     brk_tables_trading::all_lots(&mut tx, alloc)
 }
 
-// Returns the index of all lots. Fails with `Memory` or `Store`; with `Memory` also if two lots have
-// one trade.
+// Fails with `Memory` also if two lots have one trade.
 fn read_lot_index<S: Alter>(conn: &mut Connection<S>, alloc: Global) -> Result<LotIndex, Fault>
     requires { conn.old.in_transaction ≡ false }
     ensures mode { conn.new.in_transaction ≡ false }
@@ -99,15 +94,13 @@ fn read_lot_index<S: Alter>(conn: &mut Connection<S>, alloc: Global) -> Result<L
     }
 }
 
-// Returns whether the row is of a lot of the account in the security that was opened at the stamp.
 fn is_lot_of_position(row: &HoldingRow, account: Id, symbol: &Symbol, stamp: Stamp) -> bool
     ensures { result ≡ ((row.now.account == account) && (bytes_eq row.now.symbol symbol.now && (row.now.stamp == stamp))) }
 {
     row.account == account && row.symbol.as_str() == symbol.as_str() && row.stamp == stamp
 }
 
-// Returns the row of the age, a lot of the account in the security. Fails with `Store` only, also if
-// there is no such row.
+// Fails with `Store` also if there is no such row.
 fn read_lot_of_age<S: Alter>(
     conn: &mut Connection<S>,
     account: Id,
@@ -128,8 +121,6 @@ fn read_lot_of_age<S: Alter>(
     Ok(row)
 }
 
-// Returns the rows of the ages after the first `skipped` in the order of closing, at most 16. Fails
-// with `Memory` or `Store` only.
 fn read_lots_of_ages<S: Alter>(
     conn: &mut Connection<S>,
     alloc: Global,
@@ -156,7 +147,6 @@ fn read_lots_of_ages<S: Alter>(
     Ok(page)
 }
 
-// Returns a page of lots by the ages of their position. Fails with `Memory` or `Store` only.
 fn read_page_of_ages<S: Alter>(
     conn: &mut Connection<S>,
     alloc: Global,
@@ -188,7 +178,7 @@ impl<S: Alter> Store<S> {
     ghost use Rattle.brk_store.specs.ReadSequences.{IsUnchangedByReads};
     ghost use Rattle.brk_tables_trading.specs.Pages.{page_after_skipped};
 
-    // Makes the index of the lots, if there is none. If that fails, the store has no index any more.
+    // If the index cannot be made, the store tries no more.
     fn prepare_index(&mut self, alloc: Global)
         ensures { IsUnchangedByReads S.Store self.old self.new }
     {
@@ -204,7 +194,6 @@ impl<S: Alter> Store<S> {
         }
     }
 
-    // Returns a page of the lots of an account in a security by a scan of HOLDING.
     fn page_of_scanned_lots(
         &mut self,
         alloc: Global,
@@ -224,8 +213,7 @@ impl<S: Alter> Store<S> {
         }
     }
 
-    // Returns a page of the lots of an account in a security by the index, or by a scan if there is no
-    // index or the desk has few lots.
+    // Scans HOLDING if there is no index or the desk has few lots.
     fn page_of_indexed_lots(
         &mut self,
         alloc: Global,
@@ -256,10 +244,6 @@ impl<S: Alter> Store<S> {
         self.page_of_scanned_lots(alloc, account, symbol, lifo, skipped)
     }
 
-    /// Returns a page of the lots of an account in a security, sorted by the stamp of their opening
-    /// and then by the id of the trade that opened them, both descending if `lifo`, otherwise both
-    /// ascending: at most 16 after the first `skipped` lots. If the database is still open, it is
-    /// unchanged. Fails with `Memory` or `Store` only.
     pub(crate) fn page_of_lots(
         &mut self,
         alloc: Global,

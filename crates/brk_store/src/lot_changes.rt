@@ -18,8 +18,7 @@ use sqlite::Alter;
 use std::alloc::Global;
 
 impl<S: Alter> Store<S> {
-    /// Returns the changes that a trade made to lots, sorted by lot, ascending. If the database is
-    /// still open, it is unchanged. Fails with `Memory` or `Store`.
+    /// Returns the changes that a trade made to lots, sorted by lot, ascending.
     pub fn lot_changes_by_trade(
         &mut self,
         alloc: Global,
@@ -32,9 +31,8 @@ impl<S: Alter> Store<S> {
         brk_tables_views::lot_changes_by_trade(&mut tx, alloc, trade)
     }
 
-    /// Returns all changes of the lot that the trade `lot` opened, sorted by the trade that made
-    /// the change, ascending. If the database is still open, it is unchanged. Fails with `Memory`
-    /// or `Store`.
+    /// Returns the changes of the lot that the trade `lot` opened, sorted by the changing trade,
+    /// ascending.
     pub fn lot_changes_of_lot(&mut self, alloc: Global, lot: Id) -> Result<Vec<LotChange>, Fault>
         ensures read { ReadPost S.Store self.old self.new result (AreMatchingRows HoldingHistory abstract_lot_change_row (λ r. r.lot == lot)) }
         ensures fault { IfErr result IsCallFault }

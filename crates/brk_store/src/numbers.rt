@@ -15,8 +15,7 @@ use brk_ref::BrokerRow;
 use brk_trade_rows::{Amount, BrokerTotals, TradeCount};
 use sqlite::Alter;
 
-// Returns the totals in a broker's row, B_NUM_TRADES and B_COMM_TOTAL (in cents), or `None` only if
-// one of them is out of the range of its type (`TradeCount`, `Amount`).
+// Returns `None` only if a total is out of the range of its type.
 fn totals_in_broker_row(row: &BrokerRow) -> Option<BrokerTotals>
     ensures none { IfNone result ((n : ℕ) → pos n ≡ row.now.trades → n ≤ TradeCount.GREATEST → row.now.commissions ≤ Amount.GREATEST → ⊥) }
     ensures some { IfSome result (λ numbers. (pos numbers.trades ≡ row.now.trades) × (numbers.commissions ≡ row.now.commissions)) }
@@ -37,9 +36,8 @@ fn totals_in_broker_row(row: &BrokerRow) -> Option<BrokerTotals>
 }
 
 impl<S: Alter> Store<S> {
-    /// Returns the totals in the row of a broker, B_NUM_TRADES and B_COMM_TOTAL (in cents), or
-    /// `None` if the broker does not exist. If the database is still open, it is unchanged. Fails
-    /// with `Store` only, also if a total is out of the range of its type (`TradeCount`, `Amount`).
+    /// Returns the totals of a broker: completed trades (B_NUM_TRADES), and commissions in cents
+    /// (B_COMM_TOTAL). Fails with `Store` only, also if one is out of the range of its type.
     pub fn broker_numbers(&mut self, broker: Id) -> Result<Option<BrokerTotals>, Fault>
         ensures read { ReadPost S.Store self.old self.new result (λ numbers t. AreBrokerTotals numbers (find (λ r. r.id == broker) t.brokers)) }
         ensures fault { OnErr result (result ≡ Err fault.Store) }
@@ -53,8 +51,7 @@ impl<S: Alter> Store<S> {
         }
     }
 
-    /// Returns the balance of an account in cents (CA_BAL), or `None` if the account does not
-    /// exist. If the database is still open, it is unchanged. Fails with `Store` only.
+    /// Returns the balance of an account, in cents (CA_BAL). Fails with `Store` only.
     pub fn balance_of(&mut self, account: Id) -> Result<Option<Cents>, Fault>
         ensures read { ReadPost S.Store self.old self.new result (λ balance t. balance ≡ option_map (λ r. r.balance) (find (λ r. r.id == account) t.accounts)) }
         ensures fault { OnErr result (result ≡ Err fault.Store) }

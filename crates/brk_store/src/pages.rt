@@ -53,7 +53,7 @@ pub struct Pages<'a, S: Alter, P> {
 impl<S: Alter, P: Drop> Drop for Pages<'_, S, P> {
     ghost use Rattle.std.specs.Prelude.{◌≡◌};
 
-    /// Ends the borrow of the store. The store is unchanged.
+    /// Ends the borrow of the store.
     fn drop(self)
         ensures { self.exit.0.now ≡ self.entry.store.now }
     {
@@ -71,17 +71,13 @@ impl<S: Alter, P: Drop> Drop for Pages<'_, S, P> {
     }
 }
 
-// Returns true only if there are at most 16 rows and each lot has shares.
 fn is_valid_lot_page(rows: &[HoldingRow]) -> bool
     ensures { IsTrue result → (length rows.now ≤ page_size) × All (λ r. r.qty ≢ pos 0) rows.now }
 {
     rows.len() <= PAGE_SIZE && rows.iter().all(|row| row.qty != 0)
 }
 
-// Returns a page of the lots of an account in a security, in the order of `Store::page_of_lots`: at
-// most 16 after the first `skipped` lots, each with shares. If the database is still open, it is
-// unchanged. Fails with `Memory` or `Store` only; with `Store` also if the page has more than 16
-// rows, or a lot without shares.
+// Fails with `Store` also if the page has more than 16 rows or a lot without shares.
 fn read_valid_lot_page<S: Alter>(
     store: &mut Store<S>,
     alloc: Global,
@@ -104,7 +100,6 @@ fn read_valid_lot_page<S: Alter>(
     }
 }
 
-// Returns the lot in a row of HOLDING: its trade, price, quantity and stamp.
 fn lot_of_holding_row(row: &HoldingRow) -> Lot
     ensures { result ≡ lot_of_typed_row row.now }
 {
@@ -124,16 +119,12 @@ impl<S: Alter> Store<S> {
     ghost use Rattle.brk_store.specs.RemainingLots.{borrowed_store, number_of_rows_read};
     ghost use Rattle.brk_trade_books.specs.TradeReads.{lots_of_position};
 
-    /// Returns a source of the lots of an account in a security, sorted by the stamp of their
-    /// opening and then by the id of the trade that opened them, both descending if `lifo`,
-    /// otherwise both ascending. It has read no row yet, and the store is unchanged.
+    /// Returns a source of the lots of an account in a security, the newest first if `lifo`,
+    /// otherwise the oldest first. It has read no row yet.
     ///
-    /// A call of the source may fail, with `Memory` or `Store` only; `Store` may also mean that the
-    /// next page has more than 16 rows or a lot without shares, or that the number of rows read
-    /// exceeds 32 bits. The remaining lots, and a database that is still open, are then unchanged,
-    /// so the call may be repeated after `Memory`; after `Store`, drop the store.
-    ///
-    /// A crash after reads of the source exposes only states that a crash before them could expose.
+    /// A call of the source fails with `Memory` or `Store`, also if a page has more than 16 rows or
+    /// a lot without shares. The remaining lots are then unchanged: the call may be repeated after
+    /// `Memory`; after `Store`, drop the store.
     pub fn lot_pages<'a>(
         &'a mut self,
         alloc: Global,
@@ -184,8 +175,8 @@ impl<S: Alter> Pages<'_, S, Page> {
     ghost use Rattle.brk_store.specs.RemainingLots.{AreRemainingLots, number_of_rows_read};
     ghost use Rattle.brk_tables_trading.specs.Pages.{page_after_skipped, page_size};
 
-    /// Returns the number of rows that were read: at least the number of lots that were returned
-    /// (`asked`), and at most 15 more.
+    /// Returns the number of rows that were read: at most 15 more than lots were returned
+    /// (`asked`).
     pub fn rows_read(&self) -> u64
         ensures counted { result ≡ number_of_rows_read self.now }
         ensures least { ⟦<Pages<'static, S, Page> as LotSource>⟧.asked self.now ≤ result }
@@ -194,10 +185,6 @@ impl<S: Alter> Pages<'_, S, Page> {
         u64::from(self.read)
     }
 
-    // Reads the next page, adds the number of its rows to the number of rows read, and returns its
-    // rows. If the database is still open, it is unchanged. Fails with `Memory` or `Store` only;
-    // with `Store` also if the page has more than 16 rows or a lot without shares, or if the number
-    // of rows read exceeds 32 bits. At an error this number is unchanged.
     fn read_next_page(&mut self) -> Result<Vec<HoldingRow>, Fault>
         // The same store, unchanged if still open; of the source only `store` and `read` change.
         ensures same_reference { self.new.store.ghost_name ≡ self.old.store.ghost_name }
@@ -234,12 +221,7 @@ impl<S: Alter> Pages<'_, S, Page> {
         Ok(page)
     }
 
-    // Returns the first lot of the next page, which it reads unless the last page was read, or
-    // `None` if no lot remains. All lots of the current page must have been returned. If the
-    // database is still open, it is unchanged. Fails with `Memory` or `Store` only; with `Store`
-    // also if the page has more than 16 rows or a lot without shares, or if the number of rows read
-    // exceeds 32 bits. The remaining lots are then unchanged.
-    fn read_first_lot_of_next_page(&mut self) -> Result<Option<Lot>, Fault>
+    fn turn_page(&mut self) -> Result<Option<Lot>, Fault>
         // All lots of the current page were returned.
         requires { length self.old.page.rows.items ≤ self.old.page.returned }
 
@@ -302,11 +284,8 @@ impl<S: Alter> LotSource for Pages<'_, S, Page> {
 
     ghost fails = { λ _ fault _. IsCallFault fault };
 
-    /// Returns the next lot, or `None` if no lot remains. Fails with `Memory` or `Store` only;
-    /// `Store` may also mean that the next page has more than 16 rows or a lot without shares, or
-    /// that the number of rows read exceeds 32 bits. The remaining lots are then unchanged, and the
-    /// source counts the failure. If the database is still open, it is unchanged. At most 15 rows
-    /// more are read than lots are returned (`rows_read`).
+    /// Returns the next lot, if one remains. At an error the source counts it, and the remaining
+    /// lots are unchanged.
     fn next(&mut self) -> Result<Option<Lot>, Fault> {
         match self.page.rows.get(self.page.returned) {
             Some(row) => {
@@ -315,7 +294,7 @@ impl<S: Alter> LotSource for Pages<'_, S, Page> {
                 Ok(Some(lot))
             }
             None => {
-                let given = self.read_first_lot_of_next_page();
+                let given = self.turn_page();
                 if given.is_err() {
                     self.faults = self.faults.saturating_add(1);
                 }

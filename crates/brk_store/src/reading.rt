@@ -20,10 +20,8 @@ use sqlite::Alter;
 use std::alloc::Global;
 
 impl<S: Alter> Store<S> {
-    /// Returns the stamp of the last accepted command, in milliseconds since 1970-01-01 UTC, or
-    /// `None` if no command was accepted. If the database is still open, it is unchanged. Fails
-    /// with `Store` only, also if DESK does not have exactly one row, with the id 1 and the number
-    /// of schema 3.
+    /// Returns the stamp of the last accepted command, in milliseconds since 1970-01-01 UTC. Fails
+    /// with `Store` also unless DESK has exactly one row, with the id 1 and the number of schema 3.
     pub fn last_stamp(&mut self) -> Result<Option<Stamp>, Fault>
         ensures read { ReadPost S.Store self.old self.new result (λ last t. last ≡ t.last) }
         ensures fault { OnErr result (result ≡ Err fault.Store) }
@@ -32,8 +30,7 @@ impl<S: Alter> Store<S> {
         brk_tables_schema::last_stamp(&mut tx)
     }
 
-    /// Returns the broker with the id `id`, or `None` if there is none. If the database is still
-    /// open, it is unchanged. Fails with `Store` only.
+    /// Returns the broker with the id.
     pub fn broker(&mut self, id: Id) -> Result<Option<BrokerRow>, Fault>
         ensures read { ReadPost S.Store self.old self.new result (IsFirstMatch Brokers abstract_broker_row (λ r. r.id == id)) }
         ensures fault { OnErr result (result ≡ Err fault.Store) }
@@ -42,8 +39,7 @@ impl<S: Alter> Store<S> {
         brk_tables_reference::broker_by_id(&mut tx, id)
     }
 
-    /// Returns the customer with the id `id`, or `None` if there is none. If the database is still
-    /// open, it is unchanged. Fails with `Store` only.
+    /// Returns the customer with the id.
     pub fn customer(&mut self, id: Id) -> Result<Option<Customer>, Fault>
         ensures read { ReadPost S.Store self.old self.new result (IsFirstMatch Customers abstract_customer (λ r. r.id == id)) }
         ensures fault { OnErr result (result ≡ Err fault.Store) }
@@ -52,8 +48,7 @@ impl<S: Alter> Store<S> {
         brk_tables_reference::customer_by_id(&mut tx, id)
     }
 
-    /// Returns the customer with the tax number `tax_id` (C_TAX_ID), or `None` if there is none. If
-    /// the database is still open, it is unchanged. Fails with `Store` only.
+    /// Returns the customer with the tax number (C_TAX_ID).
     pub fn customer_by_tax_id(&mut self, tax_id: &TaxId) -> Result<Option<Customer>, Fault>
         ensures read { ReadPost S.Store self.old self.new result (IsFirstMatch Customers abstract_customer (λ r. bytes_eq r.tax_id tax_id.now)) }
         ensures fault { OnErr result (result ≡ Err fault.Store) }
@@ -62,8 +57,7 @@ impl<S: Alter> Store<S> {
         brk_tables_reference::customer_by_tax_id(&mut tx, tax_id)
     }
 
-    /// Returns the account with the id `id`, or `None` if there is none. If the database is still
-    /// open, it is unchanged. Fails with `Store` only.
+    /// Returns the account with the id.
     pub fn account(&mut self, id: Id) -> Result<Option<AccountRow>, Fault>
         ensures read { ReadPost S.Store self.old self.new result (IsFirstMatch Accounts abstract_account_row (λ r. r.id == id)) }
         ensures fault { OnErr result (result ≡ Err fault.Store) }
@@ -72,8 +66,7 @@ impl<S: Alter> Store<S> {
         brk_tables_reference::account_by_id(&mut tx, id)
     }
 
-    /// Returns the accounts of a customer, sorted by id, ascending. If the database is still open,
-    /// it is unchanged. Fails with `Memory` or `Store`.
+    /// Returns the accounts of a customer, sorted by id, ascending.
     pub fn accounts_of_customer(
         &mut self,
         alloc: Global,
@@ -86,9 +79,7 @@ impl<S: Alter> Store<S> {
         brk_tables_reference::accounts_of_customer(&mut tx, alloc, customer)
     }
 
-    /// Returns the row of KEPT under `key`: the text of the accepted row and of its reply, or
-    /// `None` if there is none. If the database is still open, it is unchanged. Fails with `Store`
-    /// only.
+    /// Returns the texts of the accepted row and of its reply under the key.
     pub fn stored_reply_by_key(&mut self, key: &Key) -> Result<Option<Kept>, Fault>
         ensures read { ReadPost S.Store self.old self.new result (IsFirstMatch KeptRows abstract_kept_row (λ k. bytes_eq k.key.batch key.now.batch
             && (k.key.n == key.now.n))) }

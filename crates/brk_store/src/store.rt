@@ -1,7 +1,7 @@
 use crate::indexed::index_after_changes;
 use brk_money::Fault;
 use brk_store_lots::LotIndex;
-use brk_store_transactions::{apply_changes_in_transaction, create_tables_in_transaction};
+use brk_store_transactions::{apply_changes, create_tables_in_transaction};
 use brk_trade_rows::Change;
 use sqlite::{Alter, Connection};
 use std::marker::Model;
@@ -48,7 +48,6 @@ impl<S: Alter> Model for Store<S> {
 }
 
 impl<S: Alter + Drop> Drop for Store<S> {
-    /// Drops the connection of the store.
     fn drop(self) {
         let Store {
             conn: _,
@@ -65,20 +64,16 @@ impl<S: Alter> Store<S> {
     ghost use Rattle.brk_trade_rows.specs.Changes.{tables_after_changes};
     ghost use Rattle.brk_store_transactions.specs.Holds.{ApplyPost, CreatePost};
 
-    /// Creates the tables of a desk in the database of `conn`, commits them and returns the store.
-    /// The tables have no rows, except for one row of DESK. The rows of tables that are not the
-    /// desk's are unchanged.
+    /// Creates the tables of a desk in the database of `conn`, without rows but the one of DESK,
+    /// and commits them.
     ///
-    /// Errors return the connection; a database that is still open is unchanged. The fault
-    /// `Damaged(NotEmpty)`, which here does not mean damage, is returned only if a table with the
-    /// name of a desk's table exists; if one exists, the fault is this one or `Store`. The fault
-    /// `Store` may also mean that the `sqlite` crate ran out of memory. If `conn` is in a
-    /// transaction, the fault is `Store` and the connection is unchanged; otherwise the returned
-    /// connection is in autocommit mode.
+    /// Errors return the connection, in autocommit mode, and leave a database that is still open
+    /// unchanged. The fault is `Damaged(NotEmpty)`, which here is no damage, only if a table with
+    /// the name of a desk's table exists, or `Store`. If `conn` is in a transaction, the fault is
+    /// `Store` and nothing changes.
     ///
-    /// A crash after the call exposes a state that a crash before the call could expose, or the
-    /// tables without rows; after `Ok` only the latter. After an error it may expose the created
-    /// tables only if the database is closed.
+    /// A crash after the call exposes what a crash before it could or the new tables: only these
+    /// after `Ok`; after an error these only if the database is closed.
     pub fn create(mut conn: Connection<S>) -> Result<Store<S>, (Connection<S>, Fault)>
         ensures created { MatchResult result (λ store. CreatePost S.Store conn store (Ok tt)) (λ e. CreatePost S.Store conn e.0 (Err e.1)) }
         ensures fault { IfErr result (λ e. (e.1 ≡ fault.Store) ⊎ (e.1 ≡ fault.Damaged NotEmpty)) }
@@ -98,24 +93,21 @@ impl<S: Alter> Store<S> {
         }
     }
 
-    /// Applies `changes` in order, in one transaction, and commits them. A change that updates or
-    /// deletes a row that does not exist changes nothing and is no error. The SQLite schema is
-    /// unchanged. The rows of each table that is not the desk's are unchanged, unless a foreign key
-    /// of that table may change or delete them by CASCADE, SET NULL or SET DEFAULT. The `sqlite`
-    /// crate runs no trigger, and does not write a table that has one.
+    /// Applies `changes` in order, in one transaction, and commits them. A change of a row that
+    /// does not exist changes nothing. The rows of other tables are unchanged, unless a foreign key
+    /// of theirs says CASCADE, SET NULL or SET DEFAULT; no trigger runs.
     ///
-    /// Fails with `Store` only, which may also mean that a row to add breaks PRIMARY KEY or another
-    /// constraint of its table, or that the `sqlite` crate ran out of memory; none of these closes
-    /// the store. At an error a database that is still open is unchanged.
+    /// Fails with `Store` only, which may also mean a broken constraint or that the `sqlite` crate
+    /// ran out of memory; neither closes the store. At an error a database that is still open is
+    /// unchanged.
     ///
-    /// A crash after the call exposes a state that a crash before the call could expose or, in the
-    /// desk's tables, the rows with all changes; after `Ok` only the latter. After an error it may
-    /// expose the rows with all changes only if the store is closed.
+    /// A crash after the call exposes what a crash before it could or the rows with all changes:
+    /// only these after `Ok`; after an error these only if the store is closed.
     pub fn apply(&mut self, changes: &[Change]) -> Result<(), Fault>
         ensures applied { ApplyPost S.Store self.old self.new result (tables_after_changes changes.now) }
         ensures fault { OnErr result (result ≡ Err fault.Store) }
     {
-        match apply_changes_in_transaction(&mut self.conn, changes) {
+        match apply_changes(&mut self.conn, changes) {
             Ok(()) => {
                 self.index = index_after_changes(self.index.take(), changes);
                 Ok(())
@@ -124,7 +116,7 @@ impl<S: Alter> Store<S> {
         }
     }
 
-    /// Returns the connection of the store, which is in autocommit mode.
+    /// Returns the connection, which is in autocommit mode.
     pub fn into_conn(self) -> Connection<S>
         ensures same { result ≡ self }
         ensures autocommit { result.in_transaction ≡ false }

@@ -23,20 +23,17 @@ use sqlite::Alter;
 use std::alloc::Global;
 
 impl<S: Alter> Store<S> {
-    /// Returns the permission for a person to order for an account, by the person's tax number
-    /// (AP_TAX_ID), or `None` if there is none. If the database is still open, it is unchanged.
-    /// Fails with `Store` only.
+    /// Returns the permission of a person, by tax number (AP_TAX_ID), to order for an account.
     pub fn permission(&mut self, account: Id, tax_id: &TaxId) -> Result<Option<Permission>, Fault>
         ensures read { ReadPost S.Store self.old self.new result (IsFirstMatch Permissions abstract_permission (λ r. (r.account == account)
             && bytes_eq r.tax_id tax_id.now)) }
         ensures fault { OnErr result (result ≡ Err fault.Store) }
     {
         let mut tx = begin_transaction(&mut self.conn);
-        brk_tables_reference::permission_by_account_and_tax_id(&mut tx, account, tax_id)
+        brk_tables_reference::permission_for(&mut tx, account, tax_id)
     }
 
-    /// Returns the security with the symbol `symbol`, or `None` if there is none. If the database
-    /// is still open, it is unchanged. Fails with `Store` only.
+    /// Returns the security with the symbol.
     pub fn security(&mut self, symbol: &Symbol) -> Result<Option<Security>, Fault>
         ensures read { ReadPost S.Store self.old self.new result (IsFirstMatch Securities abstract_security_row (λ r. bytes_eq r.symbol symbol.now)) }
         ensures fault { OnErr result (result ≡ Err fault.Store) }
@@ -45,20 +42,18 @@ impl<S: Alter> Store<S> {
         brk_tables_reference::security_by_symbol(&mut tx, symbol)
     }
 
-    /// Returns the charge of a trade type and a customer tier, or `None` if there is none. If the
-    /// database is still open, it is unchanged. Fails with `Store` only.
+    /// Returns the charge of a trade type and a customer tier.
     pub fn charge(&mut self, kind: TradeType, tier: Tier) -> Result<Option<Charge>, Fault>
         ensures read { ReadPost S.Store self.old self.new result (IsFirstMatch Charges abstract_charge (λ r. is_same_trade_type r.kind kind
             && (r.tier == tier))) }
         ensures fault { OnErr result (result ≡ Err fault.Store) }
     {
         let mut tx = begin_transaction(&mut self.conn);
-        brk_tables_reference::charge_by_type_and_tier(&mut tx, kind, tier)
+        brk_tables_reference::charge_for(&mut tx, kind, tier)
     }
 
     /// Returns the commission bands of a customer tier, a trade type and an exchange, sorted by
-    /// lower bound, ascending. If the database is still open, it is unchanged. Fails with `Memory`
-    /// or `Store`.
+    /// lower bound, ascending.
     pub fn commission_bands(
         &mut self,
         alloc: Global,
@@ -71,11 +66,10 @@ impl<S: Alter> Store<S> {
         ensures fault { IfErr result IsCallFault }
     {
         let mut tx = begin_transaction(&mut self.conn);
-        brk_tables_reference::bands_by_tier_type_and_exchange(&mut tx, alloc, tier, kind, exchange)
+        brk_tables_reference::bands_for(&mut tx, alloc, tier, kind, exchange)
     }
 
-    /// Returns the tax with the id `id`, with its rate, or `None` if there is none. If the database
-    /// is still open, it is unchanged. Fails with `Store` only.
+    /// Returns the tax with the id, with its rate.
     pub fn tax_with_id(&mut self, id: Id) -> Result<Option<Tax>, Fault>
         ensures read { ReadPost S.Store self.old self.new result (IsFirstMatch TaxRates abstract_tax_rate (λ r. r.id == id)) }
         ensures fault { OnErr result (result ≡ Err fault.Store) }
@@ -84,20 +78,18 @@ impl<S: Alter> Store<S> {
         brk_tables_reference::tax_rate_by_id(&mut tx, id)
     }
 
-    /// Returns the row of CUSTOMER_TAXRATE of a customer and a tax, or `None` if the customer does
-    /// not pay the tax. If the database is still open, it is unchanged. Fails with `Store` only.
+    /// Returns the row of CUSTOMER_TAXRATE, if the customer pays the tax.
     pub fn customer_tax(&mut self, customer: Id, tax: Id) -> Result<Option<CustomerTax>, Fault>
         ensures read { ReadPost S.Store self.old self.new result (IsFirstMatch CustomerTaxes abstract_customer_tax (λ r. (r.customer == customer)
             && (r.tax == tax))) }
         ensures fault { OnErr result (result ≡ Err fault.Store) }
     {
         let mut tx = begin_transaction(&mut self.conn);
-        brk_tables_reference::customer_tax_by_customer_and_tax(&mut tx, customer, tax)
+        brk_tables_reference::paid_tax(&mut tx, customer, tax)
     }
 
-    /// Returns the rows of CUSTOMER_TAXRATE of a customer, one for each tax that the customer pays,
-    /// sorted by the id of the tax, ascending. If the database is still open, it is unchanged.
-    /// Fails with `Memory` or `Store`.
+    /// Returns a row of CUSTOMER_TAXRATE for each tax that the customer pays, sorted by the id of
+    /// the tax, ascending.
     pub fn taxes_of_customer(
         &mut self,
         alloc: Global,

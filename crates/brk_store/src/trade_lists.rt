@@ -19,41 +19,29 @@ use sqlite::Alter;
 use std::alloc::Global;
 
 impl<S: Alter> Store<S> {
-    /// Returns the ten most recent trades of an account, or all if it has fewer, sorted by the
-    /// stamp of their last status change and then by id, both descending. If the database is still
-    /// open, it is unchanged. Fails with `Memory` or `Store`.
-    pub fn last_ten_trades_of_account(
-        &mut self,
-        alloc: Global,
-        account: Id,
-    ) -> Result<Vec<TradeRow>, Fault>
+    /// Returns the last ten trades of an account, sorted by the stamp of their last status change
+    /// and then by id, descending.
+    pub fn last_ten_trades(&mut self, alloc: Global, account: Id) -> Result<Vec<TradeRow>, Fault>
         ensures read { ReadPost S.Store self.old self.new result (λ all t. map abstract_trade_row all.items
             ≡ take 10 (trade_rows_recent_first (trade_rows_of_account t account))) }
         ensures fault { IfErr result IsCallFault }
     {
         let mut tx = begin_transaction(&mut self.conn);
-        brk_tables_trading::last_ten_trades_of_account(&mut tx, alloc, account)
+        brk_tables_trading::last_ten_trades(&mut tx, alloc, account)
     }
 
-    /// Returns the fifty most recent trades of an account, or all if it has fewer, sorted by the
-    /// stamp of their last status change and then by id, both descending. If the database is still
-    /// open, it is unchanged. Fails with `Memory` or `Store`.
-    pub fn last_fifty_trades_of_account(
-        &mut self,
-        alloc: Global,
-        account: Id,
-    ) -> Result<Vec<TradeRow>, Fault>
+    /// Does for fifty trades what `last_ten_trades` does for ten.
+    pub fn last_fifty_trades(&mut self, alloc: Global, account: Id) -> Result<Vec<TradeRow>, Fault>
         ensures read { ReadPost S.Store self.old self.new result (λ all t. map abstract_trade_row all.items
             ≡ take 50 (trade_rows_recent_first (trade_rows_of_account t account))) }
         ensures fault { IfErr result IsCallFault }
     {
         let mut tx = begin_transaction(&mut self.conn);
-        brk_tables_trading::last_fifty_trades_of_account(&mut tx, alloc, account)
+        brk_tables_trading::last_fifty_trades(&mut tx, alloc, account)
     }
 
-    /// Returns the rows of TRADE_HISTORY of a trade: the statuses that it reached and their stamps,
-    /// sorted by the code of the status, ascending. If the database is still open, it is unchanged.
-    /// Fails with `Memory` or `Store`.
+    /// Returns the statuses that a trade reached, with their stamps, sorted by the code of the
+    /// status, ascending.
     pub fn history_of_trade(&mut self, alloc: Global, trade: Id) -> Result<Vec<HistoryRow>, Fault>
         ensures read { ReadPost S.Store self.old self.new result (AreMatchingRows TradeHistory abstract_history_row (λ r. r.trade == trade)) }
         ensures fault { IfErr result IsCallFault }

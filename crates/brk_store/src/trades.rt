@@ -23,8 +23,7 @@ use sqlite::Alter;
 use std::alloc::Global;
 
 impl<S: Alter> Store<S> {
-    /// Returns the trade with the id `id`, or `None` if there is none. If the database is still
-    /// open, it is unchanged. Fails with `Store` only.
+    /// Returns the trade with the id.
     pub fn trade(&mut self, id: Id) -> Result<Option<TradeRow>, Fault>
         ensures read { ReadPost S.Store self.old self.new result (IsFirstMatch Trades abstract_trade_row (λ r. r.id == id)) }
         ensures fault { OnErr result (result ≡ Err fault.Store) }
@@ -33,8 +32,7 @@ impl<S: Alter> Store<S> {
         brk_tables_trading::trade_by_id(&mut tx, id)
     }
 
-    /// Returns the greatest trade id, or `None` if there is no trade. If the database is still
-    /// open, it is unchanged. Fails with `Store` only.
+    /// Returns the greatest trade id.
     pub fn greatest_trade_id(&mut self) -> Result<Option<Id>, Fault>
         ensures read { ReadPost S.Store self.old self.new result (λ o t. o ≡ option_map (λ r. r.id) (slice_get (reverse t.trades) 0)) }
         ensures fault { OnErr result (result ≡ Err fault.Store) }
@@ -43,8 +41,7 @@ impl<S: Alter> Store<S> {
         brk_tables_trading::greatest_trade_id(&mut tx)
     }
 
-    /// Returns the trades with the status submitted, sorted by id, ascending. If the database is
-    /// still open, it is unchanged. Fails with `Memory` or `Store`.
+    /// Returns the trades with the status submitted, sorted by id, ascending.
     pub fn submitted_trades(&mut self, alloc: Global) -> Result<Vec<TradeRow>, Fault>
         ensures read { ReadPost S.Store self.old self.new result (AreMatchingRows Trades abstract_trade_row (λ r. is_same_trade_status r.status Submitted)) }
         ensures fault { IfErr result IsCallFault }
@@ -53,11 +50,9 @@ impl<S: Alter> Store<S> {
         brk_tables_trading::submitted_trades(&mut tx, alloc)
     }
 
-    /// Returns the requests (TRADE_REQUEST: pending trades) of a symbol and a trade type with an
-    /// order price (TR_BID_PRICE: the limit or stop price) of at least `price`, in cents, sorted by
-    /// trade, ascending. If the database is still open, it is unchanged. Fails with `Memory` or
-    /// `Store`.
-    pub fn requests_at_or_above(
+    /// Returns the requests of a symbol and a trade type whose limit or stop price (TR_BID_PRICE,
+    /// in cents) is at least `price`, sorted by trade, ascending.
+    pub fn requests_at_least(
         &mut self,
         alloc: Global,
         symbol: &Symbol,
@@ -69,14 +64,12 @@ impl<S: Alter> Store<S> {
         ensures fault { IfErr result IsCallFault }
     {
         let mut tx = begin_transaction(&mut self.conn);
-        brk_tables_trading::requests_with_bid_at_least(&mut tx, alloc, symbol, kind, price)
+        brk_tables_trading::requests_at_least(&mut tx, alloc, symbol, kind, price)
     }
 
-    /// Returns the requests (TRADE_REQUEST: pending trades) of a symbol and a trade type with an
-    /// order price (TR_BID_PRICE: the limit or stop price) of at most `price`, in cents, sorted by
-    /// trade, ascending. If the database is still open, it is unchanged. Fails with `Memory` or
-    /// `Store`.
-    pub fn requests_at_or_below(
+    /// Does for prices of at most `price` what `requests_at_least` does for those of at least
+    /// `price`.
+    pub fn requests_at_most(
         &mut self,
         alloc: Global,
         symbol: &Symbol,
@@ -88,12 +81,10 @@ impl<S: Alter> Store<S> {
         ensures fault { IfErr result IsCallFault }
     {
         let mut tx = begin_transaction(&mut self.conn);
-        brk_tables_trading::requests_with_bid_at_most(&mut tx, alloc, symbol, kind, price)
+        brk_tables_trading::requests_at_most(&mut tx, alloc, symbol, kind, price)
     }
 
-    /// Returns the row of LAST_TRADE of a symbol (its last trade on the market or, before the first
-    /// tick, its listing), or `None` if there is none. If the database is still open, it is
-    /// unchanged. Fails with `Store` only.
+    /// Returns the last trade of a symbol on the market or, before the first tick, its listing.
     pub fn last_trade(&mut self, symbol: &Symbol) -> Result<Option<LastTrade>, Fault>
         ensures read { ReadPost S.Store self.old self.new result (IsFirstMatch LastTrades abstract_last_trade_row (λ r. bytes_eq r.symbol symbol.now)) }
         ensures fault { OnErr result (result ≡ Err fault.Store) }
@@ -102,10 +93,6 @@ impl<S: Alter> Store<S> {
         brk_tables_trading::last_trade_by_symbol(&mut tx, symbol)
     }
 
-    // Returns a page of the lots of an account in a security, sorted by opening stamp and then by
-    // trade, both ascending: after the first `skipped` lots the next 16, or all that are left if
-    // there are fewer. If the database is still open, it is unchanged. Fails with `Memory` or
-    // `Store`.
     pub(crate) fn page_of_oldest_lots(
         &mut self,
         alloc: Global,
@@ -118,13 +105,9 @@ impl<S: Alter> Store<S> {
         ensures fault { IfErr result IsCallFault }
     {
         let mut tx = begin_transaction(&mut self.conn);
-        brk_tables_trading::page_of_lots_oldest_first(&mut tx, alloc, account, symbol, skipped)
+        brk_tables_trading::oldest_lots(&mut tx, alloc, account, symbol, skipped)
     }
 
-    // Returns a page of the lots of an account in a security, sorted by opening stamp and then by
-    // trade, both descending: after the first `skipped` lots the next 16, or all that are left if
-    // there are fewer. If the database is still open, it is unchanged. Fails with `Memory` or
-    // `Store`.
     pub(crate) fn page_of_newest_lots(
         &mut self,
         alloc: Global,
@@ -137,29 +120,27 @@ impl<S: Alter> Store<S> {
         ensures fault { IfErr result IsCallFault }
     {
         let mut tx = begin_transaction(&mut self.conn);
-        brk_tables_trading::page_of_lots_newest_first(&mut tx, alloc, account, symbol, skipped)
+        brk_tables_trading::newest_lots(&mut tx, alloc, account, symbol, skipped)
     }
 
-    /// Returns the rows of HOLDING_SUMMARY of an account (its number of shares in each security),
-    /// sorted by symbol, ascending. Shares sold short count below 0. If the database is still open,
-    /// it is unchanged. Fails with `Memory` or `Store`.
+    /// Returns the number of shares of each security that an account holds, sorted by symbol,
+    /// ascending; shares sold short count below 0. Fails with `Memory` or `Store`.
     pub fn summaries_of(&mut self, alloc: Global, account: Id) -> Result<Vec<SummaryRow>, Fault>
         ensures read { ReadPost S.Store self.old self.new result (AreMatchingRows Summaries abstract_summary_row (λ r. r.account == account)) }
         ensures fault { IfErr result IsCallFault }
     {
         let mut tx = begin_transaction(&mut self.conn);
-        brk_tables_trading::holding_summaries_of_account(&mut tx, alloc, account)
+        brk_tables_trading::account_summaries(&mut tx, alloc, account)
     }
 
-    /// Returns the row of HOLDING_SUMMARY of an account and a security, or `None` if there is none.
-    /// The row has the number of shares of the position, below 0 if they were sold short. If the
-    /// database is still open, it is unchanged. Fails with `Store` only.
+    /// Returns the number of shares of a security that an account holds, below 0 if sold short.
+    /// Fails with `Store` only.
     pub fn summary_of(&mut self, account: Id, symbol: &Symbol) -> Result<Option<SummaryRow>, Fault>
         ensures read { ReadPost S.Store self.old self.new result (IsFirstMatch Summaries abstract_summary_row (λ r. (r.account == account)
             && bytes_eq r.symbol symbol.now)) }
         ensures fault { OnErr result (result ≡ Err fault.Store) }
     {
         let mut tx = begin_transaction(&mut self.conn);
-        brk_tables_trading::holding_summary_by_account_and_symbol(&mut tx, account, symbol)
+        brk_tables_trading::position_summary(&mut tx, account, symbol)
     }
 }

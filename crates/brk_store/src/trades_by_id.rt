@@ -13,9 +13,7 @@ use brk_ref::TradeRow;
 use sqlite::Alter;
 use std::alloc::Global;
 
-/// Returns the trades with the ids `ids`, in the order of `ids`, or `None` if one of them does not
-/// exist. If the database is still open, it is unchanged. A crash after the call exposes only
-/// states that a crash before the call could expose. Fails with `Memory` or `Store` only.
+/// Returns the trades with the ids, in the order of `ids`, or `None` if one of them does not exist.
 pub fn read_trades_by_ids<S: Alter>(
     alloc: Global,
     store: &mut Store<S>,

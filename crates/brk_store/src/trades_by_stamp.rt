@@ -19,11 +19,9 @@ use sqlite::Alter;
 use std::alloc::Global;
 
 impl<S: Alter> Store<S> {
-    /// Returns the twenty oldest of the trades of an account whose last status change has a stamp
-    /// in a span, both ends included, or all if there are fewer, sorted by this stamp and then by
-    /// id, ascending. If the database is still open, it is unchanged. Fails with `Memory` or
-    /// `Store`.
-    pub fn first_twenty_trades_of_account(
+    /// Returns the oldest twenty trades of an account whose last status change is in the span, both
+    /// ends included, sorted by its stamp and then by id.
+    pub fn twenty_trades_of_account(
         &mut self,
         alloc: Global,
         account: Id,
@@ -34,15 +32,11 @@ impl<S: Alter> Store<S> {
         ensures fault { IfErr result IsCallFault }
     {
         let mut tx = begin_transaction(&mut self.conn);
-        brk_tables_views::first_twenty_trades_of_account(
-            &mut tx, alloc, account, span.first, span.last,
-        )
+        brk_tables_views::twenty_trades_of_account(&mut tx, alloc, account, span.first, span.last)
     }
 
-    /// Returns the twenty oldest of the trades of a symbol whose last status change has a stamp in
-    /// a span, both ends included, or all if there are fewer, sorted by this stamp and then by id,
-    /// ascending. If the database is still open, it is unchanged. Fails with `Memory` or `Store`.
-    pub fn first_twenty_trades_of_symbol(
+    /// Does for a symbol what `twenty_trades_of_account` does for an account.
+    pub fn twenty_trades_of_symbol(
         &mut self,
         alloc: Global,
         symbol: &Symbol,
@@ -53,15 +47,11 @@ impl<S: Alter> Store<S> {
         ensures fault { IfErr result IsCallFault }
     {
         let mut tx = begin_transaction(&mut self.conn);
-        brk_tables_views::first_twenty_trades_of_symbol(
-            &mut tx, alloc, symbol, span.first, span.last,
-        )
+        brk_tables_views::twenty_trades_of_symbol(&mut tx, alloc, symbol, span.first, span.last)
     }
 
-    /// Returns the oldest of the trades of an account whose last status change has a stamp of at
-    /// least `first`. If several have the least stamp, returns the one with the least id; if there
-    /// is none, returns `None`. If the database is still open, it is unchanged. Fails with `Store`
-    /// only.
+    /// Returns the trade of an account whose last status change is the first at or after the stamp;
+    /// of several, that with the least id.
     pub fn first_trade_of_account_since(
         &mut self,
         account: Id,
@@ -72,6 +62,6 @@ impl<S: Alter> Store<S> {
         ensures fault { OnErr result (result ≡ Err fault.Store) }
     {
         let mut tx = begin_transaction(&mut self.conn);
-        brk_tables_views::first_trade_of_account_from_stamp(&mut tx, account, first)
+        brk_tables_views::first_trade_since(&mut tx, account, first)
     }
 }

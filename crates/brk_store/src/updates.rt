@@ -20,10 +20,9 @@ use sqlite::Alter;
 use std::alloc::Global;
 
 impl<S: Alter> Store<S> {
-    /// Returns the twenty oldest of the trades of an account that were completed in a span, both
-    /// ends included, or all if there are fewer, sorted by the stamp of completion and then by id,
-    /// ascending. If the database is still open, it is unchanged. Fails with `Memory` or `Store`.
-    pub fn first_twenty_completed_trades_of_account(
+    /// Returns the oldest twenty trades of an account that were completed in the span, both ends
+    /// included, sorted by the stamp of completion and then by id.
+    pub fn completed_trades_of_account(
         &mut self,
         alloc: Global,
         account: Id,
@@ -34,15 +33,14 @@ impl<S: Alter> Store<S> {
         ensures fault { IfErr result IsCallFault }
     {
         let mut tx = begin_transaction(&mut self.conn);
-        brk_tables_trading::first_twenty_completed_trades_of_account(
+        brk_tables_trading::completed_trades_of_account(
             &mut tx, alloc, account, span.first, span.last,
         )
     }
 
-    /// Returns the twenty oldest of the cash trades of a symbol that were completed in a span, both
-    /// ends included, or all if there are fewer, sorted by the stamp of completion and then by id,
-    /// ascending. If the database is still open, it is unchanged. Fails with `Memory` or `Store`.
-    pub fn first_twenty_completed_cash_trades_of_symbol(
+    /// Does for the cash trades of a symbol what `completed_trades_of_account` does
+    /// for an account.
+    pub fn completed_cash_trades_of_symbol(
         &mut self,
         alloc: Global,
         symbol: &Symbol,
@@ -53,13 +51,12 @@ impl<S: Alter> Store<S> {
         ensures fault { IfErr result IsCallFault }
     {
         let mut tx = begin_transaction(&mut self.conn);
-        brk_tables_trading::first_twenty_completed_cash_trades_of_symbol(
+        brk_tables_trading::completed_cash_trades_of_symbol(
             &mut tx, alloc, symbol, span.first, span.last,
         )
     }
 
-    /// Returns the settlement of a trade, or `None` if it has none. If the database is still open,
-    /// it is unchanged. Fails with `Store` only.
+    /// Returns the settlement of a trade.
     pub fn settlement(&mut self, trade: Id) -> Result<Option<SettlementRow>, Fault>
         ensures read { ReadPost S.Store self.old self.new result (IsFirstMatch Settlements abstract_settlement_row (λ r. r.trade == trade)) }
         ensures fault { OnErr result (result ≡ Err fault.Store) }

@@ -1,6 +1,10 @@
 //! Walks: reads that pass rows, one at a time, to a visitor (`visit_..`) or to a closure
-//! (`walk_..`). The store is borrowed for the whole walk. The fault is `Store` also if a row is
-//! malformed or if the `sqlite` crate runs out of memory, and `Memory` if decoding in a walk does.
+//! (`walk_..`). A walk returns `Ok` only after the last row was taken. It fails with the first
+//! error of the visitor (`Cause`) or of the closure, or with a fault (`Failed`), after a prefix of
+//! the rows: `Store` also if a row is malformed or if the `sqlite` crate runs out of memory, and
+//! `Memory` if decoding does. The store is borrowed for the whole walk. A walk does not check that
+//! the account exists. A crash after a walk exposes only states that a crash before it could
+//! expose.
 
 ghost use Rattle.std.specs.Fn.{CalledAt};
 ghost use Rattle.brk_ref.specs.Rows.{abstract_holding_row, abstract_cash_row, abstract_trade_row};
@@ -17,18 +21,7 @@ use sqlite::Alter;
 
 impl<S: Alter> Store<S> {
     /// Passes the cash rows of an account with stamps from `from` to `to`, both included, to a
-    /// visitor, sorted by stamp, ascending. Rows with equal stamps are sorted by number (CM_ID),
-    /// ascending. Returns `Ok` only after the visitor has taken the last row. Does not check that
-    /// the account exists.
-    ///
-    /// Fails with `Cause` and the visitor's error, or with `Failed` and the fault `Memory` or
-    /// `Store` after a prefix of the rows. If the database is still open, it is unchanged, whatever
-    /// the result.
-    ///
-    /// `ready`: the visitor must be ready to take records, and is so after the walk. `leads`: the
-    /// calls of the walk lead from the visitor before it to the visitor after it (`Visitor`).
-    ///
-    /// A crash after the call exposes only states that a crash before the call could expose.
+    /// visitor, sorted by stamp and then by number (CM_ID), ascending.
     pub fn visit_cash_rows<E, V: Visitor<CashRow, E>>(
         &mut self,
         account: Id,
@@ -42,7 +35,7 @@ impl<S: Alter> Store<S> {
         ensures walked { WalkPost S.Store self.old self.new abstract_cash_row (cash_rows_in_span account from to)
             V.takes V.stops visitor.old visitor.new result }
     {
-        brk_tables_views::walk_cash_rows_of_account::<S, E, V>(
+        brk_tables_views::walk_account_cash_rows::<S, E, V>(
             &mut self.conn,
             account,
             from,
@@ -51,18 +44,8 @@ impl<S: Alter> Store<S> {
         )
     }
 
-    /// Passes the lots of an account to a visitor, sorted by symbol, then by opening stamp, both
-    /// ascending. Lots with equal symbols and stamps are sorted by trade, ascending. Returns `Ok`
-    /// only after the visitor has taken the last lot. Does not check that the account exists.
-    ///
-    /// Fails with `Cause` and the visitor's error, or with `Failed` and the fault `Memory` or
-    /// `Store` after a prefix of the lots. If the database is still open, it is unchanged, whatever
-    /// the result.
-    ///
-    /// `ready`: the visitor must be ready to take records, and is so after the walk. `leads`: the
-    /// calls of the walk lead from the visitor before it to the visitor after it (`Visitor`).
-    ///
-    /// A crash after the call exposes only states that a crash before the call could expose.
+    /// Passes the lots of an account to a visitor, sorted by symbol, by opening stamp and by trade,
+    /// ascending.
     pub fn visit_lots<E, V: Visitor<HoldingRow, E>>(
         &mut self,
         account: Id,
@@ -77,18 +60,8 @@ impl<S: Alter> Store<S> {
         brk_tables_views::walk_lots::<S, E, V>(&mut self.conn, account, visitor)
     }
 
-    /// Passes the completed trades of all accounts to a visitor, sorted by the stamp of completion,
-    /// ascending. Trades with equal stamps are sorted by id, ascending. Returns `Ok` only after the
-    /// visitor has taken the last trade.
-    ///
-    /// Fails with `Cause` and the visitor's error, or with `Failed` and the fault `Memory` or
-    /// `Store` after a prefix of the trades. If the database is still open, it is unchanged,
-    /// whatever the result.
-    ///
-    /// `ready`: the visitor must be ready to take records, and is so after the walk. `leads`: the
-    /// calls of the walk lead from the visitor before it to the visitor after it (`Visitor`).
-    ///
-    /// A crash after the call exposes only states that a crash before the call could expose.
+    /// Passes the completed trades of all accounts to a visitor, sorted by the stamp of completion
+    /// and then by id, ascending.
     pub fn visit_completed_trades<E, V: Visitor<TradeRow, E>>(
         &mut self,
         visitor: &mut V,
@@ -102,19 +75,10 @@ impl<S: Alter> Store<S> {
     }
 
     /// Calls a closure with each cash row of an account with a stamp from `from` to `to`, both
-    /// included, sorted by stamp, ascending. Rows with equal stamps are sorted by number (CM_ID),
-    /// ascending. Returns `Ok` only after the closure has returned `Ok` for the last row. Does not
-    /// check that the account exists.
+    /// included, sorted by stamp and then by number (CM_ID), ascending.
     ///
     /// Fails with the closure's first error, or with a fault (`Memory` or `Store`) as an error of
-    /// type `E`, after a prefix of the rows. If the database is still open, it is unchanged,
-    /// whatever the result.
-    ///
-    /// `callable`: the closure must be callable with any record, at its first call and any later.
-    /// `called`: the closure is called with the rows, in order and one at a time, until its first
-    /// error or a fault.
-    ///
-    /// A crash after the call exposes only states that a crash before the call could expose.
+    /// type `E`, after a prefix of the rows.
     pub fn walk_cash<E: From<Fault>, F: FnMut(&CashRow) -> Result<(), E> + Drop>(
         &mut self,
         account: Id,
@@ -134,20 +98,10 @@ impl<S: Alter> Store<S> {
         }
     }
 
-    /// Calls a closure with each lot of an account and its symbol, sorted by symbol, then by
-    /// opening stamp, both ascending. Lots with equal symbols and stamps are sorted by trade,
-    /// ascending. Returns `Ok` only after the closure has returned `Ok` for the last lot. Does not
-    /// check that the account exists.
+    /// Calls a closure with each lot of an account and its symbol, sorted by symbol, by opening
+    /// stamp and by trade, ascending.
     ///
-    /// Fails with the closure's first error, or with a fault (`Memory` or `Store`) as an error of
-    /// type `E`, after a prefix of the lots. If the database is still open, it is unchanged,
-    /// whatever the result.
-    ///
-    /// `callable`: the closure must be callable with any record, at its first call and any later.
-    /// `called`: the closure is called with the lots, in order and one at a time, until its first
-    /// error or a fault.
-    ///
-    /// A crash after the call exposes only states that a crash before the call could expose.
+    /// Fails as `walk_cash` does.
     pub fn walk_lots<E: From<Fault>, F: FnMut(&str, &Lot) -> Result<(), E> + Drop>(
         &mut self,
         account: Id,

@@ -15,7 +15,6 @@ pub struct LotAge {
 }
 
 impl LotAge {
-    /// Returns the age of the lot in a row of HOLDING.
     pub fn of_row(row: &HoldingRow) -> LotAge
         ensures { result ≡ age_of_row (abstract_holding_row row.now) }
     {
@@ -25,8 +24,7 @@ impl LotAge {
         }
     }
 
-    /// Returns whether the lot was opened before another: at a smaller stamp, or at the same stamp
-    /// by a trade with a smaller id.
+    /// Returns whether the lot was opened before `other`; at equal stamps, by the smaller trade id.
     pub fn is_older(&self, other: &LotAge) -> bool
         ensures { result ≡ is_older self.now other.now }
     {

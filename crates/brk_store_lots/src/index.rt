@@ -50,7 +50,6 @@ pub struct LotIndex {
 }
 
 impl LotIndex {
-    /// Creates an index without lots.
     pub fn new(alloc: Global) -> LotIndex
         ensures { IsIndexOf result [] }
     {
@@ -61,7 +60,7 @@ impl LotIndex {
         }
     }
 
-    // Adds a lot.
+    // Fails also if the trade has a lot already.
     fn add(&mut self, lot: &HoldingRow) -> Result<(), IndexLost>
         ensures { OnOk result ((rows : List Row) → IsIndexOf self.old rows → IsIndexOf self.new (abstract_holding_row lot.now ∷ rows)) }
     {
@@ -83,7 +82,6 @@ impl LotIndex {
         Ok(())
     }
 
-    // Removes the lot that the trade opened, if there is one.
     fn remove(&mut self, trade: Id) -> Result<(), IndexLost>
         ensures { OnOk result ((rows : List Row) → IsIndexOf self.old rows → IsIndexOf self.new (filter (λ r. not (r.trade == trade)) rows)) }
     {
@@ -107,7 +105,6 @@ impl LotIndex {
         Ok(())
     }
 
-    /// Creates the index of the lots in rows of HOLDING.
     pub fn of_rows(alloc: Global, rows: &[HoldingRow]) -> Result<LotIndex, IndexLost>
         ensures { IfOk result (λ index. IsIndexOf index (map abstract_holding_row rows.now)) }
     {
@@ -118,7 +115,7 @@ impl LotIndex {
         Ok(index)
     }
 
-    /// Adds the lots that row changes open, and removes those that they close.
+    /// Adds the lots that `changes` open and removes those that they close.
     pub fn update(&mut self, changes: &[Change]) -> Result<(), IndexLost>
         ensures { OnOk result ((t : Tables) → IsIndexOf self.old t.holdings → IsIndexOf self.new (tables_after_changes changes.now t).holdings) }
     {
@@ -132,15 +129,13 @@ impl LotIndex {
         Ok(())
     }
 
-    /// Returns the number of lots.
     pub fn len(&self) -> usize
         ensures { result ≡ number_of_lots self.now }
     {
         self.places.len()
     }
 
-    /// Returns the ages of the lots of the account in the security, the oldest first, or `None` if
-    /// it has none.
+    /// Returns the ages of the lots of a position, the oldest first.
     pub fn lots(&self, account: Id, symbol: &Symbol) -> Option<&VecDeque<LotAge>>
         ensures { ages_in (option_copied result) ≡ lots_at self.now account symbol.now }
     {

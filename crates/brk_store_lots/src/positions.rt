@@ -19,7 +19,6 @@ pub(crate) struct Positions {
 }
 
 impl Positions {
-    /// Creates positions without lots.
     pub(crate) fn new(alloc: Global) -> Positions
         ensures { (account : ℕ) (symbol : Text) → ages_at result account symbol ≡ [] }
     {
@@ -29,7 +28,6 @@ impl Positions {
         }
     }
 
-    /// Returns the ages of the lots of the account in the security, or `None` if it has none.
     pub(crate) fn ages(&self, account: Id, symbol: &Symbol) -> Option<&VecDeque<LotAge>>
         ensures { ages_in (option_copied result) ≡ ages_at self.now account symbol.now }
     {
@@ -39,7 +37,6 @@ impl Positions {
         }
     }
 
-    /// Takes the ages of the lots of the account in the security out.
     pub(crate) fn take(&mut self, account: Id, symbol: &Symbol) -> Option<VecDeque<LotAge>>
         ensures taken { ages_in result ≡ ages_at self.old account symbol.now }
         ensures emptied { ages_at self.new account symbol.now ≡ [] }
@@ -51,8 +48,6 @@ impl Positions {
         }
     }
 
-    /// Puts the ages of the lots of the account in the security in. Fails if the memory is refused;
-    /// the positions are then not specified.
     pub(crate) fn put(
         &mut self,
         account: Id,

@@ -10,5 +10,5 @@ pub use required::{
     require_tax, require_trade,
 };
 pub use valuation::{
-    ValuedSummaries, read_holding_summaries_and_value, read_holdings_value, require_last_price,
+    ValuedSummaries, read_holdings_value, read_valued_summaries, require_last_price,
 };

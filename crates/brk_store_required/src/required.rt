@@ -16,8 +16,7 @@ use brk_store::Store;
 use brk_trade_rows::BrokerTotals;
 use sqlite::Alter;
 
-/// Returns the row of the trade with the id `id`. If the database is still open, it is unchanged.
-/// Fails with `Memory` or `Store` only; with `Store` also if the trade does not exist.
+/// Returns the trade with the id.
 pub fn require_trade<S: Alter>(store: &mut Store<S>, id: Id) -> Result<TradeRow, Fault>
     ensures read { ReadPost S.Store store.old store.new result (λ trade t. trade_row_with_id t id ≡ Some (abstract_trade_row trade)) }
     ensures fault { IfErr result IsCallFault }
@@ -28,8 +27,7 @@ pub fn require_trade<S: Alter>(store: &mut Store<S>, id: Id) -> Result<TradeRow,
     }
 }
 
-/// Returns the row of the account with the id `id`. If the database is still open, it is unchanged.
-/// Fails with `Memory` or `Store` only; with `Store` also if the account does not exist.
+/// Returns the account with the id.
 pub fn require_account<S: Alter>(store: &mut Store<S>, id: Id) -> Result<AccountRow, Fault>
     ensures read { ReadPost S.Store store.old store.new result (λ account t. IsAccountWithId t id account) }
     ensures fault { IfErr result IsCallFault }
@@ -40,8 +38,7 @@ pub fn require_account<S: Alter>(store: &mut Store<S>, id: Id) -> Result<Account
     }
 }
 
-/// Returns the customer with the id `id`. If the database is still open, it is unchanged. Fails
-/// with `Memory` or `Store` only; with `Store` also if the customer does not exist.
+/// Returns the customer with the id.
 pub fn require_customer<S: Alter>(store: &mut Store<S>, id: Id) -> Result<Customer, Fault>
     ensures read { ReadPost S.Store store.old store.new result (λ customer t. IsCustomerWithId t id customer) }
     ensures fault { IfErr result IsCallFault }
@@ -52,8 +49,7 @@ pub fn require_customer<S: Alter>(store: &mut Store<S>, id: Id) -> Result<Custom
     }
 }
 
-/// Returns the security with the symbol `symbol`. If the database is still open, it is unchanged.
-/// Fails with `Memory` or `Store` only; with `Store` also if the security does not exist.
+/// Returns the security with the symbol.
 pub fn require_security<S: Alter>(store: &mut Store<S>, symbol: &Symbol) -> Result<Security, Fault>
     ensures read { ReadPost S.Store store.old store.new result (λ security t. IsSecurityWithSymbol t symbol.now security) }
     ensures fault { IfErr result IsCallFault }
@@ -64,8 +60,7 @@ pub fn require_security<S: Alter>(store: &mut Store<S>, symbol: &Symbol) -> Resu
     }
 }
 
-/// Returns the tax with the id `id`, with its rate. If the database is still open, it is unchanged.
-/// Fails with `Memory` or `Store` only; with `Store` also if the tax does not exist.
+/// Returns the tax with the id, with its rate.
 pub fn require_tax<S: Alter>(store: &mut Store<S>, id: Id) -> Result<Tax, Fault>
     ensures read { ReadPost S.Store store.old store.new result (λ tax t. find (λ r. r.id == id) t.tax_rates ≡ Some (abstract_tax_rate tax)) }
     ensures fault { IfErr result IsCallFault }
@@ -76,9 +71,7 @@ pub fn require_tax<S: Alter>(store: &mut Store<S>, id: Id) -> Result<Tax, Fault>
     }
 }
 
-/// Returns the settlement of the trade with the id `trade`. If the database is still open, it is
-/// unchanged. Fails with `Memory` or `Store` only; with `Store` also if the trade has no
-/// settlement.
+/// Returns the settlement of the trade.
 pub fn require_settlement<S: Alter>(store: &mut Store<S>, trade: Id) -> Result<SettlementRow, Fault>
     ensures read { ReadPost S.Store store.old store.new result (λ settlement t. find (λ r. r.trade == trade) t.settlements
         ≡ Some (abstract_settlement_row settlement)) }
@@ -90,9 +83,8 @@ pub fn require_settlement<S: Alter>(store: &mut Store<S>, trade: Id) -> Result<S
     }
 }
 
-/// Returns the totals of the broker with the id `id`: the number of its completed trades and their
-/// commissions in cents. If the database is still open, it is unchanged. Fails with `Memory` or
-/// `Store` only; with `Store` also if the broker does not exist or a total is out of range.
+/// Returns the number of the broker's completed trades and their commissions in cents. Fails with
+/// `Store` also if a total is out of range.
 pub fn require_broker_totals<S: Alter>(store: &mut Store<S>, id: Id) -> Result<BrokerTotals, Fault>
     ensures read { ReadPost S.Store store.old store.new result (λ numbers t. AreTotalsOfBroker t id numbers) }
     ensures fault { IfErr result IsCallFault }

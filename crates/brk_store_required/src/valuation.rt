@@ -1,5 +1,6 @@
-//! The market value of an account's holdings at last prices. A crash after a read exposes only
-//! states that a crash before it could expose.
+//! The market value of an account's holdings at last prices, in cents; shares that were sold short
+//! count below 0. A read fails with `Store` also if a held symbol has no last price or the value
+//! overflows. A crash after a read exposes only states that a crash before it could expose.
 
 ghost use Rattle.std.specs.Prelude.{◌≡◌, ◌+ℤ◌, ◌*ℤ◌, IfErr, IfSome, pos};
 ghost use Rattle.brk_ref.specs.Rows.{abstract_summary_row};
@@ -24,9 +25,7 @@ pub struct ValuedSummaries {
     pub value: Wide,
 }
 
-/// Returns the last price of a symbol on the market, in cents. If the database is still open, it is
-/// unchanged. Fails with `Memory` or `Store` only; with `Store` also if the symbol has no last
-/// trade.
+/// Returns the last price of a symbol on the market, in cents.
 pub fn require_last_price<S: Alter>(store: &mut Store<S>, symbol: &Symbol) -> Result<Price, Fault>
     ensures read { ReadPost S.Store store.old store.new result (λ price t. price ≡ last_price_in_tables t symbol.now) }
     ensures fault { IfErr result IsCallFault }
@@ -37,8 +36,7 @@ pub fn require_last_price<S: Alter>(store: &mut Store<S>, symbol: &Symbol) -> Re
     }
 }
 
-// Returns an amount in cents plus the market value of a holding summary at a price, or `None` if
-// the market value or the sum overflows.
+// Returns `None` if the market value or the sum overflows.
 fn add_market_value(amount: Wide, row: &SummaryRow, price: Price) -> Option<Wide>
     ensures { IfSome result (λ sum. sum ≡ amount +ℤ row.now.qty *ℤ pos price) }
 {
@@ -51,9 +49,6 @@ fn add_market_value(amount: Wide, row: &SummaryRow, price: Price) -> Option<Wide
     }
 }
 
-// Returns an amount in cents plus the market value of a holding summary at the last price of its
-// symbol. If the database is still open, it is unchanged. Fails with `Memory` or `Store` only; with
-// `Store` also if the symbol has no last price or the sum overflows.
 fn add_value_at_last_price<S: Alter>(
     store: &mut Store<S>,
     amount: Wide,
@@ -69,10 +64,9 @@ fn add_value_at_last_price<S: Alter>(
     }
 }
 
-/// Returns the holding summaries of an account, sorted by symbol, ascending, and their market value
-/// at last prices, in cents. If the database is still open, it is unchanged. Fails with `Memory` or
-/// `Store` only; with `Store` also if a held symbol has no last price or the sum overflows.
-pub fn read_holding_summaries_and_value<S: Alter>(
+/// Returns the holding summaries of an account, sorted by symbol, ascending, and their market
+/// value.
+pub fn read_valued_summaries<S: Alter>(
     alloc: Global,
     store: &mut Store<S>,
     account: Id,
@@ -89,9 +83,7 @@ pub fn read_holding_summaries_and_value<S: Alter>(
     Ok(ValuedSummaries { rows, value: total })
 }
 
-/// Returns the market value of an account's holdings at last prices, in cents. Shares that were
-/// sold short count below 0. If the database is still open, it is unchanged. Fails with `Memory` or
-/// `Store` only; with `Store` also if a held symbol has no last price or the sum overflows.
+/// Returns the market value of an account's holdings.
 pub fn read_holdings_value<S: Alter>(
     alloc: Global,
     store: &mut Store<S>,
@@ -100,6 +92,6 @@ pub fn read_holdings_value<S: Alter>(
     ensures read { ReadPost S.Store store.old store.new result (λ worth t. worth ≡ market_value_of_account t account) }
     ensures fault { IfErr result IsCallFault }
 {
-    let held = read_holding_summaries_and_value(alloc, store, account)?;
+    let held = read_valued_summaries(alloc, store, account)?;
     Ok(held.value)
 }

@@ -1,4 +1,4 @@
--- The ends of an adoption.
+-- The possible results of an adoption, and the state after each.
 use Rattle.std.proofs.Common.{◌≡◌, ◌∙◌, Option, Some, None, Result, Ok, Err, Bool, IsTrue, List, ◌∷◌, ℕ, refl, sym, subst, inl, inr, true, false, []}
 use Rattle.std.specs.Prelude.{◌⊎◌, ◌≢◌}
 use Rattle.std.specs.List.{AllByRecursion}

@@ -1,4 +1,4 @@
--- What an audit by one schema tells, from what was read.
+-- The result of an audit by one schema, from the rows that were read.
 use Rattle.std.proofs.Common.{◌≡◌, ◌∙◌, ◌&&◌, IfOk, true, false, Bool, List, [], ◌∷◌, map, Option, Some, None, Result, Ok, IsTrue, refl, sym, subst, inl, inr}
 use Rattle.std.specs.Prelude.{◌↔◌, ⊤}
 use Rattle.std.specs.List.{AllByRecursion}
@@ -127,11 +127,13 @@ module _ (schema : known.Schema) (a b : State) where
       answer_alike (abstract_schema schema) (abstract_sheets sheets) (map kept_row_with_empty_texts sheets.kept.items) (map abstract_kept_row whole)
       (here ∙ sym keys ∙ sym there) row_conditions answer h
 
-  pub rows_told : (sheets : Sheets) (r : Result (Option Condition) Fault)
+  -- the sheets have the schema whose rows were read, and are audited by it
+  pub rows_told : (sheets : Sheets) (r : Result (Option Condition) Fault) → sheets.schema ≡ schema
       → IsTransactionStep {V = Option Sheets} {E = Fault} a b (Ok (Some sheets)) (ReadsSheetsOfSchema schema)
-      → IfOk r (λ answer. IsAuditResult (abstract_schema schema) (abstract_sheets sheets) answer)
+      → IfOk r (λ answer. IsAuditResult (abstract_schema sheets.schema) (abstract_sheets sheets) answer)
       → IsTransactionStep {V = Option Condition} {E = Fault} a b r (AuditsDeskOfSchema schema)
-  rows_told sheets r step audit =
+  rows_told sheets r of_schema step own =
+      let audit = subst (λ (s : known.Schema). IfOk r (λ answer. IsAuditResult (abstract_schema s) (abstract_sheets sheets) answer)) of_schema own in
       step_read a b (Some sheets) r (ReadsSheetsOfSchema schema) (AuditsDeskOfSchema schema)
       (λ answer is p. (
         p.0,

@@ -1,4 +1,4 @@
--- An audit, whose transaction is rolled back, and what it leaves.
+-- The state after an audit, whose transaction is rolled back.
 use Rattle.std.proofs.Common.{◌≡◌, Option, Some, None, Result, Ok, Err, IfOk, IsTrue, refl, sym, subst, inl, inr}
 use Rattle.sqlite_trees.specs.declared.store.Store.{Ghosts}
 use Rattle.sqlite.specs.Held.{Held, state}

@@ -1,5 +1,5 @@
--- A database that has the tables of one schema is defined whatever schema is asked: what it lacks
--- it has by no name.
+-- A database with the tables of one schema satisfies the premise for every schema: the tables that
+-- it lacks, it has by no name.
 use Rattle.std.proofs.Common.{◌≡◌, ◌∙◌, ℕ, Bool, true, false, Some, None, refl, sym, ap}
 use Rattle.sqlite_schema.specs.Names.{table_named}
 use Rattle.sqlite.specs.Effect.{Database}

@@ -1,4 +1,4 @@
--- How a transaction ends: rolled back, or committed.
+-- The end of a transaction: a rollback or a commit.
 use Rattle.std.proofs.Common.{◌≡◌, ◌⊎◌, inl, inr, true, false, Result, Ok, Err, IfOk, OnOk, IsTrue, [], refl, sym, ap, subst, ◌∙◌}
 use Rattle.sqlite_trees.specs.declared.store.Store.{Ghosts}
 use Rattle.sqlite_trees.specs.Tree.{Trees}

@@ -1,4 +1,4 @@
--- What was left is found again.
+-- A connection to the disk contents of a store holds its rows.
 use Rattle.std.proofs.Common.{◌≡◌, ◌∙◌, sym, subst, subst₂}
 use Rattle.sqlite.specs.Effect.{Database, IsDatabase}
 use Rattle.sqlite.specs.Held.{Held}

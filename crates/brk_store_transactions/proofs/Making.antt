@@ -1,4 +1,4 @@
--- Changes that are made one after another.
+-- Changes that are applied one after another.
 use Rattle.std.proofs.Common.{◌≡◌, Result, Ok, inl, refl, sym, subst, arith}
 use Rattle.sqlite.specs.State.{State}
 use Rattle.brk_tables_sql.specs.Desk.{ChangesTablesBy}

@@ -1,4 +1,4 @@
--- The rows of a desk of the third schema, and the one schema of a desk.
+-- The rows of a desk of schema 3, and the one schema of a desk.
 use Rattle.std.proofs.Common.{◌≡◌, ◌∙◌, true, false, List, Some, refl, sym, ap}
 use Rattle.sqlite_value.specs.Order.{Row}
 use Rattle.sqlite.specs.Effect.{Database}

@@ -1,4 +1,4 @@
--- What proofs over a store need of schemas and trees, in terms of the rows of a database.
+-- Schemas and disk contents, in terms of the rows of a database.
 use Rattle.std.proofs.Common.{◌≡◌, None, arith, sym, subst}
 use Rattle.sqlite_trees.specs.declared.store.Store.{Ghosts}
 use Rattle.sqlite_trees.specs.Tree.{Trees}

@@ -1,4 +1,4 @@
--- What an audit tells of a store's rows, and what a store holds that was adopted.
+-- The result of an audit of a store's rows, and the rows of an adopted store.
 use Rattle.std.proofs.Common.{◌≡◌, ◌∙◌, true, Option, Some, None, Result, Ok, Err, IsTrue, refl, sym, ap, subst, inl, inr}
 use Rattle.std.specs.Prelude.{◌⊎◌}
 use Rattle.sqlite_trees.specs.declared.store.Store.{Ghosts}

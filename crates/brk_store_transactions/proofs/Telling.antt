@@ -1,4 +1,4 @@
--- What the examination of a database over all schemas tells.
+-- The result of the examination of a database over all schemas.
 use Rattle.std.proofs.Common.{◌≡◌, ◌↔◌, ◌∙◌, true, false, Bool, Option, Some, None, Ok, sym, subst}
 use Rattle.std.specs.Prelude.{IsTrue}
 use Rattle.sqlite.specs.Effect.{Database}

@@ -1,4 +1,4 @@
--- Texts that may be any can be read in rows in types.
+-- Typed rows have UTF-8 texts in the columns that admit any text.
 use Rattle.std.proofs.Common.{◌≡◌, ◌&&◌, ◌+◌, ◌++◌, ℕ, true, false, Bool, List, [], ◌∷◌, map, IsTrue, refl}
 use Rattle.std.specs.List.{list_all, AllByRecursion}
 use Rattle.std.specs.Str.{is_utf8}

@@ -1,4 +1,5 @@
-//! Theorems about the result of an audit, and about an adopted store.
+//! Theorems about the result of an audit, and about an adopted store. The premise of an adoption is
+//! `ConnectionTablesWithDeskNamesAreDeskTables`.
 
 ghost use Rattle.brk_model.specs.Form.{has_utf8_texts};
 ghost use Rattle.std.specs.Prelude.{◌≡◌, IsTrue, None, Ok, Option, Result};
@@ -21,25 +22,22 @@ ghost use Rattle.brk_store_transactions.specs.Holds.{HoldsRows};
 
 use sqlite::Alter;
 
-/// Proves that an audit of a database has at most one result, both by the schema that the database
-/// has (`of_database`) and by a given schema (`by_schema`).
+/// An audit of a database has at most one result, by the schema that the database has and by a
+/// given one.
 pub fn audit_results_are_unique()
     ensures of_database { (db : Database) (a b : Option Condition) → IsDatabaseAuditResult db a → IsDatabaseAuditResult db b → a ≡ b }
     ensures by_schema { (schema : Schema) (db : Database) (a b : Option Condition) → IsDatabaseAuditResultBySchema (abstract_schema schema) db a
         → IsDatabaseAuditResultBySchema (abstract_schema schema) db b → a ≡ b }
 {}
 
-/// Proves that the database of a store that holds the tables of schema 3 with any rows satisfies
-/// the premise of an adoption (`ConnectionTablesWithDeskNamesAreDeskTables`) and has schema 3.
-/// Vacuous if the disk assumption fails, or once the store is closed.
+/// A store that holds the tables of schema 3 satisfies the premise of an adoption and has schema 3.
 pub fn stores_that_hold_tables_have_desk_definitions<S: Alter>()
     ensures defined { (held : Held S) (t : Tables) → HoldsRows S.Store held t → ConnectionTablesWithDeskNamesAreDeskTables S.Store held }
     ensures has_third_schema { (held : Held S) (t : Tables) → HoldsRows S.Store held t → ConnectionHasThirdSchema S.Store held }
 {}
 
-/// Proves, under the disk assumption, that an audit of a store that holds rows with texts in UTF-8
-/// returns the result of the audit of these rows (`rows`), and does not return `Damaged` if the
-/// store represents a base (`books`). Vacuous if the audit fails with `Memory` or `Store`.
+/// Under the disk assumption, an audit of a store with UTF-8 texts returns the result for its rows,
+/// never `Damaged` if it represents a base.
 pub fn audits_return_result_for_stored_rows<S: Alter>()
     ensures rows { (old new : Held S) (result : Result (Unit {0}) Fault) (t : Tables)
         → AuditPost S.Store old new result → HoldsRows S.Store old t → IsTrue (has_utf8_texts t) → HasCleanDisk (state S.Store new)
@@ -49,22 +47,14 @@ pub fn audits_return_result_for_stored_rows<S: Alter>()
         → AuditAnswerSatisfies result (λ answer. answer ≡ None) }
 {}
 
-/// Proves that an adoption of a database that contains the tables of schema 3 with any rows, or
-/// none, satisfies the postcondition of an audit (`AuditPost`): the adoption writes nothing.
+/// An adoption of a database with the tables of schema 3 is an audit: it writes nothing.
 pub fn adoption_of_third_schema_is_audit<S: Alter>()
     ensures { (old new : Held S) (result : Result (Unit {0}) Fault) (t : Tables)
         → AdoptPost S.Store old new result → HoldsRows S.Store old t → AuditPost S.Store old new result }
 {}
 
-/// Proves that a store represents the base that its rows determine, if these pass the audit of
-/// schema 3 and their texts are UTF-8 (`rows`).
-///
-/// `adopted`: a store that was adopted under the premise
-/// `ConnectionTablesWithDeskNamesAreDeskTables` represents some base.
-///
-/// `base_of_old_rows`: if this store is open, then under the disk assumption the old database
-/// contained rows of some schema, with texts in UTF-8, that pass their audit, and the store
-/// represents the base that these rows determine.
+/// A store whose rows pass the audit represents their base; one adopted under the premise
+/// represents a base, that of its old rows if open.
 pub fn adopted_stores_represent_a_base<S: Alter>()
     ensures rows { (store : Held S) (t : Tables) → HoldsRows S.Store store t → PassesAudit third_schema t → IsTrue (has_utf8_texts t)
         → Represents S.Store store (base_of_tables t) }

@@ -1,4 +1,4 @@
-//! The audit of a database by the conditions of schema 3.
+//! The audit of rows by the conditions of a schema, and of a database by those of schema 3.
 
 ghost use Rattle.std.specs.Prelude.{◌≡◌, ◌≢◌, IfErr, IfOk, IsTrue, Some, false};
 ghost use Rattle.brk_money.specs.declared.fault.Condition.TheVariants.{NotEmpty};
@@ -13,16 +13,13 @@ ghost use Rattle.brk_tables_scan.specs.Schemas.{DatabaseHasSchema, TablesWithSch
 use crate::beginning::begin_transaction;
 use brk_audit::audit_rows;
 use brk_money::{Condition, Fault};
-use brk_tables_scan::{database_has_schema, read_typed_rows_of_schema};
+use brk_tables_scan::{database_has_schema, read_sheets};
 use brk_trade_rows::Schema;
 use sqlite::{Alter, Connection, Transaction};
 use std::alloc::Global;
 
-/// Returns the first condition of `schema` that the rows of its tables fail, or `None` if they
-/// pass. At `Ok` the database was open and is unchanged. Fails with `Memory` or `Store` only, and
-/// commits nothing. The result is specified only if the database has the schema
-/// (`DatabaseHasSchema`) and its tables satisfy `HasDeskDefinitions`
-/// (`TablesWithSchemaNamesAreDeskTables`).
+/// Returns the first condition of `schema` that the rows fail, or `None`; rows that cannot be typed
+/// fail `Form`. Specified only if the database has the schema.
 pub(crate) fn audit_rows_of_schema<S: Alter>(
     tx: &mut Transaction<'_, S>,
     alloc: Global,
@@ -35,16 +32,12 @@ pub(crate) fn audit_rows_of_schema<S: Alter>(
     ensures condition { IfOk result (λ answer. answer ≢ Some NotEmpty) }
     ensures fault { IfErr result IsCallFault }
 {
-    match read_typed_rows_of_schema(tx, alloc, schema)? {
+    match read_sheets(tx, alloc, schema)? {
         None => Ok(Some(Condition::Form)),
-        Some(sheets) => audit_rows(alloc, schema, &sheets),
+        Some(sheets) => audit_rows(alloc, &sheets),
     }
 }
 
-// Returns the first condition of schema 3 that the database fails, or `None` if it passes. At `Ok`
-// the database was open and is unchanged. Fails with `Memory` or `Store` only, and commits nothing.
-// The result is specified only if tables with the names and column names of schema 3 satisfy
-// `HasDeskDefinitions` (`TablesWithSchemaNamesAreDeskTables`).
 fn first_failing_condition<S: Alter>(
     tx: &mut Transaction<'_, S>,
     alloc: Global,
@@ -62,11 +55,9 @@ fn first_failing_condition<S: Alter>(
 }
 
 /// Audits the database by the conditions of schema 3 in a transaction, which ends without a commit.
-/// Returns `Ok` only if the rows pass. The connection must be in autocommit mode, and is so after
-/// the call. Fails with `Damaged` and the first condition that fails, or with `Memory` or `Store`.
-/// If the database is still open, it is unchanged. A crash after the call exposes only states that
-/// a crash before the call could expose. The result is specified only if the database satisfies
-/// `ConnectionTablesWithThirdSchemaNamesAreDeskTables`.
+///
+/// Fails with `Damaged` and the first condition that fails, or with `Memory` or `Store`. The result
+/// is specified only if the database satisfies `ConnectionTablesWithThirdSchemaNamesAreDeskTables`.
 pub fn audit_database<S: Alter>(conn: &mut Connection<S>, alloc: Global) -> Result<(), Fault>
     requires { conn.old.in_transaction ≡ false }
     ensures mode { conn.new.in_transaction ≡ false }

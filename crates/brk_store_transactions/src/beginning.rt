@@ -5,9 +5,7 @@ ghost use Rattle.sqlite.specs.Held.{state};
 
 use sqlite::{Alter, Connection, Transaction};
 
-/// Begins a transaction on a connection in autocommit mode, and returns it. The connection is
-/// otherwise unchanged. If the database is open before the call, its current state before the call
-/// is its committed state.
+/// Begins a transaction. Before it, an open database is in its committed state.
 pub fn begin_transaction<S: Alter>(conn: &mut Connection<S>) -> Transaction<'_, S>
     requires { conn.old.in_transaction ≡ false }
     ensures same_reference { result.conn.ghost_name ≡ conn.entry.ghost_name }

@@ -16,12 +16,8 @@ use brk_tables_schema::calls::statement_compiles;
 use brk_trade_rows::Change;
 use sqlite::{Alter, Connection, Transaction};
 
-// Applies one change to the tables of a desk within the transaction, by one SQL statement. A change
-// that updates or deletes a row that does not exist changes nothing. The rows of other tables are
-// unchanged, unless a foreign key of such a table may change or delete them. Fails with `Store`
-// only, also if the row to add breaks PRIMARY KEY or another constraint of its table, or if the
-// `sqlite` crate runs out of memory. At an error nothing is committed; the transaction and its rows
-// are not specified.
+// A change of a row that does not exist changes nothing. The fault `Store` may also mean a broken
+// constraint of the table.
 fn apply_change<S: Alter>(tx: &mut Transaction<'_, S>, change: &Change) -> Result<(), Fault>
     ensures same_reference { tx.new.conn.ghost_name ≡ tx.old.conn.ghost_name }
     ensures step { IsTransactionStep (state S.Store tx.old.conn.now) (state S.Store tx.new.conn.now) result
@@ -61,9 +57,7 @@ fn apply_change<S: Alter>(tx: &mut Transaction<'_, S>, change: &Change) -> Resul
         Change::RemoveLot(trade) => brk_tables_trading::remove_lot(tx, *trade),
         Change::AddLotChange(made) => brk_tables_trading::add_lot_change(tx, made),
         Change::AddSummary(summary) => brk_tables_trading::add_holding_summary(tx, summary),
-        Change::SetSummary(summary) => brk_tables_trading::set_holding_summary_quantity(
-            tx, summary,
-        ),
+        Change::SetSummary(summary) => brk_tables_trading::set_summary_quantity(tx, summary),
         Change::RemoveSummary { account, symbol } => brk_tables_trading::remove_holding_summary(
             tx, *account, symbol,
         ),
@@ -90,18 +84,12 @@ fn apply_change<S: Alter>(tx: &mut Transaction<'_, S>, change: &Change) -> Resul
             *trade,
             name.as_str(),
         ),
-        Change::SetOneDaySettlementStart(day) => brk_tables_cash::set_one_day_settlement_start(
-            tx, *day,
-        ),
+        Change::SetOneDaySettlementStart(day) => brk_tables_cash::set_one_day_start(tx, *day),
         Change::AddStoredReply(kept) => brk_tables_schema::add_kept_row(tx, kept),
         Change::SetLastStamp(stamp) => brk_tables_schema::set_last_stamp(tx, *stamp),
     }
 }
 
-// Applies the changes to the tables of the desk, in order, within the transaction, up to the first
-// that fails. The rows of each table that is not the desk's are unchanged, unless a foreign key of
-// that table may change or delete them. Fails with `Store` only, if `apply_change` does. After a
-// failure nothing is committed; the transaction and its rows are not specified.
 fn apply_each_change<S: Alter>(tx: &mut Transaction<'_, S>, changes: &[Change]) -> Result<(), Fault>
     ensures same_reference { tx.new.conn.ghost_name ≡ tx.old.conn.ghost_name }
     ensures step { IsTransactionStep (state S.Store tx.old.conn.now) (state S.Store tx.new.conn.now) result
@@ -114,20 +102,12 @@ fn apply_each_change<S: Alter>(tx: &mut Transaction<'_, S>, changes: &[Change]) 
     Ok(())
 }
 
-/// Applies the changes in order in one transaction and commits it. The SQLite schema is unchanged,
-/// and so are the rows of each table that is not the desk's, unless a foreign key of that table may
-/// change or delete them. The connection must be in autocommit mode, and is so after the call.
+/// Applies the changes in order in one transaction and commits it. The rows of other tables are
+/// unchanged, unless a foreign key of theirs changes or deletes them.
 ///
-/// Fails with `Store` only, also if a row to add breaks PRIMARY KEY or another constraint of its
-/// table, or if the `sqlite` crate runs out of memory. A database that is still open is then
-/// unchanged.
-///
-/// A crash after the call exposes a state that a crash before the call could expose or, in the
-/// desk's tables, the rows with all changes; after `Ok` only the latter.
-pub fn apply_changes_in_transaction<S: Alter>(
-    conn: &mut Connection<S>,
-    changes: &[Change],
-) -> Result<(), Fault>
+/// Fails with `Store` only, also if a row to add breaks a constraint of its table or if the
+/// `sqlite` crate runs out of memory. A crash after `Ok` exposes the rows with all changes.
+pub fn apply_changes<S: Alter>(conn: &mut Connection<S>, changes: &[Change]) -> Result<(), Fault>
     requires { conn.old.in_transaction ≡ false }
     ensures mode { conn.new.in_transaction ≡ false }
     ensures applied { ApplyPost S.Store conn.old conn.new result (tables_after_changes changes.now) }
@@ -146,16 +126,11 @@ pub fn apply_changes_in_transaction<S: Alter>(
     }
 }
 
-/// Creates the tables of schema 3, without rows, except for the one row of DESK, in one transaction
-/// and commits it. The rows of other tables are unchanged. The connection must be in autocommit
-/// mode, and is so after the call.
+/// Creates the tables of schema 3 in one transaction and commits it. They have no rows but the one
+/// of DESK.
 ///
-/// Fails with `Damaged(NotEmpty)` only if a table with the name of a desk's table exists; if one
-/// exists, fails with this fault or with `Store`. Fails with `Store` also if the `sqlite` crate
-/// runs out of memory. At an error, a database that is still open is unchanged.
-///
-/// A crash after the call exposes a state that a crash before the call could expose, or the tables
-/// without rows; after `Ok` only the latter.
+/// Fails with `Damaged(NotEmpty)`, only if a table with the name of a desk's table exists, or with
+/// `Store`. A crash after `Ok` exposes the tables.
 pub fn create_tables_in_transaction<S: Alter>(conn: &mut Connection<S>) -> Result<(), Fault>
     requires { conn.old.in_transaction ≡ false }
     ensures mode { conn.new.in_transaction ≡ false }
@@ -169,7 +144,7 @@ pub fn create_tables_in_transaction<S: Alter>(conn: &mut Connection<S>) -> Resul
     if brk_tables_scan::has_some_desk_table(&mut tx)? {
         return Err(Fault::Damaged(Condition::NotEmpty));
     }
-    brk_tables::create_third_schema_tables(&mut tx)?;
+    brk_tables::create_desk_tables(&mut tx)?;
     match tx.commit() {
         Ok(()) => Ok(()),
         Err(_) => Err(Fault::Store),

@@ -26,9 +26,6 @@ pub enum AuditResult {
     Fails(Condition),
 }
 
-// Returns the schema that the database has, or `None` if it has none of the three. At `Ok` the
-// database was open and is unchanged. Fails with `Store` only, and commits nothing. The result is
-// specified only if the database satisfies `TablesWithDeskNamesAreDeskTables`.
 fn schema_of_database<S: Alter>(tx: &mut Transaction<'_, S>) -> Result<Option<Schema>, Fault>
     ensures same_reference { tx.new.conn.ghost_name ≡ tx.old.conn.ghost_name }
     ensures step { IsConnectionStep S.Store tx.old tx.new result (λ found a b. IsTrue a.is_open × (b.now ≡ a.now)
@@ -47,10 +44,7 @@ fn schema_of_database<S: Alter>(tx: &mut Transaction<'_, S>) -> Result<Option<Sc
     Ok(None)
 }
 
-/// Audits the database by the conditions of the schema that it has, and returns the result: `Fails`
-/// with the condition `Schema` if it has none of the three schemas. At `Ok` the database was open
-/// and is unchanged. Fails with `Memory` or `Store` only, and commits nothing. The result is
-/// specified only if the database satisfies `TablesWithDeskNamesAreDeskTables`.
+/// Returns `Fails` with `Schema` if the database has none of the three schemas.
 pub(crate) fn audit_by_own_schema<S: Alter>(
     tx: &mut Transaction<'_, S>,
     alloc: Global,

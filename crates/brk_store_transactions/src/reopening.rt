@@ -11,22 +11,20 @@ ghost use Rattle.brk_store_transactions.specs.Holds.{IsDiskContentOfRows, HoldsR
 
 use sqlite::Alter;
 
-/// Proves that a connection to the disk contents of the rows `t` holds the rows `t`.
+/// A connection to the disk contents of rows holds these rows.
 pub fn connection_holds_rows_of_disk_content<S: Alter>()
     ensures { (t : Tables) (trees : Trees) (conn : Held S) → IsDiskContentOfRows t trees → IsConnectionToDiskContent S.Store trees conn
         → HoldsRows S.Store conn t }
 {}
 
-/// Proves that a crash of an open store exposes only the disk contents of its last commit. The
-/// premise `is_open` implies the disk assumption, because `is_open` is false once a read did not
-/// return what was written.
+/// A crash of an open store exposes only its last commit. The premise `is_open` implies the disk
+/// assumption.
 pub fn crash_of_open_store_exposes_last_commit<S: Alter>()
     ensures { (store : Held S) → IsTrue (state S.Store store).is_open
         → CrashStatesSatisfy S.Store store (λ trees. trees ≡ (state S.Store store).committed.trees) }
 {}
 
-/// Proves that a store in memory is always open and satisfies the disk assumption. This says
-/// nothing of a crash: no content of a store in memory outlives its process.
+/// A store in memory is always open. No content of it outlives its process.
 pub fn a_store_in_memory_is_open()
     ensures { (store : Held MemStore) → HasCleanDisk (state over_memory store) × IsTrue (state over_memory store).is_open }
 {}

@@ -12,17 +12,12 @@ use brk_tables::upgrade_tables;
 use sqlite::{Alter, Connection};
 use std::alloc::Global;
 
-/// Audits the database by the conditions of the schema that it has. If its rows pass this audit and
-/// the schema is older than 3, upgrades the tables to schema 3 in the same transaction and commits
-/// it. The connection must be in autocommit mode, and is so after the call. Fails with `Damaged`
-/// and the first condition that fails (`Schema` if the database has none of the three schemas,
-/// never `NotEmpty`), or with `Memory` or `Store`; a database that is still open is then unchanged.
-/// The result is specified only if the database satisfies
-/// `ConnectionTablesWithDeskNamesAreDeskTables`.
+/// Audits the database by the conditions of its own schema. If its rows pass and the schema is
+/// older than 3, upgrades the tables in the same transaction and commits it.
 ///
-/// A crash after the call exposes a state that a crash before the call could expose or, if rows of
-/// an older schema passed their audit, the upgraded tables; after `Ok` of an upgrade only the
-/// latter. After an error it may expose the upgraded tables only if the database is closed.
+/// Fails with `Damaged` and the first condition that fails, or with `Memory` or `Store`; a database
+/// that is still open is then unchanged. A crash after an upgrade exposes the upgraded tables. The
+/// result is specified only if the database satisfies `ConnectionTablesWithDeskNamesAreDeskTables`.
 pub fn audit_and_upgrade_database<S: Alter>(
     conn: &mut Connection<S>,
     alloc: Global,

@@ -1,4 +1,4 @@
--- The tables from their texts, and the row of DESK.
+-- The tables created from their texts, and the row of DESK.
 use Rattle.std.proofs.Common.{◌≡◌, ◌≢◌, ◌∙◌, ℕ, pos, List, [], ◌∷◌, map, drop, None, refl, ap, subst}
 use Rattle.std.specs.List.{AllByRecursion}
 use Rattle.sqlite_trees.specs.Tree.{Trees}

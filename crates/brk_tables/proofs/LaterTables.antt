@@ -1,4 +1,5 @@
--- The tables that a schema lacks are made, the number is set, and the rows are turned.
+-- The upgrade creates the tables that a schema lacks, sets the number of the schema, and moves the
+-- cash rows.
 use Rattle.std.proofs.Common.{◌≡◌, ◌≢◌, ◌∙◌, inl, inr, ℕ, List, [], ◌∷◌, map, Bool, true, false, not, refl, sym, ap, subst}
 use Rattle.std.specs.List.{AllByRecursion}
 use Rattle.sqlite_rules.specs.Lists.{Has}

@@ -1,4 +1,4 @@
--- Tables that are made one after another.
+-- Tables that are created one after the other.
 use Rattle.std.proofs.Common.{ℕ, zero, suc, ◌+◌, ◌<◌, List, [], ◌∷◌, map, take, length, get_or, refl, arith, add-one}
 use Rattle.sqlite.specs.Effect.{Database}
 use Rattle.brk_tables_sql.specs.Desk.{CreatesTableOfShape, CreatesEachTable}

@@ -7,16 +7,14 @@ ghost use Rattle.brk_trade_rows.specs.declared.schema.Schema.{Schema};
 ghost use Rattle.brk_trade_rows.specs.Schemas.{abstract_schema};
 ghost use Rattle.brk_tables_schema.specs.Made.{HasDeskTables, HasDeskTablesInSchema};
 
-/// Proves that two sets of tables `t` and `u` are equal if one database contains the tables of a
-/// desk in schema 3 with exactly the rows `t`, and also with exactly the rows `u`.
+/// A database contains the tables of a desk in schema 3 with exactly the rows of at most one set of
+/// tables.
 pub fn database_rows_determine_tables()
     ensures { (t u : Tables) → (db : Database) → HasDeskTables t db → HasDeskTables u db → t ≡ u }
 {}
 
-/// Proves that two schemas `a` and `b` are equal, and two sets of tables `t` and `u` are equal, if
-/// one database contains the tables of a desk in the schema `a` with exactly the rows `t`, and also
-/// those in the schema `b` with exactly the rows `u`, in each case without any table of a desk that
-/// the schema lacks (`HasDeskTablesInSchema`).
+/// A database contains the tables of a desk in at most one schema, with exactly the rows of at most
+/// one set of tables.
 pub fn database_rows_determine_schema_and_tables()
     ensures { (a b : Schema) → (t u : Tables) → (db : Database) → HasDeskTablesInSchema (abstract_schema a) t db
         → HasDeskTablesInSchema (abstract_schema b) u db → (a ≡ b) × (t ≡ u) }

@@ -18,8 +18,6 @@ use brk_tables_schema::table::{
 use brk_trade_rows::Schema;
 use sqlite::{Alter, Transaction};
 
-// Creates the table `table` of a desk, without rows, and leaves the rows of existing tables
-// unchanged. Fails with `Store` only, also if a table with its name exists.
 fn create_empty_table<S: Alter>(tx: &mut Transaction<'_, S>, table: Table) -> Result<(), Fault>
     ensures same_reference { tx.new.conn.ghost_name ≡ tx.old.conn.ghost_name }
     ensures step { IsConnectionStep S.Store tx.old tx.new result (λ _ a b. CreatesTableOfShape a.now b.now (table_definition_at_tree (abstract_table table))) }
@@ -28,8 +26,6 @@ fn create_empty_table<S: Alter>(tx: &mut Transaction<'_, S>, table: Table) -> Re
     execute_statement(tx, table.create_table_text(), &[])
 }
 
-// Creates the tables `tables`, one after the other, without rows, and leaves the rows of existing
-// tables unchanged. Fails with `Store` only, also if a table with the name of one of them exists.
 // After an error, the tables before the one that failed may exist in the transaction.
 fn create_each_table<S: Alter>(tx: &mut Transaction<'_, S>, tables: &[Table]) -> Result<(), Fault>
     ensures same_reference { tx.new.conn.ghost_name ≡ tx.old.conn.ghost_name }
@@ -43,8 +39,6 @@ fn create_each_table<S: Alter>(tx: &mut Transaction<'_, S>, tables: &[Table]) ->
     Ok(())
 }
 
-// Executes the statement that inserts the one row of DESK, with the id 1, the schema number 3 and
-// no stamp. Fails with `Store` only, also if DESK does not exist or has a row with the id 1.
 fn add_desk_row<S: Alter>(tx: &mut Transaction<'_, S>) -> Result<(), Fault>
     ensures same_reference { tx.new.conn.ghost_name ≡ tx.old.conn.ghost_name }
     ensures step { IsConnectionStep S.Store tx.old tx.new result (λ _. ExecutesStatement insert_desk_row_text []) }
@@ -57,11 +51,10 @@ fn add_desk_row<S: Alter>(tx: &mut Transaction<'_, S>) -> Result<(), Fault>
     )
 }
 
-/// Creates the tables of schema 3, without rows, except for the one row of DESK, with the schema
-/// number 3 and no stamp, and leaves the rows of existing tables unchanged. Commits nothing. Fails
-/// with `Store` only, also if a table with the name of a table of schema 3 exists. After an error,
-/// some of these tables, or all without the row of DESK, may exist in the transaction.
-pub fn create_third_schema_tables<S: Alter>(tx: &mut Transaction<'_, S>) -> Result<(), Fault>
+/// Creates the tables of schema 3, empty but for the one row of DESK, with the schema number 3 and
+/// no stamp. Fails with `Store` also if a table with one of their names exists. After an error,
+/// some may exist in the transaction.
+pub fn create_desk_tables<S: Alter>(tx: &mut Transaction<'_, S>) -> Result<(), Fault>
     ensures same_reference { tx.new.conn.ghost_name ≡ tx.old.conn.ghost_name }
     ensures step { IsConnectionStep S.Store tx.old tx.new result (λ _ a b. CreatesDeskTables a.now b.now) }
     ensures fault { OnErr result (result ≡ Err Store) }
@@ -71,10 +64,9 @@ pub fn create_third_schema_tables<S: Alter>(tx: &mut Transaction<'_, S>) -> Resu
 }
 
 /// Creates the tables that `schema` does not have and later schemas add, without rows: CASH_MOVE
-/// and SETTLE_RULE for schema 1, SETTLE_RULE for schema 2, none for schema 3. Leaves the rows of
-/// existing tables unchanged. Commits nothing. Fails with `Store` only, also if a table with the
-/// name of one of these exists. After an error, CASH_MOVE may exist in the transaction.
-pub fn create_tables_of_later_schemas<S: Alter>(
+/// and SETTLE_RULE for schema 1, SETTLE_RULE for schema 2, none for schema 3. After an error,
+/// CASH_MOVE may exist in the transaction.
+pub fn create_later_tables<S: Alter>(
     tx: &mut Transaction<'_, S>,
     schema: Schema,
 ) -> Result<(), Fault>

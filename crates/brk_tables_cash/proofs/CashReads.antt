@@ -1,4 +1,4 @@
--- What the statements that read tell of the tables.
+-- The results of the reads of CASH_MOVE and SETTLE_RULE.
 use Rattle.std.proofs.Common.{◌≡◌, ℕ, List, [], ◌∷◌, Option, Some, None, true, map, filter, drop, take, is_none, reverse, refl, ap, ◌∙◌}
 use Rattle.std.proofs.lemmas.Cmp.{back_total}
 use Rattle.std.proofs.lemmas.List.{drop-map}

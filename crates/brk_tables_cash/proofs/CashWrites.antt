@@ -1,4 +1,4 @@
--- What the statements that change rows make of the tables.
+-- The effect of the writes of CASH_MOVE and SETTLE_RULE.
 use Rattle.std.proofs.Common.{◌≡◌, ◌≢◌, ℕ, pos, List, Option, Some, None, [], ◌∷◌, drop, true, Less, Equal, ◌==◌, refl, sym, ap, ap₂, subst, ◌∙◌}
 use Rattle.std.proofs.lemmas.Cmp.{tied_itself}
 use Rattle.sqlite_value.specs.declared.value.Value.TheVariants.{Null, Int, Text as Words}

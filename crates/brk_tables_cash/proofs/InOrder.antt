@@ -1,5 +1,5 @@
--- A stable sort by a number gives the order of `sort_by_key` of the model: both rise, and both keep
--- the order of rows that tie.
+-- A stable sort by a number gives the order of `sort_by_key` of the model: both ascend, and both
+-- keep the order of rows with equal numbers.
 use Rattle.std.proofs.Common.{◌≡◌, ℕ, zero, suc, ◌<◌, ◌≤◌, Bool, true, false, cond, List, [], ◌∷◌, length, get_or, filter, nat_cmp, is_lt, refl, sym, ap, ◌∙◌, arith, inl, inr, suc-le-suc, zero-le}
 use Rattle.std.specs.Prelude.{nat_lt}
 use Rattle.std.proofs.lemmas.Bool.{cond-true, cond-false, cases_Bool, ltb-true, ltb-false}

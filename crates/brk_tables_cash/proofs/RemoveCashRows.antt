@@ -1,4 +1,4 @@
--- Written by tools/generate/tables.py: what a DELETE means.
+-- Written by tools/generate/tables.py: the meaning of a DELETE.
 use Rattle.std.proofs.Common.{◌≡◌, ◌⊎◌, ℕ, List, [], ◌∷◌, codes, Option, None, Some, Ok, Err, refl, slice_get}
 use Rattle.sqlite.specs.Term.{Term, col}
 use Rattle.sqlite.specs.Schema.{Schema}

@@ -1,4 +1,4 @@
--- Rows that are made of others keep their order, and so do the postings of cash rows.
+-- The images of sorted rows are sorted, and so are the numbered cash rows.
 use Rattle.std.proofs.Common.{◌≡◌, List, [], ◌∷◌, map, Bool, inl, inr, refl, sym, ap, ◌∙◌}
 use Rattle.std.specs.Prelude.{nat_lt}
 use Rattle.std.proofs.lemmas.Bool.{cases_Bool}

@@ -1,4 +1,4 @@
--- What the reads of the upgrade show of the tables.
+-- The results of the reads of the upgrade.
 use Rattle.std.proofs.Common.{◌≡◌, ℕ, List, [], ◌∷◌, true, map, filter, ◌==◌, refl, ap, ◌∙◌}
 use Rattle.sqlite_value.specs.Order.{Row}
 use Rattle.sqlite.specs.State.{State, Shown}

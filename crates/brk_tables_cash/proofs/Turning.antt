@@ -1,4 +1,4 @@
--- What is read and written one after another.
+-- The reads and writes of the upgrade, one after the other.
 use Rattle.std.proofs.Common.{◌≡◌, ℕ, List, [], take, get_or, length, ◌+◌, ◌<◌, Option, Some, None, option_map, Ok, inl, refl, sym, ap, subst}
 use Rattle.std.proofs.Math.Nat.{le_refl}
 use Rattle.std.specs.Option.{option_map_or}

@@ -14,13 +14,12 @@ use brk_ref::CashRow;
 use brk_tables_schema::calls::{execute_statement, select_rows};
 use brk_tables_schema::record::decode_first_row;
 use brk_tables_schema::values::{
-    cash_row_id_as_parameter, cents_as_parameter, id_as_parameter, integer_as_parameter,
-    optional_id_as_parameter, stamp_as_parameter, text_as_parameter,
+    cash_row_id_param, cents_param, id_param, integer_param, optional_id_param, stamp_param,
+    text_param,
 };
 use sqlite::{Alter, Transaction};
 
-/// Inserts a cash row (CASH_MOVE). Fails with `Store` only, also if its number exists, if its trade
-/// has a cash row, if the row breaks another constraint of the table, or if memory runs out.
+/// Inserts a cash row. Fails also if its trade has a cash row.
 pub fn add_cash_row<S: Alter>(tx: &mut Transaction<'_, S>, row: &CashRow) -> Result<(), Fault>
     ensures same_reference { tx.new.conn.ghost_name ≡ tx.old.conn.ghost_name }
     ensures step { WritesDeskTables S.Store tx.old tx.new result (tables_with_cash_row (abstract_cash_row row.now)) }
@@ -30,22 +29,17 @@ pub fn add_cash_row<S: Alter>(tx: &mut Transaction<'_, S>, row: &CashRow) -> Res
         tx,
         "INSERT INTO CASH_MOVE (CM_ID, CM_CA_ID, CM_T_ID, CM_DTS, CM_AMT, CM_NAME) VALUES (?1, ?2, ?3, ?4, ?5, ?6)",
         &[
-            cash_row_id_as_parameter(row.id),
-            id_as_parameter(row.account),
-            optional_id_as_parameter(row.trade),
-            stamp_as_parameter(row.stamp),
-            cents_as_parameter(row.amount),
-            text_as_parameter(row.name.as_str()),
+            cash_row_id_param(row.id),
+            id_param(row.account),
+            optional_id_param(row.trade),
+            stamp_param(row.stamp),
+            cents_param(row.amount),
+            text_param(row.name.as_str()),
         ],
     )
 }
 
-/// Returns the cash row with the greatest number (CM_ID), or `None` if there is no cash row.
-/// Changes nothing if it succeeds. Fails with `Store` only, also if the row is malformed or memory
-/// runs out.
-pub fn cash_row_with_greatest_number<S: Alter>(
-    tx: &mut Transaction<'_, S>,
-) -> Result<Option<CashRow>, Fault>
+pub fn greatest_cash_row<S: Alter>(tx: &mut Transaction<'_, S>) -> Result<Option<CashRow>, Fault>
     ensures same_reference { tx.new.conn.ghost_name ≡ tx.old.conn.ghost_name }
     ensures step { ReadsDeskTables S.Store tx.old tx.new result (λ o t. option_map abstract_cash_row o ≡ slice_get (reverse t.moves) 0) }
     ensures fault { OnErr result (result ≡ Err Store) }
@@ -59,9 +53,8 @@ pub fn cash_row_with_greatest_number<S: Alter>(
 }
 
 /// Returns true if CASH_MOVE has at least 10^12 rows without a trade, which are the deposits and
-/// withdrawals. The query steps over these rows, so its time grows with their number. Changes
-/// nothing if it succeeds. Fails with `Store` only, also if memory runs out.
-pub fn has_reached_movement_limit<S: Alter>(tx: &mut Transaction<'_, S>) -> Result<bool, Fault>
+/// withdrawals. The query steps over these rows, so its time grows with their number.
+pub fn has_most_movements<S: Alter>(tx: &mut Transaction<'_, S>) -> Result<bool, Fault>
     ensures same_reference { tx.new.conn.ghost_name ≡ tx.old.conn.ghost_name }
     ensures step { ReadsDeskTables S.Store tx.old tx.new result (λ all t. all ≡ nat_le greatest_id (length (filter (λ r. is_none r.trade) t.moves))) }
     ensures fault { OnErr result (result ≡ Err Store) }
@@ -69,13 +62,11 @@ pub fn has_reached_movement_limit<S: Alter>(tx: &mut Transaction<'_, S>) -> Resu
     let rows = select_rows(
         tx,
         "SELECT CM_ID, CM_CA_ID, CM_T_ID, CM_DTS, CM_AMT, CM_NAME FROM CASH_MOVE WHERE CM_T_ID IS NULL ORDER BY CM_ID LIMIT 1 OFFSET ?1",
-        &[integer_as_parameter(999_999_999_999)],
+        &[integer_param(999_999_999_999)],
     )?;
     Ok(!rows.is_empty())
 }
 
-/// Returns the cash row of a trade, or `None` if it has none. Changes nothing if it succeeds. Fails
-/// with `Store` only, also if the row is malformed or memory runs out.
 pub fn cash_row_by_trade<S: Alter>(
     tx: &mut Transaction<'_, S>,
     trade: Id,
@@ -87,13 +78,12 @@ pub fn cash_row_by_trade<S: Alter>(
     let rows = select_rows(
         tx,
         "SELECT CM_ID, CM_CA_ID, CM_T_ID, CM_DTS, CM_AMT, CM_NAME FROM CASH_MOVE WHERE CM_T_ID = ?1 ORDER BY CM_ID",
-        &[id_as_parameter(trade)],
+        &[id_param(trade)],
     )?;
     decode_first_row(&rows)
 }
 
-/// Sets the text of the cash row of a trade (CM_NAME) to `name`. Changes nothing if the trade has
-/// no cash row. Fails with `Store` only, also if memory runs out.
+/// Sets the text of the cash row of a trade (CM_NAME).
 pub fn set_cash_row_name<S: Alter>(
     tx: &mut Transaction<'_, S>,
     trade: Id,
@@ -106,6 +96,6 @@ pub fn set_cash_row_name<S: Alter>(
     execute_statement(
         tx,
         "UPDATE CASH_MOVE SET CM_NAME = ?1 WHERE CM_T_ID = ?2",
-        &[text_as_parameter(name), id_as_parameter(trade)],
+        &[text_param(name), id_param(trade)],
     )
 }

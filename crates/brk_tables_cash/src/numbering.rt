@@ -12,10 +12,7 @@ use brk_money::{Fault, MoveId};
 use brk_ref::{CashRow, OldCashRow};
 use sqlite::{Alter, Transaction};
 
-// Inserts the cash row of a trade (a row of CASH_TRANSACTION) into CASH_MOVE under the number `id`,
-// with the account of the trade. Fails with `Memory` or `Store` only; with `Store` also if the
-// number or a cash row of the trade exists, if the trade does not exist, or if the id of its
-// account is malformed. Inserts no row if it fails.
+// The new row has the account of its trade; the fault is `Store` if the trade does not exist.
 fn add_numbered_cash_row<S: Alter>(
     tx: &mut Transaction<'_, S>,
     id: MoveId,
@@ -40,10 +37,8 @@ fn add_numbered_cash_row<S: Alter>(
 }
 
 /// Inserts rows of CASH_TRANSACTION into CASH_MOVE, in order, numbered from 1, with the accounts of
-/// their trades. Fails with `Memory` or `Store` only; with `Store` also if one of the numbers
-/// exists or exceeds the greatest `MoveId`, or if one of the trades does not exist, has a cash row
-/// or has a malformed account id. After an error, the rows before the one that failed may be
-/// inserted in the transaction.
+/// their trades. Fails with `Store` also if a trade does not exist or a number exceeds the greatest
+/// `MoveId`. After an error, the rows before the one that failed may be inserted.
 pub fn add_numbered_cash_rows<S: Alter>(
     tx: &mut Transaction<'_, S>,
     rows: &[OldCashRow],

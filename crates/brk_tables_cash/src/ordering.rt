@@ -7,9 +7,8 @@ ghost use Rattle.brk_money.specs.declared.fault.Fault.TheVariants.{Memory};
 use brk_money::Fault;
 use brk_ref::OldCashRow;
 
-/// Returns `rows`, rows of CASH_TRANSACTION, sorted by stamp, ascending. Rows with equal stamps are
-/// in the order of `rows`. Fails with `Memory` only.
-pub fn sort_cash_transactions_by_stamp(rows: Vec<OldCashRow>) -> Result<Vec<OldCashRow>, Fault>
+/// Sorts rows of CASH_TRANSACTION by stamp, ascending. Rows with equal stamps keep their order.
+pub fn sort_by_stamp(rows: Vec<OldCashRow>) -> Result<Vec<OldCashRow>, Fault>
     ensures order { IfOk result (λ ordered. ordered.items ≡ sort_by_key (λ r. r.stamp) rows.items) }
     ensures fault { OnErr result (result ≡ Err Memory) }
 {

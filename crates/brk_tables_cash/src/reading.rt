@@ -11,12 +11,11 @@ use brk_money::{Fault, Id};
 use brk_ref::OldCashRow;
 use brk_tables_schema::calls::select_rows;
 use brk_tables_schema::record::{decode_first_row, decode_rows};
-use brk_tables_schema::values::id_as_parameter;
+use brk_tables_schema::values::id_param;
 use sqlite::{Alter, Transaction};
 use std::alloc::Global;
 
-/// Returns all rows of CASH_TRANSACTION, sorted by trade, ascending. Changes nothing if it
-/// succeeds. Fails with `Memory` or `Store` only; with `Store` also if a row is malformed.
+/// Returns all rows of CASH_TRANSACTION, sorted by trade, ascending.
 pub fn all_cash_transactions<S: Alter>(
     tx: &mut Transaction<'_, S>,
     alloc: Global,
@@ -33,8 +32,7 @@ pub fn all_cash_transactions<S: Alter>(
     decode_rows(alloc, &rows)
 }
 
-/// Returns the id of the account of a trade, or `None` if the trade does not exist. Changes nothing
-/// if it succeeds. Fails with `Store` only, also if the id is malformed or memory runs out.
+/// Returns `None` if the trade does not exist.
 pub fn account_id_of_trade<S: Alter>(
     tx: &mut Transaction<'_, S>,
     trade: Id,
@@ -46,7 +44,7 @@ pub fn account_id_of_trade<S: Alter>(
     let rows = select_rows(
         tx,
         "SELECT T_CA_ID FROM TRADE WHERE T_ID = ?1 ORDER BY T_ID",
-        &[id_as_parameter(trade)],
+        &[id_param(trade)],
     )?;
     decode_first_row(&rows)
 }

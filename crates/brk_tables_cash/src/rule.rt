@@ -9,16 +9,13 @@ ghost use Rattle.brk_tables_schema.specs.Statements.{ReadsDeskTables, WritesDesk
 
 use brk_money::{Day, Fault};
 use brk_tables_schema::calls::{execute_statement, select_rows};
-use brk_tables_schema::rule_row::one_day_settlement_start_in_rule_rows;
-use brk_tables_schema::values::{day_as_parameter, integer_as_parameter};
+use brk_tables_schema::rule_row::start_in_rule_rows;
+use brk_tables_schema::values::{day_param, integer_param};
 use sqlite::{Alter, Row, Transaction};
 
-/// Inserts the first day of one-day settlement (SR_DAY), in days since 1970-01-01. Fails with
-/// `Store` only, also if a first day of one-day settlement is set or memory runs out.
-pub fn set_one_day_settlement_start<S: Alter>(
-    tx: &mut Transaction<'_, S>,
-    day: Day,
-) -> Result<(), Fault>
+/// Inserts the first day of one-day settlement (SR_DAY), in days since 1970-01-01. Fails also if
+/// one is set.
+pub fn set_one_day_start<S: Alter>(tx: &mut Transaction<'_, S>, day: Day) -> Result<(), Fault>
     ensures same_reference { tx.new.conn.ghost_name ≡ tx.old.conn.ghost_name }
     ensures step { WritesDeskTables S.Store tx.old tx.new result (tables_with_one_day_settlement_start day) }
     ensures fault { OnErr result (result ≡ Err Store) }
@@ -26,26 +23,20 @@ pub fn set_one_day_settlement_start<S: Alter>(
     execute_statement(
         tx,
         "INSERT INTO SETTLE_RULE (SR_ID, SR_DAY) VALUES (?1, ?2)",
-        &[integer_as_parameter(1), day_as_parameter(day)],
+        &[integer_param(1), day_param(day)],
     )
 }
 
-// Decodes the first day of one-day settlement, in days since
-// 1970-01-01, from all rows of SETTLE_RULE, or returns `None` if there is no row. Fails with
-// `Store` only, if there are two rows or more, if the row is malformed or has another id than 1, or
-// if memory runs out.
-fn one_day_settlement_start_in_rows(rows: &[Row]) -> Result<Option<Day>, Fault>
+fn start_in_rows(rows: &[Row]) -> Result<Option<Day>, Fault>
     ensures value { IfOk result (λ day. map rule_cells (rule_rows day) ≡ rows.now) }
     ensures fault { OnErr result (result ≡ Err Store) }
 {
-    Ok(one_day_settlement_start_in_rule_rows(rows)?)
+    Ok(start_in_rule_rows(rows)?)
 }
 
-/// Returns the first day of one-day settlement (SR_DAY), in
-/// days since 1970-01-01, or `None` if none is set. Changes nothing if it succeeds. Fails with
-/// `Store` only, also if SETTLE_RULE has two rows or more, if its row is malformed or has another
-/// id than 1, or if memory runs out.
-pub fn one_day_settlement_start<S: Alter>(tx: &mut Transaction<'_, S>) -> Result<Option<Day>, Fault>
+/// Returns the first day of one-day settlement (SR_DAY), in days since 1970-01-01, or `None` if
+/// none is set. Fails also if SETTLE_RULE has two rows or more, or a row with another id than 1.
+pub fn one_day_start<S: Alter>(tx: &mut Transaction<'_, S>) -> Result<Option<Day>, Fault>
     ensures same_reference { tx.new.conn.ghost_name ≡ tx.old.conn.ghost_name }
     ensures step { ReadsDeskTables S.Store tx.old tx.new result (λ day t. day ≡ t.rule) }
     ensures fault { OnErr result (result ≡ Err Store) }
@@ -55,5 +46,5 @@ pub fn one_day_settlement_start<S: Alter>(tx: &mut Transaction<'_, S>) -> Result
         "SELECT SR_ID, SR_DAY FROM SETTLE_RULE ORDER BY SR_ID",
         &[],
     )?;
-    one_day_settlement_start_in_rows(&rows)
+    start_in_rows(&rows)
 }

@@ -9,13 +9,12 @@ ghost use Rattle.brk_tables_cash.specs.UpgradeStatements.{SetsSchemaNumberToThre
 
 use brk_money::Fault;
 use brk_tables_schema::calls::execute_statement;
-use brk_tables_schema::values::integer_as_parameter;
+use brk_tables_schema::values::integer_param;
 use sqlite::{Alter, Transaction};
 
-/// Sets the number of the schema in DESK to 3 (D_SCHEMA). Fails with `Store` only, also if memory
-/// runs out. The effect is specified only if all tables of a desk in schema 3 exist, and DESK has
-/// the number of some schema.
-pub fn set_schema_number_to_three<S: Alter>(tx: &mut Transaction<'_, S>) -> Result<(), Fault>
+/// Sets the number of the schema in DESK to 3 (D_SCHEMA). The effect is specified only if all
+/// tables of schema 3 exist.
+pub fn set_third_schema<S: Alter>(tx: &mut Transaction<'_, S>) -> Result<(), Fault>
     ensures same_reference { tx.new.conn.ghost_name ≡ tx.old.conn.ghost_name }
     ensures step { IsConnectionStep S.Store tx.old tx.new result (λ _ a b. SetsSchemaNumberToThree a.now b.now) }
     ensures fault { OnErr result (result ≡ Err Store) }
@@ -23,13 +22,11 @@ pub fn set_schema_number_to_three<S: Alter>(tx: &mut Transaction<'_, S>) -> Resu
     execute_statement(
         tx,
         "UPDATE DESK SET D_SCHEMA = ?1 WHERE D_ID = ?2",
-        &[integer_as_parameter(3), integer_as_parameter(1)],
+        &[integer_param(3), integer_param(1)],
     )
 }
 
-/// Deletes all rows of CASH_TRANSACTION. Fails with `Store` only, also if a constraint is broken,
-/// such as a foreign key of another table to one of these rows, or if memory runs out. The effect
-/// is specified only if all tables of a desk in schema 3 exist.
+/// Deletes all rows of CASH_TRANSACTION.
 pub fn remove_cash_transactions<S: Alter>(tx: &mut Transaction<'_, S>) -> Result<(), Fault>
     ensures same_reference { tx.new.conn.ghost_name ≡ tx.old.conn.ghost_name }
     ensures step { WritesDeskTables S.Store tx.old tx.new result tables_without_cash_transactions }

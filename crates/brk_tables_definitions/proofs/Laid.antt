@@ -1,5 +1,5 @@
--- How the trees of an open connection lie: each table has a tree of its own, whose rows have
--- distinct integers as rowids.
+-- The trees of an open connection: each table has a tree of its own, whose rows have distinct
+-- integers as rowids.
 use Rattle.std.proofs.Common.{◌≡◌, subst}
 use Rattle.sqlite_trees.specs.declared.store.Shape.TheVariants as shape
 use Rattle.sqlite_trees.specs.Objects.{catalog_tree, IsListed}

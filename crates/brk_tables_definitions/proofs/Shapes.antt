@@ -1,4 +1,4 @@
--- Lists of definitions, and what they stand for.
+-- Lists of definitions, and the tables that they define.
 use Rattle.std.proofs.Common.{◌≡◌, ◌∙◌, ◌<◌, ◌≤◌, ℕ, false, zero, suc, List, [], ◌∷◌, length, map, get_or, refl, sym, ap, subst, inl, inr, arith, All}
 use Rattle.std.specs.Borrow.{Bor}
 use Rattle.std.specs.Prelude.{slice_index_or, ◌↔◌}

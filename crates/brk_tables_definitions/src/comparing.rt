@@ -14,9 +14,7 @@ use crate::parts::{
 };
 use sqlite_schema::schema::{Schema, Table};
 
-// Returns true if the table has the name, the primary key and the columns of the definition, and no
-// AUTOINCREMENT.
-fn has_name_key_and_columns(table: &Table, definition: &Definition) -> bool
+fn has_layout(table: &Table, definition: &Definition) -> bool
     ensures { IsTrue result ↔ ((table.now.name ≡ (table_of_definition definition.now 0).name) × (table.now.key ≡ definition.now.key)
         × (table.now.primary ≡ definition.now.primary.now) × (table.now.columns ≡ (table_of_definition definition.now 0).columns) × (table.now.is_counted ≡ false)) }
 {
@@ -27,7 +25,6 @@ fn has_name_key_and_columns(table: &Table, definition: &Definition) -> bool
         && columns_are(table.columns.as_slice(), definition.columns)
 }
 
-// Returns true if the table has the UNIQUE constraints and the foreign keys of the definition.
 fn has_constraints(table: &Table, definition: &Definition) -> bool
     ensures { IsTrue result ↔ ((table.now.uniques ≡ (table_of_definition definition.now 0).uniques) × (table.now.orders ≡ map (λ (places : Bor (List ℕ)). plain) definition.now.uniques.now)
         × (table.now.references ≡ (table_of_definition definition.now 0).references)) }
@@ -37,17 +34,14 @@ fn has_constraints(table: &Table, definition: &Definition) -> bool
         && references_are(table.references.as_slice(), definition.references)
 }
 
-// Returns true if the table has the definition, at any tree.
+// The tree, the place of the rows in the database, may be any.
 fn has_definition(table: &Table, definition: &Definition) -> bool
     ensures { IsTrue result ↔ (table.now ≡ table_of_definition definition.now table.now.tree) }
 {
-    has_no_expressions(table)
-        && has_name_key_and_columns(table, definition)
-        && has_constraints(table, definition)
+    has_no_expressions(table) && has_layout(table, definition) && has_constraints(table, definition)
 }
 
-// Returns true if the first table of `schema` with the name of the definition, if there is one, has
-// the definition.
+// Returns true also if `schema` has no table of this name.
 fn has_only_definition(schema: &Schema, definition: &Definition) -> bool
     ensures { IsTrue result ↔ HasOnlyDefinition schema.now (table_of_definition definition.now) }
 {
@@ -60,8 +54,6 @@ fn has_only_definition(schema: &Schema, definition: &Definition) -> bool
     }
 }
 
-// Returns true if, for each definition, the first table of `schema` with its name, if there is one,
-// has this definition.
 fn has_only_definitions(schema: &Schema, definitions: &[Definition]) -> bool
     ensures { IsTrue result ↔ All (λ definition. HasOnlyDefinition schema.now (table_of_definition definition)) definitions.now }
 {
@@ -70,15 +62,12 @@ fn has_only_definitions(schema: &Schema, definitions: &[Definition]) -> bool
         .all(|definition| has_only_definition(schema, definition))
 }
 
-// Returns the definitions of all tables of a desk.
 fn desk_definitions() -> &'static [Definition]
     ensures { map table_of_definition result.now ≡ map table_definition_at_tree all_tables }
 {
     &DEFINITIONS
 }
 
-/// Returns true if each table of `schema` with the name of a desk's table is defined as a desk
-/// defines it.
 pub(crate) fn has_definitions_of_desk(schema: &Schema) -> bool
     ensures { IsTrue result ↔ ((w : DeskTable) → IsDefinedAsDeskDefines schema.now w) }
 {

@@ -9,9 +9,8 @@ ghost use Rattle.brk_tables_definitions.specs.Definitions.{IsDefinedAsDeskDefine
 use crate::comparing::has_definitions_of_desk;
 use sqlite::{Alter, Connection};
 
-/// Returns the connection, and whether each table of its database with the name of a desk's table
-/// is defined as a desk defines it, in all parts. Then, if the database is open, it satisfies the
-/// premise on a database that another program may have created. Reads no row and allocates nothing.
+/// Returns the connection, and true if each table of its database with the name of a desk's table
+/// is defined as a desk defines it, in all parts. Reads no row and allocates nothing.
 pub fn with_definitions_tested<S: Alter>(conn: Connection<S>) -> (Connection<S>, bool)
     ensures same { result.0 ≡ conn }
     ensures tested { IsTrue result.1 ↔ ((w : DeskTable) → IsDefinedAsDeskDefines (state S.Store conn).now.schema w) }

@@ -13,15 +13,13 @@ use sqlite_schema::schema::{Action, Column, Kind, Reference, Table};
 use sqlite_value::keys::{Collation, Order};
 use sqlite_value::value::{Bytes, Value};
 
-/// Returns true if the two texts are equal.
 pub(crate) fn text_is(text: &Bytes, expected: &str) -> bool
     ensures { IsTrue result ↔ (text.now ≡ expected.now) }
 {
     text.as_slice() == expected.as_bytes()
 }
 
-// Returns true if the column belongs to a STRICT table, has this name and this kind, is NOT NULL if
-// and only if `not_null`, and has no default and the collation BINARY.
+// The column must also be of a STRICT table, without a default and with the collation BINARY.
 fn column_is(column: &Column, name: &str, kind: Kind, not_null: bool) -> bool
     ensures { IsTrue result ↔ (column.now ≡ strict_column name.now kind not_null) }
 {
@@ -33,7 +31,6 @@ fn column_is(column: &Column, name: &str, kind: Kind, not_null: bool) -> bool
         && text_is(&column.name, name)
 }
 
-/// Returns true if the columns equal the columns that the definitions stand for, in order.
 pub(crate) fn columns_are(columns: &[Column], definitions: &[ColumnDefinition]) -> bool
     ensures { IsTrue result ↔ (columns.now ≡ map column_of_definition definitions.now) }
 {
@@ -48,14 +45,12 @@ pub(crate) fn columns_are(columns: &[Column], definitions: &[ColumnDefinition]) 
     true
 }
 
-// Returns true if the list has this one place.
 fn is_one_place(places: &Items<usize>, place: usize) -> bool
     ensures { IsTrue result ↔ (places.now ≡ place ∷ []) }
 {
     places.as_slice() == [place].as_slice()
 }
 
-// Returns true if the list has this one text.
 fn is_one_text(texts: &Items<Bytes>, text: &str) -> bool
     ensures { IsTrue result ↔ (texts.now ≡ text.now ∷ []) }
 {
@@ -65,8 +60,7 @@ fn is_one_text(texts: &Items<Bytes>, text: &str) -> bool
     }
 }
 
-// Returns true if the foreign key leads from the column at `place` to the column `column` of the
-// table `parent`, with NO ACTION on delete and on update, and is not deferred.
+// The foreign key must have NO ACTION on delete and on update, and must not be deferred.
 fn reference_is(reference: &Reference, place: usize, parent: &str, column: &str) -> bool
     ensures { IsTrue result ↔ (reference.now ≡ foreign_key place parent.now column.now) }
 {
@@ -78,7 +72,6 @@ fn reference_is(reference: &Reference, place: usize, parent: &str, column: &str)
         && is_one_text(&reference.parent_columns, column)
 }
 
-/// Returns true if the foreign keys equal the foreign keys that the definitions stand for, in order.
 pub(crate) fn references_are(references: &[Reference], definitions: &[ReferenceDefinition]) -> bool
     ensures { IsTrue result ↔ (references.now ≡ map reference_of_definition definitions.now) }
 {
@@ -93,7 +86,6 @@ pub(crate) fn references_are(references: &[Reference], definitions: &[ReferenceD
     true
 }
 
-/// Returns true if the lists of places are equal.
 pub(crate) fn place_lists_are(lists: &[Items<usize>], definitions: &[&[usize]]) -> bool
     ensures { IsTrue result ↔ (lists.now ≡ map (λ (places : Bor (List ℕ)). places.now) definitions.now) }
 {
@@ -108,8 +100,7 @@ pub(crate) fn place_lists_are(lists: &[Items<usize>], definitions: &[&[usize]]) 
     true
 }
 
-/// Returns true if there is one order for each of `definitions`, ascending in all columns, with the
-/// collation BINARY.
+/// Plain is ascending in all columns, with the collation BINARY.
 pub(crate) fn orders_are_plain(orders: &[Order], definitions: &[&[usize]]) -> bool
     ensures { IsTrue result ↔ (orders.now ≡ map (λ (places : Bor (List ℕ)). plain) definitions.now) }
 {
@@ -124,14 +115,13 @@ pub(crate) fn orders_are_plain(orders: &[Order], definitions: &[&[usize]]) -> bo
     true
 }
 
-// Returns true if there are no expressions.
 fn has_no_terms(terms: &Terms) -> bool
     ensures { IsTrue result ↔ (terms.now ≡ []) }
 {
     terms.roots.is_empty()
 }
 
-/// Returns true if the table has no CHECK and no default that is computed.
+/// The table has no CHECK and no computed default.
 pub(crate) fn has_no_expressions(table: &Table) -> bool
     ensures { IsTrue result ↔ (table.now.checks ≡ []) × (table.now.computed ≡ []) × (table.now.stamps ≡ record { places = []; terms = []; formats = [] }) }
 {

@@ -1,4 +1,4 @@
--- Written by tools/generate/tables.py: what an INSERT means.
+-- Written by tools/generate/tables.py: the meaning of an INSERT.
 use Rattle.std.proofs.Common.{◌≡◌, ℕ, List, [], ◌∷◌, codes, Ok, refl}
 use Rattle.sqlite.specs.declared.types.Value.TheVariants.{Null}
 use Rattle.sqlite.specs.Term.{Term, lit, col}

@@ -1,4 +1,4 @@
--- Written by tools/generate/tables.py: what a SELECT means.
+-- Written by tools/generate/tables.py: the meaning of a SELECT.
 use Rattle.std.proofs.Common.{ℕ, pos, negsuc, List, [], ◌∷◌, ◌++◌, codes, false, None, Some, refl}
 use Rattle.sqlite.specs.declared.types.Value.TheVariants.{Int}
 use Rattle.sqlite_sql.specs.declared.ops.CompareOp.TheVariants.{Eq}

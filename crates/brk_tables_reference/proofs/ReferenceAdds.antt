@@ -1,4 +1,4 @@
--- What the statements that add further records of reference data make of the tables.
+-- The effect of the insertions of permissions, securities, last trades, charges, bands and taxes.
 use Rattle.std.proofs.Common.{pos, [], ◌∷◌, refl}
 use Rattle.sqlite_value.specs.declared.value.Value.TheVariants.{Null, Text as Words}
 use Rattle.sqlite.specs.State.{State}

@@ -1,4 +1,4 @@
--- What the reads of further records of reference data tell of the tables.
+-- The results of the reads of permissions, securities, charges, bands and taxes.
 use Rattle.std.proofs.Common.{◌≡◌, ℕ, List, [], ◌∷◌, Bool, true, false, map, filter, ◌==◌, ◌&&◌, refl}
 use Rattle.std.specs.Prelude.{bytes_eq}
 use Rattle.sqlite_value.specs.declared.value.Value.TheVariants.{Text as Words}

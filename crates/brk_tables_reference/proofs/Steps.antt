@@ -1,4 +1,4 @@
--- What each statement makes of the tables, or tells of them.
+-- The effect of the insertions of brokers, customers and accounts, and the results of their reads.
 use Rattle.std.proofs.Common.{◌≡◌, ℕ, pos, List, [], ◌∷◌, map, filter, ◌==◌, refl}
 use Rattle.std.specs.Prelude.{bytes_eq}
 use Rattle.sqlite_value.specs.declared.value.Value.TheVariants.{Null, Int, Text as Words}

@@ -10,15 +10,11 @@ use brk_money::{Fault, Id};
 use brk_ref::{Account, AccountRow};
 use brk_tables_schema::calls::{execute_statement, select_rows};
 use brk_tables_schema::record::{decode_first_row, decode_rows};
-use brk_tables_schema::values::{
-    cents_as_parameter, id_as_parameter, tax_status_as_parameter, text_as_parameter,
-};
+use brk_tables_schema::values::{cents_param, id_param, tax_status_param, text_param};
 use sqlite::{Alter, Transaction};
 use std::alloc::Global;
 
-/// Inserts the row of an account (CUSTOMER_ACCOUNT), whose balance is its opening balance, in
-/// cents. Fails with `Store` only, also if the id exists, or if the customer or the broker of the
-/// account does not exist.
+/// Inserts an account (CUSTOMER_ACCOUNT), whose balance is its opening balance.
 pub fn add_account<S: Alter>(tx: &mut Transaction<'_, S>, account: &Account) -> Result<(), Fault>
     ensures same_reference { tx.new.conn.ghost_name ≡ tx.old.conn.ghost_name }
     ensures step { WritesDeskTables S.Store tx.old tx.new result (tables_with_account (abstract_account account.now)) }
@@ -28,18 +24,16 @@ pub fn add_account<S: Alter>(tx: &mut Transaction<'_, S>, account: &Account) -> 
         tx,
         "INSERT INTO CUSTOMER_ACCOUNT (CA_ID, CA_C_ID, CA_B_ID, CA_NAME, CA_TAX_ST, CA_OPEN, CA_BAL) VALUES (?1, ?2, ?3, ?4, ?5, ?6, ?6)",
         &[
-            id_as_parameter(account.id),
-            id_as_parameter(account.customer),
-            id_as_parameter(account.broker),
-            text_as_parameter(account.name.as_str()),
-            tax_status_as_parameter(account.tax_status),
-            cents_as_parameter(account.opening),
+            id_param(account.id),
+            id_param(account.customer),
+            id_param(account.broker),
+            text_param(account.name.as_str()),
+            tax_status_param(account.tax_status),
+            cents_param(account.opening),
         ],
     )
 }
 
-/// Returns the account with the id `id`, or `None` if there is none. Changes nothing if it
-/// succeeds. Fails with `Store` only, also if the row is malformed or memory runs out.
 pub fn account_by_id<S: Alter>(
     tx: &mut Transaction<'_, S>,
     id: Id,
@@ -51,14 +45,12 @@ pub fn account_by_id<S: Alter>(
     let rows = select_rows(
         tx,
         "SELECT CA_ID, CA_C_ID, CA_B_ID, CA_NAME, CA_TAX_ST, CA_OPEN, CA_BAL FROM CUSTOMER_ACCOUNT WHERE CA_ID = ?1 ORDER BY CA_ID",
-        &[id_as_parameter(id)],
+        &[id_param(id)],
     )?;
     decode_first_row(&rows)
 }
 
-/// Returns the accounts of the customer with the id `customer`, sorted by id, ascending. Changes
-/// nothing if it succeeds. Fails with `Memory` or `Store` only; with `Store` also if a row is
-/// malformed.
+/// Returns the accounts of a customer, sorted by id, ascending.
 pub fn accounts_of_customer<S: Alter>(
     tx: &mut Transaction<'_, S>,
     alloc: Global,
@@ -71,7 +63,7 @@ pub fn accounts_of_customer<S: Alter>(
     let rows = select_rows(
         tx,
         "SELECT CA_ID, CA_C_ID, CA_B_ID, CA_NAME, CA_TAX_ST, CA_OPEN, CA_BAL FROM CUSTOMER_ACCOUNT WHERE CA_C_ID = ?1 ORDER BY CA_ID",
-        &[id_as_parameter(customer)],
+        &[id_param(customer)],
     )?;
     decode_rows(alloc, &rows)
 }

@@ -11,15 +11,12 @@ use brk_money::{Fault, TradeType};
 use brk_ref::{Band, Exchange, Tier};
 use brk_tables_schema::calls::{execute_statement, select_rows};
 use brk_tables_schema::record::decode_rows;
-use brk_tables_schema::values::{
-    commission_rate_as_parameter, quantity_as_parameter, text_as_parameter, tier_as_parameter,
-    trade_type_as_parameter,
-};
+use brk_tables_schema::values::{qty_param, rate_param, text_param, tier_param, trade_type_param};
 use sqlite::{Alter, Transaction};
 use std::alloc::Global;
 
-/// Inserts a commission band (COMMISSION_RATE). Fails with `Store` only, also if a band of its
-/// tier, trade type, exchange and lower bound exists.
+/// Inserts a commission band (COMMISSION_RATE), whose key is its tier, trade type, exchange and
+/// lower bound.
 pub fn add_band<S: Alter>(tx: &mut Transaction<'_, S>, band: &Band) -> Result<(), Fault>
     ensures same_reference { tx.new.conn.ghost_name ≡ tx.old.conn.ghost_name }
     ensures step { WritesDeskTables S.Store tx.old tx.new result (tables_with_band (abstract_band band.now)) }
@@ -29,20 +26,19 @@ pub fn add_band<S: Alter>(tx: &mut Transaction<'_, S>, band: &Band) -> Result<()
         tx,
         "INSERT INTO COMMISSION_RATE (CR_C_TIER, CR_TT_ID, CR_EX_ID, CR_FROM_QTY, CR_TO_QTY, CR_RATE) VALUES (?1, ?2, ?3, ?4, ?5, ?6)",
         &[
-            tier_as_parameter(band.tier),
-            trade_type_as_parameter(band.kind),
-            text_as_parameter(band.exchange.as_str()),
-            quantity_as_parameter(band.from_qty),
-            quantity_as_parameter(band.to_qty),
-            commission_rate_as_parameter(band.rate),
+            tier_param(band.tier),
+            trade_type_param(band.kind),
+            text_param(band.exchange.as_str()),
+            qty_param(band.from_qty),
+            qty_param(band.to_qty),
+            rate_param(band.rate),
         ],
     )
 }
 
 /// Returns the commission bands of a customer tier, a trade type and an exchange, sorted by lower
-/// bound, ascending. Changes nothing if it succeeds. Fails with `Memory` or `Store` only; with
-/// `Store` also if a row is malformed.
-pub fn bands_by_tier_type_and_exchange<S: Alter>(
+/// bound, ascending.
+pub fn bands_for<S: Alter>(
     tx: &mut Transaction<'_, S>,
     alloc: Global,
     tier: Tier,
@@ -61,9 +57,9 @@ pub fn bands_by_tier_type_and_exchange<S: Alter>(
          WHERE CR_C_TIER = ?1 AND CR_TT_ID = ?2 AND CR_EX_ID = ?3 \
          ORDER BY CR_C_TIER, CR_TT_ID, CR_EX_ID, CR_FROM_QTY",
         &[
-            tier_as_parameter(tier),
-            trade_type_as_parameter(kind),
-            text_as_parameter(exchange.as_str()),
+            tier_param(tier),
+            trade_type_param(kind),
+            text_param(exchange.as_str()),
         ],
     )?;
     decode_rows(alloc, &rows)

@@ -9,11 +9,10 @@ use brk_money::{Fault, Id};
 use brk_ref::{Broker, BrokerRow};
 use brk_tables_schema::calls::{execute_statement, select_rows};
 use brk_tables_schema::record::decode_first_row;
-use brk_tables_schema::values::{id_as_parameter, text_as_parameter};
+use brk_tables_schema::values::{id_param, text_param};
 use sqlite::{Alter, Transaction};
 
-/// Inserts the row of a broker (BROKER), with 0 trades and 0 cents of commissions. Fails with
-/// `Store` only, also if the id exists.
+/// Inserts a broker (BROKER), with 0 trades and 0 cents of commissions.
 pub fn add_broker<S: Alter>(tx: &mut Transaction<'_, S>, broker: &Broker) -> Result<(), Fault>
     ensures same_reference { tx.new.conn.ghost_name ≡ tx.old.conn.ghost_name }
     ensures step { WritesDeskTables S.Store tx.old tx.new result (tables_with_broker (abstract_broker broker.now)) }
@@ -22,15 +21,10 @@ pub fn add_broker<S: Alter>(tx: &mut Transaction<'_, S>, broker: &Broker) -> Res
     execute_statement(
         tx,
         "INSERT INTO BROKER (B_ID, B_NAME, B_NUM_TRADES, B_COMM_TOTAL) VALUES (?1, ?2, 0, 0)",
-        &[
-            id_as_parameter(broker.id),
-            text_as_parameter(broker.name.as_str()),
-        ],
+        &[id_param(broker.id), text_param(broker.name.as_str())],
     )
 }
 
-/// Returns the broker with the id `id`, or `None` if there is none. Changes nothing if it succeeds.
-/// Fails with `Store` only, also if the row is malformed or memory runs out.
 pub fn broker_by_id<S: Alter>(
     tx: &mut Transaction<'_, S>,
     id: Id,
@@ -42,7 +36,7 @@ pub fn broker_by_id<S: Alter>(
     let rows = select_rows(
         tx,
         "SELECT B_ID, B_NAME, B_NUM_TRADES, B_COMM_TOTAL FROM BROKER WHERE B_ID = ?1 ORDER BY B_ID",
-        &[id_as_parameter(id)],
+        &[id_param(id)],
     )?;
     decode_first_row(&rows)
 }

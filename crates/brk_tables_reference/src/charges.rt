@@ -10,13 +10,10 @@ use brk_money::{Fault, TradeType};
 use brk_ref::{Charge, Tier};
 use brk_tables_schema::calls::{execute_statement, select_rows};
 use brk_tables_schema::record::decode_first_row;
-use brk_tables_schema::values::{
-    charge_amount_as_parameter, tier_as_parameter, trade_type_as_parameter,
-};
+use brk_tables_schema::values::{charge_param, tier_param, trade_type_param};
 use sqlite::{Alter, Transaction};
 
-/// Inserts the charge of a trade type and a customer tier (CHARGE), in cents. Fails with `Store`
-/// only, also if a charge of this type and tier exists.
+/// Inserts the charge of a trade type and a customer tier (CHARGE), which are its key.
 pub fn add_charge<S: Alter>(tx: &mut Transaction<'_, S>, charge: &Charge) -> Result<(), Fault>
     ensures same_reference { tx.new.conn.ghost_name ≡ tx.old.conn.ghost_name }
     ensures step { WritesDeskTables S.Store tx.old tx.new result (tables_with_charge (abstract_charge charge.now)) }
@@ -26,17 +23,14 @@ pub fn add_charge<S: Alter>(tx: &mut Transaction<'_, S>, charge: &Charge) -> Res
         tx,
         "INSERT INTO CHARGE (CH_TT_ID, CH_C_TIER, CH_CHRG) VALUES (?1, ?2, ?3)",
         &[
-            trade_type_as_parameter(charge.kind),
-            tier_as_parameter(charge.tier),
-            charge_amount_as_parameter(charge.amount),
+            trade_type_param(charge.kind),
+            tier_param(charge.tier),
+            charge_param(charge.amount),
         ],
     )
 }
 
-/// Returns the charge of a trade type and a customer tier, or `None` if there is none. Changes
-/// nothing if it succeeds. Fails with `Store` only, also if the row is malformed or memory runs
-/// out.
-pub fn charge_by_type_and_tier<S: Alter>(
+pub fn charge_for<S: Alter>(
     tx: &mut Transaction<'_, S>,
     kind: TradeType,
     tier: Tier,
@@ -48,7 +42,7 @@ pub fn charge_by_type_and_tier<S: Alter>(
     let rows = select_rows(
         tx,
         "SELECT CH_TT_ID, CH_C_TIER, CH_CHRG FROM CHARGE WHERE CH_TT_ID = ?1 AND CH_C_TIER = ?2 ORDER BY CH_TT_ID, CH_C_TIER",
-        &[trade_type_as_parameter(kind), tier_as_parameter(tier)],
+        &[trade_type_param(kind), tier_param(tier)],
     )?;
     decode_first_row(&rows)
 }

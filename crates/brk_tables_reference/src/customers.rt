@@ -9,11 +9,10 @@ use brk_money::{Fault, Id};
 use brk_ref::{Customer, TaxId};
 use brk_tables_schema::calls::{execute_statement, select_rows};
 use brk_tables_schema::record::decode_first_row;
-use brk_tables_schema::values::{id_as_parameter, text_as_parameter, tier_as_parameter};
+use brk_tables_schema::values::{id_param, text_param, tier_param};
 use sqlite::{Alter, Transaction};
 
-/// Inserts the row of a customer (CUSTOMER). Fails with `Store` only, also if the id or the tax id
-/// exists.
+/// Inserts a customer (CUSTOMER). Fails also if the tax id exists.
 pub fn add_customer<S: Alter>(tx: &mut Transaction<'_, S>, customer: &Customer) -> Result<(), Fault>
     ensures same_reference { tx.new.conn.ghost_name ≡ tx.old.conn.ghost_name }
     ensures step { WritesDeskTables S.Store tx.old tx.new result (tables_with_customer (abstract_customer customer.now)) }
@@ -23,17 +22,15 @@ pub fn add_customer<S: Alter>(tx: &mut Transaction<'_, S>, customer: &Customer) 
         tx,
         "INSERT INTO CUSTOMER (C_ID, C_TIER, C_TAX_ID, C_L_NAME, C_F_NAME) VALUES (?1, ?2, ?3, ?4, ?5)",
         &[
-            id_as_parameter(customer.id),
-            tier_as_parameter(customer.tier),
-            text_as_parameter(customer.tax_id.as_str()),
-            text_as_parameter(customer.last_name.as_str()),
-            text_as_parameter(customer.first_name.as_str()),
+            id_param(customer.id),
+            tier_param(customer.tier),
+            text_param(customer.tax_id.as_str()),
+            text_param(customer.last_name.as_str()),
+            text_param(customer.first_name.as_str()),
         ],
     )
 }
 
-/// Returns the customer with the id `id`, or `None` if there is none. Changes nothing if it
-/// succeeds. Fails with `Store` only, also if the row is malformed or memory runs out.
 pub fn customer_by_id<S: Alter>(
     tx: &mut Transaction<'_, S>,
     id: Id,
@@ -45,13 +42,11 @@ pub fn customer_by_id<S: Alter>(
     let rows = select_rows(
         tx,
         "SELECT C_ID, C_TIER, C_TAX_ID, C_L_NAME, C_F_NAME FROM CUSTOMER WHERE C_ID = ?1 ORDER BY C_ID",
-        &[id_as_parameter(id)],
+        &[id_param(id)],
     )?;
     decode_first_row(&rows)
 }
 
-/// Returns the customer with the tax id `tax_id`, or `None` if there is none. Changes nothing if it
-/// succeeds. Fails with `Store` only, also if the row is malformed or memory runs out.
 pub fn customer_by_tax_id<S: Alter>(
     tx: &mut Transaction<'_, S>,
     tax_id: &TaxId,
@@ -63,7 +58,7 @@ pub fn customer_by_tax_id<S: Alter>(
     let rows = select_rows(
         tx,
         "SELECT C_ID, C_TIER, C_TAX_ID, C_L_NAME, C_F_NAME FROM CUSTOMER WHERE C_TAX_ID = ?1 ORDER BY C_ID",
-        &[text_as_parameter(tax_id.as_str())],
+        &[text_param(tax_id.as_str())],
     )?;
     decode_first_row(&rows)
 }

@@ -1,6 +1,9 @@
 //! The SQL statements on reference data (customers, accounts, permissions, brokers, securities,
 //! charges, commission bands and tax rates) and the insertion of last trades, one function for
 //! each.
+//!
+//! An insertion fails with the fault `Store` also if its key exists, or if a row that it refers to
+//! does not. A read fails with `Store` also if a row is malformed.
 #![tactic(auto)]
 
 pub mod accounts;
@@ -13,13 +16,10 @@ pub mod securities;
 pub mod tax_rates;
 
 pub use accounts::{account_by_id, accounts_of_customer, add_account};
-pub use bands::{add_band, bands_by_tier_type_and_exchange};
+pub use bands::{add_band, bands_for};
 pub use brokers::{add_broker, broker_by_id};
-pub use charges::{add_charge, charge_by_type_and_tier};
+pub use charges::{add_charge, charge_for};
 pub use customers::{add_customer, customer_by_id, customer_by_tax_id};
-pub use permissions::{add_permission, permission_by_account_and_tax_id};
+pub use permissions::{add_permission, permission_for};
 pub use securities::{add_last_trade, add_security, security_by_symbol};
-pub use tax_rates::{
-    add_customer_tax, add_tax_rate, customer_tax_by_customer_and_tax, tax_rate_by_id,
-    taxes_of_customer,
-};
+pub use tax_rates::{add_customer_tax, add_tax_rate, paid_tax, tax_rate_by_id, taxes_of_customer};

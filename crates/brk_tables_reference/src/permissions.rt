@@ -9,12 +9,11 @@ use brk_money::{Fault, Id};
 use brk_ref::{Permission, TaxId};
 use brk_tables_schema::calls::{execute_statement, select_rows};
 use brk_tables_schema::record::decode_first_row;
-use brk_tables_schema::values::{id_as_parameter, text_as_parameter};
+use brk_tables_schema::values::{id_param, text_param};
 use sqlite::{Alter, Transaction};
 
-/// Inserts a row of ACCOUNT_PERMISSION: the permission of a person, identified by tax id, to order
-/// for an account. Fails with `Store` only, also if the account has a permission for this tax id,
-/// or does not exist.
+/// Inserts the permission of a person, known by tax id, to order for an account
+/// (ACCOUNT_PERMISSION).
 pub fn add_permission<S: Alter>(
     tx: &mut Transaction<'_, S>,
     permission: &Permission,
@@ -27,18 +26,16 @@ pub fn add_permission<S: Alter>(
         tx,
         "INSERT INTO ACCOUNT_PERMISSION (AP_CA_ID, AP_TAX_ID, AP_ACL, AP_L_NAME, AP_F_NAME) VALUES (?1, ?2, ?3, ?4, ?5)",
         &[
-            id_as_parameter(permission.account),
-            text_as_parameter(permission.tax_id.as_str()),
-            text_as_parameter(permission.acl.as_str()),
-            text_as_parameter(permission.last_name.as_str()),
-            text_as_parameter(permission.first_name.as_str()),
+            id_param(permission.account),
+            text_param(permission.tax_id.as_str()),
+            text_param(permission.acl.as_str()),
+            text_param(permission.last_name.as_str()),
+            text_param(permission.first_name.as_str()),
         ],
     )
 }
 
-/// Returns the permission of an account for a tax id, or `None` if there is none. Changes nothing
-/// if it succeeds. Fails with `Store` only, also if the row is malformed or memory runs out.
-pub fn permission_by_account_and_tax_id<S: Alter>(
+pub fn permission_for<S: Alter>(
     tx: &mut Transaction<'_, S>,
     account: Id,
     tax_id: &TaxId,
@@ -50,7 +47,7 @@ pub fn permission_by_account_and_tax_id<S: Alter>(
     let rows = select_rows(
         tx,
         "SELECT AP_CA_ID, AP_TAX_ID, AP_ACL, AP_L_NAME, AP_F_NAME FROM ACCOUNT_PERMISSION WHERE AP_CA_ID = ?1 AND AP_TAX_ID = ?2 ORDER BY AP_CA_ID, AP_TAX_ID",
-        &[id_as_parameter(account), text_as_parameter(tax_id.as_str())],
+        &[id_param(account), text_param(tax_id.as_str())],
     )?;
     decode_first_row(&rows)
 }

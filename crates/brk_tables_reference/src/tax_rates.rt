@@ -10,12 +10,11 @@ use brk_money::{Fault, Id};
 use brk_ref::{CustomerTax, Tax};
 use brk_tables_schema::calls::{execute_statement, select_rows};
 use brk_tables_schema::record::{decode_first_row, decode_rows};
-use brk_tables_schema::values::{id_as_parameter, tax_rate_as_parameter, text_as_parameter};
+use brk_tables_schema::values::{id_param, tax_rate_param, text_param};
 use sqlite::{Alter, Transaction};
 use std::alloc::Global;
 
-/// Inserts the row of a tax rate (TAXRATE): its id, its name, and the rate in hundred-thousandths.
-/// Fails with `Store` only, also if the id exists.
+/// Inserts a tax rate (TAXRATE), in hundred-thousandths.
 pub fn add_tax_rate<S: Alter>(tx: &mut Transaction<'_, S>, tax: &Tax) -> Result<(), Fault>
     ensures same_reference { tx.new.conn.ghost_name ≡ tx.old.conn.ghost_name }
     ensures step { WritesDeskTables S.Store tx.old tx.new result (tables_with_tax_rate (abstract_tax_rate tax.now)) }
@@ -25,16 +24,14 @@ pub fn add_tax_rate<S: Alter>(tx: &mut Transaction<'_, S>, tax: &Tax) -> Result<
         tx,
         "INSERT INTO TAXRATE (TX_ID, TX_NAME, TX_RATE) VALUES (?1, ?2, ?3)",
         &[
-            id_as_parameter(tax.id),
-            text_as_parameter(tax.name.as_str()),
-            tax_rate_as_parameter(tax.rate),
+            id_param(tax.id),
+            text_param(tax.name.as_str()),
+            tax_rate_param(tax.rate),
         ],
     )
 }
 
-/// Inserts the row of CUSTOMER_TAXRATE for a tax that a customer pays: the ids of the customer and
-/// of the tax rate. Fails with `Store` only, also if the row exists, or if the customer or the tax
-/// rate does not exist.
+/// Inserts a tax that a customer pays (CUSTOMER_TAXRATE).
 pub fn add_customer_tax<S: Alter>(
     tx: &mut Transaction<'_, S>,
     pays: &CustomerTax,
@@ -46,12 +43,10 @@ pub fn add_customer_tax<S: Alter>(
     execute_statement(
         tx,
         "INSERT INTO CUSTOMER_TAXRATE (CX_C_ID, CX_TX_ID) VALUES (?1, ?2)",
-        &[id_as_parameter(pays.customer), id_as_parameter(pays.tax)],
+        &[id_param(pays.customer), id_param(pays.tax)],
     )
 }
 
-/// Returns the tax rate with the id `id`, or `None` if there is none. Changes nothing if it
-/// succeeds. Fails with `Store` only, also if the row is malformed or memory runs out.
 pub fn tax_rate_by_id<S: Alter>(tx: &mut Transaction<'_, S>, id: Id) -> Result<Option<Tax>, Fault>
     ensures same_reference { tx.new.conn.ghost_name ≡ tx.old.conn.ghost_name }
     ensures step { ReadsFirstMatch S.Store tx.old tx.new result TaxRates abstract_tax_rate (λ r. r.id == id) }
@@ -60,15 +55,13 @@ pub fn tax_rate_by_id<S: Alter>(tx: &mut Transaction<'_, S>, id: Id) -> Result<O
     let rows = select_rows(
         tx,
         "SELECT TX_ID, TX_NAME, TX_RATE FROM TAXRATE WHERE TX_ID = ?1 ORDER BY TX_ID",
-        &[id_as_parameter(id)],
+        &[id_param(id)],
     )?;
     decode_first_row(&rows)
 }
 
-/// Returns the row of CUSTOMER_TAXRATE with the customer `customer` and the tax rate `tax`, or
-/// `None` if the customer does not pay this tax. Changes nothing if it succeeds. Fails with `Store`
-/// only, also if the row is malformed or memory runs out.
-pub fn customer_tax_by_customer_and_tax<S: Alter>(
+/// Returns `None` if the customer does not pay the tax.
+pub fn paid_tax<S: Alter>(
     tx: &mut Transaction<'_, S>,
     customer: Id,
     tax: Id,
@@ -80,14 +73,12 @@ pub fn customer_tax_by_customer_and_tax<S: Alter>(
     let rows = select_rows(
         tx,
         "SELECT CX_C_ID, CX_TX_ID FROM CUSTOMER_TAXRATE WHERE CX_C_ID = ?1 AND CX_TX_ID = ?2 ORDER BY CX_C_ID, CX_TX_ID",
-        &[id_as_parameter(customer), id_as_parameter(tax)],
+        &[id_param(customer), id_param(tax)],
     )?;
     decode_first_row(&rows)
 }
 
-/// Returns the rows of CUSTOMER_TAXRATE with the customer `customer`, sorted by the id of the tax
-/// rate, ascending. Changes nothing if it succeeds. Fails with `Memory` or `Store` only; with
-/// `Store` also if a row is malformed.
+/// Returns the taxes that a customer pays, sorted by the id of the tax rate, ascending.
 pub fn taxes_of_customer<S: Alter>(
     tx: &mut Transaction<'_, S>,
     alloc: Global,
@@ -100,7 +91,7 @@ pub fn taxes_of_customer<S: Alter>(
     let rows = select_rows(
         tx,
         "SELECT CX_C_ID, CX_TX_ID FROM CUSTOMER_TAXRATE WHERE CX_C_ID = ?1 ORDER BY CX_C_ID, CX_TX_ID",
-        &[id_as_parameter(customer)],
+        &[id_param(customer)],
     )?;
     decode_rows(alloc, &rows)
 }

@@ -14,6 +14,12 @@ continues_then a b c p q P Q D both first next = record {
   ];
 }
 
+module _ (a b c d p q r : Bool) (P Q R D : Type 0) (all : P → Q → R → D) where
+  pub continues_three : ContinuesDecoding a b p P → ContinuesDecoding b c q Q → ContinuesDecoding c d r R → ContinuesDecoding a d (p && q && r) D
+  continues_three one two three =
+      let ab = continues_then a b c p q P Q (P × Q) (λ x y. (x, y)) one two in
+      continues_then a c d (p && q) r (P × Q) R D (λ x y. all x.0 x.1 y) ab three
+
 module _ (a b c d e p q r s : Bool) (P Q R S D : Type 0) (all : P → Q → R → S → D) where
   pub continues_four : ContinuesDecoding a b p P → ContinuesDecoding b c q Q → ContinuesDecoding c d r R → ContinuesDecoding d e s S → ContinuesDecoding a e (p && q && r && s) D
   continues_four one two three four =

@@ -1,4 +1,5 @@
--- A database that has the tables of a schema with some rows is defined, and the desk is there.
+-- A database that holds some rows of the tables of a schema is defined as a desk defines it, and
+-- has the schema.
 use Rattle.std.proofs.Common.{◌≡◌, ◌∙◌, ℕ, suc, zero, List, [], ◌∷◌, map, length, slice_get, true, false, not, Some, None, refl, sym, ap, subst, inl, inr}
 use Rattle.std.specs.List.Sorted.{IsPermutation}
 use Rattle.std.proofs.lemmas.List.Sorted.{length_permutation}

@@ -1,4 +1,4 @@
--- Which rows of DESK have the number of a schema.
+-- The rows of DESK that have the number of a schema.
 use Rattle.std.proofs.Common.{◌≡◌, ◌<◌, [], ◌∷◌, length, refl, sym, subst, ap, arith}
 use Rattle.std.specs.Prelude.{◌≢◌}
 use Rattle.sqlite_value.specs.Order.{Row, column}

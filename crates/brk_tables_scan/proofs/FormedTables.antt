@@ -1,10 +1,11 @@
--- The rows of tables in form have their forms column by column, table by table.
+-- The rows of well-formed tables are well-formed column by column, table by table.
 use Rattle.std.proofs.Common.{◌≡◌, ℕ, List, [], ◌∷◌, Bool, true, false, Option, Some, None, map, refl, sym, ap, subst, is_some, is_none}
 use Rattle.std.specs.Prelude.{bytes_eq, ◌&&◌, ◌≤◌, if◌then◌else◌, nat_le}
 use Rattle.std.specs.List.{list_all, list_any}
 use Rattle.std.specs.Option.{option_map_or}
 use Rattle.std.specs.Str.{is_utf8}
 use Rattle.std.proofs.lemmas.Bool.{and_parts, eq-eqb}
+use Rattle.sqlite_value.specs.Order.{Row}
 use Rattle.brk_money.specs.Spelling.{is_within_amount_limit}
 use Rattle.brk_money.specs.Moments.{greatest_day, greatest_stamp}
 use Rattle.brk_model.specs.Limits.{greatest_tax_rate, greatest_charge, greatest_amount}
@@ -37,7 +38,8 @@ use Rattle.brk_tables_schema.specs.Formed.{tax_rate_column_cell_checks, customer
 use Rattle.brk_tables_schema.specs.Formed.{request_column_cell_checks, holding_column_cell_checks, summary_column_cell_checks}
 use Rattle.brk_tables_schema.specs.Formed.{holding_history_column_cell_checks, settlement_column_cell_checks, cash_column_cell_checks, move_column_cell_checks}
 use Rattle.brk_tables_schema.specs.Formed.{has_at_most_one_valid_rule_row}
-use Rattle.brk_tables_scan.specs.Raw.{RawSheets, raw_rows_of_table}
+use Rattle.brk_tables_scan.specs.Raw.{raw_rows_of_table}
+use Rattle.brk_tables_scan.specs.declared.all_tables.RawSheets.{RawSheets}
 use Rattle.brk_tables_scan.specs.Decoded.{are_raw_sheets_well_formed}
 use Rattle.brk_tables_scan.proofs.InForm.{both, each_formed, customer_id, broker_id, tax_id, account_id, trade_id, symbol_of, stamp_of, type_formed}
 use Rattle.brk_tables_scan.proofs.InForm.{status_formed, tax_status_formed, cash_word_formed, wider}
@@ -196,15 +198,15 @@ module _ (schema : Schema) (narrow : schema.greatest_qty ≤ third_schema.greate
       (both (cash_of_formed r r.trade q.2) (both (stamp_of schema t p r.stamp q.3) (both q.4 (both a.1 refl)))))) t.moves
       (all_both (is_well_formed_cash_move_row t) _ t.moves p.moves texts)
 
-pub tables_formed : (schema : Schema) → schema.greatest_qty ≤ third_schema.greatest_qty → (t : Tables) (raw : RawSheets)
-    → ((w : DeskTable) → raw_rows_of_table raw w ≡ map (encoded_row w) (rows_of_table_in_schema schema w t)) → satisfies_form_condition schema t ≡ true
-    → has_utf8_texts t ≡ true → are_raw_sheets_well_formed schema raw ≡ true
-tables_formed schema narrow t raw same form texts =
+pub tables_formed : (schema : Schema) → schema.greatest_qty ≤ third_schema.greatest_qty → (t : Tables) (kept : List Row) (raw : RawSheets)
+    → ((w : DeskTable) → raw_rows_of_table kept raw w ≡ map (encoded_row w) (rows_of_table_in_schema schema w t)) → satisfies_form_condition schema t ≡ true
+    → has_utf8_texts t ≡ true → are_raw_sheets_well_formed schema kept raw ≡ true
+tables_formed schema narrow t kept raw same form texts =
     let p = form_parts schema t form in
     let q = parts4 _ _ _ _ texts in
-    both (both (both (both (both
-    (both (both (both (subst (λ rows. has_one_valid_desk_row schema rows ≡ true) (sym (same TheDesk)) (desk_formed schema t.last p.clock))
-    (subst (λ rows. list_all (passes_all_cell_checks kept_column_cell_checks) rows ≡ true) (sym (same KeptRows)) (kept_formed schema narrow t p q.0)))
+    both (subst (λ rows. list_all (passes_all_cell_checks kept_column_cell_checks) rows ≡ true) (sym (same KeptRows)) (kept_formed schema narrow t p q.0))
+    (both (both (both (both (both
+    (both (both (subst (λ rows. has_one_valid_desk_row schema rows ≡ true) (sym (same TheDesk)) (desk_formed schema t.last p.clock))
     (subst (λ rows. list_all (passes_all_cell_checks broker_column_cell_checks) rows ≡ true) (sym (same Brokers)) (brokers_formed schema narrow t p)))
     (subst (λ rows. list_all (passes_all_cell_checks customer_column_cell_checks) rows ≡ true) (sym (same Customers)) (customers_formed schema narrow t p)))
     (both (both (both (subst (λ rows. list_all (passes_all_cell_checks account_column_cell_checks) rows ≡ true) (sym (same Accounts))
@@ -233,4 +235,4 @@ tables_formed schema narrow t raw same form texts =
     (settlements_formed schema narrow t p)))
     (subst (λ rows. list_all (passes_all_cell_checks cash_column_cell_checks) rows ≡ true) (sym (same CashRows)) (cash_formed schema narrow t p q.2))))
     (both (subst (λ rows. list_all (passes_all_cell_checks move_column_cell_checks) rows ≡ true) (sym (same CashMoves)) (moves_formed schema narrow t p q.3))
-    (subst (λ rows. has_at_most_one_valid_rule_row rows ≡ true) (sym (same SettleRules)) (rule_formed t.rule p.rule)))
+    (subst (λ rows. has_at_most_one_valid_rule_row rows ≡ true) (sym (same SettleRules)) (rule_formed t.rule p.rule))))

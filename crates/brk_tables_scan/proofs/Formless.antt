@@ -1,4 +1,4 @@
--- Of several tests one fails.
+-- A conjunction of tests fails if one of them fails.
 use Rattle.std.proofs.Common.{◌≡◌, Bool, true, false, refl}
 use Rattle.std.specs.Prelude.{◌&&◌}
 

@@ -1,4 +1,4 @@
--- Reads one after another show what each of them shows.
+-- Reads, one after the other, return the rows that each of them returns.
 use Rattle.std.proofs.Common.{◌≡◌, IsTrue, List, Ok, subst, ◌∙◌}
 use Rattle.std.specs.Global.{Vec}
 use Rattle.sqlite_value.specs.Order.{Row}
@@ -9,7 +9,7 @@ use Rattle.brk_tables_sql.proofs.Inside.{step_then, step_read}
 use Rattle.brk_model.specs.Schemas.{Schema}
 use Rattle.brk_tables_schema.specs.Desk.{DeskTable, CashMoves, SettleRules}
 use Rattle.brk_tables_scan.specs.Whole.{ShowsAllRows, ShowsRowsIfInSchema}
-use Rattle.brk_tables_scan.specs.Raw.{ShowsFourTables, ShowsLaterSchemaTables, IsUnchangedAndOpen}
+use Rattle.brk_tables_scan.specs.Raw.{ShowsFourTables, ShowsTwoLaterTables, IsUnchangedAndOpen}
 
 abbrev pub Shown : DeskTable → Vec Row → State → State → Type 0
 Shown w rows a b = IsTrue a.is_open × (b.now ≡ a.now) × ShowsAllRows w rows.items a.now
@@ -50,9 +50,9 @@ module _ (desk : Schema) (a b c : State) (r s : Vec Row)
     (one : IsTransactionStep {V = Vec Row} {E = Fault} a b (Ok r) (λ rows x y. ShownIfPresent desk CashMoves rows x y))
     (two : IsTransactionStep {V = Vec Row} {E = Fault} b c (Ok s) (λ rows x y. ShownIfPresent desk SettleRules rows x y)) where
   pub shows_later : {V F : Type 0} (v : V) (made : V → State → State → Type 0)
-      → (ShowsLaterSchemaTables desk (record { moves = r.items; rule = s.items }) a c → made v a c) → IsTransactionStep {V = V} {E = F} a c (Ok v) made
+      → (ShowsTwoLaterTables desk r.items s.items a c → made v a c) → IsTransactionStep {V = V} {E = F} a c (Ok v) made
   shows_later {V} {F} v made makes =
-      let both : Vec Row → State → State → Type 0 = λ rows x y. ShowsLaterSchemaTables desk (record { moves = r.items; rule = rows.items }) x y in
+      let both : Vec Row → State → State → Type 0 = λ rows x y. ShowsTwoLaterTables desk r.items rows.items x y in
       let all = step_then a b c r (Ok s) (λ rows x y. ShownIfPresent desk CashMoves rows x y) (λ rows x y. ShownIfPresent desk SettleRules rows x y) both
       (λ rows p q. record { same = q.0 ∙ p.0; moves = p.1; rule = subst (ShowsRowsIfInSchema desk SettleRules rows.items) p.0 q.1 }) one two in
       step_read a c s (Ok v) both made (λ w is p. let same : v ≡ w = cc in subst (λ w. made w a c) same (makes p)) all

@@ -1,4 +1,5 @@
--- Tables that are there by their names have the columns that they show.
+-- Tables that exist by name have the columns of a schema exactly if a SELECT of all columns shows
+-- these.
 use Rattle.std.proofs.Common.{◌≡◌, ◌∙◌, ◌↔◌, inl, inr, ℕ, zero, suc, ◌+◌, ◌<◌, List, [], ◌∷◌, map, take, length, get_or, Bool, true, false, not, ◌||◌}
 use Rattle.std.proofs.Common.{Option, Some, None, is_some, refl, sym, ap, subst, arith, add-one, slice_get, Result}
 use Rattle.std.specs.Prelude.{IsTrue}

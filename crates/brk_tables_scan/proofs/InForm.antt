@@ -1,4 +1,4 @@
--- Rows of tables in form have their forms column by column.
+-- The rows of well-formed tables are well-formed column by column.
 use Rattle.std.proofs.Common.{◌≡◌, ℕ, List, [], ◌∷◌, Bool, true, false, Option, Some, None, map, refl, sym, subst, inl, inr, arith, is_some, find, codes}
 use Rattle.std.specs.Prelude.{◌&&◌, ◌||◌, ◌==◌, ◌≤◌, nat_le, bytes_eq}
 use Rattle.std.specs.List.{list_any, list_all}

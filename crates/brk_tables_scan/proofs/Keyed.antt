@@ -1,4 +1,4 @@
--- No two rows of a table have one key.
+-- Two rows of a table have different keys.
 use Rattle.std.proofs.Common.{◌≡◌, ◌⊎◌, pos, [], ◌∷◌, take, is_eq, refl, ap, inl, inr}
 use Rattle.sqlite_value.specs.declared.value.Value.TheVariants.{Int}
 use Rattle.sqlite_value.specs.Order.{column}

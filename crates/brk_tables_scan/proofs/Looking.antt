@@ -1,4 +1,4 @@
--- Tables that are looked for, one after another.
+-- Look-ups of tables, one after the other.
 use Rattle.std.proofs.Common.{◌≡◌, ℕ, zero, suc, ◌+◌, ◌<◌, List, [], ◌∷◌, take, length, get_or, Bool, true, false, ◌||◌, ◌&&◌, refl, arith, add-one}
 use Rattle.std.specs.List.{list_all, list_any}
 

@@ -1,4 +1,4 @@
--- Written by tools/generate/tables.py: what preparing a statement on a table shows of it.
+-- Written by tools/generate/tables.py: the result of preparing a statement on a table.
 use Rattle.std.proofs.Common.{◌≡◌, ℕ, List, codes, Bool, refl}
 use Rattle.sqlite_schema.specs.declared.schema.Schema.{Schema}
 use Rattle.sqlite.specs.Listing.{listing_schema}

@@ -1,4 +1,4 @@
--- The tables of a schema that stand, with the rows that were read.
+-- The tables of a schema in a database, with the rows that were read.
 use Rattle.std.proofs.Common.{◌≡◌, ℕ, Bool, true, false, not, List, [], ◌∷◌, map, Some, None, refl, sym, ap, subst, ◌∙◌, inl, inr, arith}
 use Rattle.std.specs.Prelude.{◌&&◌, ◌≤◌}
 use Rattle.std.proofs.lemmas.Bool.{cases_Bool, and_parts}
@@ -19,7 +19,8 @@ use Rattle.brk_tables_schema.proofs.Which.{all_listed}
 use Rattle.brk_tables_schema.specs.Desk.{tables_of_later_schemas}
 use Rattle.brk_tables_scan.specs.Schemas.{DatabaseHasSchema, HasTableWithNames, TablesWithSchemaNamesAreDeskTables, HasDeskDefinitions, table_and_column_names}
 use Rattle.brk_tables_scan.specs.Whole.{ShowsRowsIfInSchema}
-use Rattle.brk_tables_scan.specs.Raw.{RawSheets, raw_rows_of_table}
+use Rattle.brk_tables_scan.specs.Raw.{raw_rows_of_table}
+use Rattle.brk_tables_scan.specs.declared.all_tables.RawSheets.{RawSheets}
 use Rattle.brk_tables_scan.specs.Decoded.{are_raw_sheets_well_formed}
 use Rattle.brk_tables_scan.proofs.FormedTables.{tables_formed}
 use Rattle.brk_tables_scan.proofs.Listed.{same_name_at}
@@ -65,9 +66,9 @@ module _ (desk : Schema) (db : Database) (has : DatabaseHasSchema desk db) (defi
   is_table w of = stood w (schema_has_table desk w) refl of
 
   -- what was read is what the tables hold
-  pub rows_read : (raw : RawSheets) → ((w : DeskTable) → ShowsRowsIfInSchema desk w (raw_rows_of_table raw w) db) → (t : Tables)
-      → ((w : DeskTable) → map (encoded_row w) (rows_of_table_in_schema desk w t) ≡ raw_rows_of_table raw w) → HasDeskTablesInSchema desk t db
-  rows_read raw shown t are = (
+  pub rows_read : (kept : List Row) (raw : RawSheets) → ((w : DeskTable) → ShowsRowsIfInSchema desk w (raw_rows_of_table kept raw w) db) → (t : Tables)
+      → ((w : DeskTable) → map (encoded_row w) (rows_of_table_in_schema desk w t) ≡ raw_rows_of_table kept raw w) → HasDeskTablesInSchema desk t db
+  rows_read kept raw shown t are = (
     tree,
     record {
       place = place;
@@ -85,22 +86,22 @@ module _ (desk : Schema) (db : Database) (has : DatabaseHasSchema desk db) (defi
   )
 
 -- the rows of tables are those that are shown, also where the schema lacks the table
-rows_shown : (desk : Schema) (db : Database) (raw : RawSheets) → ((w : DeskTable) → ShowsRowsIfInSchema desk w (raw_rows_of_table raw w) db) → (t : Tables)
-    → HasDeskTablesInSchema desk t db → (w : DeskTable) → raw_rows_of_table raw w ≡ map (encoded_row w) (rows_of_table_in_schema desk w t)
-rows_shown desk db raw shown t h w = by_test (schema_has_table desk w) refl
+rows_shown : (desk : Schema) (db : Database) (kept : List Row) (raw : RawSheets) → ((w : DeskTable) → ShowsRowsIfInSchema desk w (raw_rows_of_table kept raw w) db) → (t : Tables)
+    → HasDeskTablesInSchema desk t db → (w : DeskTable) → raw_rows_of_table kept raw w ≡ map (encoded_row w) (rows_of_table_in_schema desk w t)
+rows_shown desk db kept raw shown t h w = by_test (schema_has_table desk w) refl
   where
-    by_test : (b : Bool) → schema_has_table desk w ≡ b → raw_rows_of_table raw w ≡ map (encoded_row w) (rows_of_table_in_schema desk w t)
+    by_test : (b : Bool) → schema_has_table desk w ≡ b → raw_rows_of_table kept raw w ≡ map (encoded_row w) (rows_of_table_in_schema desk w t)
     by_test true of = ((shown w).0 of (h.1.place w) (h.0 w) (h.1.is_table w of)).rows_encode_records (rows_of_table_in_schema desk w t) (h.1.rows w of)
     by_test false lacks = (shown w).1 lacks ∙ sym (ap (map (encoded_row w)) (h.2 w lacks).1)
 
 -- no tables in form have rows of which one has no form
-pub none_in_form : (desk : Schema) → desk.greatest_qty ≤ third_schema.greatest_qty → (db : Database) (raw : RawSheets)
-    → ((w : DeskTable) → ShowsRowsIfInSchema desk w (raw_rows_of_table raw w) db) → are_raw_sheets_well_formed desk raw ≡ false → (t : Tables)
+pub none_in_form : (desk : Schema) → desk.greatest_qty ≤ third_schema.greatest_qty → (db : Database) (kept : List Row) (raw : RawSheets)
+    → ((w : DeskTable) → ShowsRowsIfInSchema desk w (raw_rows_of_table kept raw w) db) → are_raw_sheets_well_formed desk kept raw ≡ false → (t : Tables)
     → HasDeskTablesInSchema desk t db → satisfies_form_condition desk t && has_utf8_texts t ≡ false
-none_in_form desk narrow db raw shown unformed t h = elim (cases_Bool (satisfies_form_condition desk t && has_utf8_texts t)) [
+none_in_form desk narrow db kept raw shown unformed t h = elim (cases_Bool (satisfies_form_condition desk t && has_utf8_texts t)) [
   | inl e ↦
       let p = and_parts (satisfies_form_condition desk t) (has_utf8_texts t) e in
-      let sure = tables_formed desk narrow t raw (rows_shown desk db raw shown t h) p.0 p.1 in
+      let sure = tables_formed desk narrow t kept raw (rows_shown desk db kept raw shown t h) p.0 p.1 in
       absurd (let clash = sym sure ∙ unformed in cc)
   | inr e ↦ e
 ]

@@ -1,4 +1,4 @@
--- Written by tools/generate/tables.py: what the read of each whole table shows.
+-- Written by tools/generate/tables.py: the result of the read of each whole table.
 use Rattle.std.proofs.Common.{List, [], refl}
 use Rattle.sqlite_value.specs.Order.{Row}
 use Rattle.sqlite.specs.State.{State, Shown}

@@ -1,4 +1,4 @@
--- Written by tools/generate/tables.py: what preparing a statement that shows all columns of a table tells of them.
+-- Written by tools/generate/tables.py: the columns of a table, from preparing a statement that selects all of them.
 use Rattle.std.proofs.Common.{◌≡◌, ℕ, codes, map, Some, Ok, refl, slice_get}
 use Rattle.sqlite_schema.specs.declared.schema.Schema.{Schema}
 use Rattle.sqlite_schema.specs.declared.schema.Table.{Table}

@@ -1,5 +1,5 @@
--- Tables that are there, and the row of DESK, tell whether the desk is, in a database that is
--- defined.
+-- The names and columns of the tables, and the row of DESK, decide if a database that is defined as
+-- a desk defines it has a schema.
 use Rattle.std.proofs.Common.{◌≡◌, ◌∙◌, ◌↔◌, true, false, Bool, List, [], ◌∷◌, map, Some, refl, sym, ap, subst, inl, inr}
 use Rattle.std.specs.Prelude.{IsTrue}
 use Rattle.std.specs.List.Sorted.{IsPermutation}

@@ -1,5 +1,4 @@
--- A SELECT of a whole table by its key shows the records that it holds, and holds the records that
--- it shows.
+-- A SELECT of a whole table by its key returns exactly the records that the table holds.
 use Rattle.std.proofs.Common.{◌≡◌, ℕ, List, [], ◌∷◌, map, Bool, true, None, refl, sym, ap, subst, ◌∙◌}
 use Rattle.std.specs.Cmp.{IsTotalOrder}
 use Rattle.std.specs.List.Sorted.{IsPermutation}

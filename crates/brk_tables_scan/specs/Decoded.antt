@@ -3,6 +3,7 @@
 -- well-formed.
 use Rattle.std.specs.Prelude.{◌≡◌, ◌⊎◌, Bool, true, false, ◌&&◌, List, map}
 use Rattle.std.specs.List.{list_all}
+use Rattle.sqlite_value.specs.Order.{Row}
 use Rattle.sqlite.specs.State.{State}
 use Rattle.brk_model.specs.Schemas.{Schema}
 use Rattle.brk_ref.specs.Records.{abstract_broker_row, abstract_customer, abstract_account_row, abstract_permission, abstract_security_row}
@@ -16,7 +17,7 @@ use Rattle.brk_tables_schema.specs.Cells.{desk_row_cells, broker_cells, customer
 use Rattle.brk_tables_schema.specs.Cells.{last_trade_cells, charge_cells, band_cells, tax_rate_cells, customer_tax_cells, trade_cells, history_cells}
 use Rattle.brk_tables_schema.specs.Cells.{request_cells, holding_cells, summary_cells, holding_history_cells, settlement_cells, cash_cells}
 use Rattle.brk_tables_schema.specs.Cells.{move_cells, rule_cells}
-use Rattle.brk_tables_schema.specs.Desk.{DeskTable, desk_rows, rule_rows, encoded_row, rows_of_table_in_schema}
+use Rattle.brk_tables_schema.specs.Desk.{DeskTable, TheDesk, KeptRows, Brokers, Customers, desk_rows, rule_rows, encoded_row, rows_of_table_in_schema}
 use Rattle.brk_tables_schema.specs.Formed.{passes_all_cell_checks, has_one_valid_desk_row, kept_column_cell_checks, broker_column_cell_checks}
 use Rattle.brk_tables_schema.specs.Formed.{customer_column_cell_checks, account_column_cell_checks, permission_column_cell_checks}
 use Rattle.brk_tables_schema.specs.Formed.{security_column_cell_checks, last_trade_column_cell_checks, charge_column_cell_checks}
@@ -26,132 +27,150 @@ use Rattle.brk_tables_schema.specs.Formed.{holding_column_cell_checks, summary_c
 use Rattle.brk_tables_schema.specs.Formed.{settlement_column_cell_checks, cash_column_cell_checks, move_column_cell_checks}
 use Rattle.brk_tables_schema.specs.Formed.{has_at_most_one_valid_rule_row}
 use Rattle.brk_tables_scan.specs.KeptKeys.{AreKeysOfRawRows, keys_of_kept_rows, tables_with_whole_kept_rows}
-use Rattle.brk_tables_scan.specs.Whole.{ShowsRowsIfInSchema}
-use Rattle.brk_tables_scan.specs.Raw.{DeskBrokerAndCustomerRows, AccountAndSecurityRows, ChargeAndRateRows, TradeAndHoldingRows}
-use Rattle.brk_tables_scan.specs.Raw.{SummaryHistoryAndCashRows, LaterSchemaRows, RawSheets, raw_rows_of_table, IsUnchangedAndOpen}
-use Rattle.brk_tables_scan.specs.Raw.{ShowsDeskBrokerAndCustomerTables, ShowsAccountAndSecurityTables, ShowsChargeAndRateTables}
-use Rattle.brk_tables_scan.specs.Raw.{ShowsTradeAndHoldingTables, ShowsSummaryHistoryAndCashTables, ShowsLaterSchemaTables}
-use Rattle.brk_tables_scan.specs.declared.all_tables.DeskBrokerAndCustomerSheets.{DeskBrokerAndCustomerSheets}
-use Rattle.brk_tables_scan.specs.declared.all_tables.AccountAndSecuritySheets.{AccountAndSecuritySheets}
-use Rattle.brk_tables_scan.specs.declared.all_tables.ChargeAndRateSheets.{ChargeAndRateSheets}
-use Rattle.brk_tables_scan.specs.declared.all_tables.TradeAndHoldingSheets.{TradeAndHoldingSheets}
-use Rattle.brk_tables_scan.specs.declared.all_tables.SummaryHistoryAndCashSheets.{SummaryHistoryAndCashSheets}
-use Rattle.brk_tables_scan.specs.declared.all_tables.LaterSchemaSheets.{LaterSchemaSheets}
+use Rattle.brk_tables_scan.specs.Raw.{ShowsAllTables, ShowsFourTables, raw_rows_of_table}
+use Rattle.brk_tables_scan.specs.declared.all_tables.RawSheets.{RawSheets}
+use Rattle.brk_tables_scan.specs.declared.all_tables.OwnerRows.{OwnerRows}
+use Rattle.brk_tables_scan.specs.declared.all_tables.ListingRows.{ListingRows}
+use Rattle.brk_tables_scan.specs.declared.all_tables.TermsRows.{TermsRows}
+use Rattle.brk_tables_scan.specs.declared.all_tables.TradeRows.{TradeRows}
+use Rattle.brk_tables_scan.specs.declared.all_tables.BookingRows.{BookingRows}
+use Rattle.brk_tables_scan.specs.declared.all_tables.LaterRows.{LaterRows}
+use Rattle.brk_tables_scan.specs.declared.all_tables.OwnerSheets.{OwnerSheets}
+use Rattle.brk_tables_scan.specs.declared.all_tables.ListingSheets.{ListingSheets}
+use Rattle.brk_tables_scan.specs.declared.all_tables.TermsSheets.{TermsSheets}
+use Rattle.brk_tables_scan.specs.declared.all_tables.TradeSheets.{TradeSheets}
+use Rattle.brk_tables_scan.specs.declared.all_tables.BookingSheets.{BookingSheets}
+use Rattle.brk_tables_scan.specs.declared.all_tables.LaterSheets.{LaterSheets}
 
--- The raw rows of DESK, KEPT, BROKER and CUSTOMER are, in order, the encodings of the typed rows
--- `sheets`, but for the texts of KEPT. DESK has exactly one row, with the id 1 and the number of
--- `schema`.
-pub record DecodesDeskBrokerAndCustomerTables (schema : Schema) (sheets : DeskBrokerAndCustomerSheets) (raw : DeskBrokerAndCustomerRows) : Type 0 where
-  pub desk : map desk_row_cells (desk_rows schema sheets.last) ≡ raw.desk
-  pub kept : AreKeysOfRawRows sheets.kept.items raw.kept
-  pub brokers : map (λ r. broker_cells (abstract_broker_row r)) sheets.brokers.items ≡ raw.brokers
-  pub customers : map (λ r. customer_cells (abstract_customer r)) sheets.customers.items ≡ raw.customers
+-- The raw rows of DESK, BROKER and CUSTOMER are, in order, the encodings of the typed rows
+-- `sheets`. The keys of KEPT stay as they are. DESK has exactly one row, with the id 1 and the
+-- number of `schema`.
+pub record DecodesOwnerTables (schema : Schema) (sheets : OwnerSheets) (raw : OwnerRows) : Type 0 where
+  pub desk : map desk_row_cells (desk_rows schema sheets.last) ≡ raw.desk.items
+  pub kept : sheets.kept ≡ raw.kept
+  pub brokers : map (λ r. broker_cells (abstract_broker_row r)) sheets.brokers.items ≡ raw.brokers.items
+  pub customers : map (λ r. customer_cells (abstract_customer r)) sheets.customers.items ≡ raw.customers.items
 
--- True if each raw row of DESK, KEPT, BROKER and CUSTOMER has exactly the columns of its table,
--- each well-formed (`passes_all_cell_checks`), and there is exactly one row of DESK, with the
--- number of the schema `desk`.
-abbrev pub are_desk_broker_and_customer_rows_well_formed : Schema → DeskBrokerAndCustomerRows → Bool
-are_desk_broker_and_customer_rows_well_formed desk raw =
-    has_one_valid_desk_row desk raw.desk && list_all (passes_all_cell_checks kept_column_cell_checks) raw.kept
-    && list_all (passes_all_cell_checks broker_column_cell_checks) raw.brokers
-    && list_all (passes_all_cell_checks customer_column_cell_checks) raw.customers
+-- True if each raw row of DESK, BROKER and CUSTOMER has exactly the columns of its table, each
+-- well-formed (`passes_all_cell_checks`), and there is exactly one row of DESK, with the number of
+-- the schema `desk`.
+abbrev pub are_owner_rows_well_formed : Schema → OwnerRows → Bool
+are_owner_rows_well_formed desk raw =
+    has_one_valid_desk_row desk raw.desk.items && list_all (passes_all_cell_checks broker_column_cell_checks) raw.brokers.items
+    && list_all (passes_all_cell_checks customer_column_cell_checks) raw.customers.items
 
 -- The raw rows of CUSTOMER_ACCOUNT, ACCOUNT_PERMISSION, SECURITY and LAST_TRADE are, in order, the
 -- encodings of the typed rows `sheets`.
-pub record DecodesAccountAndSecurityTables (sheets : AccountAndSecuritySheets) (raw : AccountAndSecurityRows) : Type 0 where
-  pub accounts : map (λ r. account_cells (abstract_account_row r)) sheets.accounts.items ≡ raw.accounts
-  pub permissions : map (λ r. permission_cells (abstract_permission r)) sheets.permissions.items ≡ raw.permissions
-  pub securities : map (λ r. security_cells (abstract_security_row r)) sheets.securities.items ≡ raw.securities
-  pub last_trades : map (λ r. last_trade_cells (abstract_last_trade_row r)) sheets.last_trades.items ≡ raw.last_trades
+pub record DecodesListingTables (sheets : ListingSheets) (raw : ListingRows) : Type 0 where
+  pub accounts : map (λ r. account_cells (abstract_account_row r)) sheets.accounts.items ≡ raw.accounts.items
+  pub permissions : map (λ r. permission_cells (abstract_permission r)) sheets.permissions.items ≡ raw.permissions.items
+  pub securities : map (λ r. security_cells (abstract_security_row r)) sheets.securities.items ≡ raw.securities.items
+  pub last_trades : map (λ r. last_trade_cells (abstract_last_trade_row r)) sheets.last_trades.items ≡ raw.last_trades.items
 
 -- True if each raw row of CUSTOMER_ACCOUNT, ACCOUNT_PERMISSION, SECURITY and LAST_TRADE has exactly
 -- the columns of its table, each well-formed (`passes_all_cell_checks`).
-abbrev pub are_account_and_security_rows_well_formed : AccountAndSecurityRows → Bool
-are_account_and_security_rows_well_formed raw =
-    list_all (passes_all_cell_checks account_column_cell_checks) raw.accounts
-    && list_all (passes_all_cell_checks permission_column_cell_checks) raw.permissions
-    && list_all (passes_all_cell_checks security_column_cell_checks) raw.securities
-    && list_all (passes_all_cell_checks last_trade_column_cell_checks) raw.last_trades
+abbrev pub are_listing_rows_well_formed : ListingRows → Bool
+are_listing_rows_well_formed raw =
+    list_all (passes_all_cell_checks account_column_cell_checks) raw.accounts.items
+    && list_all (passes_all_cell_checks permission_column_cell_checks) raw.permissions.items
+    && list_all (passes_all_cell_checks security_column_cell_checks) raw.securities.items
+    && list_all (passes_all_cell_checks last_trade_column_cell_checks) raw.last_trades.items
 
 -- The raw rows of CHARGE, COMMISSION_RATE, TAXRATE and CUSTOMER_TAXRATE are, in order, the
 -- encodings of the typed rows `sheets`.
-pub record DecodesChargeAndRateTables (sheets : ChargeAndRateSheets) (raw : ChargeAndRateRows) : Type 0 where
-  pub charges : map (λ r. charge_cells (abstract_charge r)) sheets.charges.items ≡ raw.charges
-  pub bands : map (λ r. band_cells (abstract_band r)) sheets.bands.items ≡ raw.bands
-  pub tax_rates : map (λ r. tax_rate_cells (abstract_tax_rate r)) sheets.tax_rates.items ≡ raw.tax_rates
-  pub customer_taxes : map (λ r. customer_tax_cells (abstract_customer_tax r)) sheets.customer_taxes.items ≡ raw.customer_taxes
+pub record DecodesTermsTables (sheets : TermsSheets) (raw : TermsRows) : Type 0 where
+  pub charges : map (λ r. charge_cells (abstract_charge r)) sheets.charges.items ≡ raw.charges.items
+  pub bands : map (λ r. band_cells (abstract_band r)) sheets.bands.items ≡ raw.bands.items
+  pub tax_rates : map (λ r. tax_rate_cells (abstract_tax_rate r)) sheets.tax_rates.items ≡ raw.tax_rates.items
+  pub customer_taxes : map (λ r. customer_tax_cells (abstract_customer_tax r)) sheets.customer_taxes.items ≡ raw.customer_taxes.items
 
 -- True if each raw row of CHARGE, COMMISSION_RATE, TAXRATE and CUSTOMER_TAXRATE has exactly the
 -- columns of its table, each well-formed (`passes_all_cell_checks`).
-abbrev pub are_charge_and_rate_rows_well_formed : ChargeAndRateRows → Bool
-are_charge_and_rate_rows_well_formed raw =
-    list_all (passes_all_cell_checks charge_column_cell_checks) raw.charges && list_all (passes_all_cell_checks band_column_cell_checks) raw.bands
-    && list_all (passes_all_cell_checks tax_rate_column_cell_checks) raw.tax_rates
-    && list_all (passes_all_cell_checks customer_tax_column_cell_checks) raw.customer_taxes
+abbrev pub are_terms_rows_well_formed : TermsRows → Bool
+are_terms_rows_well_formed raw =
+    list_all (passes_all_cell_checks charge_column_cell_checks) raw.charges.items
+    && list_all (passes_all_cell_checks band_column_cell_checks) raw.bands.items
+    && list_all (passes_all_cell_checks tax_rate_column_cell_checks) raw.tax_rates.items
+    && list_all (passes_all_cell_checks customer_tax_column_cell_checks) raw.customer_taxes.items
 
 -- The raw rows of TRADE, TRADE_HISTORY, TRADE_REQUEST and HOLDING are, in order, the encodings of
 -- the typed rows `sheets`.
-pub record DecodesTradeAndHoldingTables (sheets : TradeAndHoldingSheets) (raw : TradeAndHoldingRows) : Type 0 where
-  pub trades : map (λ r. trade_cells (abstract_trade_row r)) sheets.trades.items ≡ raw.trades
-  pub history : map (λ r. history_cells (abstract_history_row r)) sheets.history.items ≡ raw.history
-  pub requests : map (λ r. request_cells (abstract_request_row r)) sheets.requests.items ≡ raw.requests
-  pub holdings : map (λ r. holding_cells (abstract_holding_row r)) sheets.holdings.items ≡ raw.holdings
+pub record DecodesTradeTables (sheets : TradeSheets) (raw : TradeRows) : Type 0 where
+  pub trades : map (λ r. trade_cells (abstract_trade_row r)) sheets.trades.items ≡ raw.trades.items
+  pub history : map (λ r. history_cells (abstract_history_row r)) sheets.history.items ≡ raw.history.items
+  pub requests : map (λ r. request_cells (abstract_request_row r)) sheets.requests.items ≡ raw.requests.items
+  pub holdings : map (λ r. holding_cells (abstract_holding_row r)) sheets.holdings.items ≡ raw.holdings.items
 
 -- True if each raw row of TRADE, TRADE_HISTORY, TRADE_REQUEST and HOLDING has exactly the columns
 -- of its table, each well-formed (`passes_all_cell_checks`).
-abbrev pub are_trade_and_holding_rows_well_formed : TradeAndHoldingRows → Bool
-are_trade_and_holding_rows_well_formed raw =
-    list_all (passes_all_cell_checks trade_column_cell_checks) raw.trades && list_all (passes_all_cell_checks history_column_cell_checks) raw.history
-    && list_all (passes_all_cell_checks request_column_cell_checks) raw.requests
-    && list_all (passes_all_cell_checks holding_column_cell_checks) raw.holdings
+abbrev pub are_trade_rows_well_formed : TradeRows → Bool
+are_trade_rows_well_formed raw =
+    list_all (passes_all_cell_checks trade_column_cell_checks) raw.trades.items
+    && list_all (passes_all_cell_checks history_column_cell_checks) raw.history.items
+    && list_all (passes_all_cell_checks request_column_cell_checks) raw.requests.items
+    && list_all (passes_all_cell_checks holding_column_cell_checks) raw.holdings.items
 
 -- The raw rows of HOLDING_SUMMARY, HOLDING_HISTORY, SETTLEMENT and CASH_TRANSACTION are, in order,
 -- the encodings of the typed rows `sheets`.
-pub record DecodesSummaryHistoryAndCashTables (sheets : SummaryHistoryAndCashSheets) (raw : SummaryHistoryAndCashRows) : Type 0 where
-  pub summaries : map (λ r. summary_cells (abstract_summary_row r)) sheets.summaries.items ≡ raw.summaries
-  pub holding_history : map (λ r. holding_history_cells (abstract_lot_change_row r)) sheets.holding_history.items ≡ raw.holding_history
-  pub settlements : map (λ r. settlement_cells (abstract_settlement_row r)) sheets.settlements.items ≡ raw.settlements
-  pub cash : map (λ r. cash_cells (abstract_old_cash_row r)) sheets.cash.items ≡ raw.cash
+pub record DecodesBookingTables (sheets : BookingSheets) (raw : BookingRows) : Type 0 where
+  pub summaries : map (λ r. summary_cells (abstract_summary_row r)) sheets.summaries.items ≡ raw.summaries.items
+  pub holding_history : map (λ r. holding_history_cells (abstract_lot_change_row r)) sheets.holding_history.items ≡ raw.holding_history.items
+  pub settlements : map (λ r. settlement_cells (abstract_settlement_row r)) sheets.settlements.items ≡ raw.settlements.items
+  pub cash : map (λ r. cash_cells (abstract_old_cash_row r)) sheets.cash.items ≡ raw.cash.items
 
 -- True if each raw row of HOLDING_SUMMARY, HOLDING_HISTORY, SETTLEMENT and CASH_TRANSACTION has
 -- exactly the columns of its table, each well-formed (`passes_all_cell_checks`).
-abbrev pub are_summary_history_and_cash_rows_well_formed : SummaryHistoryAndCashRows → Bool
-are_summary_history_and_cash_rows_well_formed raw =
-    list_all (passes_all_cell_checks summary_column_cell_checks) raw.summaries
-    && list_all (passes_all_cell_checks holding_history_column_cell_checks) raw.holding_history
-    && list_all (passes_all_cell_checks settlement_column_cell_checks) raw.settlements
-    && list_all (passes_all_cell_checks cash_column_cell_checks) raw.cash
+abbrev pub are_booking_rows_well_formed : BookingRows → Bool
+are_booking_rows_well_formed raw =
+    list_all (passes_all_cell_checks summary_column_cell_checks) raw.summaries.items
+    && list_all (passes_all_cell_checks holding_history_column_cell_checks) raw.holding_history.items
+    && list_all (passes_all_cell_checks settlement_column_cell_checks) raw.settlements.items
+    && list_all (passes_all_cell_checks cash_column_cell_checks) raw.cash.items
 
 -- The raw rows of CASH_MOVE and SETTLE_RULE are, in order, the encodings of the typed rows
 -- `sheets`. SETTLE_RULE has one row if `sheets` has a first day of one-day settlement, otherwise
 -- none.
-pub record DecodesLaterSchemaTables (sheets : LaterSchemaSheets) (raw : LaterSchemaRows) : Type 0 where
-  pub moves : map (λ r. move_cells (abstract_cash_row r)) sheets.moves.items ≡ raw.moves
-  pub rule : map rule_cells (rule_rows sheets.rule) ≡ raw.rule
+pub record DecodesLaterTables (sheets : LaterSheets) (raw : LaterRows) : Type 0 where
+  pub moves : map (λ r. move_cells (abstract_cash_row r)) sheets.moves.items ≡ raw.moves.items
+  pub rule : map rule_cells (rule_rows sheets.rule) ≡ raw.rule.items
 
 -- True if each raw row of CASH_MOVE and SETTLE_RULE has exactly the columns of its table, each
 -- well-formed (`passes_all_cell_checks`), and there is at most one row of SETTLE_RULE.
-abbrev pub are_later_schema_rows_well_formed : LaterSchemaRows → Bool
-are_later_schema_rows_well_formed raw = list_all (passes_all_cell_checks move_column_cell_checks) raw.moves && has_at_most_one_valid_rule_row raw.rule
+abbrev pub are_later_rows_well_formed : LaterRows → Bool
+are_later_rows_well_formed raw =
+    list_all (passes_all_cell_checks move_column_cell_checks) raw.moves.items && has_at_most_one_valid_rule_row raw.rule.items
 
--- True if each raw row of each table has exactly the columns of its table, each well-formed
+-- True if each raw row of each table but KEPT has exactly the columns of its table, each well-formed
 -- (`passes_all_cell_checks`), there is exactly one row of DESK, with the number of the schema
 -- `desk`, and there is at most one row of SETTLE_RULE.
-abbrev pub are_raw_sheets_well_formed : Schema → RawSheets → Bool
-are_raw_sheets_well_formed desk raw =
-    are_desk_broker_and_customer_rows_well_formed desk raw.first && are_account_and_security_rows_well_formed raw.accounts
-    && are_charge_and_rate_rows_well_formed raw.rates && are_trade_and_holding_rows_well_formed raw.trades
-    && are_summary_history_and_cash_rows_well_formed raw.last && are_later_schema_rows_well_formed raw.later
+abbrev pub are_raw_rows_well_formed : Schema → RawSheets → Bool
+are_raw_rows_well_formed desk raw =
+    are_owner_rows_well_formed desk raw.owners && are_listing_rows_well_formed raw.listings && are_terms_rows_well_formed raw.terms
+    && are_trade_rows_well_formed raw.trades && are_booking_rows_well_formed raw.bookings && are_later_rows_well_formed raw.later
+
+-- True if each row of KEPT has exactly the columns of its table, each well-formed.
+abbrev pub are_kept_rows_well_formed : List Row → Bool
+are_kept_rows_well_formed kept = list_all (passes_all_cell_checks kept_column_cell_checks) kept
+
+-- True if the raw rows of each table are well-formed: `kept` of KEPT (`are_kept_rows_well_formed`),
+-- and those in `raw` of the others (`are_raw_rows_well_formed`).
+abbrev pub are_raw_sheets_well_formed : Schema → List Row → RawSheets → Bool
+are_raw_sheets_well_formed desk kept raw = are_kept_rows_well_formed kept && are_raw_rows_well_formed desk raw
 
 -- The raw rows of each table are, in order, the encodings of the typed rows `sheets`. Of KEPT,
 -- `sheets` has the keys alone: the raw rows of KEPT are, in order, the encodings of `whole`, typed
 -- rows with these keys and any texts. DESK has exactly one row, with the id 1 and the number of the
 -- schema `desk`. SETTLE_RULE has one row if `sheets` has a first day of one-day settlement,
 -- otherwise none.
-pub record DecodesSheets (desk : Schema) (sheets : Sheets) (raw : RawSheets) : Type 0 where
+pub record DecodesSheets (desk : Schema) (kept : List Row) (sheets : Sheets) (raw : RawSheets) : Type 0 where
   pub whole : List typed.Kept
   pub keys : keys_of_kept_rows whole ≡ map abstract_key sheets.kept.items
-  pub encoded : (w : DeskTable) → map (encoded_row w) (rows_of_table_in_schema desk w (tables_with_whole_kept_rows whole sheets)) ≡ raw_rows_of_table raw w
+  pub encoded : (w : DeskTable) → map (encoded_row w) (rows_of_table_in_schema desk w (tables_with_whole_kept_rows whole sheets)) ≡ raw_rows_of_table kept raw w
+
+-- The raw rows of each table but KEPT are, in order, the encodings of the typed rows `sheets`, and
+-- with any rows of KEPT that have the keys in `raw` they are so of each table (`DecodesSheets`).
+abbrev pub DecodesRows : Schema → Sheets → RawSheets → Type 0
+DecodesRows desk sheets raw = (kept : List Row) → AreKeysOfRawRows raw.owners.kept.items kept → DecodesSheets desk kept sheets raw
 
 -- A step of a decoding of raw rows, with a flag that is `old` before the step and `new` after it.
 -- `Decodes` states that the step decodes its rows; `are_well_formed` is true if these are
@@ -166,72 +185,22 @@ pub record ContinuesDecoding (old new are_well_formed : Bool) (Decodes : Type 0)
   -- well-formed.
   pub form : new ≡ false → (old ≡ false) ⊎ (are_well_formed ≡ false)
 
--- The reads, from the state `a` to the state `b`, return all rows of DESK, KEPT, BROKER and
--- CUSTOMER from an open database (`ShowsAllRows`), and leave the contents of the database
--- unchanged. If the flag `new` after the decoding is true, the flag `old` before it was true, and
--- the typed rows `sheets` are the decoded rows, but for the texts of KEPT. If `new` is false, `old`
--- was false, a row is malformed, or DESK does not have exactly one row, with the number of the
--- schema `desk`. The clause on the rows of a table is vacuous if the database does not define it as
--- a desk does.
-pub record ReadsDeskBrokerAndCustomerTables (desk : Schema) (old new : Bool) (sheets : DeskBrokerAndCustomerSheets) (a b : State) : Type 0 where
-  pub raw : DeskBrokerAndCustomerRows
-  pub shown : ShowsDeskBrokerAndCustomerTables raw a b
-  pub decoded : ContinuesDecoding old new (are_desk_broker_and_customer_rows_well_formed desk raw) (DecodesDeskBrokerAndCustomerTables desk sheets raw)
+-- The reads, from the state `a` to the state `b`, return all rows of DESK, BROKER and CUSTOMER, and
+-- the keys of `kept`, all rows of KEPT, from an open database (`ShowsAllRows`), and leave its
+-- contents unchanged. The flag is `old` before the keys are decoded and `new` after it. The clause
+-- on the rows of a table is vacuous if the database does not define it as a desk does.
+pub record ReadsOwnerTables (old new : Bool) (raw : OwnerRows) (a b : State) : Type 0 where
+  pub kept : List Row
+  pub shown : ShowsFourTables TheDesk KeptRows Brokers Customers raw.desk.items kept raw.brokers.items raw.customers.items a b
+  pub keys : ContinuesDecoding old new (are_kept_rows_well_formed kept) (AreKeysOfRawRows raw.kept.items kept)
 
--- The reads, from the state `a` to the state `b`, return all rows of CUSTOMER_ACCOUNT,
--- ACCOUNT_PERMISSION, SECURITY and LAST_TRADE from an open database (`ShowsAllRows`), and leave the
--- contents of the database unchanged. If the flag `new` after the decoding is true, the flag `old`
--- before it was true, and the typed rows `sheets` are the decoded rows. If `new` is false, `old`
--- was false or a row is malformed. The clause on the rows of a table is vacuous if the database
--- does not define it as a desk does.
-pub record ReadsAccountAndSecurityTables (old new : Bool) (sheets : AccountAndSecuritySheets) (a b : State) : Type 0 where
-  pub raw : AccountAndSecurityRows
-  pub shown : ShowsAccountAndSecurityTables raw a b
-  pub decoded : ContinuesDecoding old new (are_account_and_security_rows_well_formed raw) (DecodesAccountAndSecurityTables sheets raw)
-
--- The reads, from the state `a` to the state `b`, return all rows of CHARGE, COMMISSION_RATE,
--- TAXRATE and CUSTOMER_TAXRATE from an open database (`ShowsAllRows`), and leave the contents of
--- the database unchanged. If the flag `new` after the decoding is true, the flag `old` before it
--- was true, and the typed rows `sheets` are the decoded rows. If `new` is false, `old` was false or
--- a row is malformed. The clause on the rows of a table is vacuous if the database does not define
--- it as a desk does.
-pub record ReadsChargeAndRateTables (old new : Bool) (sheets : ChargeAndRateSheets) (a b : State) : Type 0 where
-  pub raw : ChargeAndRateRows
-  pub shown : ShowsChargeAndRateTables raw a b
-  pub decoded : ContinuesDecoding old new (are_charge_and_rate_rows_well_formed raw) (DecodesChargeAndRateTables sheets raw)
-
--- The reads, from the state `a` to the state `b`, return all rows of TRADE, TRADE_HISTORY,
--- TRADE_REQUEST and HOLDING from an open database (`ShowsAllRows`), and leave the contents of the
--- database unchanged. If the flag `new` after the decoding is true, the flag `old` before it was
--- true, and the typed rows `sheets` are the decoded rows. If `new` is false, `old` was false or a
--- row is malformed. The clause on the rows of a table is vacuous if the database does not define it
--- as a desk does.
-pub record ReadsTradeAndHoldingTables (old new : Bool) (sheets : TradeAndHoldingSheets) (a b : State) : Type 0 where
-  pub raw : TradeAndHoldingRows
-  pub shown : ShowsTradeAndHoldingTables raw a b
-  pub decoded : ContinuesDecoding old new (are_trade_and_holding_rows_well_formed raw) (DecodesTradeAndHoldingTables sheets raw)
-
--- The reads, from the state `a` to the state `b`, return all rows of HOLDING_SUMMARY,
--- HOLDING_HISTORY, SETTLEMENT and CASH_TRANSACTION from an open database (`ShowsAllRows`), and
--- leave the contents of the database unchanged. If the flag `new` after the decoding is true, the
--- flag `old` before it was true, and the typed rows `sheets` are the decoded rows. If `new` is
--- false, `old` was false or a row is malformed. The clause on the rows of a table is vacuous if the
--- database does not define it as a desk does.
-pub record ReadsSummaryHistoryAndCashTables (old new : Bool) (sheets : SummaryHistoryAndCashSheets) (a b : State) : Type 0 where
-  pub raw : SummaryHistoryAndCashRows
-  pub shown : ShowsSummaryHistoryAndCashTables raw a b
-  pub decoded : ContinuesDecoding old new (are_summary_history_and_cash_rows_well_formed raw) (DecodesSummaryHistoryAndCashTables sheets raw)
-
--- The reads, from the state `a` to the state `b`, return all rows of CASH_MOVE and SETTLE_RULE, or
--- none of a table that the schema `desk` does not have (`ShowsRowsIfInSchema`), and leave the
--- contents of the database unchanged. If the flag `new` after the decoding is true, the flag `old`
--- before it was true, and the typed rows `sheets` are the decoded rows. If `new` is false, `old`
--- was false, a row is malformed, or SETTLE_RULE has two rows or more. The clause on the rows of a
--- table is vacuous if the database does not define it as a desk does.
-pub record ReadsLaterSchemaTables (desk : Schema) (old new : Bool) (sheets : LaterSchemaSheets) (a b : State) : Type 0 where
-  pub raw : LaterSchemaRows
-  pub shown : ShowsLaterSchemaTables desk raw a b
-  pub decoded : ContinuesDecoding old new (are_later_schema_rows_well_formed raw) (DecodesLaterSchemaTables sheets raw)
+-- The reads, from the state `a` to the state `b`, return all rows of each table of the schema
+-- `desk`, of KEPT the keys of the rows `kept` (`ShowsAllTables`). The flag is `old` before the keys
+-- are decoded and `new` after it.
+pub record ReadsRawSheets (desk : Schema) (old new : Bool) (raw : RawSheets) (a b : State) : Type 0 where
+  pub kept : List Row
+  pub read : ShowsAllTables desk kept raw a b
+  pub keys : ContinuesDecoding old new (are_kept_rows_well_formed kept) (AreKeysOfRawRows raw.owners.kept.items kept)
 
 -- The reads, from the state `a` to the state `b`, return all rows of each table of the schema
 -- `desk`, and none of other tables (`ShowsRowsIfInSchema`). The database was open, and its contents
@@ -240,7 +209,7 @@ pub record ReadsLaterSchemaTables (desk : Schema) (old new : Bool) (sheets : Lat
 -- `old` was false or the rows are malformed (`are_raw_sheets_well_formed`). The clause on the rows
 -- of a table is vacuous if the database does not define it as a desk does.
 pub record ReadsAndDecodesDeskTables (desk : Schema) (old new : Bool) (sheets : Sheets) (a b : State) : Type 0 where
+  pub kept : List Row
   pub raw : RawSheets
-  pub stays : IsUnchangedAndOpen a b
-  pub shown : (w : DeskTable) → ShowsRowsIfInSchema desk w (raw_rows_of_table raw w) a.now
-  pub decoded : ContinuesDecoding old new (are_raw_sheets_well_formed desk raw) (DecodesSheets desk sheets raw)
+  pub read : ShowsAllTables desk kept raw a b
+  pub decoded : ContinuesDecoding old new (are_raw_sheets_well_formed desk kept raw) (DecodesSheets desk kept sheets raw)

@@ -1,14 +1,22 @@
 //! Written by tools/generate/tables.py.
-//! The reads of all tables: each table is read and decoded, and its raw rows are dropped, before
-//! the next is read.
+//! The reads of all tables: first all rows are read, and then decoded, table by table; the raw rows
+//! of a table are dropped as they are decoded. Of KEPT, whose texts are long and of which an audit
+//! checks only that they are UTF-8, the keys alone are kept as it is read. If a table has a malformed row, DESK not
+//! exactly one row with the number of the schema, or SETTLE_RULE two rows or more,
+//! `are_well_formed` of the decoder is false, and there are no typed rows of this table.
 
-ghost use Rattle.std.specs.Prelude.{◌≡◌, IfErr};
+ghost use Rattle.std.specs.Prelude.{◌≡◌, Err, IfErr, IfOk, OnErr};
+ghost use Rattle.brk_money.specs.declared.fault.Fault.TheVariants.{Memory, Store};
 ghost use Rattle.brk_model.specs.Run.{IsCallFault};
 ghost use Rattle.brk_trade_rows.specs.Schemas.{abstract_schema};
 ghost use Rattle.brk_tables_sql.specs.Model.{IsConnectionStep};
-ghost use Rattle.brk_tables_scan.specs.Decoded.{ReadsDeskBrokerAndCustomerTables, ReadsAccountAndSecurityTables, ReadsChargeAndRateTables};
-ghost use Rattle.brk_tables_scan.specs.Decoded.{ReadsTradeAndHoldingTables, ReadsSummaryHistoryAndCashTables, ReadsLaterSchemaTables};
-ghost use Rattle.brk_tables_scan.specs.Decoded.{ReadsAndDecodesDeskTables};
+ghost use Rattle.brk_tables_scan.specs.Raw.{ShowsListingTables, ShowsTermsTables, ShowsTradeTables, ShowsBookingTables, ShowsLaterTables};
+ghost use Rattle.brk_tables_scan.specs.Decoded.{are_owner_rows_well_formed, are_listing_rows_well_formed, are_terms_rows_well_formed};
+ghost use Rattle.brk_tables_scan.specs.Decoded.{are_trade_rows_well_formed, are_booking_rows_well_formed, are_later_rows_well_formed};
+ghost use Rattle.brk_tables_scan.specs.Decoded.{are_raw_rows_well_formed};
+ghost use Rattle.brk_tables_scan.specs.Decoded.{DecodesOwnerTables, DecodesListingTables, DecodesTermsTables, DecodesTradeTables};
+ghost use Rattle.brk_tables_scan.specs.Decoded.{DecodesBookingTables, DecodesLaterTables, DecodesRows};
+ghost use Rattle.brk_tables_scan.specs.Decoded.{ContinuesDecoding, ReadsOwnerTables, ReadsRawSheets, ReadsAndDecodesDeskTables};
 
 use crate::decoder::Decoder;
 use crate::rows::{
@@ -25,74 +33,88 @@ use brk_ref::{
     SummaryRow, Tax, TradeRow,
 };
 use brk_trade_rows::{Schema, Sheets};
-use sqlite::{Alter, Transaction};
+use sqlite::{Alter, Row, Transaction};
 use std::alloc::Global;
 
-/// The typed rows of DESK, KEPT, BROKER and CUSTOMER.
+/// The raw rows of DESK, KEPT, BROKER and CUSTOMER, of KEPT the keys.
 #[derive(Drop)]
-pub struct DeskBrokerAndCustomerSheets {
-    last: Option<Stamp>,
+pub struct OwnerRows {
+    desk: Vec<Row>,
     kept: Vec<Key>,
-    brokers: Vec<BrokerRow>,
-    customers: Vec<Customer>,
+    brokers: Vec<Row>,
+    customers: Vec<Row>,
 }
 
-// Returns the last stamp in DESK, or `None` if none is stored, the keys of the rows of KEPT, and
-// the decoded rows of BROKER and CUSTOMER, each list sorted by key, ascending. If a table has a
-// malformed row, or DESK not exactly one row with the number of `schema`, sets `are_well_formed` of
-// the decoder to false and returns no value of this table. If the function returns a value, the
-// database was open and is unchanged. Fails with `Memory` or `Store` only.
-fn read_desk_broker_and_customer_tables<S: Alter>(
+fn read_owner_rows<S: Alter>(
     tx: &mut Transaction<'_, S>,
     alloc: Global,
-    schema: Schema,
     decoder: &mut Decoder,
-) -> Result<DeskBrokerAndCustomerSheets, Fault>
+) -> Result<OwnerRows, Fault>
     ensures same_reference { tx.new.conn.ghost_name ≡ tx.old.conn.ghost_name }
-    ensures step { IsConnectionStep S.Store tx.old tx.new result
-        (λ sheets. ReadsDeskBrokerAndCustomerTables (abstract_schema schema) decoder.old.are_well_formed decoder.new.are_well_formed sheets) }
+    ensures step { IsConnectionStep S.Store tx.old tx.new result (λ raw. ReadsOwnerTables decoder.old.are_well_formed decoder.new.are_well_formed raw) }
     ensures fault { IfErr result IsCallFault }
 {
-    let last = decoder.decode_last_stamp(schema, desk_rows(tx)?)?;
+    let desk = desk_rows(tx)?;
     let kept = decoder.decode_kept_keys(alloc, kept_rows(tx)?)?;
-    let brokers = decoder.decode_read_result(alloc, broker_rows(tx))?;
-    let customers = decoder.decode_read_result(alloc, customer_rows(tx))?;
-    Ok(DeskBrokerAndCustomerSheets {
-        last,
+    let brokers = broker_rows(tx)?;
+    let customers = customer_rows(tx)?;
+    Ok(OwnerRows {
+        desk,
         kept,
         brokers,
         customers,
     })
 }
 
-/// The typed rows of CUSTOMER_ACCOUNT, ACCOUNT_PERMISSION, SECURITY and LAST_TRADE.
+/// The typed rows of DESK, KEPT, BROKER and CUSTOMER.
 #[derive(Drop)]
-pub struct AccountAndSecuritySheets {
-    accounts: Vec<AccountRow>,
-    permissions: Vec<Permission>,
-    securities: Vec<Security>,
-    last_trades: Vec<LastTrade>,
+pub struct OwnerSheets {
+    last: Option<Stamp>,
+    kept: Vec<Key>,
+    brokers: Vec<BrokerRow>,
+    customers: Vec<Customer>,
 }
 
-// Returns the decoded rows of CUSTOMER_ACCOUNT, ACCOUNT_PERMISSION, SECURITY and LAST_TRADE, each
-// list sorted by key, ascending. If a table has a malformed row, sets `are_well_formed` of the
-// decoder to false and returns no rows of this table. If the function returns a value, the database
-// was open and is unchanged. Fails with `Memory` or `Store` only.
-fn read_account_and_security_tables<S: Alter>(
-    tx: &mut Transaction<'_, S>,
+fn decode_owner_rows(
     alloc: Global,
+    schema: Schema,
+    raw: OwnerRows,
     decoder: &mut Decoder,
-) -> Result<AccountAndSecuritySheets, Fault>
-    ensures same_reference { tx.new.conn.ghost_name ≡ tx.old.conn.ghost_name }
-    ensures step { IsConnectionStep S.Store tx.old tx.new result
-        (λ sheets. ReadsAccountAndSecurityTables decoder.old.are_well_formed decoder.new.are_well_formed sheets) }
-    ensures fault { IfErr result IsCallFault }
+) -> Result<OwnerSheets, Fault>
+    ensures decoded { IfOk result (λ sheets. ContinuesDecoding decoder.old.are_well_formed decoder.new.are_well_formed
+        (are_owner_rows_well_formed (abstract_schema schema) raw) (DecodesOwnerTables (abstract_schema schema) sheets raw)) }
+    ensures fault { OnErr result (result ≡ Err Memory) }
 {
-    let accounts = decoder.decode_read_result(alloc, account_rows(tx))?;
-    let permissions = decoder.decode_read_result(alloc, permission_rows(tx))?;
-    let securities = decoder.decode_read_result(alloc, security_rows(tx))?;
-    let last_trades = decoder.decode_read_result(alloc, last_trade_rows(tx))?;
-    Ok(AccountAndSecuritySheets {
+    let last = decoder.decode_last_stamp(schema, raw.desk)?;
+    let brokers = decoder.decode(alloc, raw.brokers)?;
+    let customers = decoder.decode(alloc, raw.customers)?;
+    Ok(OwnerSheets {
+        last,
+        kept: raw.kept,
+        brokers,
+        customers,
+    })
+}
+
+/// The raw rows of CUSTOMER_ACCOUNT, ACCOUNT_PERMISSION, SECURITY and LAST_TRADE.
+#[derive(Drop)]
+pub struct ListingRows {
+    accounts: Vec<Row>,
+    permissions: Vec<Row>,
+    securities: Vec<Row>,
+    last_trades: Vec<Row>,
+}
+
+fn read_listing_rows<S: Alter>(tx: &mut Transaction<'_, S>) -> Result<ListingRows, Fault>
+    ensures same_reference { tx.new.conn.ghost_name ≡ tx.old.conn.ghost_name }
+    ensures step { IsConnectionStep S.Store tx.old tx.new result (λ raw. ShowsListingTables raw) }
+    ensures fault { OnErr result (result ≡ Err Store) }
+{
+    let accounts = account_rows(tx)?;
+    let permissions = permission_rows(tx)?;
+    let securities = security_rows(tx)?;
+    let last_trades = last_trade_rows(tx)?;
+    Ok(ListingRows {
         accounts,
         permissions,
         securities,
@@ -100,34 +122,55 @@ fn read_account_and_security_tables<S: Alter>(
     })
 }
 
-/// The typed rows of CHARGE, COMMISSION_RATE, TAXRATE and CUSTOMER_TAXRATE.
+/// The typed rows of CUSTOMER_ACCOUNT, ACCOUNT_PERMISSION, SECURITY and LAST_TRADE.
 #[derive(Drop)]
-pub struct ChargeAndRateSheets {
-    charges: Vec<Charge>,
-    bands: Vec<Band>,
-    tax_rates: Vec<Tax>,
-    customer_taxes: Vec<CustomerTax>,
+pub struct ListingSheets {
+    accounts: Vec<AccountRow>,
+    permissions: Vec<Permission>,
+    securities: Vec<Security>,
+    last_trades: Vec<LastTrade>,
 }
 
-// Returns the decoded rows of CHARGE, COMMISSION_RATE, TAXRATE and CUSTOMER_TAXRATE, each list
-// sorted by key, ascending. If a table has a malformed row, sets `are_well_formed` of the decoder
-// to false and returns no rows of this table. If the function returns a value, the database was
-// open and is unchanged. Fails with `Memory` or `Store` only.
-fn read_charge_and_rate_tables<S: Alter>(
-    tx: &mut Transaction<'_, S>,
+fn decode_listing_rows(
     alloc: Global,
+    raw: ListingRows,
     decoder: &mut Decoder,
-) -> Result<ChargeAndRateSheets, Fault>
-    ensures same_reference { tx.new.conn.ghost_name ≡ tx.old.conn.ghost_name }
-    ensures step { IsConnectionStep S.Store tx.old tx.new result
-        (λ sheets. ReadsChargeAndRateTables decoder.old.are_well_formed decoder.new.are_well_formed sheets) }
-    ensures fault { IfErr result IsCallFault }
+) -> Result<ListingSheets, Fault>
+    ensures decoded { IfOk result (λ sheets. ContinuesDecoding decoder.old.are_well_formed decoder.new.are_well_formed
+        (are_listing_rows_well_formed raw) (DecodesListingTables sheets raw)) }
+    ensures fault { OnErr result (result ≡ Err Memory) }
 {
-    let charges = decoder.decode_read_result(alloc, charge_rows(tx))?;
-    let bands = decoder.decode_read_result(alloc, commission_rate_rows(tx))?;
-    let tax_rates = decoder.decode_read_result(alloc, tax_rate_rows(tx))?;
-    let customer_taxes = decoder.decode_read_result(alloc, customer_tax_rows(tx))?;
-    Ok(ChargeAndRateSheets {
+    let accounts = decoder.decode(alloc, raw.accounts)?;
+    let permissions = decoder.decode(alloc, raw.permissions)?;
+    let securities = decoder.decode(alloc, raw.securities)?;
+    let last_trades = decoder.decode(alloc, raw.last_trades)?;
+    Ok(ListingSheets {
+        accounts,
+        permissions,
+        securities,
+        last_trades,
+    })
+}
+
+/// The raw rows of CHARGE, COMMISSION_RATE, TAXRATE and CUSTOMER_TAXRATE.
+#[derive(Drop)]
+pub struct TermsRows {
+    charges: Vec<Row>,
+    bands: Vec<Row>,
+    tax_rates: Vec<Row>,
+    customer_taxes: Vec<Row>,
+}
+
+fn read_terms_rows<S: Alter>(tx: &mut Transaction<'_, S>) -> Result<TermsRows, Fault>
+    ensures same_reference { tx.new.conn.ghost_name ≡ tx.old.conn.ghost_name }
+    ensures step { IsConnectionStep S.Store tx.old tx.new result (λ raw. ShowsTermsTables raw) }
+    ensures fault { OnErr result (result ≡ Err Store) }
+{
+    let charges = charge_rows(tx)?;
+    let bands = commission_rate_rows(tx)?;
+    let tax_rates = tax_rate_rows(tx)?;
+    let customer_taxes = customer_tax_rows(tx)?;
+    Ok(TermsRows {
         charges,
         bands,
         tax_rates,
@@ -135,34 +178,55 @@ fn read_charge_and_rate_tables<S: Alter>(
     })
 }
 
-/// The typed rows of TRADE, TRADE_HISTORY, TRADE_REQUEST and HOLDING.
+/// The typed rows of CHARGE, COMMISSION_RATE, TAXRATE and CUSTOMER_TAXRATE.
 #[derive(Drop)]
-pub struct TradeAndHoldingSheets {
-    trades: Vec<TradeRow>,
-    history: Vec<HistoryRow>,
-    requests: Vec<RequestRow>,
-    holdings: Vec<HoldingRow>,
+pub struct TermsSheets {
+    charges: Vec<Charge>,
+    bands: Vec<Band>,
+    tax_rates: Vec<Tax>,
+    customer_taxes: Vec<CustomerTax>,
 }
 
-// Returns the decoded rows of TRADE, TRADE_HISTORY, TRADE_REQUEST and HOLDING, each list sorted by
-// key, ascending. If a table has a malformed row, sets `are_well_formed` of the decoder to false
-// and returns no rows of this table. If the function returns a value, the database was open and is
-// unchanged. Fails with `Memory` or `Store` only.
-fn read_trade_and_holding_tables<S: Alter>(
-    tx: &mut Transaction<'_, S>,
+fn decode_terms_rows(
     alloc: Global,
+    raw: TermsRows,
     decoder: &mut Decoder,
-) -> Result<TradeAndHoldingSheets, Fault>
-    ensures same_reference { tx.new.conn.ghost_name ≡ tx.old.conn.ghost_name }
-    ensures step { IsConnectionStep S.Store tx.old tx.new result
-        (λ sheets. ReadsTradeAndHoldingTables decoder.old.are_well_formed decoder.new.are_well_formed sheets) }
-    ensures fault { IfErr result IsCallFault }
+) -> Result<TermsSheets, Fault>
+    ensures decoded { IfOk result (λ sheets. ContinuesDecoding decoder.old.are_well_formed decoder.new.are_well_formed
+        (are_terms_rows_well_formed raw) (DecodesTermsTables sheets raw)) }
+    ensures fault { OnErr result (result ≡ Err Memory) }
 {
-    let trades = decoder.decode_read_result(alloc, trade_rows(tx))?;
-    let history = decoder.decode_read_result(alloc, trade_history_rows(tx))?;
-    let requests = decoder.decode_read_result(alloc, trade_request_rows(tx))?;
-    let holdings = decoder.decode_read_result(alloc, holding_rows(tx))?;
-    Ok(TradeAndHoldingSheets {
+    let charges = decoder.decode(alloc, raw.charges)?;
+    let bands = decoder.decode(alloc, raw.bands)?;
+    let tax_rates = decoder.decode(alloc, raw.tax_rates)?;
+    let customer_taxes = decoder.decode(alloc, raw.customer_taxes)?;
+    Ok(TermsSheets {
+        charges,
+        bands,
+        tax_rates,
+        customer_taxes,
+    })
+}
+
+/// The raw rows of TRADE, TRADE_HISTORY, TRADE_REQUEST and HOLDING.
+#[derive(Drop)]
+pub struct TradeRows {
+    trades: Vec<Row>,
+    history: Vec<Row>,
+    requests: Vec<Row>,
+    holdings: Vec<Row>,
+}
+
+fn read_trade_rows<S: Alter>(tx: &mut Transaction<'_, S>) -> Result<TradeRows, Fault>
+    ensures same_reference { tx.new.conn.ghost_name ≡ tx.old.conn.ghost_name }
+    ensures step { IsConnectionStep S.Store tx.old tx.new result (λ raw. ShowsTradeTables raw) }
+    ensures fault { OnErr result (result ≡ Err Store) }
+{
+    let trades = trade_rows(tx)?;
+    let history = trade_history_rows(tx)?;
+    let requests = trade_request_rows(tx)?;
+    let holdings = holding_rows(tx)?;
+    Ok(TradeRows {
         trades,
         history,
         requests,
@@ -170,34 +234,55 @@ fn read_trade_and_holding_tables<S: Alter>(
     })
 }
 
-/// The typed rows of HOLDING_SUMMARY, HOLDING_HISTORY, SETTLEMENT and CASH_TRANSACTION.
+/// The typed rows of TRADE, TRADE_HISTORY, TRADE_REQUEST and HOLDING.
 #[derive(Drop)]
-pub struct SummaryHistoryAndCashSheets {
-    summaries: Vec<SummaryRow>,
-    holding_history: Vec<LotChange>,
-    settlements: Vec<SettlementRow>,
-    cash: Vec<OldCashRow>,
+pub struct TradeSheets {
+    trades: Vec<TradeRow>,
+    history: Vec<HistoryRow>,
+    requests: Vec<RequestRow>,
+    holdings: Vec<HoldingRow>,
 }
 
-// Returns the decoded rows of HOLDING_SUMMARY, HOLDING_HISTORY, SETTLEMENT and CASH_TRANSACTION,
-// each list sorted by key, ascending. If a table has a malformed row, sets `are_well_formed` of the
-// decoder to false and returns no rows of this table. If the function returns a value, the database
-// was open and is unchanged. Fails with `Memory` or `Store` only.
-fn read_summary_history_and_cash_tables<S: Alter>(
-    tx: &mut Transaction<'_, S>,
+fn decode_trade_rows(
     alloc: Global,
+    raw: TradeRows,
     decoder: &mut Decoder,
-) -> Result<SummaryHistoryAndCashSheets, Fault>
-    ensures same_reference { tx.new.conn.ghost_name ≡ tx.old.conn.ghost_name }
-    ensures step { IsConnectionStep S.Store tx.old tx.new result
-        (λ sheets. ReadsSummaryHistoryAndCashTables decoder.old.are_well_formed decoder.new.are_well_formed sheets) }
-    ensures fault { IfErr result IsCallFault }
+) -> Result<TradeSheets, Fault>
+    ensures decoded { IfOk result (λ sheets. ContinuesDecoding decoder.old.are_well_formed decoder.new.are_well_formed
+        (are_trade_rows_well_formed raw) (DecodesTradeTables sheets raw)) }
+    ensures fault { OnErr result (result ≡ Err Memory) }
 {
-    let summaries = decoder.decode_read_result(alloc, holding_summary_rows(tx))?;
-    let holding_history = decoder.decode_read_result(alloc, holding_history_rows(tx))?;
-    let settlements = decoder.decode_read_result(alloc, settlement_rows(tx))?;
-    let cash = decoder.decode_read_result(alloc, cash_transaction_rows(tx))?;
-    Ok(SummaryHistoryAndCashSheets {
+    let trades = decoder.decode(alloc, raw.trades)?;
+    let history = decoder.decode(alloc, raw.history)?;
+    let requests = decoder.decode(alloc, raw.requests)?;
+    let holdings = decoder.decode(alloc, raw.holdings)?;
+    Ok(TradeSheets {
+        trades,
+        history,
+        requests,
+        holdings,
+    })
+}
+
+/// The raw rows of HOLDING_SUMMARY, HOLDING_HISTORY, SETTLEMENT and CASH_TRANSACTION.
+#[derive(Drop)]
+pub struct BookingRows {
+    summaries: Vec<Row>,
+    holding_history: Vec<Row>,
+    settlements: Vec<Row>,
+    cash: Vec<Row>,
+}
+
+fn read_booking_rows<S: Alter>(tx: &mut Transaction<'_, S>) -> Result<BookingRows, Fault>
+    ensures same_reference { tx.new.conn.ghost_name ≡ tx.old.conn.ghost_name }
+    ensures step { IsConnectionStep S.Store tx.old tx.new result (λ raw. ShowsBookingTables raw) }
+    ensures fault { OnErr result (result ≡ Err Store) }
+{
+    let summaries = holding_summary_rows(tx)?;
+    let holding_history = holding_history_rows(tx)?;
+    let settlements = settlement_rows(tx)?;
+    let cash = cash_transaction_rows(tx)?;
+    Ok(BookingRows {
         summaries,
         holding_history,
         settlements,
@@ -205,43 +290,162 @@ fn read_summary_history_and_cash_tables<S: Alter>(
     })
 }
 
+/// The typed rows of HOLDING_SUMMARY, HOLDING_HISTORY, SETTLEMENT and CASH_TRANSACTION.
+#[derive(Drop)]
+pub struct BookingSheets {
+    summaries: Vec<SummaryRow>,
+    holding_history: Vec<LotChange>,
+    settlements: Vec<SettlementRow>,
+    cash: Vec<OldCashRow>,
+}
+
+fn decode_booking_rows(
+    alloc: Global,
+    raw: BookingRows,
+    decoder: &mut Decoder,
+) -> Result<BookingSheets, Fault>
+    ensures decoded { IfOk result (λ sheets. ContinuesDecoding decoder.old.are_well_formed decoder.new.are_well_formed
+        (are_booking_rows_well_formed raw) (DecodesBookingTables sheets raw)) }
+    ensures fault { OnErr result (result ≡ Err Memory) }
+{
+    let summaries = decoder.decode(alloc, raw.summaries)?;
+    let holding_history = decoder.decode(alloc, raw.holding_history)?;
+    let settlements = decoder.decode(alloc, raw.settlements)?;
+    let cash = decoder.decode(alloc, raw.cash)?;
+    Ok(BookingSheets {
+        summaries,
+        holding_history,
+        settlements,
+        cash,
+    })
+}
+
+/// The raw rows of CASH_MOVE and SETTLE_RULE.
+#[derive(Drop)]
+pub struct LaterRows {
+    moves: Vec<Row>,
+    rule: Vec<Row>,
+}
+
+fn read_later_rows<S: Alter>(
+    tx: &mut Transaction<'_, S>,
+    alloc: Global,
+    schema: Schema,
+) -> Result<LaterRows, Fault>
+    ensures same_reference { tx.new.conn.ghost_name ≡ tx.old.conn.ghost_name }
+    ensures step { IsConnectionStep S.Store tx.old tx.new result (λ raw. ShowsLaterTables (abstract_schema schema) raw) }
+    ensures fault { OnErr result (result ≡ Err Store) }
+{
+    let moves = cash_move_rows_in_schema(tx, alloc, schema)?;
+    let rule = settle_rule_rows_in_schema(tx, alloc, schema)?;
+    Ok(LaterRows { moves, rule })
+}
+
 /// The typed rows of CASH_MOVE and SETTLE_RULE.
 #[derive(Drop)]
-pub struct LaterSchemaSheets {
+pub struct LaterSheets {
     moves: Vec<CashRow>,
     rule: Option<Day>,
 }
 
-// Returns the decoded rows of CASH_MOVE, sorted by key, ascending, and the first day of one-day
-// settlement in SETTLE_RULE, or `None` if it has no row. Returns no rows and no day of a table that
-// `schema` lacks. If a table has a malformed row, or SETTLE_RULE two rows or more, sets
-// `are_well_formed` of the decoder to false and returns no value of this table. If the function
-// returns a value, the database is unchanged. Fails with `Memory` or `Store` only.
-fn read_later_schema_tables<S: Alter>(
+fn decode_later_rows(
+    alloc: Global,
+    raw: LaterRows,
+    decoder: &mut Decoder,
+) -> Result<LaterSheets, Fault>
+    ensures decoded { IfOk result (λ sheets. ContinuesDecoding decoder.old.are_well_formed decoder.new.are_well_formed
+        (are_later_rows_well_formed raw) (DecodesLaterTables sheets raw)) }
+    ensures fault { OnErr result (result ≡ Err Memory) }
+{
+    let moves = decoder.decode(alloc, raw.moves)?;
+    let rule = decoder.decode_rule(raw.rule)?;
+    Ok(LaterSheets { moves, rule })
+}
+
+/// The raw rows of all tables of a desk.
+#[derive(Drop)]
+pub struct RawSheets {
+    owners: OwnerRows,
+    listings: ListingRows,
+    terms: TermsRows,
+    trades: TradeRows,
+    bookings: BookingRows,
+    later: LaterRows,
+}
+
+fn read_raw_sheets<S: Alter>(
     tx: &mut Transaction<'_, S>,
     alloc: Global,
     schema: Schema,
     decoder: &mut Decoder,
-) -> Result<LaterSchemaSheets, Fault>
+) -> Result<RawSheets, Fault>
     ensures same_reference { tx.new.conn.ghost_name ≡ tx.old.conn.ghost_name }
     ensures step { IsConnectionStep S.Store tx.old tx.new result
-        (λ sheets. ReadsLaterSchemaTables (abstract_schema schema) decoder.old.are_well_formed decoder.new.are_well_formed sheets) }
+        (λ raw. ReadsRawSheets (abstract_schema schema) decoder.old.are_well_formed decoder.new.are_well_formed raw) }
     ensures fault { IfErr result IsCallFault }
 {
-    let moves = decoder.decode_read_result(alloc, cash_move_rows_in_schema(tx, alloc, schema))?;
-    let rule = decoder.decode_one_day_settlement_start(settle_rule_rows_in_schema(
-        tx, alloc, schema,
-    )?)?;
-    Ok(LaterSchemaSheets { moves, rule })
+    let owners = read_owner_rows(tx, alloc, decoder)?;
+    let listings = read_listing_rows(tx)?;
+    let terms = read_terms_rows(tx)?;
+    let trades = read_trade_rows(tx)?;
+    let bookings = read_booking_rows(tx)?;
+    let later = read_later_rows(tx, alloc, schema)?;
+    Ok(RawSheets {
+        owners,
+        listings,
+        terms,
+        trades,
+        bookings,
+        later,
+    })
 }
 
-/// Returns the decoded rows of the tables of `schema`, each list sorted by key, ascending: of KEPT
-/// the keys alone, of DESK the last stamp, and of SETTLE_RULE the first day of one-day settlement,
-/// or `None` for a stamp or a day that is not stored. Returns no rows and no day of a table that
-/// `schema` lacks. If a table has a malformed row, DESK not exactly one row with the number of
-/// `schema`, or SETTLE_RULE two rows or more, sets `are_well_formed` of the decoder to false and
-/// returns no value of this table. If the function returns a value, the database was open and is
-/// unchanged. Fails with `Memory` or `Store` only.
+fn decode_raw_sheets(
+    alloc: Global,
+    schema: Schema,
+    raw: RawSheets,
+    decoder: &mut Decoder,
+) -> Result<Sheets, Fault>
+    ensures decoded { IfOk result (λ sheets. ContinuesDecoding decoder.old.are_well_formed decoder.new.are_well_formed
+        (are_raw_rows_well_formed (abstract_schema schema) raw) (DecodesRows (abstract_schema schema) sheets raw)) }
+    ensures of_schema { IfOk result (λ sheets. sheets.schema ≡ schema) }
+    ensures fault { OnErr result (result ≡ Err Memory) }
+{
+    let owners = decode_owner_rows(alloc, schema, raw.owners, decoder)?;
+    let listings = decode_listing_rows(alloc, raw.listings, decoder)?;
+    let terms = decode_terms_rows(alloc, raw.terms, decoder)?;
+    let trades = decode_trade_rows(alloc, raw.trades, decoder)?;
+    let bookings = decode_booking_rows(alloc, raw.bookings, decoder)?;
+    let later = decode_later_rows(alloc, raw.later, decoder)?;
+    Ok(Sheets {
+        schema,
+        last: owners.last,
+        kept: owners.kept,
+        brokers: owners.brokers,
+        customers: owners.customers,
+        accounts: listings.accounts,
+        permissions: listings.permissions,
+        securities: listings.securities,
+        last_trades: listings.last_trades,
+        charges: terms.charges,
+        bands: terms.bands,
+        tax_rates: terms.tax_rates,
+        customer_taxes: terms.customer_taxes,
+        trades: trades.trades,
+        history: trades.history,
+        requests: trades.requests,
+        holdings: trades.holdings,
+        summaries: bookings.summaries,
+        holding_history: bookings.holding_history,
+        settlements: bookings.settlements,
+        cash: bookings.cash,
+        moves: later.moves,
+        rule: later.rule,
+    })
+}
+
+/// Returns the decoded rows of all tables of `schema`, each list sorted by key, ascending: of KEPT
+/// the keys alone, of DESK the last stamp, and of SETTLE_RULE the first day of one-day settlement.
 pub(crate) fn read_all_tables<S: Alter>(
     tx: &mut Transaction<'_, S>,
     alloc: Global,
@@ -251,36 +455,10 @@ pub(crate) fn read_all_tables<S: Alter>(
     ensures same_reference { tx.new.conn.ghost_name ≡ tx.old.conn.ghost_name }
     ensures step { IsConnectionStep S.Store tx.old tx.new result
         (λ sheets. ReadsAndDecodesDeskTables (abstract_schema schema) decoder.old.are_well_formed decoder.new.are_well_formed sheets) }
+    ensures of_schema { IfOk result (λ sheets. sheets.schema ≡ schema) }
     ensures fault { IfErr result IsCallFault }
 {
-    let first = read_desk_broker_and_customer_tables(tx, alloc, schema, decoder)?;
-    let accounts = read_account_and_security_tables(tx, alloc, decoder)?;
-    let rates = read_charge_and_rate_tables(tx, alloc, decoder)?;
-    let trades = read_trade_and_holding_tables(tx, alloc, decoder)?;
-    let last = read_summary_history_and_cash_tables(tx, alloc, decoder)?;
-    let later = read_later_schema_tables(tx, alloc, schema, decoder)?;
-    Ok(Sheets {
-        last: first.last,
-        kept: first.kept,
-        brokers: first.brokers,
-        customers: first.customers,
-        accounts: accounts.accounts,
-        permissions: accounts.permissions,
-        securities: accounts.securities,
-        last_trades: accounts.last_trades,
-        charges: rates.charges,
-        bands: rates.bands,
-        tax_rates: rates.tax_rates,
-        customer_taxes: rates.customer_taxes,
-        trades: trades.trades,
-        history: trades.history,
-        requests: trades.requests,
-        holdings: trades.holdings,
-        summaries: last.summaries,
-        holding_history: last.holding_history,
-        settlements: last.settlements,
-        cash: last.cash,
-        moves: later.moves,
-        rule: later.rule,
-    })
+    let raw = read_raw_sheets(tx, alloc, schema, decoder)?;
+    let sheets = decode_raw_sheets(alloc, schema, raw, decoder)?;
+    Ok(sheets)
 }

@@ -1,5 +1,4 @@
-//! Written by tools/generate/tables.py: for each table a statement that selects all of its columns, and the
-//! names of these columns, in order.
+//! Written by tools/generate/tables.py: the columns of each table.
 
 /// For each table, those of later schemas last: the statement that selects all of its columns, and
 /// their names, in order.

@@ -1,8 +1,6 @@
 //! The decoding of the rows of one table after the other, which continues after a malformed row.
 
-ghost use Rattle.std.specs.Prelude.{◌≡◌, ◌⊎◌, Err, IfErr, IfOk, Ok, OnErr, false, map, true};
-ghost use Rattle.std.specs.Global.{Vec};
-ghost use Rattle.sqlite_value.specs.Order.{Row as Cells};
+ghost use Rattle.std.specs.Prelude.{◌≡◌, Err, IfOk, OnErr, false, map, true};
 ghost use Rattle.std.specs.List.{list_all};
 ghost use Rattle.brk_money.specs.declared.fault.Fault.TheVariants.{Memory};
 ghost use Rattle.brk_trade_rows.specs.Schemas.{abstract_schema};
@@ -18,14 +16,13 @@ use brk_ref::{Kept, Key};
 use brk_tables_schema::DecodeError;
 use brk_tables_schema::desk_row::last_stamp_in_desk_rows;
 use brk_tables_schema::record::Record;
-use brk_tables_schema::rule_row::one_day_settlement_start_in_rule_rows;
+use brk_tables_schema::rule_row::start_in_rule_rows;
 use brk_trade_rows::Schema;
 use sqlite::Row;
 use std::alloc::Global;
 
-// Returns the decoded rows, in order, and drops each raw row once it is decoded. Fails with `Form`,
-// only if a row is malformed, or with `Memory`, if memory runs out.
-fn decode_and_drop_rows<R: Record>(alloc: Global, rows: Vec<Row>) -> Result<Vec<R>, DecodeError>
+// Drops each raw row once it is decoded, so that the rows are not in memory twice.
+fn decode_owned_rows<R: Record>(alloc: Global, rows: Vec<Row>) -> Result<Vec<R>, DecodeError>
     ensures value { IfOk result (λ all. map R.cells all.items ≡ rows.items) }
     ensures form { result ≡ Err Formless → list_all (passes_all_cell_checks R.forms) rows.items ≡ false }
 {
@@ -36,8 +33,7 @@ fn decode_and_drop_rows<R: Record>(alloc: Global, rows: Vec<Row>) -> Result<Vec<
     Ok(all)
 }
 
-// Decodes a row of KEPT and returns its key, without its texts. Fails with `Form`, only if the row
-// is malformed (its texts included), or with `Memory`, if memory runs out.
+// Decodes the whole row, so that a malformed text is an error too.
 fn decode_kept_key(row: &Row) -> Result<Key, DecodeError>
     ensures value { IfOk result (λ key. IsKeyOfRawRow key row.now) }
     ensures form { result ≡ Err Formless → passes_all_cell_checks kept_column_cell_checks row.now ≡ false }
@@ -46,9 +42,6 @@ fn decode_kept_key(row: &Row) -> Result<Key, DecodeError>
     Ok(whole.key)
 }
 
-// Decodes all rows of KEPT, drops each row, with its texts, once it is decoded, and returns their
-// keys, in order. Fails with `Form`, only if a row is malformed, or with `Memory`, if memory runs
-// out.
 fn decode_kept_keys(alloc: Global, rows: Vec<Row>) -> Result<Vec<Key>, DecodeError>
     ensures value { IfOk result (λ all. AreKeysOfRawRows all.items rows.items) }
     ensures form { result ≡ Err Formless → list_all (passes_all_cell_checks kept_column_cell_checks) rows.items ≡ false }
@@ -60,8 +53,9 @@ fn decode_kept_keys(alloc: Global, rows: Vec<Row>) -> Result<Vec<Key>, DecodeErr
     Ok(all)
 }
 
-/// A decoder of the rows of one table after the other. After a malformed row it continues with the
-/// next table, and `are_well_formed` is false.
+/// A decoder of the rows of one table after the other. If a row of a table is malformed, a method
+/// returns no records, or `None`, and sets `are_well_formed` to false; the next table is decoded
+/// all the same.
 #[derive(Clone, Copy)]
 pub(crate) struct Decoder {
     /// True if all rows so far are well-formed.
@@ -69,7 +63,6 @@ pub(crate) struct Decoder {
 }
 
 impl Decoder {
-    /// Returns a decoder that has decoded no row: `are_well_formed` is true.
     pub(crate) fn new() -> Decoder
         ensures { result.are_well_formed ≡ true }
     {
@@ -78,9 +71,6 @@ impl Decoder {
         }
     }
 
-    /// Returns the decoded rows of a table, in order, and drops each raw row once it is decoded. If
-    /// a row is malformed, sets `are_well_formed` to false and returns no records. Fails with
-    /// `Memory` only.
     pub(crate) fn decode<R: Record>(
         &mut self,
         alloc: Global,
@@ -91,7 +81,7 @@ impl Decoder {
             (map R.cells all.items ≡ rows.items)) }
         ensures fault { OnErr result (result ≡ Err Memory) }
     {
-        match decode_and_drop_rows(alloc, rows) {
+        match decode_owned_rows(alloc, rows) {
             Ok(all) => Ok(all),
             Err(DecodeError::Form) => {
                 self.are_well_formed = false;
@@ -101,26 +91,7 @@ impl Decoder {
         }
     }
 
-    /// Returns the decoded rows of a table, whose raw rows `read` contains, in order. If a row is
-    /// malformed, sets `are_well_formed` to false and returns no records (`decode`). Fails with the
-    /// fault in `read`, if `read` is an error, or with `Memory`.
-    pub(crate) fn decode_read_result<R: Record>(
-        &mut self,
-        alloc: Global,
-        read: Result<Vec<Row>, Fault>,
-    ) -> Result<Vec<R>, Fault>
-        ensures decoding { IfOk result (λ all. (rows : Vec Cells) × (read ≡ Ok rows) × ContinuesDecoding self.old.are_well_formed self.new.are_well_formed
-            (list_all (passes_all_cell_checks R.forms) rows.items)
-            (map R.cells all.items ≡ rows.items)) }
-        ensures fault { IfErr result (λ fault. (fault ≡ Memory) ⊎ (read ≡ Err fault)) }
-    {
-        self.decode(alloc, read?)
-    }
-
-    /// Decodes the rows of KEPT, drops each once it is decoded, and returns their keys, in order,
-    /// without their texts, of which an audit checks only that they are UTF-8; the decoding does
-    /// so. If a row is malformed, sets `are_well_formed` to false and returns no keys. Fails with
-    /// `Memory` only.
+    /// Leaves out the texts: an audit checks only that they are UTF-8, which the decoding does.
     pub(crate) fn decode_kept_keys(
         &mut self,
         alloc: Global,
@@ -140,10 +111,6 @@ impl Decoder {
         }
     }
 
-    /// Returns the stamp of the last accepted command from all rows of DESK, in milliseconds since
-    /// 1970-01-01 UTC, or `None` if none is stored. If there is not exactly one row, well-formed,
-    /// with the id 1 and the number of `schema`, sets `are_well_formed` to false and returns
-    /// `None`. Fails with `Memory` only.
     pub(crate) fn decode_last_stamp(
         &mut self,
         schema: Schema,
@@ -164,20 +131,13 @@ impl Decoder {
         }
     }
 
-    /// Returns the first day of one-day settlement, in days since 1970-01-01, from all rows of
-    /// SETTLE_RULE, or `None` if there is no row. If there are two rows or more, or if the row is
-    /// malformed or has another id than 1, sets `are_well_formed` to false and returns `None`.
-    /// Fails with `Memory` only.
-    pub(crate) fn decode_one_day_settlement_start(
-        &mut self,
-        rows: Vec<Row>,
-    ) -> Result<Option<Day>, Fault>
+    pub(crate) fn decode_rule(&mut self, rows: Vec<Row>) -> Result<Option<Day>, Fault>
         ensures decoding { IfOk result (λ day. ContinuesDecoding self.old.are_well_formed self.new.are_well_formed
             (has_at_most_one_valid_rule_row rows.items)
             (map rule_cells (rule_rows day) ≡ rows.items)) }
         ensures fault { OnErr result (result ≡ Err Memory) }
     {
-        match one_day_settlement_start_in_rule_rows(&rows) {
+        match start_in_rule_rows(&rows) {
             Ok(day) => Ok(day),
             Err(DecodeError::Form) => {
                 self.are_well_formed = false;

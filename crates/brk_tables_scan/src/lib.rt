@@ -1,7 +1,8 @@
 //! The reads of all rows of a desk's tables: the check that the tables exist, and the decoding of
 //! their rows, which reports malformed rows.
 //!
-//! The raw rows of one table at a time are in memory, beside the typed rows of all.
+//! The raw rows of all tables are in memory before the first is decoded; those of a table are
+//! dropped as its typed rows are made.
 //!
 //! Each call is made within an open transaction. No clause states the value that it returns outside
 //! a transaction or if the disk assumption (every read so far returned what was written) fails. An
@@ -19,4 +20,4 @@ pub mod sheets;
 
 pub use presence::has_some_desk_table;
 pub use schema::database_has_schema;
-pub use sheets::read_typed_rows_of_schema;
+pub use sheets::read_sheets;

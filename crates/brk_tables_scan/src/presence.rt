@@ -18,9 +18,6 @@ use brk_tables_schema::table::{
 use brk_trade_rows::Schema;
 use sqlite::{Alter, Transaction};
 
-// Returns true if a table with the name of `table` exists. If the function returns a value, the
-// database was open and is unchanged. Fails with `Store` only, also if the statement of the look-up
-// does not compile for another reason than that no table has this name.
 fn table_exists<S: Alter>(tx: &mut Transaction<'_, S>, table: Table) -> Result<bool, Fault>
     ensures same_reference { tx.new.conn.ghost_name ≡ tx.old.conn.ghost_name }
     ensures step { IsConnectionStep S.Store tx.old tx.new result (λ has a b. IsTrue a.is_open × (b.now ≡ a.now)
@@ -30,8 +27,6 @@ fn table_exists<S: Alter>(tx: &mut Transaction<'_, S>, table: Table) -> Result<b
     statement_compiles(tx, table.existence_probe_text())
 }
 
-// Returns true if a table with the name of one of `tables` exists. If the function returns a value,
-// the database is unchanged. Fails with `Store` only (`table_exists`).
 fn has_any_of_tables<S: Alter>(tx: &mut Transaction<'_, S>, tables: &[Table]) -> Result<bool, Fault>
     ensures same_reference { tx.new.conn.ghost_name ≡ tx.old.conn.ghost_name }
     ensures step { IsConnectionStep S.Store tx.old tx.new result (λ has a b. (b.now ≡ a.now)
@@ -46,8 +41,6 @@ fn has_any_of_tables<S: Alter>(tx: &mut Transaction<'_, S>, tables: &[Table]) ->
     Ok(false)
 }
 
-// Returns true if, for each of `tables`, a table with its name exists. If the function returns a
-// value, the database is unchanged. Fails with `Store` only (`table_exists`).
 fn has_each_of_tables<S: Alter>(
     tx: &mut Transaction<'_, S>,
     tables: &[Table],
@@ -65,9 +58,7 @@ fn has_each_of_tables<S: Alter>(
     Ok(true)
 }
 
-/// Returns true if the database has a table with the name of some table of a desk. If the function
-/// returns a value, the database is unchanged. Fails with `Store` only, also if the statement of a
-/// look-up does not compile for another reason than that no table has the name.
+/// Returns true if the database has a table with the name of some table of a desk.
 pub fn has_some_desk_table<S: Alter>(tx: &mut Transaction<'_, S>) -> Result<bool, Fault>
     ensures same_reference { tx.new.conn.ghost_name ≡ tx.old.conn.ghost_name }
     ensures step { IsConnectionStep S.Store tx.old tx.new result (λ has a b. (b.now ≡ a.now) × (has ≡ has_table_of_desk a.now.schema)) }
@@ -76,10 +67,7 @@ pub fn has_some_desk_table<S: Alter>(tx: &mut Transaction<'_, S>) -> Result<bool
     has_any_of_tables(tx, &TABLES_OF_THIRD_SCHEMA)
 }
 
-// Returns true if a table with the name of each table of `present` exists, and none with the name
-// of a table of `absent`. If the function returns a value, the database is unchanged. Fails with
-// `Store` only (`table_exists`).
-fn has_present_and_no_absent_tables<S: Alter>(
+fn presence_matches<S: Alter>(
     tx: &mut Transaction<'_, S>,
     present: &[Table],
     absent: &[Table],
@@ -97,41 +85,21 @@ fn has_present_and_no_absent_tables<S: Alter>(
     Ok(!has_any_of_tables(tx, absent)?)
 }
 
-// Returns true if a table with the name of each table of `schema` exists, and none with the name of
-// a table that a schema later than `schema` adds. If the function returns a value, the database is
-// unchanged. Fails with `Store` only (`table_exists`).
-fn has_exactly_tables_of_schema<S: Alter>(
-    tx: &mut Transaction<'_, S>,
-    schema: Schema,
-) -> Result<bool, Fault>
+fn names_match<S: Alter>(tx: &mut Transaction<'_, S>, schema: Schema) -> Result<bool, Fault>
     ensures same_reference { tx.new.conn.ghost_name ≡ tx.old.conn.ghost_name }
     ensures step { IsConnectionStep S.Store tx.old tx.new result (λ has a b. (b.now ≡ a.now)
         × (has ≡ has_exact_table_names (abstract_schema schema) a.now.schema)) }
     ensures fault { OnErr result (result ≡ Err Store) }
 {
     match schema {
-        Schema::First => has_present_and_no_absent_tables(
-            tx,
-            &TABLES_OF_FIRST_SCHEMA,
-            &ADDED_AFTER_FIRST,
-        ),
-        Schema::Second => has_present_and_no_absent_tables(
-            tx,
-            &TABLES_OF_SECOND_SCHEMA,
-            &ADDED_AFTER_SECOND,
-        ),
-        Schema::Third => has_present_and_no_absent_tables(tx, &TABLES_OF_THIRD_SCHEMA, &[]),
+        Schema::First => presence_matches(tx, &TABLES_OF_FIRST_SCHEMA, &ADDED_AFTER_FIRST),
+        Schema::Second => presence_matches(tx, &TABLES_OF_SECOND_SCHEMA, &ADDED_AFTER_SECOND),
+        Schema::Third => presence_matches(tx, &TABLES_OF_THIRD_SCHEMA, &[]),
     }
 }
 
-/// Returns true if a table with the name of each table of `schema` exists, and none with the name
-/// of a table that a schema later than `schema` adds. If the function returns a value, the database
-/// was open and is unchanged. Fails with `Store` only, also if the statement of a look-up does not
-/// compile for another reason than that no table has the name.
-pub fn has_exact_tables_by_name<S: Alter>(
-    tx: &mut Transaction<'_, S>,
-    schema: Schema,
-) -> Result<bool, Fault>
+/// Returns true if each table of `schema` exists, and none that only a later schema has.
+pub fn has_table_names<S: Alter>(tx: &mut Transaction<'_, S>, schema: Schema) -> Result<bool, Fault>
     ensures same_reference { tx.new.conn.ghost_name ≡ tx.old.conn.ghost_name }
     ensures step { IsConnectionStep S.Store tx.old tx.new result (λ has a b. IsTrue a.is_open × (b.now ≡ a.now)
         × (has ≡ has_exact_table_names (abstract_schema schema) a.now.schema)) }
@@ -139,5 +107,5 @@ pub fn has_exact_tables_by_name<S: Alter>(
 {
     // The value is not needed: the look-up succeeds only if the database is open.
     let _there = table_exists(tx, Table::TheDesk)?;
-    has_exactly_tables_of_schema(tx, schema)
+    names_match(tx, schema)
 }

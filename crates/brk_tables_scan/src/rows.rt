@@ -17,8 +17,6 @@ use brk_trade_rows::Schema;
 use sqlite::{Alter, Row, Transaction};
 use std::alloc::Global;
 
-/// Returns all rows of DESK, sorted by key, ascending. If the function returns a value, the
-/// database was open and is unchanged. Fails with `Store` only.
 pub fn desk_rows<S: Alter>(tx: &mut Transaction<'_, S>) -> Result<Vec<Row>, Fault>
     ensures same_reference { tx.new.conn.ghost_name ≡ tx.old.conn.ghost_name }
     ensures step { ReadsAllRows S.Store tx.old tx.new result TheDesk }
@@ -31,8 +29,6 @@ pub fn desk_rows<S: Alter>(tx: &mut Transaction<'_, S>) -> Result<Vec<Row>, Faul
     )
 }
 
-/// Returns all rows of KEPT, sorted by key, ascending. If the function returns a value, the
-/// database was open and is unchanged. Fails with `Store` only.
 pub fn kept_rows<S: Alter>(tx: &mut Transaction<'_, S>) -> Result<Vec<Row>, Fault>
     ensures same_reference { tx.new.conn.ghost_name ≡ tx.old.conn.ghost_name }
     ensures step { ReadsAllRows S.Store tx.old tx.new result KeptRows }
@@ -45,8 +41,6 @@ pub fn kept_rows<S: Alter>(tx: &mut Transaction<'_, S>) -> Result<Vec<Row>, Faul
     )
 }
 
-/// Returns all rows of BROKER, sorted by key, ascending. If the function returns a value, the
-/// database was open and is unchanged. Fails with `Store` only.
 pub fn broker_rows<S: Alter>(tx: &mut Transaction<'_, S>) -> Result<Vec<Row>, Fault>
     ensures same_reference { tx.new.conn.ghost_name ≡ tx.old.conn.ghost_name }
     ensures step { ReadsAllRows S.Store tx.old tx.new result Brokers }
@@ -59,8 +53,6 @@ pub fn broker_rows<S: Alter>(tx: &mut Transaction<'_, S>) -> Result<Vec<Row>, Fa
     )
 }
 
-/// Returns all rows of CUSTOMER, sorted by key, ascending. If the function returns a value, the
-/// database was open and is unchanged. Fails with `Store` only.
 pub fn customer_rows<S: Alter>(tx: &mut Transaction<'_, S>) -> Result<Vec<Row>, Fault>
     ensures same_reference { tx.new.conn.ghost_name ≡ tx.old.conn.ghost_name }
     ensures step { ReadsAllRows S.Store tx.old tx.new result Customers }
@@ -73,8 +65,6 @@ pub fn customer_rows<S: Alter>(tx: &mut Transaction<'_, S>) -> Result<Vec<Row>, 
     )
 }
 
-/// Returns all rows of CUSTOMER_ACCOUNT, sorted by key, ascending. If the function returns a value,
-/// the database was open and is unchanged. Fails with `Store` only.
 pub fn account_rows<S: Alter>(tx: &mut Transaction<'_, S>) -> Result<Vec<Row>, Fault>
     ensures same_reference { tx.new.conn.ghost_name ≡ tx.old.conn.ghost_name }
     ensures step { ReadsAllRows S.Store tx.old tx.new result Accounts }
@@ -88,8 +78,6 @@ pub fn account_rows<S: Alter>(tx: &mut Transaction<'_, S>) -> Result<Vec<Row>, F
     )
 }
 
-/// Returns all rows of ACCOUNT_PERMISSION, sorted by key, ascending. If the function returns a
-/// value, the database was open and is unchanged. Fails with `Store` only.
 pub fn permission_rows<S: Alter>(tx: &mut Transaction<'_, S>) -> Result<Vec<Row>, Fault>
     ensures same_reference { tx.new.conn.ghost_name ≡ tx.old.conn.ghost_name }
     ensures step { ReadsAllRows S.Store tx.old tx.new result Permissions }
@@ -103,8 +91,6 @@ pub fn permission_rows<S: Alter>(tx: &mut Transaction<'_, S>) -> Result<Vec<Row>
     )
 }
 
-/// Returns all rows of SECURITY, sorted by key, ascending. If the function returns a value, the
-/// database was open and is unchanged. Fails with `Store` only.
 pub fn security_rows<S: Alter>(tx: &mut Transaction<'_, S>) -> Result<Vec<Row>, Fault>
     ensures same_reference { tx.new.conn.ghost_name ≡ tx.old.conn.ghost_name }
     ensures step { ReadsAllRows S.Store tx.old tx.new result Securities }
@@ -117,8 +103,6 @@ pub fn security_rows<S: Alter>(tx: &mut Transaction<'_, S>) -> Result<Vec<Row>, 
     )
 }
 
-/// Returns all rows of LAST_TRADE, sorted by key, ascending. If the function returns a value, the
-/// database was open and is unchanged. Fails with `Store` only.
 pub fn last_trade_rows<S: Alter>(tx: &mut Transaction<'_, S>) -> Result<Vec<Row>, Fault>
     ensures same_reference { tx.new.conn.ghost_name ≡ tx.old.conn.ghost_name }
     ensures step { ReadsAllRows S.Store tx.old tx.new result LastTrades }
@@ -131,8 +115,6 @@ pub fn last_trade_rows<S: Alter>(tx: &mut Transaction<'_, S>) -> Result<Vec<Row>
     )
 }
 
-/// Returns all rows of CHARGE, sorted by key, ascending. If the function returns a value, the
-/// database was open and is unchanged. Fails with `Store` only.
 pub fn charge_rows<S: Alter>(tx: &mut Transaction<'_, S>) -> Result<Vec<Row>, Fault>
     ensures same_reference { tx.new.conn.ghost_name ≡ tx.old.conn.ghost_name }
     ensures step { ReadsAllRows S.Store tx.old tx.new result Charges }
@@ -145,8 +127,6 @@ pub fn charge_rows<S: Alter>(tx: &mut Transaction<'_, S>) -> Result<Vec<Row>, Fa
     )
 }
 
-/// Returns all rows of COMMISSION_RATE, sorted by key, ascending. If the function returns a value,
-/// the database was open and is unchanged. Fails with `Store` only.
 pub fn commission_rate_rows<S: Alter>(tx: &mut Transaction<'_, S>) -> Result<Vec<Row>, Fault>
     ensures same_reference { tx.new.conn.ghost_name ≡ tx.old.conn.ghost_name }
     ensures step { ReadsAllRows S.Store tx.old tx.new result Bands }
@@ -160,8 +140,6 @@ pub fn commission_rate_rows<S: Alter>(tx: &mut Transaction<'_, S>) -> Result<Vec
     )
 }
 
-/// Returns all rows of TAXRATE, sorted by key, ascending. If the function returns a value, the
-/// database was open and is unchanged. Fails with `Store` only.
 pub fn tax_rate_rows<S: Alter>(tx: &mut Transaction<'_, S>) -> Result<Vec<Row>, Fault>
     ensures same_reference { tx.new.conn.ghost_name ≡ tx.old.conn.ghost_name }
     ensures step { ReadsAllRows S.Store tx.old tx.new result TaxRates }
@@ -174,8 +152,6 @@ pub fn tax_rate_rows<S: Alter>(tx: &mut Transaction<'_, S>) -> Result<Vec<Row>, 
     )
 }
 
-/// Returns all rows of CUSTOMER_TAXRATE, sorted by key, ascending. If the function returns a value,
-/// the database was open and is unchanged. Fails with `Store` only.
 pub fn customer_tax_rows<S: Alter>(tx: &mut Transaction<'_, S>) -> Result<Vec<Row>, Fault>
     ensures same_reference { tx.new.conn.ghost_name ≡ tx.old.conn.ghost_name }
     ensures step { ReadsAllRows S.Store tx.old tx.new result CustomerTaxes }
@@ -188,8 +164,6 @@ pub fn customer_tax_rows<S: Alter>(tx: &mut Transaction<'_, S>) -> Result<Vec<Ro
     )
 }
 
-/// Returns all rows of TRADE, sorted by key, ascending. If the function returns a value, the
-/// database was open and is unchanged. Fails with `Store` only.
 pub fn trade_rows<S: Alter>(tx: &mut Transaction<'_, S>) -> Result<Vec<Row>, Fault>
     ensures same_reference { tx.new.conn.ghost_name ≡ tx.old.conn.ghost_name }
     ensures step { ReadsAllRows S.Store tx.old tx.new result Trades }
@@ -204,8 +178,6 @@ pub fn trade_rows<S: Alter>(tx: &mut Transaction<'_, S>) -> Result<Vec<Row>, Fau
     )
 }
 
-/// Returns all rows of TRADE_HISTORY, sorted by key, ascending. If the function returns a value,
-/// the database was open and is unchanged. Fails with `Store` only.
 pub fn trade_history_rows<S: Alter>(tx: &mut Transaction<'_, S>) -> Result<Vec<Row>, Fault>
     ensures same_reference { tx.new.conn.ghost_name ≡ tx.old.conn.ghost_name }
     ensures step { ReadsAllRows S.Store tx.old tx.new result TradeHistory }
@@ -218,8 +190,6 @@ pub fn trade_history_rows<S: Alter>(tx: &mut Transaction<'_, S>) -> Result<Vec<R
     )
 }
 
-/// Returns all rows of TRADE_REQUEST, sorted by key, ascending. If the function returns a value,
-/// the database was open and is unchanged. Fails with `Store` only.
 pub fn trade_request_rows<S: Alter>(tx: &mut Transaction<'_, S>) -> Result<Vec<Row>, Fault>
     ensures same_reference { tx.new.conn.ghost_name ≡ tx.old.conn.ghost_name }
     ensures step { ReadsAllRows S.Store tx.old tx.new result Requests }
@@ -233,8 +203,6 @@ pub fn trade_request_rows<S: Alter>(tx: &mut Transaction<'_, S>) -> Result<Vec<R
     )
 }
 
-/// Returns all rows of HOLDING, sorted by key, ascending. If the function returns a value, the
-/// database was open and is unchanged. Fails with `Store` only.
 pub fn holding_rows<S: Alter>(tx: &mut Transaction<'_, S>) -> Result<Vec<Row>, Fault>
     ensures same_reference { tx.new.conn.ghost_name ≡ tx.old.conn.ghost_name }
     ensures step { ReadsAllRows S.Store tx.old tx.new result Holdings }
@@ -247,8 +215,6 @@ pub fn holding_rows<S: Alter>(tx: &mut Transaction<'_, S>) -> Result<Vec<Row>, F
     )
 }
 
-/// Returns all rows of HOLDING_SUMMARY, sorted by key, ascending. If the function returns a value,
-/// the database was open and is unchanged. Fails with `Store` only.
 pub fn holding_summary_rows<S: Alter>(tx: &mut Transaction<'_, S>) -> Result<Vec<Row>, Fault>
     ensures same_reference { tx.new.conn.ghost_name ≡ tx.old.conn.ghost_name }
     ensures step { ReadsAllRows S.Store tx.old tx.new result Summaries }
@@ -261,8 +227,6 @@ pub fn holding_summary_rows<S: Alter>(tx: &mut Transaction<'_, S>) -> Result<Vec
     )
 }
 
-/// Returns all rows of HOLDING_HISTORY, sorted by key, ascending. If the function returns a value,
-/// the database was open and is unchanged. Fails with `Store` only.
 pub fn holding_history_rows<S: Alter>(tx: &mut Transaction<'_, S>) -> Result<Vec<Row>, Fault>
     ensures same_reference { tx.new.conn.ghost_name ≡ tx.old.conn.ghost_name }
     ensures step { ReadsAllRows S.Store tx.old tx.new result HoldingHistory }
@@ -276,8 +240,6 @@ pub fn holding_history_rows<S: Alter>(tx: &mut Transaction<'_, S>) -> Result<Vec
     )
 }
 
-/// Returns all rows of SETTLEMENT, sorted by key, ascending. If the function returns a value, the
-/// database was open and is unchanged. Fails with `Store` only.
 pub fn settlement_rows<S: Alter>(tx: &mut Transaction<'_, S>) -> Result<Vec<Row>, Fault>
     ensures same_reference { tx.new.conn.ghost_name ≡ tx.old.conn.ghost_name }
     ensures step { ReadsAllRows S.Store tx.old tx.new result Settlements }
@@ -290,8 +252,6 @@ pub fn settlement_rows<S: Alter>(tx: &mut Transaction<'_, S>) -> Result<Vec<Row>
     )
 }
 
-/// Returns all rows of CASH_TRANSACTION, sorted by key, ascending. If the function returns a value,
-/// the database was open and is unchanged. Fails with `Store` only.
 pub fn cash_transaction_rows<S: Alter>(tx: &mut Transaction<'_, S>) -> Result<Vec<Row>, Fault>
     ensures same_reference { tx.new.conn.ghost_name ≡ tx.old.conn.ghost_name }
     ensures step { ReadsAllRows S.Store tx.old tx.new result CashRows }
@@ -304,8 +264,6 @@ pub fn cash_transaction_rows<S: Alter>(tx: &mut Transaction<'_, S>) -> Result<Ve
     )
 }
 
-// Returns all rows of CASH_MOVE, sorted by key, ascending. If the function returns a value, the
-// database was open and is unchanged. Fails with `Store` only.
 fn cash_move_rows<S: Alter>(tx: &mut Transaction<'_, S>) -> Result<Vec<Row>, Fault>
     ensures same_reference { tx.new.conn.ghost_name ≡ tx.old.conn.ghost_name }
     ensures step { ReadsAllRows S.Store tx.old tx.new result CashMoves }
@@ -318,8 +276,6 @@ fn cash_move_rows<S: Alter>(tx: &mut Transaction<'_, S>) -> Result<Vec<Row>, Fau
     )
 }
 
-// Returns all rows of SETTLE_RULE, sorted by key, ascending. If the function returns a value, the
-// database was open and is unchanged. Fails with `Store` only.
 fn settle_rule_rows<S: Alter>(tx: &mut Transaction<'_, S>) -> Result<Vec<Row>, Fault>
     ensures same_reference { tx.new.conn.ghost_name ≡ tx.old.conn.ghost_name }
     ensures step { ReadsAllRows S.Store tx.old tx.new result SettleRules }
@@ -332,8 +288,7 @@ fn settle_rule_rows<S: Alter>(tx: &mut Transaction<'_, S>) -> Result<Vec<Row>, F
     )
 }
 
-/// Returns all rows of CASH_MOVE, sorted by key, ascending, or no rows if `schema` lacks the table.
-/// If the function returns a value, the database is unchanged. Fails with `Store` only.
+/// Returns no rows if `schema` lacks the table.
 pub fn cash_move_rows_in_schema<S: Alter>(
     tx: &mut Transaction<'_, S>,
     alloc: Global,
@@ -349,8 +304,7 @@ pub fn cash_move_rows_in_schema<S: Alter>(
     cash_move_rows(tx)
 }
 
-/// Returns all rows of SETTLE_RULE, sorted by key, ascending, or no rows if `schema` lacks the
-/// table. If the function returns a value, the database is unchanged. Fails with `Store` only.
+/// Returns no rows if `schema` lacks the table.
 pub fn settle_rule_rows_in_schema<S: Alter>(
     tx: &mut Transaction<'_, S>,
     alloc: Global,

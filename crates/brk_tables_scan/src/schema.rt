@@ -6,14 +6,13 @@ ghost use Rattle.brk_trade_rows.specs.Schemas.{abstract_schema};
 ghost use Rattle.brk_tables_sql.specs.Model.{IsConnectionStep};
 ghost use Rattle.brk_tables_scan.specs.Schemas.{DatabaseHasSchema, TablesWithSchemaNamesAreDeskTables, IsDeskRowOfSchema, IsOneDeskRowOfSchema};
 
-use crate::columns::has_exact_tables_and_columns;
+use crate::columns::tables_match;
 use crate::rows::desk_rows;
 use brk_money::Fault;
 use brk_trade_rows::Schema;
 use sqlite::{Alter, Row, Transaction};
 use sqlite_value::value::ValueRef;
 
-// Returns the number of a schema, 1, 2 or 3, as DESK stores it (D_SCHEMA).
 fn schema_number(schema: Schema) -> i64
     ensures { result ≡ pos (abstract_schema schema).number }
 {
@@ -24,8 +23,6 @@ fn schema_number(schema: Schema) -> i64
     }
 }
 
-// Returns true only if the column `at`, counted from 0, is the INTEGER `wanted`, and false only if
-// it is not or does not exist.
 fn column_equals_integer(row: &Row, at: usize, wanted: i64) -> bool
     ensures if_true { IsTrue result → column row.now at ≡ Int wanted }
     ensures if_false { result ≡ false → at < length row.now → column row.now at ≢ Int wanted }
@@ -36,8 +33,7 @@ fn column_equals_integer(row: &Row, at: usize, wanted: i64) -> bool
     }
 }
 
-// Returns true if the row has exactly three columns: the id 1, the number of the schema, and any
-// value as the stamp.
+// The third column, the stamp, may have any value.
 #[tactic(auto, using(crate::proofs::Firsts::is_row, crate::proofs::Firsts::not_three, crate::proofs::Firsts::not_id, crate::proofs::Firsts::not_schema))]
 fn is_desk_row_of_schema(schema: Schema, row: &Row) -> bool
     ensures if_true { IsTrue result → IsDeskRowOfSchema (abstract_schema schema) row.now }
@@ -49,10 +45,8 @@ fn is_desk_row_of_schema(schema: Schema, row: &Row) -> bool
     column_equals_integer(row, 0, 1) && column_equals_integer(row, 1, schema_number(schema))
 }
 
-// Returns true if the rows are exactly one row of DESK, with the id 1 and the number of the schema;
-// its stamp may be any value.
 #[tactic(auto, using(crate::proofs::Firsts::says_one, crate::proofs::Firsts::first_of))]
-fn has_one_desk_row_of_schema(schema: Schema, rows: &[Row]) -> bool
+fn has_one_desk_row(schema: Schema, rows: &[Row]) -> bool
     ensures if_true { IsTrue result → IsOneDeskRowOfSchema (abstract_schema schema) rows.now }
     ensures if_false { result ≡ false → ¬ IsOneDeskRowOfSchema (abstract_schema schema) rows.now }
 {
@@ -62,14 +56,9 @@ fn has_one_desk_row_of_schema(schema: Schema, rows: &[Row]) -> bool
     }
 }
 
-/// Returns true if the database has the schema `schema`: each of its tables by name, with exactly
-/// its column names, in order, no table with the name of one that a schema later than `schema`
-/// adds, and in DESK exactly one row, with the id 1 and the number of the schema. If the function
-/// returns a value, the database was open and is unchanged.
-///
-/// Fails with `Store` only, also if a statement of the check does not compile for another reason
-/// than a missing table. The result is specified only if the tables with these names and columns,
-/// if all exist, are defined as a desk defines them (`TablesWithSchemaNamesAreDeskTables`).
+/// Returns true if the database has the tables of `schema` (`tables_match`), and in
+/// DESK exactly one row, with the id 1 and the number of the schema. The result is specified only
+/// if the tables with these names and columns are defined as a desk defines them.
 pub fn database_has_schema<S: Alter>(
     tx: &mut Transaction<'_, S>,
     schema: Schema,
@@ -79,8 +68,8 @@ pub fn database_has_schema<S: Alter>(
         × (TablesWithSchemaNamesAreDeskTables (abstract_schema schema) a.now → IsTrue has ↔ DatabaseHasSchema (abstract_schema schema) a.now)) }
     ensures fault { OnErr result (result ≡ Err Store) }
 {
-    if !has_exact_tables_and_columns(tx, schema)? {
+    if !tables_match(tx, schema)? {
         return Ok(false);
     }
-    Ok(has_one_desk_row_of_schema(schema, &desk_rows(tx)?))
+    Ok(has_one_desk_row(schema, &desk_rows(tx)?))
 }

@@ -1,4 +1,4 @@
-ghost use Rattle.std.specs.Prelude.{◌≡◌, IfErr, IsTrue};
+ghost use Rattle.std.specs.Prelude.{◌≡◌, IfErr, IfOk, IfSome, IsTrue};
 ghost use Rattle.brk_model.specs.Run.{IsCallFault};
 ghost use Rattle.brk_trade_rows.specs.Schemas.{abstract_schema};
 ghost use Rattle.brk_tables_sql.specs.Model.{IsConnectionStep};
@@ -12,15 +12,14 @@ use brk_trade_rows::{Schema, Sheets};
 use sqlite::{Alter, Transaction};
 use std::alloc::Global;
 
-/// Returns the typed rows of the tables of `schema`, each list sorted by key, ascending. Of KEPT it
-/// returns the keys alone: an audit checks of the texts only that they are UTF-8, which this
-/// function does. Returns `None` only if a row is malformed, a text is not UTF-8 or SETTLE_RULE has
-/// two rows or more, and only after all tables were read. If the function returns a value, the
-/// database was open and is unchanged.
+/// Returns `schema` and the typed rows of its tables, each list sorted by key, ascending; of KEPT
+/// it returns the keys alone. Returns `None` only if a row is malformed (the texts of KEPT must be
+/// UTF-8) or SETTLE_RULE has two rows or more, and only after all tables were read. Fails with
+/// `Memory` or `Store`.
 ///
-/// Fails with `Memory` or `Store` only. The result is specified only if the database has the schema
-/// `schema` (`database_has_schema`) and its tables are defined as a desk defines them.
-pub fn read_typed_rows_of_schema<S: Alter>(
+/// The result is specified only if the database has the schema (`database_has_schema`) and its
+/// tables are defined as a desk defines them.
+pub fn read_sheets<S: Alter>(
     tx: &mut Transaction<'_, S>,
     alloc: Global,
     schema: Schema,
@@ -29,6 +28,7 @@ pub fn read_typed_rows_of_schema<S: Alter>(
     ensures step { IsConnectionStep S.Store tx.old tx.new result (λ read a b. IsTrue a.is_open × (b.now ≡ a.now)
         × (TablesWithSchemaNamesAreDeskTables (abstract_schema schema) a.now → DatabaseHasSchema (abstract_schema schema) a.now
         → AreSheetsOfDatabase (abstract_schema schema) a.now read)) }
+    ensures of_schema { IfOk result (λ read. IfSome read (λ sheets. sheets.schema ≡ schema)) }
     ensures fault { IfErr result IsCallFault }
 {
     let mut decoder = Decoder::new();

@@ -1,4 +1,4 @@
--- A comparison of a column with a parameter that is no equality.
+-- Comparisons of a column with a parameter other than equality.
 use Rattle.std.proofs.Common.{◌≡◌, ℕ, pos, Bool, true, false, not, Some, int_cmp, refl, ap, ◌∙◌, inl, inr, arith}
 use Rattle.std.specs.Prelude.{nat_lt, nat_le}
 use Rattle.std.specs.Ordering.{is_le, is_ge}

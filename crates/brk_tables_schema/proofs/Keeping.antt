@@ -1,4 +1,4 @@
--- What the statements on kept rows make of the tables, and tell of them.
+-- The effect of the insertion into KEPT, and the result of its read.
 use Rattle.std.proofs.Common.{◌≡◌, ℕ, pos, List, [], ◌∷◌, map, filter, ◌==◌, ◌&&◌, refl}
 use Rattle.std.specs.Prelude.{bytes_eq}
 use Rattle.sqlite_value.specs.declared.value.Value.TheVariants.{Null, Text as Words}

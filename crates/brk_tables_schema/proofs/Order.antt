@@ -1,4 +1,4 @@
--- Rising keys: the order of the model and that of the database are one.
+-- Ascending keys: the order of the model and that of the database are one.
 use Rattle.std.proofs.Common.{◌≡◌, ℕ, pos, List, [], ◌∷◌, Bool, true, false, not, ◌&&◌, ◌||◌, if◌then◌else◌, ◌==◌, Ordering, Less, Equal, Greater, int_cmp}
 use Rattle.std.proofs.Common.{nat_cmp, refl, sym, ap, ap₂, ◌∙◌, inl, inr, arith, eq-eqb, ne_eqb}
 use Rattle.std.specs.Prelude.{nat_lt}

@@ -1,4 +1,4 @@
--- What the statements need of each table that they write.
+-- The premises of the statements, for each table that they write.
 use Rattle.std.proofs.Common.{◌≡◌, ◌≢◌, pos, List, is_eq, refl, ap, inl, inr}
 use Rattle.sqlite_value.specs.declared.value.Value.TheVariants.{Int}
 use Rattle.sqlite_value.specs.Order.{column}

@@ -1,4 +1,5 @@
--- What each statement makes of the tables, or tells of them.
+-- The effect of an insertion and of the update of the last stamp, and the result of the read of
+-- DESK.
 use Rattle.std.proofs.Common.{◌≡◌, ◌≢◌, ℕ, pos, List, [], ◌∷◌, map, true, ◌==◌, Some, refl, sym, ap, subst}
 use Rattle.sqlite_value.specs.declared.value.Value.TheVariants.{Null}
 use Rattle.sqlite_value.specs.Order.{Row, column}

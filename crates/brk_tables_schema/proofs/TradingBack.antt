@@ -1,4 +1,4 @@
--- The record that a row of trades, lots and what comes of them shows.
+-- The record that a row encodes, for trades, lots and the rows that follow from them.
 use Rattle.std.proofs.Common.{◌≡◌, ℕ, zero, suc, List, [], ◌∷◌, Bool, true, false, codes, refl, ap, ◌∙◌}
 use Rattle.std.specs.Prelude.{if◌then◌else◌, bytes_eq}
 use Rattle.sqlite_value.specs.Order.{Row, column}

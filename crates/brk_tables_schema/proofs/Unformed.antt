@@ -1,4 +1,4 @@
--- A column that does not read has no form.
+-- A column that cannot be read is malformed.
 use Rattle.std.proofs.Common.{◌≡◌, ◌<◌, ℕ, zero, suc, List, [], ◌∷◌, length, get_or, Bool, true, false, Some, slice_get, refl, sym, ap, ◌∙◌, arith}
 use Rattle.std.specs.Prelude.{◌&&◌}
 use Rattle.std.specs.Prelude.{Result, Ok, Err, IsErrAnd}

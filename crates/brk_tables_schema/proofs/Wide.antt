@@ -1,4 +1,4 @@
--- The tables with any rows of DESK and of SETTLE_RULE, as they are while they are made and moved.
+-- The tables with any rows of DESK and of SETTLE_RULE, as in a creation or an upgrade.
 use Rattle.std.proofs.Common.{◌≡◌, ◌≢◌, ℕ, List, refl, sym, subst}
 use Rattle.sqlite.specs.Effect.{Database}
 use Rattle.brk_model.specs.Schemas.{Schema}

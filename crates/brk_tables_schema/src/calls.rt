@@ -1,5 +1,5 @@
-//! Calls of the database within a transaction. Each fails with the fault `Store` only, for any
-//! error of the database.
+//! Calls of the database within a transaction. They commit nothing, and fail with the fault `Store`
+//! only, for any error of the database; it is then unchanged or the transaction is rolled back.
 
 ghost use Rattle.std.specs.Prelude.{◌≡◌, ℕ, List, map, Ok, None, Err, OnErr, IsTrue};
 ghost use Rattle.std.specs.Borrow.{Bor};
@@ -15,9 +15,7 @@ use brk_money::Fault;
 use sqlite::{Alter, Row, Transaction};
 use sqlite_value::value::ValueRef;
 
-/// Executes the statement `text`, which creates a table or changes rows, with the parameters
-/// `params`. Commits nothing. Fails with `Store` only, for any error of the database, such as a
-/// broken constraint; the database is then unchanged or the transaction is rolled back.
+/// Executes a statement that creates a table or changes rows. A broken constraint is an error too.
 pub fn execute_statement<S: Alter>(
     tx: &mut Transaction<'_, S>,
     text: &str,
@@ -33,10 +31,7 @@ pub fn execute_statement<S: Alter>(
     }
 }
 
-/// Returns the rows that the statement `text`, which must have no RETURNING clause, selects with
-/// the parameters `params`, in the order of its result. If the function returns a value, the
-/// database was open and is unchanged. Fails with `Store` only; the database is then unchanged or
-/// the transaction is rolled back. Commits nothing.
+/// Returns the rows that a statement selects, in the order of its result.
 pub fn select_rows<S: Alter>(
     tx: &mut Transaction<'_, S>,
     text: &str,
@@ -53,11 +48,8 @@ pub fn select_rows<S: Alter>(
     }
 }
 
-/// Returns true if the statement `text` compiles, and false if it does not, because a table that it
-/// names does not exist. The statement is not executed. If the function returns a value, the
-/// database was open and is unchanged. Fails with `Store` only, also if the statement does not
-/// compile for another reason; the database is then unchanged or the transaction is rolled back.
-/// Commits nothing.
+/// Returns true if the statement compiles, and false if a table that it names does not exist. The
+/// statement is not executed.
 pub fn statement_compiles<S: Alter>(tx: &mut Transaction<'_, S>, text: &str) -> Result<bool, Fault>
     ensures same_reference { tx.new.conn.ghost_name ≡ tx.old.conn.ghost_name }
     ensures step { IsConnectionStep S.Store tx.old tx.new result (λ has a b. IsTrue a.is_open × (b.now ≡ a.now)
@@ -70,10 +62,8 @@ pub fn statement_compiles<S: Alter>(tx: &mut Transaction<'_, S>, text: &str) -> 
     }
 }
 
-/// Returns true if the columns of the result of the statement `text` have exactly the names
-/// `names`, in order. The statement is not executed. If the function returns a value, the database
-/// was open and is unchanged. Fails with `Store` only, also if the statement does not compile; the
-/// database is then unchanged or the transaction is rolled back. Commits nothing.
+/// Returns true if the columns of the statement's result have exactly the names `names`, in order.
+/// The statement is not executed.
 pub fn statement_has_columns<S: Alter>(
     tx: &mut Transaction<'_, S>,
     text: &str,

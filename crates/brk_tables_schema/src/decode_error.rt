@@ -22,7 +22,6 @@ impl From<AllocError> for DecodeError {
 
     ghost from_gives = { λ _ decode_error. decode_error ≡ Refused };
 
-    /// Converts an error of an allocation to `Memory`.
     fn from(_: AllocError) -> DecodeError {
         DecodeError::Memory
     }
@@ -34,8 +33,7 @@ impl<T: Drop> From<AllocFailed<T>> for DecodeError {
 
     ghost from_gives = { λ _ decode_error. decode_error ≡ Refused };
 
-    /// Converts to `Memory` the error of a failed allocation, which contains the value to be
-    /// stored, and drops this value.
+    /// Drops the value that could not be stored.
     fn from(_: AllocFailed<T>) -> DecodeError {
         DecodeError::Memory
     }
@@ -45,15 +43,14 @@ impl<T: Drop> From<AllocFailed<T>> for DecodeError {
 impl From<DecodeError> for Fault {
     ghost from_gives = { λ _ fault. fault ≡ Store };
 
-    /// Converts every decoding error, `Memory` included, to the fault `Store`.
+    /// Converts `Memory` to `Store` too.
     fn from(_: DecodeError) -> Fault {
         Fault::Store
     }
 }
 
-/// Converts an error of the read of a column: out of memory to `Memory`, and any other error to
-/// `Form`.
-pub(crate) fn decode_error_of_read_error(error: Error) -> DecodeError
+/// Every error but out of memory becomes `Form`; the clause says only that out of memory does not.
+pub(crate) fn decode_error_of(error: Error) -> DecodeError
     ensures { result ≡ DecodeError.Form → error ≢ Error.SqliteFailure ErrorCode.OutOfMemory }
 {
     match error {

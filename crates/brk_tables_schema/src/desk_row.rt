@@ -11,15 +11,15 @@ ghost use Rattle.brk_tables_schema.specs.declared.decode_error.DecodeError.TheVa
 ghost use Rattle.brk_tables_schema.specs.Statements.{ReadsDeskTables, WritesDeskTables};
 
 use crate::calls::{execute_statement, select_rows};
-use crate::cells::{check_column_count, natural_in_column, optional_stamp_in_column};
+use crate::cells::{check_column_count, natural_cell, optional_stamp_cell};
 use crate::decode_error::DecodeError;
-use crate::values::{integer_as_parameter, stamp_as_parameter};
+use crate::values::{integer_param, stamp_param};
 use brk_money::{Fault, Stamp};
 use brk_trade_rows::Schema;
 use sqlite::{Alter, Row, Transaction};
 
 /// Sets the stamp of the last accepted command (D_LAST), in milliseconds since 1970-01-01 UTC.
-/// Changes nothing if DESK has no row with the id 1. Fails with `Store` only.
+/// Changes nothing if DESK has no row with the id 1.
 pub fn set_last_stamp<S: Alter>(tx: &mut Transaction<'_, S>, stamp: Stamp) -> Result<(), Fault>
     ensures same_reference { tx.new.conn.ghost_name ≡ tx.old.conn.ghost_name }
     ensures step { WritesDeskTables S.Store tx.old tx.new result (tables_with_last_stamp stamp) }
@@ -28,27 +28,24 @@ pub fn set_last_stamp<S: Alter>(tx: &mut Transaction<'_, S>, stamp: Stamp) -> Re
     execute_statement(
         tx,
         "UPDATE DESK SET D_LAST = ?1 WHERE D_ID = ?2",
-        &[stamp_as_parameter(stamp), integer_as_parameter(1)],
+        &[stamp_param(stamp), integer_param(1)],
     )
 }
 
-// Decodes the stamp of the last accepted command from a row of DESK with the id 1 and the number of
-// `schema`, or returns `None` if the row has no stamp. Fails with `Form`, only if the row is
-// malformed or has another id or another schema number, or with `Memory`.
 fn last_stamp_in_desk_row(schema: Schema, row: &Row) -> Result<Option<Stamp>, DecodeError>
     ensures value { IfOk result (λ last. map desk_row_cells (desk_rows (abstract_schema schema) last) ≡ row.now ∷ []) }
     ensures form { result ≡ Err Formless → passes_all_cell_checks (desk_column_cell_checks (abstract_schema schema)) row.now ≡ false }
 {
     check_column_count(row, 3)?;
-    if natural_in_column(row, 0)? != 1 || natural_in_column(row, 1)? != u64::from(schema.number()) {
+    if natural_cell(row, 0)? != 1 || natural_cell(row, 1)? != u64::from(schema.number()) {
         return Err(DecodeError::Form);
     }
-    optional_stamp_in_column(row, 2)
+    optional_stamp_cell(row, 2)
 }
 
-/// Decodes the stamp of the last accepted command from all rows of DESK, or returns `None` if the
-/// row has no stamp. Fails with `Form`, only if there is not exactly one row, well-formed, with the
-/// id 1 and the number of `schema`, or with `Memory`.
+/// Decodes the stamp of the last accepted command from all rows of DESK, or returns `None` if none
+/// is stored. Fails with `Form` unless there is exactly one row, with the id 1 and the number of
+/// `schema`.
 pub fn last_stamp_in_desk_rows(schema: Schema, rows: &[Row]) -> Result<Option<Stamp>, DecodeError>
     ensures value { IfOk result (λ last. map desk_row_cells (desk_rows (abstract_schema schema) last) ≡ rows.now) }
     ensures form { result ≡ Err Formless → has_one_valid_desk_row (abstract_schema schema) rows.now ≡ false }
@@ -59,10 +56,7 @@ pub fn last_stamp_in_desk_rows(schema: Schema, rows: &[Row]) -> Result<Option<St
     }
 }
 
-// Decodes the stamp of the last accepted command from all rows of DESK, or returns `None` if the
-// row has no stamp. Fails with `Store` only, if there is not exactly one row, well-formed, with the
-// id 1 and the number of schema 3, or if memory runs out.
-fn last_stamp_in_third_schema_desk_rows(rows: &[Row]) -> Result<Option<Stamp>, Fault>
+fn last_stamp_of_third(rows: &[Row]) -> Result<Option<Stamp>, Fault>
     ensures value { IfOk result (λ last. map desk_row_cells (desk_rows third_schema last) ≡ rows.now) }
     ensures fault { OnErr result (result ≡ Err Store) }
 {
@@ -70,9 +64,8 @@ fn last_stamp_in_third_schema_desk_rows(rows: &[Row]) -> Result<Option<Stamp>, F
 }
 
 /// Returns the stamp of the last accepted command (D_LAST), in milliseconds since 1970-01-01 UTC,
-/// or `None` if none is stored. Changes nothing if it succeeds. Fails with `Store` only, also if
-/// DESK does not have exactly one row, well-formed, with the id 1 and the number of schema 3, or if
-/// memory runs out.
+/// or `None` if none is stored. Fails also if DESK does not have exactly one row, with the id 1 and
+/// the number of schema 3.
 pub fn last_stamp<S: Alter>(tx: &mut Transaction<'_, S>) -> Result<Option<Stamp>, Fault>
     ensures same_reference { tx.new.conn.ghost_name ≡ tx.old.conn.ghost_name }
     ensures step { ReadsDeskTables S.Store tx.old tx.new result (λ last t. last ≡ t.last) }
@@ -83,5 +76,5 @@ pub fn last_stamp<S: Alter>(tx: &mut Transaction<'_, S>) -> Result<Option<Stamp>
         "SELECT D_ID, D_SCHEMA, D_LAST FROM DESK ORDER BY D_ID",
         &[],
     )?;
-    last_stamp_in_third_schema_desk_rows(&rows)
+    last_stamp_of_third(&rows)
 }

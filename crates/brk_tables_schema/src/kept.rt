@@ -8,18 +8,15 @@ ghost use Rattle.brk_tables_schema.specs.Formed.{kept_column_cell_checks};
 ghost use Rattle.brk_tables_schema.specs.Statements.{ReadsFirstMatch, WritesDeskTables};
 
 use crate::calls::{execute_statement, select_rows};
-use crate::cells::{
-    check_column_count, row_number_in_column, text_in_column, well_formed_text_in_column,
-};
+use crate::cells::{check_column_count, formed_cell, row_number_cell, text_cell};
 use crate::decode_error::DecodeError;
 use crate::record::{Record, decode_first_row};
-use crate::values::{row_number_as_parameter, text_as_parameter};
+use crate::values::{row_number_param, text_param};
 use brk_money::Fault;
 use brk_ref::{Kept, Key};
 use sqlite::{Alter, Row, Transaction};
 
-/// Inserts a row of KEPT: a stored request and its reply under a key. Fails with `Store` only, also
-/// if the key exists.
+/// Inserts a row of KEPT, a stored request and its reply. Fails also if its key exists.
 pub fn add_kept_row<S: Alter>(tx: &mut Transaction<'_, S>, kept: &Kept) -> Result<(), Fault>
     ensures same_reference { tx.new.conn.ghost_name ≡ tx.old.conn.ghost_name }
     ensures step { WritesDeskTables S.Store tx.old tx.new result (tables_with_stored_reply (abstract_kept_row kept.now)) }
@@ -29,10 +26,10 @@ pub fn add_kept_row<S: Alter>(tx: &mut Transaction<'_, S>, kept: &Kept) -> Resul
         tx,
         "INSERT INTO KEPT (K_BATCH, K_N, K_ROW, K_LINE) VALUES (?1, ?2, ?3, ?4)",
         &[
-            text_as_parameter(kept.key.batch.as_str()),
-            row_number_as_parameter(kept.key.n),
-            text_as_parameter(kept.row_text.as_str()),
-            text_as_parameter(kept.line.as_str()),
+            text_param(kept.key.batch.as_str()),
+            row_number_param(kept.key.n),
+            text_param(kept.row_text.as_str()),
+            text_param(kept.line.as_str()),
         ],
     )
 }
@@ -42,24 +39,21 @@ impl Record for Kept {
 
     ghost forms = { kept_column_cell_checks };
 
-    /// Decodes a row of KEPT. Fails with `Form`, only if a column is malformed or the number of
-    /// columns is not 4, or with `Memory`.
     fn from_row(row: &Row) -> Result<Kept, DecodeError> {
         check_column_count(row, 4)?;
         let key = Key {
-            batch: well_formed_text_in_column(row, 0)?,
-            n: row_number_in_column(row, 1)?,
+            batch: formed_cell(row, 0)?,
+            n: row_number_cell(row, 1)?,
         };
         Ok(Kept {
             key,
-            row_text: text_in_column(row, 2)?,
-            line: text_in_column(row, 3)?,
+            row_text: text_cell(row, 2)?,
+            line: text_cell(row, 3)?,
         })
     }
 }
 
-/// Returns the row of KEPT with the key `key`, or `None` if there is none. Changes nothing if it
-/// succeeds. Fails with `Store` only, also if the row is malformed or memory runs out.
+/// Returns the row of KEPT with the key `key`, or `None` if there is none.
 pub fn kept_row_by_key<S: Alter>(
     tx: &mut Transaction<'_, S>,
     key: &Key,
@@ -72,10 +66,7 @@ pub fn kept_row_by_key<S: Alter>(
     let rows = select_rows(
         tx,
         "SELECT K_BATCH, K_N, K_ROW, K_LINE FROM KEPT WHERE K_BATCH = ?1 AND K_N = ?2 ORDER BY K_BATCH, K_N",
-        &[
-            text_as_parameter(key.batch.as_str()),
-            row_number_as_parameter(key.n),
-        ],
+        &[text_param(key.batch.as_str()), row_number_param(key.n)],
     )?;
     decode_first_row(&rows)
 }

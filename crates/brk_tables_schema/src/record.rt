@@ -22,15 +22,15 @@ pub trait Record: Drop {
     /// The check of each column of a row that encodes a record, in the order of the columns.
     ghost forms: { List (Value → Bool) };
 
-    /// Decodes a row as the record that it encodes. Fails with `Form`, only if a column is
-    /// malformed or the number of columns is wrong, or with `Memory`.
+    /// Decodes the record that a row encodes. Fails with `Form` if a column is malformed or the
+    /// number of columns is wrong.
     fn from_row(row: &Row) -> Result<Self, DecodeError>
         ensures value { IfOk result (λ r. cells r ≡ row.now) }
         ensures form { result ≡ Err Formless → passes_all_cell_checks forms row.now ≡ false };
 }
 
-/// Decodes the first of the rows, or returns `None` if there are no rows. Fails with `Store` only,
-/// if the first row is malformed or memory runs out.
+/// Decodes the first row, or returns `None` if there is no row. Fails with `Store` also if memory
+/// runs out.
 pub fn decode_first_row<T: Record>(rows: &[Row]) -> Result<Option<T>, Fault>
     ensures value { IfOk result (λ o. option_map T.cells o ≡ slice_get rows.now 0) }
     ensures fault { OnErr result (result ≡ Err Store) }
@@ -41,8 +41,7 @@ pub fn decode_first_row<T: Record>(rows: &[Row]) -> Result<Option<T>, Fault>
     }
 }
 
-/// Decodes all rows, in order. Fails with `Memory` or `Store` only; with `Store` if a row is
-/// malformed.
+/// Decodes all rows, in order. A malformed row is the fault `Store`.
 pub fn decode_rows<T: Record>(alloc: Global, rows: &[Row]) -> Result<Vec<T>, Fault>
     ensures value { IfOk result (λ all. map T.cells all.items ≡ rows.now) }
     ensures fault { IfErr result IsCallFault }
@@ -54,8 +53,7 @@ pub fn decode_rows<T: Record>(alloc: Global, rows: &[Row]) -> Result<Vec<T>, Fau
     }
 }
 
-/// Decodes all rows, in order. Fails with `Form`, only if one of them is malformed, or with
-/// `Memory`.
+/// Decodes all rows, in order, and fails at the first malformed one.
 #[tactic(auto, using(crate::proofs::Unformed::not_all))]
 pub fn decode_records<T: Record>(alloc: Global, rows: &[Row]) -> Result<Vec<T>, DecodeError>
     ensures value { IfOk result (λ all. map T.cells all.items ≡ rows.now) }

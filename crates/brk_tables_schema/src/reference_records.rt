@@ -9,9 +9,8 @@ ghost use Rattle.brk_tables_schema.specs.Formed.{charge_column_cell_checks, cust
 ghost use Rattle.brk_tables_schema.specs.Formed.{permission_column_cell_checks, security_column_cell_checks, tax_rate_column_cell_checks};
 
 use crate::cells::{
-    cents_in_column, charge_amount_in_column, check_column_count, commission_rate_in_column,
-    id_in_column, integer_in_column, natural_in_column, quantity_in_column, tax_rate_in_column,
-    tax_status_in_column, tier_in_column, trade_type_in_column, well_formed_text_in_column,
+    cents_cell, charge_cell, check_column_count, formed_cell, id_cell, integer_cell, natural_cell,
+    qty_cell, rate_cell, tax_rate_cell, tax_status_cell, tier_cell, trade_type_cell,
 };
 use crate::decode_error::DecodeError;
 use crate::record::Record;
@@ -26,20 +25,18 @@ impl Record for AccountRow {
 
     ghost forms = { account_column_cell_checks };
 
-    /// Decodes a row of CUSTOMER_ACCOUNT. Fails with `Form`, only if a column is malformed or the
-    /// number of columns is not 7, or with `Memory`.
     fn from_row(row: &Row) -> Result<AccountRow, DecodeError> {
         check_column_count(row, 7)?;
         Ok(AccountRow {
             account: Account {
-                id: id_in_column(row, 0)?,
-                customer: id_in_column(row, 1)?,
-                broker: id_in_column(row, 2)?,
-                name: well_formed_text_in_column(row, 3)?,
-                tax_status: tax_status_in_column(row, 4)?,
-                opening: cents_in_column(row, 5)?,
+                id: id_cell(row, 0)?,
+                customer: id_cell(row, 1)?,
+                broker: id_cell(row, 2)?,
+                name: formed_cell(row, 3)?,
+                tax_status: tax_status_cell(row, 4)?,
+                opening: cents_cell(row, 5)?,
             },
-            balance: cents_in_column(row, 6)?,
+            balance: cents_cell(row, 6)?,
         })
     }
 }
@@ -49,17 +46,15 @@ impl Record for Band {
 
     ghost forms = { band_column_cell_checks };
 
-    /// Decodes a row of COMMISSION_RATE. Fails with `Form`, only if a column is malformed or the
-    /// number of columns is not 6, or with `Memory`.
     fn from_row(row: &Row) -> Result<Band, DecodeError> {
         check_column_count(row, 6)?;
         Ok(Band {
-            tier: tier_in_column(row, 0)?,
-            kind: trade_type_in_column(row, 1)?,
-            exchange: well_formed_text_in_column(row, 2)?,
-            from_qty: quantity_in_column(row, 3)?,
-            to_qty: quantity_in_column(row, 4)?,
-            rate: commission_rate_in_column(row, 5)?,
+            tier: tier_cell(row, 0)?,
+            kind: trade_type_cell(row, 1)?,
+            exchange: formed_cell(row, 2)?,
+            from_qty: qty_cell(row, 3)?,
+            to_qty: qty_cell(row, 4)?,
+            rate: rate_cell(row, 5)?,
         })
     }
 }
@@ -69,17 +64,15 @@ impl Record for BrokerRow {
 
     ghost forms = { broker_column_cell_checks };
 
-    /// Decodes a row of BROKER. Fails with `Form`, only if a column is malformed or the number of
-    /// columns is not 4, or with `Memory`.
     fn from_row(row: &Row) -> Result<BrokerRow, DecodeError> {
         check_column_count(row, 4)?;
         Ok(BrokerRow {
             broker: Broker {
-                id: id_in_column(row, 0)?,
-                name: well_formed_text_in_column(row, 1)?,
+                id: id_cell(row, 0)?,
+                name: formed_cell(row, 1)?,
             },
-            trades: integer_in_column(row, 2)?,
-            commissions: natural_in_column(row, 3)?,
+            trades: integer_cell(row, 2)?,
+            commissions: natural_cell(row, 3)?,
         })
     }
 }
@@ -89,14 +82,12 @@ impl Record for Charge {
 
     ghost forms = { charge_column_cell_checks };
 
-    /// Decodes a row of CHARGE. Fails with `Form`, only if a column is malformed or the number of
-    /// columns is not 3, or with `Memory`.
     fn from_row(row: &Row) -> Result<Charge, DecodeError> {
         check_column_count(row, 3)?;
         Ok(Charge {
-            kind: trade_type_in_column(row, 0)?,
-            tier: tier_in_column(row, 1)?,
-            amount: charge_amount_in_column(row, 2)?,
+            kind: trade_type_cell(row, 0)?,
+            tier: tier_cell(row, 1)?,
+            amount: charge_cell(row, 2)?,
         })
     }
 }
@@ -106,16 +97,14 @@ impl Record for Customer {
 
     ghost forms = { customer_column_cell_checks };
 
-    /// Decodes a row of CUSTOMER. Fails with `Form`, only if a column is malformed or the number of
-    /// columns is not 5, or with `Memory`.
     fn from_row(row: &Row) -> Result<Customer, DecodeError> {
         check_column_count(row, 5)?;
         Ok(Customer {
-            id: id_in_column(row, 0)?,
-            tier: tier_in_column(row, 1)?,
-            tax_id: well_formed_text_in_column(row, 2)?,
-            last_name: well_formed_text_in_column(row, 3)?,
-            first_name: well_formed_text_in_column(row, 4)?,
+            id: id_cell(row, 0)?,
+            tier: tier_cell(row, 1)?,
+            tax_id: formed_cell(row, 2)?,
+            last_name: formed_cell(row, 3)?,
+            first_name: formed_cell(row, 4)?,
         })
     }
 }
@@ -125,16 +114,14 @@ impl Record for Permission {
 
     ghost forms = { permission_column_cell_checks };
 
-    /// Decodes a row of ACCOUNT_PERMISSION. Fails with `Form`, only if a column is malformed or the
-    /// number of columns is not 5, or with `Memory`.
     fn from_row(row: &Row) -> Result<Permission, DecodeError> {
         check_column_count(row, 5)?;
         Ok(Permission {
-            account: id_in_column(row, 0)?,
-            tax_id: well_formed_text_in_column(row, 1)?,
-            acl: well_formed_text_in_column(row, 2)?,
-            last_name: well_formed_text_in_column(row, 3)?,
-            first_name: well_formed_text_in_column(row, 4)?,
+            account: id_cell(row, 0)?,
+            tax_id: formed_cell(row, 1)?,
+            acl: formed_cell(row, 2)?,
+            last_name: formed_cell(row, 3)?,
+            first_name: formed_cell(row, 4)?,
         })
     }
 }
@@ -144,15 +131,13 @@ impl Record for Security {
 
     ghost forms = { security_column_cell_checks };
 
-    /// Decodes a row of SECURITY. Fails with `Form`, only if a column is malformed or the number of
-    /// columns is not 4, or with `Memory`.
     fn from_row(row: &Row) -> Result<Security, DecodeError> {
         check_column_count(row, 4)?;
         Ok(Security {
-            symbol: well_formed_text_in_column(row, 0)?,
-            name: well_formed_text_in_column(row, 1)?,
-            exchange: well_formed_text_in_column(row, 2)?,
-            sector: well_formed_text_in_column(row, 3)?,
+            symbol: formed_cell(row, 0)?,
+            name: formed_cell(row, 1)?,
+            exchange: formed_cell(row, 2)?,
+            sector: formed_cell(row, 3)?,
         })
     }
 }
@@ -162,14 +147,12 @@ impl Record for Tax {
 
     ghost forms = { tax_rate_column_cell_checks };
 
-    /// Decodes a row of TAXRATE. Fails with `Form`, only if a column is malformed or the number of
-    /// columns is not 3, or with `Memory`.
     fn from_row(row: &Row) -> Result<Tax, DecodeError> {
         check_column_count(row, 3)?;
         Ok(Tax {
-            id: id_in_column(row, 0)?,
-            name: well_formed_text_in_column(row, 1)?,
-            rate: tax_rate_in_column(row, 2)?,
+            id: id_cell(row, 0)?,
+            name: formed_cell(row, 1)?,
+            rate: tax_rate_cell(row, 2)?,
         })
     }
 }
@@ -179,13 +162,11 @@ impl Record for CustomerTax {
 
     ghost forms = { customer_tax_column_cell_checks };
 
-    /// Decodes a row of CUSTOMER_TAXRATE. Fails with `Form`, only if a column is malformed or the
-    /// number of columns is not 2, or with `Memory`.
     fn from_row(row: &Row) -> Result<CustomerTax, DecodeError> {
         check_column_count(row, 2)?;
         Ok(CustomerTax {
-            customer: id_in_column(row, 0)?,
-            tax: id_in_column(row, 1)?,
+            customer: id_cell(row, 0)?,
+            tax: id_cell(row, 1)?,
         })
     }
 }

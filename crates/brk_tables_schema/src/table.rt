@@ -53,7 +53,7 @@ pub enum Table {
 }
 
 impl Table {
-    /// Returns the CREATE TABLE statement of the table, with its columns, keys and foreign keys.
+    /// Returns the CREATE TABLE statement of the table.
     pub fn create_table_text(self) -> &'static str
         ensures { result.now ≡ create_table_text (abstract_table self) }
     {
@@ -148,8 +148,8 @@ impl Table {
         }
     }
 
-    /// Returns the text of the statement that deletes all rows of the table. A look-up by name
-    /// compiles it, without executing it, to test whether a table of this name exists.
+    /// Returns a DELETE of all rows of the table. A look-up compiles it, and never executes it, to
+    /// test whether a table of this name exists.
     pub fn existence_probe_text(self) -> &'static str
         ensures { result.now ≡ existence_probe_text (abstract_table self) }
     {

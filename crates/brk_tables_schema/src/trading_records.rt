@@ -12,11 +12,9 @@ ghost use Rattle.brk_tables_schema.specs.Formed.{move_column_cell_checks, reques
 ghost use Rattle.brk_tables_schema.specs.Formed.{summary_column_cell_checks, trade_column_cell_checks};
 
 use crate::cells::{
-    amount_in_column, cash_row_id_in_column, cash_type_in_column, cents_in_column,
-    charge_amount_in_column, check_column_count, day_in_column, flag_in_column, id_in_column,
-    integer_in_column, optional_id_in_column, optional_price_in_column, price_in_column,
-    quantity_in_column, stamp_in_column, status_in_column, text_in_column, trade_type_in_column,
-    volume_in_column, well_formed_text_in_column,
+    amount_cell, cash_row_id_cell, cash_type_cell, cents_cell, charge_cell, check_column_count,
+    day_cell, flag_cell, formed_cell, id_cell, integer_cell, optional_id_cell, optional_price_cell,
+    price_cell, qty_cell, stamp_cell, status_cell, text_cell, trade_type_cell, volume_cell,
 };
 use crate::decode_error::DecodeError;
 use crate::record::Record;
@@ -32,17 +30,15 @@ impl Record for HoldingRow {
 
     ghost forms = { holding_column_cell_checks };
 
-    /// Decodes a row of HOLDING. Fails with `Form`, only if a column is malformed or the number of
-    /// columns is not 6, or with `Memory`.
     fn from_row(row: &Row) -> Result<HoldingRow, DecodeError> {
         check_column_count(row, 6)?;
         Ok(HoldingRow {
-            trade: id_in_column(row, 0)?,
-            account: id_in_column(row, 1)?,
-            symbol: well_formed_text_in_column(row, 2)?,
-            stamp: stamp_in_column(row, 3)?,
-            price: price_in_column(row, 4)?,
-            qty: integer_in_column(row, 5)?,
+            trade: id_cell(row, 0)?,
+            account: id_cell(row, 1)?,
+            symbol: formed_cell(row, 2)?,
+            stamp: stamp_cell(row, 3)?,
+            price: price_cell(row, 4)?,
+            qty: integer_cell(row, 5)?,
         })
     }
 }
@@ -52,14 +48,12 @@ impl Record for SummaryRow {
 
     ghost forms = { summary_column_cell_checks };
 
-    /// Decodes a row of HOLDING_SUMMARY. Fails with `Form`, only if a column is malformed or the
-    /// number of columns is not 3, or with `Memory`.
     fn from_row(row: &Row) -> Result<SummaryRow, DecodeError> {
         check_column_count(row, 3)?;
         Ok(SummaryRow {
-            account: id_in_column(row, 0)?,
-            symbol: well_formed_text_in_column(row, 1)?,
-            qty: integer_in_column(row, 2)?,
+            account: id_cell(row, 0)?,
+            symbol: formed_cell(row, 1)?,
+            qty: integer_cell(row, 2)?,
         })
     }
 }
@@ -69,15 +63,13 @@ impl Record for LastTrade {
 
     ghost forms = { last_trade_column_cell_checks };
 
-    /// Decodes a row of LAST_TRADE. Fails with `Form`, only if a column is malformed or the number
-    /// of columns is not 4, or with `Memory`.
     fn from_row(row: &Row) -> Result<LastTrade, DecodeError> {
         check_column_count(row, 4)?;
         Ok(LastTrade {
-            symbol: well_formed_text_in_column(row, 0)?,
-            stamp: stamp_in_column(row, 1)?,
-            price: price_in_column(row, 2)?,
-            volume: volume_in_column(row, 3)?,
+            symbol: formed_cell(row, 0)?,
+            stamp: stamp_cell(row, 1)?,
+            price: price_cell(row, 2)?,
+            volume: volume_cell(row, 3)?,
         })
     }
 }
@@ -87,17 +79,15 @@ impl Record for RequestRow {
 
     ghost forms = { request_column_cell_checks };
 
-    /// Decodes a row of TRADE_REQUEST. Fails with `Form`, only if a column is malformed or the
-    /// number of columns is not 6, or with `Memory`.
     fn from_row(row: &Row) -> Result<RequestRow, DecodeError> {
         check_column_count(row, 6)?;
         Ok(RequestRow {
-            trade: id_in_column(row, 0)?,
-            kind: trade_type_in_column(row, 1)?,
-            symbol: well_formed_text_in_column(row, 2)?,
-            qty: quantity_in_column(row, 3)?,
-            bid: price_in_column(row, 4)?,
-            broker: id_in_column(row, 5)?,
+            trade: id_cell(row, 0)?,
+            kind: trade_type_cell(row, 1)?,
+            symbol: formed_cell(row, 2)?,
+            qty: qty_cell(row, 3)?,
+            bid: price_cell(row, 4)?,
+            broker: id_cell(row, 5)?,
         })
     }
 }
@@ -107,26 +97,24 @@ impl Record for TradeRow {
 
     ghost forms = { trade_column_cell_checks };
 
-    /// Decodes a row of TRADE. Fails with `Form`, only if a column is malformed or the number of
-    /// columns is not 15, or with `Memory`.
     fn from_row(row: &Row) -> Result<TradeRow, DecodeError> {
         check_column_count(row, 15)?;
         Ok(TradeRow {
-            id: id_in_column(row, 0)?,
-            stamp: stamp_in_column(row, 1)?,
-            status: status_in_column(row, 2)?,
-            kind: trade_type_in_column(row, 3)?,
-            is_cash: flag_in_column(row, 4)?,
-            symbol: well_formed_text_in_column(row, 5)?,
-            qty: quantity_in_column(row, 6)?,
-            bid: price_in_column(row, 7)?,
-            account: id_in_column(row, 8)?,
-            executor: text_in_column(row, 9)?,
-            price: optional_price_in_column(row, 10)?,
-            charge: charge_amount_in_column(row, 11)?,
-            commission: amount_in_column(row, 12)?,
-            tax: amount_in_column(row, 13)?,
-            is_lifo: flag_in_column(row, 14)?,
+            id: id_cell(row, 0)?,
+            stamp: stamp_cell(row, 1)?,
+            status: status_cell(row, 2)?,
+            kind: trade_type_cell(row, 3)?,
+            is_cash: flag_cell(row, 4)?,
+            symbol: formed_cell(row, 5)?,
+            qty: qty_cell(row, 6)?,
+            bid: price_cell(row, 7)?,
+            account: id_cell(row, 8)?,
+            executor: text_cell(row, 9)?,
+            price: optional_price_cell(row, 10)?,
+            charge: charge_cell(row, 11)?,
+            commission: amount_cell(row, 12)?,
+            tax: amount_cell(row, 13)?,
+            is_lifo: flag_cell(row, 14)?,
         })
     }
 }
@@ -136,14 +124,12 @@ impl Record for HistoryRow {
 
     ghost forms = { history_column_cell_checks };
 
-    /// Decodes a row of TRADE_HISTORY. Fails with `Form`, only if a column is malformed or the
-    /// number of columns is not 3, or with `Memory`.
     fn from_row(row: &Row) -> Result<HistoryRow, DecodeError> {
         check_column_count(row, 3)?;
         Ok(HistoryRow {
-            trade: id_in_column(row, 0)?,
-            status: status_in_column(row, 1)?,
-            stamp: stamp_in_column(row, 2)?,
+            trade: id_cell(row, 0)?,
+            status: status_cell(row, 1)?,
+            stamp: stamp_cell(row, 2)?,
         })
     }
 }
@@ -153,15 +139,13 @@ impl Record for LotChange {
 
     ghost forms = { holding_history_column_cell_checks };
 
-    /// Decodes a row of HOLDING_HISTORY. Fails with `Form`, only if a column is malformed or the
-    /// number of columns is not 4, or with `Memory`.
     fn from_row(row: &Row) -> Result<LotChange, DecodeError> {
         check_column_count(row, 4)?;
         Ok(LotChange {
-            lot: id_in_column(row, 0)?,
-            trade: id_in_column(row, 1)?,
-            before: integer_in_column(row, 2)?,
-            after: integer_in_column(row, 3)?,
+            lot: id_cell(row, 0)?,
+            trade: id_cell(row, 1)?,
+            before: integer_cell(row, 2)?,
+            after: integer_cell(row, 3)?,
         })
     }
 }
@@ -171,15 +155,13 @@ impl Record for SettlementRow {
 
     ghost forms = { settlement_column_cell_checks };
 
-    /// Decodes a row of SETTLEMENT. Fails with `Form`, only if a column is malformed or the number
-    /// of columns is not 4, or with `Memory`.
     fn from_row(row: &Row) -> Result<SettlementRow, DecodeError> {
         check_column_count(row, 4)?;
         Ok(SettlementRow {
-            trade: id_in_column(row, 0)?,
-            cash_type: cash_type_in_column(row, 1)?,
-            due_day: day_in_column(row, 2)?,
-            amount: cents_in_column(row, 3)?,
+            trade: id_cell(row, 0)?,
+            cash_type: cash_type_cell(row, 1)?,
+            due_day: day_cell(row, 2)?,
+            amount: cents_cell(row, 3)?,
         })
     }
 }
@@ -189,15 +171,13 @@ impl Record for OldCashRow {
 
     ghost forms = { cash_column_cell_checks };
 
-    /// Decodes a row of CASH_TRANSACTION. Fails with `Form`, only if a column is malformed or the
-    /// number of columns is not 4, or with `Memory`.
     fn from_row(row: &Row) -> Result<OldCashRow, DecodeError> {
         check_column_count(row, 4)?;
         Ok(OldCashRow {
-            trade: id_in_column(row, 0)?,
-            stamp: stamp_in_column(row, 1)?,
-            amount: cents_in_column(row, 2)?,
-            name: text_in_column(row, 3)?,
+            trade: id_cell(row, 0)?,
+            stamp: stamp_cell(row, 1)?,
+            amount: cents_cell(row, 2)?,
+            name: text_cell(row, 3)?,
         })
     }
 }
@@ -207,17 +187,15 @@ impl Record for CashRow {
 
     ghost forms = { move_column_cell_checks };
 
-    /// Decodes a row of CASH_MOVE. Fails with `Form`, only if a column is malformed or the number
-    /// of columns is not 6, or with `Memory`.
     fn from_row(row: &Row) -> Result<CashRow, DecodeError> {
         check_column_count(row, 6)?;
         Ok(CashRow {
-            id: cash_row_id_in_column(row, 0)?,
-            account: id_in_column(row, 1)?,
-            trade: optional_id_in_column(row, 2)?,
-            stamp: stamp_in_column(row, 3)?,
-            amount: cents_in_column(row, 4)?,
-            name: text_in_column(row, 5)?,
+            id: cash_row_id_cell(row, 0)?,
+            account: id_cell(row, 1)?,
+            trade: optional_id_cell(row, 2)?,
+            stamp: stamp_cell(row, 3)?,
+            amount: cents_cell(row, 4)?,
+            name: text_cell(row, 5)?,
         })
     }
 }
@@ -227,10 +205,8 @@ impl Record for Id {
 
     ghost forms = { is_id_cell ∷ [] };
 
-    /// Decodes a row whose only column is an id. Fails with `Form`, only if the column is malformed
-    /// or the number of columns is not 1, or with `Memory`.
     fn from_row(row: &Row) -> Result<Id, DecodeError> {
         check_column_count(row, 1)?;
-        id_in_column(row, 0)
+        id_cell(row, 0)
     }
 }

@@ -1,5 +1,4 @@
--- A table of any database is that of some records, where the program has read its rows and tested
--- them.
+-- A table of any database holds some records, if the program read its rows and tested them.
 use Rattle.std.proofs.Common.{◌≡◌, ◌⊎◌, inl, inr, ℕ, List, [], ◌∷◌, map, true, false, not, Ordering, Less, is_eq, refl, sym, ap, ap₂, subst, ◌∙◌}
 use Rattle.std.specs.Cmp.{IsTotalOrder}
 use Rattle.std.specs.List.{AllByRecursion, IsDistinct}

@@ -1,4 +1,4 @@
--- A read that is decoded is a step that tells of the tables.
+-- A read followed by its decoding is one step, whose result is records of the tables.
 use Rattle.std.proofs.Common.{◌≡◌, ℕ, zero, suc, List, [], ◌∷◌, map, take, slice_get, Some, None, Option, option_map, Ok, Err, Result, IfOk, refl, ap, ◌∙◌, subst}
 use Rattle.sqlite_value.specs.Order.{Row}
 use Rattle.sqlite_sql.specs.Query.{limited}

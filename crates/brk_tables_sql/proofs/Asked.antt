@@ -1,4 +1,5 @@
--- A SELECT of columns of one table by their names: WHERE compares columns with parameters or asks whether there is none, ORDER BY names columns.
+-- A SELECT of named columns of one table. WHERE compares columns with parameters or with NULL, and
+-- ORDER BY names columns.
 use Rattle.std.proofs.Common.{◌≡◌, ◌∙◌, ◌⊎◌, ℕ, suc, ◌+◌, ◌-◌, ◌<◌, ◌≤◌, nat_lt, List, [], ◌∷◌, ◌++◌, map, length, Bool, true, false, Option, None, Some, Ok, Err, refl, sym, ap, inl, inr, append_assoc, append-nil, arith, slice_get}
 use Rattle.std.specs.Prelude.{◌&&◌, ◌==◌, if◌then◌else◌, unwrap_or, option_map, is_some}
 use Rattle.std.specs.List.{list_all, position_from}

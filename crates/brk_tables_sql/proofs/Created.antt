@@ -1,4 +1,4 @@
--- CREATE TABLE over a schema of which nothing is known.
+-- CREATE TABLE over an arbitrary schema.
 use Rattle.std.proofs.Common.{◌≡◌, ◌≢◌, ◌⊎◌, inl, inr, ℕ, zero, suc, ◌+◌, ◌==◌, List, [], ◌∷◌, ◌++◌, length, slice_get, cond, Bool, true, false, ◌||◌, is_some}
 use Rattle.std.proofs.Common.{Some, None, Option, Ok, Err, refl, sym, ap, subst, ◌∙◌, arith}
 use Rattle.std.specs.List.{position_from, AllByRecursion}

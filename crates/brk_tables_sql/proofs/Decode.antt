@@ -1,4 +1,4 @@
--- The records of the program are those that the rows show.
+-- The records of the program are those that the rows encode.
 use Rattle.std.proofs.Common.{◌≡◌, ℕ, List, [], ◌∷◌, map, slice_get, Some, None, Option, option_map, refl, sym, ap, ◌∙◌}
 use Rattle.sqlite_value.specs.declared.value.Value.{Value}
 use Rattle.sqlite_value.specs.declared.value.Value.TheVariants.{Text}

@@ -1,4 +1,4 @@
--- What a statement does to the trees, whatever else the schema has.
+-- The effect of a statement on the trees, in a schema that may have other tables.
 use Rattle.std.proofs.Common.{◌≡◌, ◌⊎◌, inl, inr, ℕ, ℤ, if◌then◌else◌, ◌==◌, ◌/◌, List, [], ◌∷◌, length, slice_get, Bool, true, false, ◌&&◌, Some, None, Option}
 use Rattle.std.proofs.Common.{Ok, Err, Result, refl, sym, ap, subst, subst₂, ◌∙◌}
 use Rattle.std.specs.List.{list_all, filter_map, flat_map}

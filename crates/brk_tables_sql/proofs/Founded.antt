@@ -1,4 +1,4 @@
--- The tables of a desk, made one after the other in a database that has others.
+-- The tables of a desk, created one after the other in a database that may have others.
 use Rattle.std.proofs.Common.{◌≡◌, ◌≢◌, ◌⊎◌, inl, inr, ℕ, ◌==◌, List, [], ◌∷◌, ◌++◌, map, Bool, true, false, not, ◌||◌, ne_eqb, refl, sym, ap, subst, ◌∙◌}
 use Rattle.std.specs.List.{AllByRecursion, list_all}
 use Rattle.sqlite_trees.specs.Tree.{Trees}

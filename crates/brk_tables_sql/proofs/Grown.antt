@@ -1,4 +1,4 @@
--- Some tables of a desk are there with their rows, and others are made beside them.
+-- Tables of a desk that exist with their rows, and others that are created beside them.
 use Rattle.std.proofs.Common.{◌≡◌, ◌≢◌, ◌⊎◌, inl, inr, ℕ, List, [], ◌∷◌, ◌++◌, map, refl, sym, ap, subst, ◌∙◌, append_assoc, append-nil}
 use Rattle.std.specs.List.{AllByRecursion}
 use Rattle.sqlite_schema.specs.declared.schema.Table.{Table}

@@ -1,5 +1,5 @@
--- The rows of a table as a list of records: what each statement makes of it, and what a SELECT
--- shows of it.
+-- The rows of a table as a list of records: the effect of each statement on it, and the result of a
+-- SELECT.
 use Rattle.std.proofs.Common.{◌≡◌, List, [], ◌∷◌, ◌++◌, map, filter, reverse, Bool, true, false, not, if◌then◌else◌, Ordering, Less, is_eq, refl, sym, ap, ap₂, subst, ◌∙◌, inl, inr, IsTrue}
 use mathlib.Core.List.{reverse-cons}
 use Rattle.std.specs.Cmp.{IsTotalOrder}

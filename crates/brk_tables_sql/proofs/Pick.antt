@@ -1,4 +1,4 @@
--- What a selection reads, and the rows that a step leaves, whatever the order of the tree is.
+-- The rows that a selection reads, and those after a step, in any order of the tree.
 use Rattle.std.proofs.Common.{◌≡◌, ℕ, ◌+◌, ◌^◌, ℤ, pos, negsuc, List, [], ◌∷◌, ◌++◌, length, map, filter, flat_map, nat_le, Bool, true, false, not, cond, None}
 use Rattle.std.proofs.Common.{Ordering, Less, Equal, Greater, is_eq, refl, sym, ap, subst, ◌∙◌, inl, inr, arith, IsTrue, ◌||◌, ◌&&◌, if◌then◌else◌}
 use Rattle.std.specs.Ordering.{ordering_reverse, match_ordering}

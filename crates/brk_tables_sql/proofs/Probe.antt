@@ -1,4 +1,4 @@
--- Whether a table is there, by preparing a DELETE of it that is never run.
+-- The test that a table exists, by preparing a DELETE that is never executed.
 use Rattle.std.proofs.Common.{◌≡◌, ◌↔◌, inl, inr, ℕ, List, [], ◌∷◌, is_some, slice_get, Bool, true, false, None, Some, Option, Ok, Err, Result, refl, sym, ◌∙◌, arith, subst, IsErr, IsTrue}
 use Rattle.sqlite_schema.specs.declared.schema.Schema.{Schema}
 use Rattle.sqlite_schema.specs.declared.schema.Table.{Table}

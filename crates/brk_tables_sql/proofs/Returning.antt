@@ -1,4 +1,4 @@
--- A SELECT has no RETURNING, whatever the schema is.
+-- A SELECT has no RETURNING clause, over any schema.
 use Rattle.std.proofs.Common.{◌≡◌, ◌⊎◌, ℕ, List, [], Bool, true, false, None, Ok, Err, refl, sym, ap, ◌∙◌, inl, inr}
 use Rattle.std.specs.Prelude.{if◌then◌else◌}
 use Rattle.sqlite_schema.specs.declared.schema.Schema.{Schema}

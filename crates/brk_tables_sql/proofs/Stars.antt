@@ -1,4 +1,4 @@
--- The columns of a table that is not known, by preparing a SELECT of all of them that is never run.
+-- The columns of an unknown table, by preparing a SELECT of all of them that is never executed.
 use Rattle.std.proofs.Common.{◌≡◌, ◌⊎◌, ◌∙◌, nat_lt, ℕ, ◌+◌, pos, negsuc, List, [], ◌∷◌, ◌++◌, map, length, Bool, true, false, None, Some, Ok, Err, refl, sym, ap, append-nil, slice_get}
 use Rattle.sqlite_value.specs.declared.value.Value.TheVariants.{Int}
 use Rattle.sqlite_sql.specs.Term.{lit}

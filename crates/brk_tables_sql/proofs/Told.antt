@@ -1,4 +1,5 @@
--- What a SELECT of one table tells of the records, by the numbers of its columns: no caller names a place of a stored row.
+-- The records in the result of a SELECT of one table, by the numbers of its columns, so that no
+-- caller names a place of a stored row.
 use Rattle.std.proofs.Common.{◌≡◌, ◌∙◌, ℕ, suc, zero, ◌-◌, ◌<◌, List, [], ◌∷◌, length, map, filter, reverse, Bool, true, false, Option, None, Some, Ordering, is_eq, refl, sym, ap, ap₂, subst, arith, slice_get}
 use Rattle.std.specs.Prelude.{◌&&◌, is_some}
 use Rattle.std.specs.Cmp.{IsTotalOrder}

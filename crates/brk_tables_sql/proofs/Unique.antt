@@ -1,4 +1,4 @@
--- A key comes once in a table, by its rowid or by the index of its UNIQUE.
+-- A key occurs once in a table, by its rowid or by the index of its UNIQUE constraint.
 use Rattle.std.proofs.Common.{◌≡◌, ℕ, List, Bool, true, false, not, ◌&&◌, Some, slice_get, refl, sym, ◌∙◌, inl, inr, eq-eqb}
 use Rattle.std.specs.List.{AllByRecursion, list_any}
 use Rattle.std.specs.Prelude.{slice_index_or}

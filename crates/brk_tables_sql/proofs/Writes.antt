@@ -1,4 +1,4 @@
--- What INSERT, UPDATE and DELETE make of the tables, whatever else the schema has.
+-- The effect of INSERT, UPDATE and DELETE on the tables, in a schema that may have others.
 use Rattle.std.proofs.Common.{◌≡◌, ◌≢◌, ◌⊎◌, ◌/◌, ℕ, List, [], ◌∷◌, length, map, filter, drop, slice_get, Bool, true, false, not, ◌||◌, if◌then◌else◌, Some, Ok}
 use Rattle.std.proofs.Common.{Err, Ordering, is_eq, refl, sym, ap, ap₂, subst, ◌∙◌, inl, inr, IsTrue}
 use Rattle.std.specs.Prelude.{slice_index_or}

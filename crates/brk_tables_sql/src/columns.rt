@@ -8,7 +8,6 @@ ghost use Rattle.brk_tables_sql.specs.Model.{IsConnectionStep};
 use sqlite::{Alter, Error, Transaction};
 use sqlite_value::value::Bytes;
 
-// Returns true if the column names `columns` are exactly `names`, in order.
 fn columns_have_names(columns: &[Bytes], names: &[&str]) -> bool
     ensures { IsTrue result ↔ columns.now ≡ map (λ (name : Bor (List ℕ)). name.now) names.now }
 {
@@ -23,11 +22,8 @@ fn columns_have_names(columns: &[Bytes], names: &[&str]) -> bool
     true
 }
 
-/// Returns true if the columns of the result of the statement `text` have exactly the names
-/// `names`, in order. The statement is compiled and not executed. If the function returns a value,
-/// the database was open and is unchanged. Fails with the error of the database, also if the
-/// statement does not compile. Commits nothing; at an error the database is unchanged or the open
-/// transaction is rolled back.
+/// Returns true if the columns of the statement's result have exactly the names `names`, in order.
+/// Compiles the statement without executing it.
 pub fn statement_has_columns<S: Alter>(
     tx: &mut Transaction<'_, S>,
     text: &str,

@@ -15,11 +15,8 @@ pub use columns::statement_has_columns;
 use sqlite::{Alter, Error, Transaction};
 use sqlite_resolve::error::CompileError;
 
-/// Returns true if the statement `text` compiles, and false if it does not, because a table that it
-/// names does not exist. The statement is not executed. If the function returns a value, the
-/// database was open and is unchanged. Fails with any other error of the compilation or of the
-/// database. Commits nothing; at an error the database is unchanged or the open transaction is
-/// rolled back.
+/// Returns true if the statement compiles, and false if a table that it names does not exist. Any
+/// other error of the compilation is returned. The statement is not executed.
 pub fn statement_compiles<S: Alter>(tx: &mut Transaction<'_, S>, text: &str) -> Result<bool, Error>
     ensures same_reference { tx.new.conn.ghost_name ≡ tx.old.conn.ghost_name }
     ensures step { IsConnectionStep S.Store tx.old tx.new result (λ has old new. IsTrue old.is_open × (new.now ≡ old.now)

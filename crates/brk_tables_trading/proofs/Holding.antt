@@ -1,4 +1,4 @@
--- What the statements that read lots and summaries tell of the tables.
+-- The results of the reads of lots and summaries.
 use Rattle.std.proofs.Common.{◌≡◌, ℕ, List, [], ◌∷◌, Bool, true, false, Some, ◌&&◌, map, filter, reverse, ◌==◌, Ordering, Less, Equal, Greater, is_eq, refl, sym, ap, ◌∙◌}
 use Rattle.std.proofs.lemmas.Cmp.{back_total}
 use Rattle.std.proofs.lemmas.List.{drop-map}

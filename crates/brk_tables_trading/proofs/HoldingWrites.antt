@@ -1,4 +1,4 @@
--- What the statements make of the tables.
+-- The effect of the writes of lots, summaries, settlements, balances and broker totals.
 use Rattle.std.proofs.Common.{◌≡◌, ℕ, ℤ, pos, List, [], ◌∷◌, drop, ◌==◌, ◌&&◌, refl, ap}
 use Rattle.std.specs.Prelude.{bytes_eq}
 use Rattle.sqlite_value.specs.declared.value.Value.TheVariants.{Null, Int, Text as Words}

@@ -1,4 +1,4 @@
--- What the statements that read single lots, and all lots, tell of the tables.
+-- The results of the reads of single lots and of all lots.
 use Rattle.std.proofs.Common.{◌≡◌, ◌∙◌, ◌==◌, ℕ, List, [], ◌∷◌, true, map, filter, refl, ap}
 use Rattle.sqlite_value.specs.Order.{Row}
 use Rattle.sqlite.specs.State.{State, Shown}

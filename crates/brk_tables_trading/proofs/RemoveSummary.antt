@@ -1,4 +1,4 @@
--- Written by tools/generate/tables.py: what a DELETE means.
+-- Written by tools/generate/tables.py: the meaning of a DELETE.
 use Rattle.std.proofs.Common.{◌≡◌, ◌⊎◌, ℕ, List, [], ◌∷◌, codes, true, false, Option, None, Some, Ok, Err, refl, slice_get}
 use Rattle.sqlite_value.specs.declared.keys.Collation.TheVariants.{Binary}
 use Rattle.sqlite_sql.specs.declared.ops.BinaryOp.TheVariants.{Compare}

@@ -1,4 +1,4 @@
--- Written by tools/generate/tables.py: what an UPDATE means.
+-- Written by tools/generate/tables.py: the meaning of an UPDATE.
 use Rattle.std.proofs.Common.{◌≡◌, ◌⊎◌, ℕ, List, [], ◌∷◌, codes, true, false, None, Some, Ok, Err, refl, slice_get}
 use Rattle.sqlite_value.specs.declared.keys.Collation.TheVariants.{Binary}
 use Rattle.sqlite.specs.declared.types.Value.TheVariants.{Null}

@@ -1,4 +1,4 @@
--- What the statements that read tell of the tables.
+-- The results of the reads of trades, requests and last trades.
 use Rattle.std.proofs.Common.{◌≡◌, ℕ, List, [], ◌∷◌, true, Some, map, filter, take, reverse, ◌==◌, refl, ap, ◌∙◌}
 use Rattle.std.specs.Prelude.{◌&&◌, bytes_eq, nat_le}
 use Rattle.std.proofs.lemmas.Cmp.{back_total}

@@ -1,4 +1,4 @@
--- A list that is sorted the other way round.
+-- A sort by the reverse order is the reverse of the sort.
 use Rattle.std.proofs.Common.{◌≡◌, List, [], ◌∷◌, ◌++◌, Bool, true, false, cond, Ordering, Less, Equal, Greater, is_eq, is_gt, reverse, refl, sym, ap, subst, ◌∙◌}
 use mathlib.Core.List.{reverse-cons}
 use Rattle.std.specs.Ordering.{ordering_reverse}

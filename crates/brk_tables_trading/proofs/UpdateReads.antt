@@ -1,4 +1,4 @@
--- What the statements that read trades for a correction of words tell of the tables.
+-- The results of the reads of trades for a text update.
 use Rattle.std.proofs.Common.{◌≡◌, ℕ, List, [], ◌∷◌, Bool, true, false, not, cond, ◌&&◌, ◌||◌, map, filter, take, ◌==◌, Ordering, Less, Equal, Greater, is_eq, Some, refl, sym, ap, ◌∙◌, arith}
 use Rattle.std.specs.Prelude.{bytes_eq, nat_lt}
 use Rattle.std.specs.Ordering.{ordering_then}

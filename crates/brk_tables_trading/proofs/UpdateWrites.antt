@@ -1,4 +1,4 @@
--- What the statements that set words anew make of the tables.
+-- The effect of the writes of a text update.
 use Rattle.std.proofs.Common.{◌≡◌, ℕ, pos, Option, Some, None, List, [], ◌∷◌, drop, ◌==◌, refl, ap}
 use Rattle.std.specs.Prelude.{if◌then◌else◌}
 use Rattle.sqlite_value.specs.declared.value.Value.TheVariants.{Null, Int, Text as Words}

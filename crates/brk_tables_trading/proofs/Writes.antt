@@ -1,4 +1,4 @@
--- What the statements that change rows make of the tables.
+-- The effect of the writes of trades, history, requests and last trades.
 use Rattle.std.proofs.Common.{◌≡◌, ℕ, pos, Option, Some, None, [], ◌∷◌, drop, ◌==◌, refl, ap}
 use Rattle.std.specs.Prelude.{if◌then◌else◌, bytes_eq}
 use Rattle.sqlite_value.specs.declared.value.Value.TheVariants.{Null, Text as Words}

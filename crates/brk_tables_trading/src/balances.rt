@@ -5,11 +5,10 @@ ghost use Rattle.brk_tables_schema.specs.Statements.{WritesDeskTables};
 
 use brk_money::{Cents, Fault, Id};
 use brk_tables_schema::calls::execute_statement;
-use brk_tables_schema::values::{cents_as_parameter, id_as_parameter};
+use brk_tables_schema::values::{cents_param, id_param};
 use sqlite::{Alter, Transaction};
 
-/// Sets the balance of an account (CA_BAL), in cents. Changes nothing if the account does not
-/// exist. Fails with `Store` only.
+/// Sets the balance of an account (CA_BAL), in cents.
 pub fn set_account_balance<S: Alter>(
     tx: &mut Transaction<'_, S>,
     account: Id,
@@ -22,6 +21,6 @@ pub fn set_account_balance<S: Alter>(
     execute_statement(
         tx,
         "UPDATE CUSTOMER_ACCOUNT SET CA_BAL = ?1 WHERE CA_ID = ?2",
-        &[cents_as_parameter(balance), id_as_parameter(account)],
+        &[cents_param(balance), id_param(account)],
     )
 }

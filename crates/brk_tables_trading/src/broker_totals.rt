@@ -5,13 +5,12 @@ ghost use Rattle.brk_tables_schema.specs.Statements.{WritesDeskTables};
 
 use brk_money::{Fault, Id};
 use brk_tables_schema::calls::execute_statement;
-use brk_tables_schema::values::{amount_as_parameter, id_as_parameter, integer_as_parameter};
+use brk_tables_schema::values::{amount_param, id_param, integer_param};
 use brk_trade_rows::Amount;
 use sqlite::{Alter, Transaction};
 
-/// Sets the totals of a broker: the number of its completed trades (B_NUM_TRADES) and the sum of
-/// their commissions in cents (B_COMM_TOTAL). Changes nothing if the broker does not exist. Fails
-/// with `Store` only.
+/// Sets the number of a broker's completed trades (B_NUM_TRADES) and the sum of their commissions,
+/// in cents (B_COMM_TOTAL).
 pub fn set_broker_totals<S: Alter>(
     tx: &mut Transaction<'_, S>,
     broker: Id,
@@ -26,9 +25,9 @@ pub fn set_broker_totals<S: Alter>(
         tx,
         "UPDATE BROKER SET B_NUM_TRADES = ?1, B_COMM_TOTAL = ?2 WHERE B_ID = ?3",
         &[
-            integer_as_parameter(trades),
-            amount_as_parameter(commissions),
-            id_as_parameter(broker),
+            integer_param(trades),
+            amount_param(commissions),
+            id_param(broker),
         ],
     )
 }

@@ -7,11 +7,10 @@ ghost use Rattle.brk_tables_schema.specs.Statements.{WritesDeskTables};
 use brk_money::Fault;
 use brk_ref::HistoryRow;
 use brk_tables_schema::calls::execute_statement;
-use brk_tables_schema::values::{id_as_parameter, stamp_as_parameter, status_as_parameter};
+use brk_tables_schema::values::{id_param, stamp_param, status_param};
 use sqlite::{Alter, Transaction};
 
-/// Inserts a row of TRADE_HISTORY: a status that a trade reached, and the stamp of this change.
-/// Fails with `Store` only, also if the trade has a row with this status, or does not exist.
+/// Inserts a status that a trade reached, and the stamp of this change (TRADE_HISTORY).
 pub fn add_trade_history_row<S: Alter>(
     tx: &mut Transaction<'_, S>,
     mark: &HistoryRow,
@@ -24,9 +23,9 @@ pub fn add_trade_history_row<S: Alter>(
         tx,
         "INSERT INTO TRADE_HISTORY (TH_T_ID, TH_ST_ID, TH_DTS) VALUES (?1, ?2, ?3)",
         &[
-            id_as_parameter(mark.trade),
-            status_as_parameter(mark.status),
-            stamp_as_parameter(mark.stamp),
+            id_param(mark.trade),
+            status_param(mark.status),
+            stamp_param(mark.stamp),
         ],
     )
 }

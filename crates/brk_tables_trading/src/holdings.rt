@@ -15,23 +15,20 @@ use brk_money::{Fault, Id};
 use brk_ref::{HoldingRow, SummaryRow, Symbol};
 use brk_tables_schema::calls::select_rows;
 use brk_tables_schema::record::{decode_first_row, decode_rows};
-use brk_tables_schema::values::{id_as_parameter, text_as_parameter};
+use brk_tables_schema::values::{id_param, text_param};
 use sqlite::{Alter, Transaction};
 use sqlite_value::value::ValueRef;
 use std::alloc::Global;
 
-// Converts the number of rows to skip to an INTEGER, as the parameter of a statement.
-fn skip_count_as_parameter<'a>(skipped: u32) -> ValueRef<'a>
+fn skip_parameter<'a>(skipped: u32) -> ValueRef<'a>
     ensures { owned result ≡ Int (pos skipped) }
 {
     ValueRef::Int(skipped as i64)
 }
 
-/// Returns a page of the lots of an account in a security, sorted by the stamp of their opening and
-/// then by the id of the trade that opened them, both ascending: after the first `skipped` lots the
-/// next 16, or all that remain if there are fewer, possibly none. Changes nothing if it succeeds.
-/// Fails with `Memory` or `Store` only; with `Store` also if a row is malformed.
-pub fn page_of_lots_oldest_first<S: Alter>(
+/// Returns the next lots of an account in a security after the first `skipped`, at most 16, sorted
+/// by the stamp of their opening and then by the id of the trade that opened them, both ascending.
+pub fn oldest_lots<S: Alter>(
     tx: &mut Transaction<'_, S>,
     alloc: Global,
     account: Id,
@@ -47,19 +44,17 @@ pub fn page_of_lots_oldest_first<S: Alter>(
         tx,
         "SELECT H_T_ID, H_CA_ID, H_S_SYMB, H_DTS, H_PRICE, H_QTY FROM HOLDING WHERE H_CA_ID = ?1 AND H_S_SYMB = ?2 ORDER BY H_DTS, H_T_ID LIMIT 16 OFFSET ?3",
         &[
-            id_as_parameter(account),
-            text_as_parameter(symbol.as_str()),
-            skip_count_as_parameter(skipped),
+            id_param(account),
+            text_param(symbol.as_str()),
+            skip_parameter(skipped),
         ],
     )?;
     decode_rows(alloc, &rows)
 }
 
-/// Returns a page of the lots of an account in a security, sorted by the stamp of their opening and
-/// then by the id of the trade that opened them, both descending: after the first `skipped` lots
-/// the next 16, or all that remain if there are fewer, possibly none. Changes nothing if it
-/// succeeds. Fails with `Memory` or `Store` only; with `Store` also if a row is malformed.
-pub fn page_of_lots_newest_first<S: Alter>(
+/// Returns the next lots of an account in a security after the first `skipped`, at most 16, in the
+/// reverse of the order of `oldest_lots`.
+pub fn newest_lots<S: Alter>(
     tx: &mut Transaction<'_, S>,
     alloc: Global,
     account: Id,
@@ -77,16 +72,15 @@ pub fn page_of_lots_newest_first<S: Alter>(
          FROM HOLDING \
          WHERE H_CA_ID = ?1 AND H_S_SYMB = ?2 ORDER BY H_DTS DESC, H_T_ID DESC LIMIT 16 OFFSET ?3",
         &[
-            id_as_parameter(account),
-            text_as_parameter(symbol.as_str()),
-            skip_count_as_parameter(skipped),
+            id_param(account),
+            text_param(symbol.as_str()),
+            skip_parameter(skipped),
         ],
     )?;
     decode_rows(alloc, &rows)
 }
 
-/// Returns the lot that the trade `trade` opened (HOLDING), or `None` if there is none. Changes
-/// nothing if it succeeds. Fails with `Store` only, also if the row is malformed or memory runs out.
+/// Returns the lot that a trade opened, or `None` if there is none.
 pub fn lot_by_trade<S: Alter>(
     tx: &mut Transaction<'_, S>,
     trade: Id,
@@ -98,14 +92,12 @@ pub fn lot_by_trade<S: Alter>(
     let rows = select_rows(
         tx,
         "SELECT H_T_ID, H_CA_ID, H_S_SYMB, H_DTS, H_PRICE, H_QTY FROM HOLDING WHERE H_T_ID = ?1 ORDER BY H_T_ID",
-        &[id_as_parameter(trade)],
+        &[id_param(trade)],
     )?;
     decode_first_row(&rows)
 }
 
-/// Returns all lots (HOLDING), sorted by the id of the trade that opened them, ascending. Changes
-/// nothing if it succeeds. Fails with `Memory` or `Store` only; with `Store` also if a row is
-/// malformed.
+/// Returns all lots, sorted by the id of the trade that opened them, ascending.
 pub fn all_lots<S: Alter>(
     tx: &mut Transaction<'_, S>,
     alloc: Global,
@@ -122,10 +114,9 @@ pub fn all_lots<S: Alter>(
     decode_rows(alloc, &rows)
 }
 
-/// Returns the rows of HOLDING_SUMMARY of an account (its number of shares in each security),
-/// sorted by symbol, ascending. Changes nothing if it succeeds. Fails with `Memory` or `Store`
-/// only; with `Store` also if a row is malformed.
-pub fn holding_summaries_of_account<S: Alter>(
+/// Returns the number of shares of each security that an account holds, sorted by symbol,
+/// ascending.
+pub fn account_summaries<S: Alter>(
     tx: &mut Transaction<'_, S>,
     alloc: Global,
     account: Id,
@@ -137,15 +128,12 @@ pub fn holding_summaries_of_account<S: Alter>(
     let rows = select_rows(
         tx,
         "SELECT HS_CA_ID, HS_S_SYMB, HS_QTY FROM HOLDING_SUMMARY WHERE HS_CA_ID = ?1 ORDER BY HS_CA_ID, HS_S_SYMB",
-        &[id_as_parameter(account)],
+        &[id_param(account)],
     )?;
     decode_rows(alloc, &rows)
 }
 
-/// Returns the row of HOLDING_SUMMARY of an account and a security (its number of shares in total),
-/// or `None` if there is none. Changes nothing if it succeeds. Fails with `Store` only, also if the
-/// row is malformed or memory runs out.
-pub fn holding_summary_by_account_and_symbol<S: Alter>(
+pub fn position_summary<S: Alter>(
     tx: &mut Transaction<'_, S>,
     account: Id,
     symbol: &Symbol,
@@ -157,7 +145,7 @@ pub fn holding_summary_by_account_and_symbol<S: Alter>(
     let rows = select_rows(
         tx,
         "SELECT HS_CA_ID, HS_S_SYMB, HS_QTY FROM HOLDING_SUMMARY WHERE HS_CA_ID = ?1 AND HS_S_SYMB = ?2 ORDER BY HS_CA_ID, HS_S_SYMB",
-        &[id_as_parameter(account), text_as_parameter(symbol.as_str())],
+        &[id_param(account), text_param(symbol.as_str())],
     )?;
     decode_first_row(&rows)
 }

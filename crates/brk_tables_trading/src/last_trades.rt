@@ -9,13 +9,10 @@ use brk_money::Fault;
 use brk_ref::{LastTrade, Symbol};
 use brk_tables_schema::calls::{execute_statement, select_rows};
 use brk_tables_schema::record::decode_first_row;
-use brk_tables_schema::values::{
-    price_as_parameter, stamp_as_parameter, text_as_parameter, volume_as_parameter,
-};
+use brk_tables_schema::values::{price_param, stamp_param, text_param, volume_param};
 use sqlite::{Alter, Transaction};
 
-/// Sets the stamp, the price and the volume of the last trade of a security on the market
-/// (LAST_TRADE). Changes nothing if the security has no last trade. Fails with `Store` only.
+/// Sets the last trade of a security on the market (LAST_TRADE).
 pub fn set_last_trade<S: Alter>(
     tx: &mut Transaction<'_, S>,
     last_trade: &LastTrade,
@@ -28,17 +25,14 @@ pub fn set_last_trade<S: Alter>(
         tx,
         "UPDATE LAST_TRADE SET LT_DTS = ?1, LT_PRICE = ?2, LT_VOL = ?3 WHERE LT_S_SYMB = ?4",
         &[
-            stamp_as_parameter(last_trade.stamp),
-            price_as_parameter(last_trade.price),
-            volume_as_parameter(last_trade.volume),
-            text_as_parameter(last_trade.symbol.as_str()),
+            stamp_param(last_trade.stamp),
+            price_param(last_trade.price),
+            volume_param(last_trade.volume),
+            text_param(last_trade.symbol.as_str()),
         ],
     )
 }
 
-/// Returns the last trade on the market of the security with the symbol `symbol`, or `None` if
-/// there is none. Changes nothing if it succeeds. Fails with `Store` only, also if the row is
-/// malformed or memory runs out.
 pub fn last_trade_by_symbol<S: Alter>(
     tx: &mut Transaction<'_, S>,
     symbol: &Symbol,
@@ -50,7 +44,7 @@ pub fn last_trade_by_symbol<S: Alter>(
     let rows = select_rows(
         tx,
         "SELECT LT_S_SYMB, LT_DTS, LT_PRICE, LT_VOL FROM LAST_TRADE WHERE LT_S_SYMB = ?1 ORDER BY LT_S_SYMB",
-        &[text_as_parameter(symbol.as_str())],
+        &[text_param(symbol.as_str())],
     )?;
     decode_first_row(&rows)
 }

@@ -11,15 +11,11 @@ use brk_money::{Fault, Id, Price, TradeType};
 use brk_ref::{RequestRow, Symbol};
 use brk_tables_schema::calls::{execute_statement, select_rows};
 use brk_tables_schema::record::decode_rows;
-use brk_tables_schema::values::{
-    id_as_parameter, price_as_parameter, quantity_as_parameter, text_as_parameter,
-    trade_type_as_parameter,
-};
+use brk_tables_schema::values::{id_param, price_param, qty_param, text_param, trade_type_param};
 use sqlite::{Alter, Transaction};
 use std::alloc::Global;
 
-/// Inserts the request of a pending trade (TRADE_REQUEST). Fails with `Store` only, also if the
-/// trade has a request, or if the trade, the security or the broker of the request does not exist.
+/// Inserts the request of a pending trade (TRADE_REQUEST).
 pub fn add_request<S: Alter>(tx: &mut Transaction<'_, S>, request: &RequestRow) -> Result<(), Fault>
     ensures same_reference { tx.new.conn.ghost_name ≡ tx.old.conn.ghost_name }
     ensures step { WritesDeskTables S.Store tx.old tx.new result (tables_with_request (abstract_request_row request.now)) }
@@ -29,18 +25,16 @@ pub fn add_request<S: Alter>(tx: &mut Transaction<'_, S>, request: &RequestRow) 
         tx,
         "INSERT INTO TRADE_REQUEST (TR_T_ID, TR_TT_ID, TR_S_SYMB, TR_QTY, TR_BID_PRICE, TR_B_ID) VALUES (?1, ?2, ?3, ?4, ?5, ?6)",
         &[
-            id_as_parameter(request.trade),
-            trade_type_as_parameter(request.kind),
-            text_as_parameter(request.symbol.as_str()),
-            quantity_as_parameter(request.qty),
-            price_as_parameter(request.bid),
-            id_as_parameter(request.broker),
+            id_param(request.trade),
+            trade_type_param(request.kind),
+            text_param(request.symbol.as_str()),
+            qty_param(request.qty),
+            price_param(request.bid),
+            id_param(request.broker),
         ],
     )
 }
 
-/// Deletes the request of a trade. Changes nothing if the trade has no request. Fails with `Store`
-/// only.
 pub fn remove_request<S: Alter>(tx: &mut Transaction<'_, S>, trade: Id) -> Result<(), Fault>
     ensures same_reference { tx.new.conn.ghost_name ≡ tx.old.conn.ghost_name }
     ensures step { WritesDeskTables S.Store tx.old tx.new result (tables_without_request trade) }
@@ -49,14 +43,13 @@ pub fn remove_request<S: Alter>(tx: &mut Transaction<'_, S>, trade: Id) -> Resul
     execute_statement(
         tx,
         "DELETE FROM TRADE_REQUEST WHERE TR_T_ID = ?1",
-        &[id_as_parameter(trade)],
+        &[id_param(trade)],
     )
 }
 
-/// Returns the requests of a symbol and a trade type whose bid is at least `price`, in cents,
-/// sorted by the id of the trade, ascending. Changes nothing if it succeeds. Fails with `Memory` or
-/// `Store` only; with `Store` also if a row is malformed.
-pub fn requests_with_bid_at_least<S: Alter>(
+/// Returns the requests of a symbol and a trade type whose bid is at least `price`, sorted by the
+/// id of the trade, ascending.
+pub fn requests_at_least<S: Alter>(
     tx: &mut Transaction<'_, S>,
     alloc: Global,
     symbol: &Symbol,
@@ -74,18 +67,17 @@ pub fn requests_with_bid_at_least<S: Alter>(
          FROM TRADE_REQUEST \
          WHERE TR_S_SYMB = ?1 AND TR_TT_ID = ?2 AND TR_BID_PRICE >= ?3 ORDER BY TR_T_ID",
         &[
-            text_as_parameter(symbol.as_str()),
-            trade_type_as_parameter(kind),
-            price_as_parameter(price),
+            text_param(symbol.as_str()),
+            trade_type_param(kind),
+            price_param(price),
         ],
     )?;
     decode_rows(alloc, &rows)
 }
 
-/// Returns the requests of a symbol and a trade type whose bid is at most `price`, in cents, sorted
-/// by the id of the trade, ascending. Changes nothing if it succeeds. Fails with `Memory` or
-/// `Store` only; with `Store` also if a row is malformed.
-pub fn requests_with_bid_at_most<S: Alter>(
+/// Returns the requests of a symbol and a trade type whose bid is at most `price`, sorted by the id
+/// of the trade, ascending.
+pub fn requests_at_most<S: Alter>(
     tx: &mut Transaction<'_, S>,
     alloc: Global,
     symbol: &Symbol,
@@ -103,9 +95,9 @@ pub fn requests_with_bid_at_most<S: Alter>(
          FROM TRADE_REQUEST \
          WHERE TR_S_SYMB = ?1 AND TR_TT_ID = ?2 AND TR_BID_PRICE <= ?3 ORDER BY TR_T_ID",
         &[
-            text_as_parameter(symbol.as_str()),
-            trade_type_as_parameter(kind),
-            price_as_parameter(price),
+            text_param(symbol.as_str()),
+            trade_type_param(kind),
+            price_param(price),
         ],
     )?;
     decode_rows(alloc, &rows)

@@ -9,13 +9,10 @@ ghost use Rattle.brk_tables_schema.specs.Statements.{WritesDeskTables};
 use brk_money::Fault;
 use brk_ref::SettlementRow;
 use brk_tables_schema::calls::execute_statement;
-use brk_tables_schema::values::{
-    cash_type_as_parameter, cents_as_parameter, day_as_parameter, id_as_parameter,
-};
+use brk_tables_schema::values::{cash_type_param, cents_param, day_param, id_param};
 use sqlite::{Alter, Transaction};
 
-/// Inserts the settlement of a completed trade (SETTLEMENT): its cash type, due day and amount in
-/// cents. Fails with `Store` only, also if the trade has a settlement, or does not exist.
+/// Inserts the settlement of a completed trade (SETTLEMENT).
 pub fn add_settlement<S: Alter>(
     tx: &mut Transaction<'_, S>,
     settlement: &SettlementRow,
@@ -28,10 +25,10 @@ pub fn add_settlement<S: Alter>(
         tx,
         "INSERT INTO SETTLEMENT (SE_T_ID, SE_CASH_TYPE, SE_CASH_DUE_DATE, SE_AMT) VALUES (?1, ?2, ?3, ?4)",
         &[
-            id_as_parameter(settlement.trade),
-            cash_type_as_parameter(settlement.cash_type),
-            day_as_parameter(settlement.due_day),
-            cents_as_parameter(settlement.amount),
+            id_param(settlement.trade),
+            cash_type_param(settlement.cash_type),
+            day_param(settlement.due_day),
+            cents_param(settlement.amount),
         ],
     )
 }

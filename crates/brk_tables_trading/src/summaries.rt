@@ -10,11 +10,9 @@ ghost use Rattle.brk_tables_schema.specs.Statements.{WritesDeskTables};
 use brk_money::{Fault, Id};
 use brk_ref::{SummaryRow, Symbol};
 use brk_tables_schema::calls::execute_statement;
-use brk_tables_schema::values::{id_as_parameter, integer_as_parameter, text_as_parameter};
+use brk_tables_schema::values::{id_param, integer_param, text_param};
 use sqlite::{Alter, Transaction};
 
-/// Inserts the holding summary of an account in a security. Fails with `Store` only, also if one
-/// exists, or if the account or the security does not exist.
 pub fn add_holding_summary<S: Alter>(
     tx: &mut Transaction<'_, S>,
     summary: &SummaryRow,
@@ -27,16 +25,15 @@ pub fn add_holding_summary<S: Alter>(
         tx,
         "INSERT INTO HOLDING_SUMMARY (HS_CA_ID, HS_S_SYMB, HS_QTY) VALUES (?1, ?2, ?3)",
         &[
-            id_as_parameter(summary.account),
-            text_as_parameter(summary.symbol.as_str()),
-            integer_as_parameter(summary.qty),
+            id_param(summary.account),
+            text_param(summary.symbol.as_str()),
+            integer_param(summary.qty),
         ],
     )
 }
 
-/// Sets the number of shares in the holding summary of an account in a security (HS_QTY), below 0
-/// if they were sold short. Changes nothing if the summary does not exist. Fails with `Store` only.
-pub fn set_holding_summary_quantity<S: Alter>(
+/// Sets the number of shares (HS_QTY), below 0 if they were sold short.
+pub fn set_summary_quantity<S: Alter>(
     tx: &mut Transaction<'_, S>,
     summary: &SummaryRow,
 ) -> Result<(), Fault>
@@ -48,15 +45,13 @@ pub fn set_holding_summary_quantity<S: Alter>(
         tx,
         "UPDATE HOLDING_SUMMARY SET HS_QTY = ?1 WHERE HS_CA_ID = ?2 AND HS_S_SYMB = ?3",
         &[
-            integer_as_parameter(summary.qty),
-            id_as_parameter(summary.account),
-            text_as_parameter(summary.symbol.as_str()),
+            integer_param(summary.qty),
+            id_param(summary.account),
+            text_param(summary.symbol.as_str()),
         ],
     )
 }
 
-/// Deletes the holding summary of an account in a security. Changes nothing if there is none. Fails
-/// with `Store` only.
 pub fn remove_holding_summary<S: Alter>(
     tx: &mut Transaction<'_, S>,
     account: Id,
@@ -69,6 +64,6 @@ pub fn remove_holding_summary<S: Alter>(
     execute_statement(
         tx,
         "DELETE FROM HOLDING_SUMMARY WHERE HS_CA_ID = ?1 AND HS_S_SYMB = ?2",
-        &[id_as_parameter(account), text_as_parameter(symbol.as_str())],
+        &[id_param(account), text_param(symbol.as_str())],
     )
 }

@@ -12,14 +12,13 @@ use brk_money::{Fault, Id};
 use brk_ref::{HistoryRow, TradeRow};
 use brk_tables_schema::calls::select_rows;
 use brk_tables_schema::record::decode_rows;
-use brk_tables_schema::values::id_as_parameter;
+use brk_tables_schema::values::id_param;
 use sqlite::{Alter, Transaction};
 use std::alloc::Global;
 
-/// Returns the ten most recent trades of an account, or all if it has fewer: the first, sorted by
-/// the stamp of their last status change and then by id, both descending. Changes nothing if it
-/// succeeds. Fails with `Memory` or `Store` only; with `Store` also if a row is malformed.
-pub fn last_ten_trades_of_account<S: Alter>(
+/// Returns the ten most recent trades of an account, or all if it has fewer, sorted by the stamp of
+/// their last status change and then by id, both descending.
+pub fn last_ten_trades<S: Alter>(
     tx: &mut Transaction<'_, S>,
     alloc: Global,
     account: Id,
@@ -34,15 +33,14 @@ pub fn last_ten_trades_of_account<S: Alter>(
         "SELECT T_ID, T_DTS, T_ST_ID, T_TT_ID, T_IS_CASH, T_S_SYMB, T_QTY, T_BID_PRICE, T_CA_ID, \
          T_EXEC_NAME, T_TRADE_PRICE, T_CHRG, T_COMM, T_TAX, T_LIFO \
          FROM TRADE WHERE T_CA_ID = ?1 ORDER BY T_DTS DESC, T_ID DESC LIMIT 10",
-        &[id_as_parameter(account)],
+        &[id_param(account)],
     )?;
     decode_rows(alloc, &rows)
 }
 
-/// Returns the fifty most recent trades of an account, or all if it has fewer: the first, sorted by
-/// the stamp of their last status change and then by id, both descending. Changes nothing if it
-/// succeeds. Fails with `Memory` or `Store` only; with `Store` also if a row is malformed.
-pub fn last_fifty_trades_of_account<S: Alter>(
+/// Returns the fifty most recent trades of an account, or all if it has fewer, in the order of
+/// `last_ten_trades`.
+pub fn last_fifty_trades<S: Alter>(
     tx: &mut Transaction<'_, S>,
     alloc: Global,
     account: Id,
@@ -57,14 +55,13 @@ pub fn last_fifty_trades_of_account<S: Alter>(
         "SELECT T_ID, T_DTS, T_ST_ID, T_TT_ID, T_IS_CASH, T_S_SYMB, T_QTY, T_BID_PRICE, T_CA_ID, \
          T_EXEC_NAME, T_TRADE_PRICE, T_CHRG, T_COMM, T_TAX, T_LIFO \
          FROM TRADE WHERE T_CA_ID = ?1 ORDER BY T_DTS DESC, T_ID DESC LIMIT 50",
-        &[id_as_parameter(account)],
+        &[id_param(account)],
     )?;
     decode_rows(alloc, &rows)
 }
 
-/// Returns the rows of TRADE_HISTORY of a trade: each status that it reached, with its stamp,
-/// sorted by the code of the status, ascending. Changes nothing if it succeeds. Fails with `Memory`
-/// or `Store` only; with `Store` also if a row is malformed.
+/// Returns each status that a trade reached, with its stamp, sorted by the code of the status,
+/// ascending.
 pub fn history_of_trade<S: Alter>(
     tx: &mut Transaction<'_, S>,
     alloc: Global,
@@ -77,7 +74,7 @@ pub fn history_of_trade<S: Alter>(
     let rows = select_rows(
         tx,
         "SELECT TH_T_ID, TH_ST_ID, TH_DTS FROM TRADE_HISTORY WHERE TH_T_ID = ?1 ORDER BY TH_T_ID, TH_ST_ID",
-        &[id_as_parameter(trade)],
+        &[id_param(trade)],
     )?;
     decode_rows(alloc, &rows)
 }

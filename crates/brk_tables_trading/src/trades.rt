@@ -13,16 +13,13 @@ use brk_ref::TradeRow;
 use brk_tables_schema::calls::{execute_statement, select_rows};
 use brk_tables_schema::record::{decode_first_row, decode_rows};
 use brk_tables_schema::values::{
-    amount_as_parameter, charge_amount_as_parameter, flag_as_parameter, id_as_parameter,
-    optional_price_as_parameter, price_as_parameter, quantity_as_parameter, stamp_as_parameter,
-    status_as_parameter, text_as_parameter, trade_type_as_parameter,
+    amount_param, charge_param, flag_param, id_param, optional_price_param, price_param, qty_param,
+    stamp_param, status_param, text_param, trade_type_param,
 };
 use brk_trade_rows::Amount;
 use sqlite::{Alter, Transaction};
 use std::alloc::Global;
 
-/// Inserts the row of a trade (TRADE). Fails with `Store` only, also if the id exists, or if the
-/// security or the account of the trade does not exist.
 pub fn add_trade<S: Alter>(tx: &mut Transaction<'_, S>, trade: &TradeRow) -> Result<(), Fault>
     ensures same_reference { tx.new.conn.ghost_name ≡ tx.old.conn.ghost_name }
     ensures step { WritesDeskTables S.Store tx.old tx.new result (tables_with_trade (abstract_trade_row trade.now)) }
@@ -34,28 +31,27 @@ pub fn add_trade<S: Alter>(tx: &mut Transaction<'_, S>, trade: &TradeRow) -> Res
          T_BID_PRICE, T_CA_ID, T_EXEC_NAME, T_TRADE_PRICE, T_CHRG, T_COMM, T_TAX, T_LIFO) \
          VALUES (?1, ?2, ?3, ?4, ?5, ?6, ?7, ?8, ?9, ?10, ?11, ?12, ?13, ?14, ?15)",
         &[
-            id_as_parameter(trade.id),
-            stamp_as_parameter(trade.stamp),
-            status_as_parameter(trade.status),
-            trade_type_as_parameter(trade.kind),
-            flag_as_parameter(trade.is_cash),
-            text_as_parameter(trade.symbol.as_str()),
-            quantity_as_parameter(trade.qty),
-            price_as_parameter(trade.bid),
-            id_as_parameter(trade.account),
-            text_as_parameter(trade.executor.as_str()),
-            optional_price_as_parameter(trade.price),
-            charge_amount_as_parameter(trade.charge),
-            amount_as_parameter(trade.commission),
-            amount_as_parameter(trade.tax),
-            flag_as_parameter(trade.is_lifo),
+            id_param(trade.id),
+            stamp_param(trade.stamp),
+            status_param(trade.status),
+            trade_type_param(trade.kind),
+            flag_param(trade.is_cash),
+            text_param(trade.symbol.as_str()),
+            qty_param(trade.qty),
+            price_param(trade.bid),
+            id_param(trade.account),
+            text_param(trade.executor.as_str()),
+            optional_price_param(trade.price),
+            charge_param(trade.charge),
+            amount_param(trade.commission),
+            amount_param(trade.tax),
+            flag_param(trade.is_lifo),
         ],
     )
 }
 
 /// Sets the status of a trade (T_ST_ID) and the stamp at which the trade reached it (T_DTS).
-/// Inserts no row of TRADE_HISTORY. Changes nothing if the trade does not exist. Fails with `Store`
-/// only.
+/// Inserts no row of TRADE_HISTORY.
 pub fn set_trade_status<S: Alter>(
     tx: &mut Transaction<'_, S>,
     id: Id,
@@ -69,17 +65,12 @@ pub fn set_trade_status<S: Alter>(
     execute_statement(
         tx,
         "UPDATE TRADE SET T_ST_ID = ?1, T_DTS = ?2 WHERE T_ID = ?3",
-        &[
-            status_as_parameter(status),
-            stamp_as_parameter(stamp),
-            id_as_parameter(id),
-        ],
+        &[status_param(status), stamp_param(stamp), id_param(id)],
     )
 }
 
-/// Sets the status of a trade to completed, its stamp to `stamp`, its price per share, and its
-/// commission and tax, all three in cents. Inserts no row of TRADE_HISTORY. Changes nothing if the
-/// trade does not exist. Fails with `Store` only.
+/// Sets the status of a trade to completed, with its stamp, price per share, commission and tax.
+/// Inserts no row of TRADE_HISTORY.
 pub fn complete_trade<S: Alter>(
     tx: &mut Transaction<'_, S>,
     trade: Id,
@@ -96,18 +87,16 @@ pub fn complete_trade<S: Alter>(
         tx,
         "UPDATE TRADE SET T_ST_ID = ?1, T_DTS = ?2, T_TRADE_PRICE = ?3, T_COMM = ?4, T_TAX = ?5 WHERE T_ID = ?6",
         &[
-            status_as_parameter(Status::Completed),
-            stamp_as_parameter(stamp),
-            price_as_parameter(price),
-            amount_as_parameter(commission),
-            amount_as_parameter(tax),
-            id_as_parameter(trade),
+            status_param(Status::Completed),
+            stamp_param(stamp),
+            price_param(price),
+            amount_param(commission),
+            amount_param(tax),
+            id_param(trade),
         ],
     )
 }
 
-/// Returns the trade with the id `id`, or `None` if there is none. Changes nothing if it succeeds.
-/// Fails with `Store` only, also if the row is malformed or memory runs out.
 pub fn trade_by_id<S: Alter>(tx: &mut Transaction<'_, S>, id: Id) -> Result<Option<TradeRow>, Fault>
     ensures same_reference { tx.new.conn.ghost_name ≡ tx.old.conn.ghost_name }
     ensures step { ReadsFirstMatch S.Store tx.old tx.new result Trades abstract_trade_row (λ r. r.id == id) }
@@ -118,13 +107,11 @@ pub fn trade_by_id<S: Alter>(tx: &mut Transaction<'_, S>, id: Id) -> Result<Opti
         "SELECT T_ID, T_DTS, T_ST_ID, T_TT_ID, T_IS_CASH, T_S_SYMB, T_QTY, T_BID_PRICE, T_CA_ID, \
          T_EXEC_NAME, T_TRADE_PRICE, T_CHRG, T_COMM, T_TAX, T_LIFO \
          FROM TRADE WHERE T_ID = ?1 ORDER BY T_ID",
-        &[id_as_parameter(id)],
+        &[id_param(id)],
     )?;
     decode_first_row(&rows)
 }
 
-/// Returns the greatest id of a trade, or `None` if there is no trade. Changes nothing if it
-/// succeeds. Fails with `Store` only, also if the row is malformed or memory runs out.
 pub fn greatest_trade_id<S: Alter>(tx: &mut Transaction<'_, S>) -> Result<Option<Id>, Fault>
     ensures same_reference { tx.new.conn.ghost_name ≡ tx.old.conn.ghost_name }
     ensures step { ReadsDeskTables S.Store tx.old tx.new result (λ o t. o ≡ option_map (λ r. r.id) (slice_get (reverse t.trades) 0)) }
@@ -134,8 +121,7 @@ pub fn greatest_trade_id<S: Alter>(tx: &mut Transaction<'_, S>) -> Result<Option
     decode_first_row(&rows)
 }
 
-/// Returns the trades with the status submitted, sorted by id, ascending. Changes nothing if it
-/// succeeds. Fails with `Memory` or `Store` only; with `Store` also if a row is malformed.
+/// Returns the trades with the status submitted, sorted by id, ascending.
 pub fn submitted_trades<S: Alter>(
     tx: &mut Transaction<'_, S>,
     alloc: Global,
@@ -149,7 +135,7 @@ pub fn submitted_trades<S: Alter>(
         "SELECT T_ID, T_DTS, T_ST_ID, T_TT_ID, T_IS_CASH, T_S_SYMB, T_QTY, T_BID_PRICE, T_CA_ID, \
          T_EXEC_NAME, T_TRADE_PRICE, T_CHRG, T_COMM, T_TAX, T_LIFO \
          FROM TRADE WHERE T_ST_ID = ?1 ORDER BY T_ID",
-        &[status_as_parameter(Status::Submitted)],
+        &[status_param(Status::Submitted)],
     )?;
     decode_rows(alloc, &rows)
 }

@@ -14,17 +14,15 @@ use brk_ref::{CashType, SettlementRow, Symbol, TradeRow};
 use brk_tables_schema::calls::{execute_statement, select_rows};
 use brk_tables_schema::record::{decode_first_row, decode_rows};
 use brk_tables_schema::values::{
-    cash_type_as_parameter, flag_as_parameter, id_as_parameter, stamp_as_parameter,
-    status_as_parameter, text_as_parameter,
+    cash_type_param, flag_param, id_param, stamp_param, status_param, text_param,
 };
 use sqlite::{Alter, Transaction};
 use std::alloc::Global;
 
 /// Returns the first twenty, or all if there are fewer, of the trades of an account that were
-/// completed from the stamp `first` to the stamp `last`, both included, sorted by the stamp of
-/// completion and then by id, ascending. Changes nothing if it succeeds. Fails with `Memory` or
-/// `Store` only; with `Store` also if a row is malformed.
-pub fn first_twenty_completed_trades_of_account<S: Alter>(
+/// completed from `first` to `last`, both included, sorted by the stamp of completion and then by
+/// id, ascending.
+pub fn completed_trades_of_account<S: Alter>(
     tx: &mut Transaction<'_, S>,
     alloc: Global,
     account: Id,
@@ -43,20 +41,19 @@ pub fn first_twenty_completed_trades_of_account<S: Alter>(
          FROM TRADE WHERE T_ST_ID = ?1 AND T_CA_ID = ?2 \
          AND T_DTS >= ?3 AND T_DTS <= ?4 ORDER BY T_DTS, T_ID LIMIT 20",
         &[
-            status_as_parameter(Status::Completed),
-            id_as_parameter(account),
-            stamp_as_parameter(first),
-            stamp_as_parameter(last),
+            status_param(Status::Completed),
+            id_param(account),
+            stamp_param(first),
+            stamp_param(last),
         ],
     )?;
     decode_rows(alloc, &rows)
 }
 
 /// Returns the first twenty, or all if there are fewer, of the cash trades of a symbol that were
-/// completed from the stamp `first` to the stamp `last`, both included, sorted by the stamp of
-/// completion and then by id, ascending. Changes nothing if it succeeds. Fails with `Memory` or
-/// `Store` only; with `Store` also if a row is malformed.
-pub fn first_twenty_completed_cash_trades_of_symbol<S: Alter>(
+/// completed from `first` to `last`, both included, sorted by the stamp of completion and then by
+/// id, ascending.
+pub fn completed_cash_trades_of_symbol<S: Alter>(
     tx: &mut Transaction<'_, S>,
     alloc: Global,
     symbol: &Symbol,
@@ -75,18 +72,16 @@ pub fn first_twenty_completed_cash_trades_of_symbol<S: Alter>(
          FROM TRADE WHERE T_ST_ID = ?1 AND T_IS_CASH = ?2 AND T_S_SYMB = ?3 \
          AND T_DTS >= ?4 AND T_DTS <= ?5 ORDER BY T_DTS, T_ID LIMIT 20",
         &[
-            status_as_parameter(Status::Completed),
-            flag_as_parameter(true),
-            text_as_parameter(symbol.as_str()),
-            stamp_as_parameter(first),
-            stamp_as_parameter(last),
+            status_param(Status::Completed),
+            flag_param(true),
+            text_param(symbol.as_str()),
+            stamp_param(first),
+            stamp_param(last),
         ],
     )?;
     decode_rows(alloc, &rows)
 }
 
-/// Returns the settlement of a trade, or `None` if it has none. Changes nothing if it succeeds.
-/// Fails with `Store` only, also if the row is malformed or memory runs out.
 pub fn settlement_by_trade<S: Alter>(
     tx: &mut Transaction<'_, S>,
     trade: Id,
@@ -98,13 +93,12 @@ pub fn settlement_by_trade<S: Alter>(
     let rows = select_rows(
         tx,
         "SELECT SE_T_ID, SE_CASH_TYPE, SE_CASH_DUE_DATE, SE_AMT FROM SETTLEMENT WHERE SE_T_ID = ?1 ORDER BY SE_T_ID",
-        &[id_as_parameter(trade)],
+        &[id_param(trade)],
     )?;
     decode_first_row(&rows)
 }
 
-/// Sets the name of the executor of a trade (T_EXEC_NAME). Changes nothing if the trade does not
-/// exist. Fails with `Store` only.
+/// Sets the name of the executor of a trade (T_EXEC_NAME).
 pub fn set_executor<S: Alter>(
     tx: &mut Transaction<'_, S>,
     trade: Id,
@@ -117,12 +111,11 @@ pub fn set_executor<S: Alter>(
     execute_statement(
         tx,
         "UPDATE TRADE SET T_EXEC_NAME = ?1 WHERE T_ID = ?2",
-        &[text_as_parameter(executor), id_as_parameter(trade)],
+        &[text_param(executor), id_param(trade)],
     )
 }
 
-/// Sets the cash type in the settlement of a trade (SE_CASH_TYPE). Changes nothing if the trade has
-/// no settlement. Fails with `Store` only.
+/// Sets the cash type in the settlement of a trade (SE_CASH_TYPE).
 pub fn set_cash_type<S: Alter>(
     tx: &mut Transaction<'_, S>,
     trade: Id,
@@ -135,6 +128,6 @@ pub fn set_cash_type<S: Alter>(
     execute_statement(
         tx,
         "UPDATE SETTLEMENT SET SE_CASH_TYPE = ?1 WHERE SE_T_ID = ?2",
-        &[cash_type_as_parameter(cash_type), id_as_parameter(trade)],
+        &[cash_type_param(cash_type), id_param(trade)],
     )
 }

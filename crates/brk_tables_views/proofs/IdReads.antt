@@ -1,4 +1,4 @@
--- What the statements that read ids alone tell of the tables.
+-- The results of the reads of ids alone.
 use Rattle.std.proofs.Common.{◌≡◌, ◌∙◌, ℕ, List, [], ◌∷◌, Bool, ◌&&◌, ◌==◌, map, filter, refl, sym, ap}
 use Rattle.std.specs.Prelude.{bytes_eq}
 use Rattle.sqlite_value.specs.declared.value.Value.TheVariants.{Text as Words}

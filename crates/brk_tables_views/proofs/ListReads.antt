@@ -1,4 +1,4 @@
--- What the statements that read changes of lots, brokers and requests tell of the tables.
+-- The results of the reads of lot changes, brokers and requests.
 use Rattle.std.proofs.Common.{◌≡◌, ◌∙◌, ℕ, List, [], ◌∷◌, true, map, filter, ◌==◌, refl, ap}
 use Rattle.std.specs.Prelude.{bytes_eq}
 use Rattle.sqlite_value.specs.declared.value.Value.TheVariants.{Text as Words}

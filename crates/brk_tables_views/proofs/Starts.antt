@@ -1,5 +1,4 @@
--- Rows that were given first are those of a whole answer, so what is told of answers is told of
--- them.
+-- The first rows of a walk begin a whole result, so that a property of each result holds for them.
 use Rattle.std.proofs.Common.{ℕ, List, [], ◌++◌, map, refl, sym, subst, ◌∙◌, IsTrue}
 use Rattle.sqlite_value.specs.Order.{Row}
 use Rattle.sqlite_sql.specs.Term.{Term}

@@ -1,4 +1,4 @@
--- What the statement of a walk over cash rows tells of the tables.
+-- The result of the statement of a walk over cash rows.
 use Rattle.std.proofs.Common.{◌≡◌, ℕ, List, [], ◌∷◌, ◌++◌, IsTrue, map, filter, refl, sym, ap, ◌∙◌}
 use Rattle.sqlite_value.specs.Order.{Row, value_cmp}
 use Rattle.sqlite.specs.State.{State, Shown, Begins}

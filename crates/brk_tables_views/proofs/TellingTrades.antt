@@ -1,4 +1,4 @@
--- What the statement of a walk over completed trades tells of the tables.
+-- The result of the statement of a walk over completed trades.
 use Rattle.std.proofs.Common.{◌≡◌, ◌∙◌, List, [], ◌∷◌, ◌++◌, IsTrue, map, filter, refl, sym, ap}
 use Rattle.std.specs.Prelude.{bytes_eq}
 use Rattle.sqlite_value.specs.declared.value.Value.TheVariants.{Text as Words}

@@ -1,4 +1,4 @@
--- What was given, said of the database as it was before the walk.
+-- The rows that a walk read are rows of the database before the walk.
 use Rattle.std.proofs.Common.{◌≡◌, ◌⊎◌, ℕ, List, [], ◌∷◌, ◌++◌, Result, Ok, Err, Option, Some, None, IsSome, map, refl, sym, ap, subst, ◌∙◌, inl, inr}
 use Rattle.std.specs.List.{FoldsTo}
 use Rattle.sqlite_value.specs.Order.{Row}

@@ -1,4 +1,4 @@
--- From the rows of an answer to the records of the tables.
+-- The records of the tables, from the rows of a result.
 use Rattle.std.proofs.Common.{◌≡◌, ◌⊎◌, ℕ, List, [], ◌∷◌, ◌++◌, map, Result, Ok, Err, OnOk, IfErr, IsTrue, refl, sym, ap, ◌∙◌, inl, inr}
 use Rattle.sqlite_value.specs.Order.{Row}
 use Rattle.sqlite_trees.specs.declared.store.Store.{Ghosts}

@@ -11,12 +11,11 @@ use brk_money::{Fault, Id};
 use brk_ref::{BrokerRow, Name, RequestRow};
 use brk_tables_schema::calls::select_rows;
 use brk_tables_schema::record::decode_rows;
-use brk_tables_schema::values::{id_as_parameter, text_as_parameter};
+use brk_tables_schema::values::{id_param, text_param};
 use sqlite::{Alter, Transaction};
 use std::alloc::Global;
 
-/// Returns the brokers with the name `name`, sorted by id, ascending. Changes nothing if it
-/// succeeds. Fails with `Memory` or `Store` only; with `Store` also if a row is malformed.
+/// Returns the brokers with the name `name`, sorted by id, ascending.
 pub fn brokers_with_name<S: Alter>(
     tx: &mut Transaction<'_, S>,
     alloc: Global,
@@ -29,14 +28,12 @@ pub fn brokers_with_name<S: Alter>(
     let rows = select_rows(
         tx,
         "SELECT B_ID, B_NAME, B_NUM_TRADES, B_COMM_TOTAL FROM BROKER WHERE B_NAME = ?1 ORDER BY B_ID",
-        &[text_as_parameter(name.as_str())],
+        &[text_param(name.as_str())],
     )?;
     decode_rows(alloc, &rows)
 }
 
-/// Returns all requests of pending trades (TRADE_REQUEST), sorted by the id of the trade,
-/// ascending. Changes nothing if it succeeds. Fails with `Memory` or `Store` only; with `Store`
-/// also if a row is malformed.
+/// Returns all requests of pending trades, sorted by the id of the trade, ascending.
 pub fn all_requests<S: Alter>(
     tx: &mut Transaction<'_, S>,
     alloc: Global,
@@ -53,8 +50,7 @@ pub fn all_requests<S: Alter>(
     decode_rows(alloc, &rows)
 }
 
-/// Returns the ids of the accounts of a broker, ascending. Changes nothing if it succeeds. Fails
-/// with `Memory` or `Store` only; with `Store` also if a row is malformed.
+/// Returns the ids of the accounts of a broker, ascending.
 pub fn account_ids_of_broker<S: Alter>(
     tx: &mut Transaction<'_, S>,
     alloc: Global,
@@ -67,7 +63,7 @@ pub fn account_ids_of_broker<S: Alter>(
     let rows = select_rows(
         tx,
         "SELECT CA_ID FROM CUSTOMER_ACCOUNT WHERE CA_B_ID = ?1 ORDER BY CA_ID",
-        &[id_as_parameter(broker)],
+        &[id_param(broker)],
     )?;
     decode_rows(alloc, &rows)
 }

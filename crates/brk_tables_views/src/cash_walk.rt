@@ -9,23 +9,12 @@ use crate::visitor::Visitor;
 use crate::walking::{WalkError, walk_query_rows};
 use brk_money::{Id, Stamp};
 use brk_ref::CashRow;
-use brk_tables_schema::values::{id_as_parameter, stamp_as_parameter};
+use brk_tables_schema::values::{id_param, stamp_param};
 use sqlite::{Alter, Connection};
 
 /// Passes the cash rows of an account with stamps from `from` to `to`, both included, to the
 /// visitor, sorted by stamp and then by number, ascending.
-///
-/// Stops at the first error and returns it: `Failed` with `Memory`, or with `Store`, also if a row
-/// is malformed, or `Cause` with the visitor's error. The visitor has then taken a prefix of the
-/// rows, possibly none. Returns `Ok` only after the last row. The rows that the visitor takes are
-/// specified only under the disk assumption (every read so far returned what was written), and only
-/// if the database contains all tables of a desk in schema 3.
-///
-/// Requires that `conn` is in no transaction and that the visitor is ready to take records; both
-/// hold also after the walk. Under the disk assumption a database that is open after the walk was
-/// open before it and is unchanged, and a crash after the walk exposes only states that a crash
-/// before it could expose.
-pub fn walk_cash_rows_of_account<S: Alter, E, V: Visitor<CashRow, E>>(
+pub fn walk_account_cash_rows<S: Alter, E, V: Visitor<CashRow, E>>(
     conn: &mut Connection<S>,
     account: Id,
     from: Stamp,
@@ -52,11 +41,7 @@ pub fn walk_cash_rows_of_account<S: Alter, E, V: Visitor<CashRow, E>>(
     walk_query_rows::<S, CashRow, E, V>(
         conn,
         "SELECT CM_ID, CM_CA_ID, CM_T_ID, CM_DTS, CM_AMT, CM_NAME FROM CASH_MOVE WHERE CM_CA_ID = ?1 AND CM_DTS >= ?2 AND CM_DTS <= ?3 ORDER BY CM_DTS, CM_ID",
-        &[
-            id_as_parameter(account),
-            stamp_as_parameter(from),
-            stamp_as_parameter(to),
-        ],
+        &[id_param(account), stamp_param(from), stamp_param(to)],
         visitor,
     )
 }

@@ -11,14 +11,13 @@ use brk_money::{Fault, Id, Status};
 use brk_ref::Symbol;
 use brk_tables_schema::calls::select_rows;
 use brk_tables_schema::record::decode_rows;
-use brk_tables_schema::values::{id_as_parameter, status_as_parameter, text_as_parameter};
+use brk_tables_schema::values::{id_param, status_param, text_param};
 use sqlite::{Alter, Transaction};
 use std::alloc::Global;
 
 /// Returns the ids of the completed trades of an account in a security, sorted by the stamp of
-/// completion and then by id, both ascending. Changes nothing if it succeeds. Fails with `Memory`
-/// or `Store` only; with `Store` also if a row is malformed.
-pub fn completed_trade_ids_of_position<S: Alter>(
+/// completion and then by id, both ascending.
+pub fn completed_trade_ids<S: Alter>(
     tx: &mut Transaction<'_, S>,
     alloc: Global,
     account: Id,
@@ -35,9 +34,9 @@ pub fn completed_trade_ids_of_position<S: Alter>(
         tx,
         "SELECT T_ID FROM TRADE WHERE T_CA_ID = ?1 AND T_S_SYMB = ?2 AND T_ST_ID = ?3 ORDER BY T_DTS, T_ID",
         &[
-            id_as_parameter(account),
-            text_as_parameter(symbol.as_str()),
-            status_as_parameter(Status::Completed),
+            id_param(account),
+            text_param(symbol.as_str()),
+            status_param(Status::Completed),
         ],
     )?;
     decode_rows(alloc, &rows)

@@ -10,13 +10,12 @@ use brk_money::{Fault, Id};
 use brk_ref::LotChange;
 use brk_tables_schema::calls::select_rows;
 use brk_tables_schema::record::decode_rows;
-use brk_tables_schema::values::id_as_parameter;
+use brk_tables_schema::values::id_param;
 use sqlite::{Alter, Transaction};
 use std::alloc::Global;
 
 /// Returns all changes that a trade made to lots, sorted by the id of the trade that opened the
-/// lot, ascending. Changes nothing if it succeeds. Fails with `Memory` or `Store` only; with
-/// `Store` also if a row is malformed.
+/// lot, ascending.
 pub fn lot_changes_by_trade<S: Alter>(
     tx: &mut Transaction<'_, S>,
     alloc: Global,
@@ -29,14 +28,13 @@ pub fn lot_changes_by_trade<S: Alter>(
     let rows = select_rows(
         tx,
         "SELECT HH_H_T_ID, HH_T_ID, HH_BEFORE_QTY, HH_AFTER_QTY FROM HOLDING_HISTORY WHERE HH_T_ID = ?1 ORDER BY HH_H_T_ID, HH_T_ID",
-        &[id_as_parameter(trade)],
+        &[id_param(trade)],
     )?;
     decode_rows(alloc, &rows)
 }
 
 /// Returns all changes of the lot that the trade `lot` opened, sorted by the id of the trade that
-/// made the change, ascending. Changes nothing if it succeeds. Fails with `Memory` or `Store` only;
-/// with `Store` also if a row is malformed.
+/// made the change, ascending.
 pub fn lot_changes_of_lot<S: Alter>(
     tx: &mut Transaction<'_, S>,
     alloc: Global,
@@ -49,7 +47,7 @@ pub fn lot_changes_of_lot<S: Alter>(
     let rows = select_rows(
         tx,
         "SELECT HH_H_T_ID, HH_T_ID, HH_BEFORE_QTY, HH_AFTER_QTY FROM HOLDING_HISTORY WHERE HH_H_T_ID = ?1 ORDER BY HH_H_T_ID, HH_T_ID",
-        &[id_as_parameter(lot)],
+        &[id_param(lot)],
     )?;
     decode_rows(alloc, &rows)
 }

@@ -9,22 +9,11 @@ use crate::visitor::Visitor;
 use crate::walking::{WalkError, walk_query_rows};
 use brk_money::Id;
 use brk_ref::HoldingRow;
-use brk_tables_schema::values::id_as_parameter;
+use brk_tables_schema::values::id_param;
 use sqlite::{Alter, Connection};
 
 /// Passes the lots of an account to the visitor, sorted by symbol, then by the stamp of their
 /// opening, then by the id of the trade that opened them, all ascending.
-///
-/// Stops at the first error and returns it: `Failed` with `Memory`, or with `Store`, also if a row
-/// is malformed, or `Cause` with the visitor's error. The visitor has then taken a prefix of the
-/// lots, possibly none. Returns `Ok` only after the last lot. The lots that the visitor takes are
-/// specified only under the disk assumption (every read so far returned what was written), and only
-/// if the database contains all tables of a desk in schema 3.
-///
-/// Requires that `conn` is in no transaction and that the visitor is ready to take records; both
-/// hold also after the walk. Under the disk assumption a database that is open after the walk was
-/// open before it and is unchanged, and a crash after the walk exposes only states that a crash
-/// before it could expose.
 pub fn walk_lots<S: Alter, E, V: Visitor<HoldingRow, E>>(
     conn: &mut Connection<S>,
     account: Id,
@@ -50,7 +39,7 @@ pub fn walk_lots<S: Alter, E, V: Visitor<HoldingRow, E>>(
     walk_query_rows::<S, HoldingRow, E, V>(
         conn,
         "SELECT H_T_ID, H_CA_ID, H_S_SYMB, H_DTS, H_PRICE, H_QTY FROM HOLDING WHERE H_CA_ID = ?1 ORDER BY H_S_SYMB, H_DTS, H_T_ID",
-        &[id_as_parameter(account)],
+        &[id_param(account)],
         visitor,
     )
 }

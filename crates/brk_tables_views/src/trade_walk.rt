@@ -9,22 +9,11 @@ use crate::visitor::Visitor;
 use crate::walking::{WalkError, walk_query_rows};
 use brk_money::Status;
 use brk_ref::TradeRow;
-use brk_tables_schema::values::status_as_parameter;
+use brk_tables_schema::values::status_param;
 use sqlite::{Alter, Connection};
 
 /// Passes the completed trades of all accounts to the visitor, sorted by the stamp of completion
 /// and then by id, both ascending.
-///
-/// Stops at the first error and returns it: `Failed` with `Memory`, or with `Store`, also if a row
-/// is malformed, or `Cause` with the visitor's error. The visitor has then taken a prefix of the
-/// trades, possibly none. Returns `Ok` only after the last trade. The trades that the visitor takes
-/// are specified only under the disk assumption (every read so far returned what was written), and
-/// only if the database contains all tables of a desk in schema 3.
-///
-/// Requires that `conn` is in no transaction and that the visitor is ready to take records; both
-/// hold also after the walk. Under the disk assumption a database that is open after the walk was
-/// open before it and is unchanged, and a crash after the walk exposes only states that a crash
-/// before it could expose.
 pub fn walk_completed_trades<S: Alter, E, V: Visitor<TradeRow, E>>(
     conn: &mut Connection<S>,
     visitor: &mut V,
@@ -51,7 +40,7 @@ pub fn walk_completed_trades<S: Alter, E, V: Visitor<TradeRow, E>>(
         "SELECT T_ID, T_DTS, T_ST_ID, T_TT_ID, T_IS_CASH, T_S_SYMB, T_QTY, T_BID_PRICE, T_CA_ID, \
          T_EXEC_NAME, T_TRADE_PRICE, T_CHRG, T_COMM, T_TAX, T_LIFO \
          FROM TRADE WHERE T_ST_ID = ?1 ORDER BY T_DTS, T_ID",
-        &[status_as_parameter(Status::Completed)],
+        &[status_param(Status::Completed)],
         visitor,
     )
 }

@@ -1,4 +1,5 @@
-//! Reads of trades of any status, sorted by the stamp of their last status change and then by id.
+//! Reads of trades of any status, sorted by the stamp of their last status change and then by id,
+//! both ascending.
 
 ghost use Rattle.std.specs.Prelude.{◌≡◌, ◌==◌, ◌&&◌, Err, IfErr, OnErr, bytes_eq, filter, map, nat_le, option_map, option_to_list, take};
 ghost use Rattle.brk_money.specs.declared.fault.Fault.TheVariants.{Store};
@@ -12,15 +13,13 @@ use brk_money::{Fault, Id, Stamp};
 use brk_ref::{Symbol, TradeRow};
 use brk_tables_schema::calls::select_rows;
 use brk_tables_schema::record::{decode_first_row, decode_rows};
-use brk_tables_schema::values::{id_as_parameter, stamp_as_parameter, text_as_parameter};
+use brk_tables_schema::values::{id_param, stamp_param, text_param};
 use sqlite::{Alter, Transaction};
 use std::alloc::Global;
 
-/// Returns the first twenty, or all if there are fewer, of the trades of an account whose last
-/// status change has a stamp from `first` to `last`, both included, sorted by this stamp and then
-/// by id, ascending. Changes nothing if it succeeds. Fails with `Memory` or `Store` only; with
-/// `Store` also if a row is malformed.
-pub fn first_twenty_trades_of_account<S: Alter>(
+/// Returns the first twenty, or all if there are fewer, of the trades of an account with a stamp
+/// from `first` to `last`, both included.
+pub fn twenty_trades_of_account<S: Alter>(
     tx: &mut Transaction<'_, S>,
     alloc: Global,
     account: Id,
@@ -38,20 +37,14 @@ pub fn first_twenty_trades_of_account<S: Alter>(
          T_EXEC_NAME, T_TRADE_PRICE, T_CHRG, T_COMM, T_TAX, T_LIFO \
          FROM TRADE \
          WHERE T_CA_ID = ?1 AND T_DTS >= ?2 AND T_DTS <= ?3 ORDER BY T_DTS, T_ID LIMIT 20",
-        &[
-            id_as_parameter(account),
-            stamp_as_parameter(first),
-            stamp_as_parameter(last),
-        ],
+        &[id_param(account), stamp_param(first), stamp_param(last)],
     )?;
     decode_rows(alloc, &rows)
 }
 
-/// Returns the first twenty, or all if there are fewer, of the trades in a security whose last
-/// status change has a stamp from `first` to `last`, both included, sorted by this stamp and then
-/// by id, ascending. Changes nothing if it succeeds. Fails with `Memory` or `Store` only; with
-/// `Store` also if a row is malformed.
-pub fn first_twenty_trades_of_symbol<S: Alter>(
+/// Returns the first twenty, or all if there are fewer, of the trades in a security with a stamp
+/// from `first` to `last`, both included.
+pub fn twenty_trades_of_symbol<S: Alter>(
     tx: &mut Transaction<'_, S>,
     alloc: Global,
     symbol: &Symbol,
@@ -70,19 +63,17 @@ pub fn first_twenty_trades_of_symbol<S: Alter>(
          FROM TRADE \
          WHERE T_S_SYMB = ?1 AND T_DTS >= ?2 AND T_DTS <= ?3 ORDER BY T_DTS, T_ID LIMIT 20",
         &[
-            text_as_parameter(symbol.as_str()),
-            stamp_as_parameter(first),
-            stamp_as_parameter(last),
+            text_param(symbol.as_str()),
+            stamp_param(first),
+            stamp_param(last),
         ],
     )?;
     decode_rows(alloc, &rows)
 }
 
-/// Returns the first, sorted by the stamp of the last status change and then by id, ascending, of
-/// the trades of an account for which this stamp is at least `first`, or `None` if there is none.
-/// Changes nothing if it succeeds. Fails with `Store` only, also if the row is malformed or memory
-/// runs out.
-pub fn first_trade_of_account_from_stamp<S: Alter>(
+/// Returns the first of the trades of an account with a stamp of at least `first`, or `None` if
+/// there is none.
+pub fn first_trade_since<S: Alter>(
     tx: &mut Transaction<'_, S>,
     account: Id,
     first: Stamp,
@@ -97,7 +88,7 @@ pub fn first_trade_of_account_from_stamp<S: Alter>(
         "SELECT T_ID, T_DTS, T_ST_ID, T_TT_ID, T_IS_CASH, T_S_SYMB, T_QTY, T_BID_PRICE, T_CA_ID, \
          T_EXEC_NAME, T_TRADE_PRICE, T_CHRG, T_COMM, T_TAX, T_LIFO \
          FROM TRADE WHERE T_CA_ID = ?1 AND T_DTS >= ?2 ORDER BY T_DTS, T_ID LIMIT 1",
-        &[id_as_parameter(account), stamp_as_parameter(first)],
+        &[id_param(account), stamp_param(first)],
     )?;
     decode_first_row(&rows)
 }

@@ -17,9 +17,8 @@ pub trait Visitor<R, E> {
     /// visitor after it.
     ghost stops: { Self → R → E → Self → Type 0 };
 
-    /// Passes a record to the visitor. Returns `Ok` if the visitor takes the record, and otherwise
-    /// the error with which the visitor stops the walk. Requires that the visitor is ready
-    /// (`ready`); it is ready also after the call, at an error too.
+    /// Passes a record to the visitor. Returns `Ok` if the visitor takes it, and otherwise the
+    /// error with which the visitor stops the walk.
     fn visit(&mut self, item: &R) -> Result<(), E>
         requires ready { ready self.old }
         ensures ready { ready self.new }

@@ -21,8 +21,6 @@ pub enum WalkError<E> {
     Cause(E),
 }
 
-// Decodes the record in a row of a query. Fails with `Memory` if memory runs out, or with `Store`
-// if the row is malformed, and with no other fault.
 fn decode_record<R: Record>(row: &Row) -> Result<R, Fault>
     ensures value { IfOk result (λ r. R.cells r ≡ row.now) }
     ensures fault { IfErr result IsCallFault }
@@ -34,19 +32,13 @@ fn decode_record<R: Record>(row: &Row) -> Result<R, Fault>
     }
 }
 
-/// Passes the records in the rows of the query `sql` with the parameters `params` to the visitor,
-/// in the order of the query's result, until all are passed or an error occurs. Fails with `Failed`
-/// and the fault `Memory` or `Store`, or with `Cause` and the visitor's error. The fault is `Store`
-/// also if a row is malformed, if the `sqlite` crate runs out of memory, or if no end of the result
-/// is found after 2^64 - 1 rows. Under the disk assumption (every read so far returned what was
-/// written) the visitor has taken all records at `Ok`, and at an error a prefix of them, possibly
-/// none.
+/// Passes the records in the rows of the query `sql` to the visitor, in the order of the query's
+/// result, until all are passed or an error occurs. Fails with `Failed` and the fault `Memory` or
+/// `Store`, or with `Cause` and the visitor's error.
 ///
-/// Requires that the query `sql` has no RETURNING clause and that the visitor is ready to take
-/// records; the visitor is ready also after the walk. If `conn` was in no transaction, it is in
-/// none after the walk. Under the disk assumption the database was open and is unchanged at `Ok`;
-/// at an error it is unchanged or an open transaction is rolled back. Under this assumption a crash
-/// after the walk, at `Ok` or an error, exposes only states that a crash before it could expose.
+/// The fault is `Store` also if no end of the result is found after 2^64 - 1 rows. The clauses on
+/// the visitor's records hold under the disk assumption (every read so far returned what was
+/// written).
 pub fn walk_query_rows<S: Alter, R: Record, E, V: Visitor<R, E>>(
     conn: &mut Connection<S>,
     sql: &str,

@@ -10,7 +10,7 @@ use crate::records::{
 use crate::replay::{Piece, append_escaped_output_lines, append_output_line};
 use crate::tests::execute_test_command;
 use brk_desk::Desk;
-use brk_explain::{parse_explain_request, write_explanation};
+use brk_explain::{parse_explain, write_explanation};
 use brk_http::serve_stream;
 use brk_import::{Clock, FaultKind, run_batch};
 use brk_money::{Fault, Refusal, Stamp, parse_day};
@@ -203,7 +203,7 @@ fn execute_statement_command(
     }
 }
 
-// Writes the explanation that `words`, split at each space, requests (`parse_explain_request`).
+// Writes the explanation that `words`, split at each space, requests (`parse_explain`).
 // Appends the lines that were written and, if the explanation failed, `no` and the number of its
 // refusal, or `! fault`. If `words` requests no explanation, appends only `no 18` (`BadText`). If
 // memory runs out while `words` is parsed, appends only `! fault`. Fails only if memory runs out.
@@ -217,7 +217,7 @@ fn execute_explain_command(
     for word in words.split(' ') {
         asked.push(word.as_bytes())?;
     }
-    let what = match parse_explain_request(alloc, &asked) {
+    let what = match parse_explain(alloc, &asked) {
         Ok(Ok(what)) => what,
         Ok(Err(refusal)) => return append_refusal_line(out, refusal),
         Err(_) => return append_output_line(out, "! fault"),

@@ -114,7 +114,7 @@ pub fn execute_print_command(
     let (form, view) = words.split_once(' ').unwrap_or((words, ""));
     let arguments = bytes_of_input_lines(alloc, pieces)?;
     let mut printed = Vec::new(alloc);
-    let ended = brk_ask::parse_query_and_write_view(
+    let ended = brk_ask::write_asked(
         alloc,
         desk,
         view,

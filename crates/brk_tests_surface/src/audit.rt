@@ -6,8 +6,6 @@ use brk_trade_rows::Schema;
 use std::alloc::Global;
 use std::test::Fail;
 
-// Returns the rows of a desk that has one broker, with this number of completed trades, and no
-// other rows. Fails only if memory runs out.
 fn rows_of_one_broker(alloc: Global, trades: i64) -> Result<Sheets, Fail> {
     let row = BrokerRow {
         broker: check_broker(alloc, &[b"1", b"Bo"])??,
@@ -15,6 +13,7 @@ fn rows_of_one_broker(alloc: Global, trades: i64) -> Result<Sheets, Fail> {
         commissions: 0,
     };
     Ok(Sheets {
+        schema: Schema::Third,
         last: None,
         kept: Vec::new(alloc),
         brokers: vec![in alloc; row]?,
@@ -45,10 +44,7 @@ fn rows_of_one_broker(alloc: Global, trades: i64) -> Result<Sheets, Fail> {
 /// memory runs out.
 pub fn surface_of_brk_audit(alloc: Global) -> Result<(), Fail> {
     let sheets = rows_of_one_broker(alloc, 0)?;
-    expect_equal(audit_rows(alloc, Schema::Third, &sheets)?, None)?;
+    expect_equal(audit_rows(alloc, &sheets)?, None)?;
     let sheets = rows_of_one_broker(alloc, 1)?;
-    expect_equal(
-        audit_rows(alloc, Schema::Third, &sheets)?,
-        Some(Condition::Count),
-    )
+    expect_equal(audit_rows(alloc, &sheets)?, Some(Condition::Count))
 }

@@ -1,6 +1,8 @@
 use crate::sockets::{connect_peer_and_send, expect_peer_replies};
+use brk_cli_exit::Ending;
+use brk_cli_jobs::serve_on;
 use brk_desk::Desk;
-use brk_http::{FaultKind, ListenFault, ServeFault, serve_on, serve_stream};
+use brk_http::{FaultKind, ServeFault, serve_stream};
 use brk_tests::desks::desk_with_reference_data;
 use brk_tests::faulty::Failing;
 use brk_tests::{Still, expect, open_in_memory};
@@ -22,7 +24,6 @@ const REPLY: &str =
 const REPEATED: &str =
     "HTTP/1.1 200 OK\r\nContent-Type: application/json\r\nContent-Length: 27\r\n\r\n{\"again\":[\"1709251200016\"]}";
 
-// Serves a stream on a desk, and appends the replies to `out`. Returns their number, or the fault.
 fn serve_reader<R: Read + Drop, S: Alter>(
     alloc: Global,
     reader: R,
@@ -33,8 +34,7 @@ fn serve_reader<R: Read + Drop, S: Alter>(
     serve_stream(alloc, reader, out, &mut clock, desk)
 }
 
-// Checks that the request has its reply on a desk, and that a stream whose reader fails after it is
-// a fault after one reply. Fails if not.
+// The second stream's reader fails after the request.
 fn expect_streams<S: Alter>(alloc: Global, desk: &mut Desk<S>) -> Result<(), Fail> {
     let mut out = Vec::new(alloc);
     let served = serve_reader(alloc, REQUEST.as_bytes(), &mut out, desk);
@@ -55,29 +55,23 @@ fn expect_streams<S: Alter>(alloc: Global, desk: &mut Desk<S>) -> Result<(), Fai
     )
 }
 
-// Serves one stream of a listener on a desk. Fails with the fault of the listener.
 fn serve_one_stream<S: Alter>(
     alloc: Global,
-    listener: &mut TcpListener,
+    listener: &TcpListener,
     desk: &mut Desk<S>,
-) -> Result<(), ListenFault> {
+) -> Result<(), Ending> {
     serve_on(alloc, listener, 1, &mut Still::at_first_timestamp(), desk)
 }
 
-// Checks that the request, sent by a peer to a listener, has the reply of a repeated request. Fails
-// if not, if a socket of this machine cannot be used, and if memory runs out.
 fn expect_served_peer<S: Alter>(rt: &HostRuntime, desk: &mut Desk<S>) -> Result<(), Fail> {
-    let mut listener = TcpListener::bind(rt, ("127.0.0.1", 0))?;
+    let listener = TcpListener::bind(rt, ("127.0.0.1", 0))?;
     let peer = connect_peer_and_send(rt, &listener, REQUEST, true)?;
     let waiting = vec![in rt.alloc(); (peer, REPEATED)]?;
-    let served = serve_one_stream(rt.alloc(), &mut listener, desk);
-    expect(served == Ok(()), "a stream that is not served")?;
+    let served = serve_one_stream(rt.alloc(), &listener, desk);
+    expect(served.is_ok(), "a stream that is not served")?;
     expect_peer_replies(rt.alloc(), waiting)
 }
 
-// Checks the streams of a new desk in the database of a connection. Fails if a reply differs,
-// without a connection, if the desk cannot be set up, if a socket of this machine cannot be used,
-// and if memory runs out.
 fn expect_streams_on_new_desk<S: Alter + Drop>(
     rt: &HostRuntime,
     conn: Option<Connection<S>>,
@@ -87,9 +81,9 @@ fn expect_streams_on_new_desk<S: Alter + Drop>(
     expect_served_peer(rt, &mut desk)
 }
 
-/// Checks the public names of brk_http: a stream that completes, one whose reader fails, and one
-/// over a socket of this machine. Fails if a reply differs, if a socket cannot be used, and if
-/// memory runs out.
+/// Checks the public names of brk_http, and `serve_on` of brk_cli_jobs: a stream that completes,
+/// one whose reader fails, and one over a socket of this machine. Fails if a reply differs, if a
+/// socket cannot be used, and if memory runs out.
 pub fn surface_of_brk_http(rt: &HostRuntime) -> Result<(), Fail> {
     expect_streams_on_new_desk(rt, open_in_memory(rt.alloc()))
 }

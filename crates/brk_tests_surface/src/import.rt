@@ -1,6 +1,9 @@
 use brk_desk::Desk;
 use brk_import::{BatchFault, Clock, Counts, FaultKind, run_batch};
+use brk_money::Stamp;
+use brk_tests::worked::FIRST_MOMENT;
 use brk_tests::{Still, expect, new_desk, open_in_memory};
+use brk_tests_unit::expect::expect_equal;
 use sqlite::{Alter, Connection};
 use std::alloc::Global;
 use std::test::Fail;
@@ -26,8 +29,16 @@ const CUT: &[u8] = b"batch,C\nbroker,2,Cy\nbroker,3\nbroker,4,D";
 // The lines of this batch after the other one.
 const CUT_LINES: &[u8] = b"1,ok,1709251200003\n2,no,18\n3,no,18\n";
 
-// Checks that a batch has the result `wanted` on a desk at the readings of a clock, and writes
-// exactly the lines `lines`. Fails if not.
+fn reading_of_clock<C: Clock>(clock: &mut C) -> Stamp {
+    clock.now()
+}
+
+fn expect_reading_of_clock() -> Result<(), Fail> {
+    let mut clock = Still::at_first_timestamp();
+    let reading = reading_of_clock(&mut clock);
+    expect_equal(reading, Stamp::nearest(FIRST_MOMENT))
+}
+
 fn expect_batch<C: Clock, S: Alter>(
     alloc: Global,
     desk: &mut Desk<S>,
@@ -44,8 +55,6 @@ fn expect_batch<C: Clock, S: Alter>(
     )
 }
 
-// Checks the two batches on a new desk in the database of a connection. Fails if a result differs,
-// without a connection, and if the desk cannot be created.
 fn expect_batches_on_new_desk<S: Alter + Drop>(
     alloc: Global,
     conn: Option<Connection<S>>,
@@ -66,8 +75,9 @@ fn expect_batches_on_new_desk<S: Alter + Drop>(
     expect_batch(alloc, &mut desk, &mut clock, (CUT, CUT_LINES), Err(fault))
 }
 
-/// Checks the public names of brk_import: a batch that completes, and one that is cut. Fails if a
-/// result differs, and if memory runs out.
+/// Checks the public names of brk_import: a reading of a clock, a batch that completes, and one that
+/// is cut. Fails if a result differs, and if memory runs out.
 pub fn surface_of_brk_import(alloc: Global) -> Result<(), Fail> {
+    expect_reading_of_clock()?;
     expect_batches_on_new_desk(alloc, open_in_memory(alloc))
 }

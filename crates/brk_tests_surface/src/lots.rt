@@ -5,13 +5,10 @@ use brk_tests_unit::lots::{deal_from_numbers, lot_from_row, position_of_two_lots
 use std::alloc::Global;
 use std::test::Fail;
 
-// Returns the next lot of a source, or `None` after the last one. Fails with a fault of the source.
 fn next_lot<L: LotSource>(source: &mut L) -> Result<Option<Lot>, Fault> {
     source.next()
 }
 
-// Checks that the ends of the position of two lots have its first and its last lot. Fails if not,
-// and if memory runs out.
 fn expect_first_and_last_lot(alloc: Global) -> Result<(), Fail> {
     let position: Position = position_of_two_lots(alloc)?;
     let mut first: PositionEnd<'_> = position.from_end(false);
@@ -27,9 +24,6 @@ fn expect_first_and_last_lot(alloc: Global) -> Result<(), Fail> {
     )
 }
 
-// Closes lots of a position by a deal, from its oldest lots on, and applies the closing to the
-// position. Returns the closing. Fails if the position does not accept the trade, and if memory
-// runs out.
 fn close_oldest_lots(alloc: Global, position: &mut Position, deal: Deal) -> Result<Closing, Fail> {
     if !position.accepts_trade(deal.trade, deal.stamp) {
         return Err("the position does not accept the trade")?;
@@ -42,9 +36,7 @@ fn close_oldest_lots(alloc: Global, position: &mut Position, deal: Deal) -> Resu
     Ok(closing)
 }
 
-// Checks that a sale of 150 shares at 13.00 closes the lot of 100 shares and a part of the other
-// one, with a buy value of 1610.00 and a sell value of 1950.00, and that 150 shares of the other
-// one remain. Fails if not, and if memory runs out.
+// It closes the lot of 100 shares, and 50 shares of the lot of 200.
 fn expect_sale_of_150_shares(alloc: Global) -> Result<(), Fail> {
     let mut position = position_of_two_lots(alloc)?;
     let deal = deal_from_numbers(9, Side::Sell, 150, 1300, 3)?;
@@ -73,8 +65,6 @@ fn expect_sale_of_150_shares(alloc: Global) -> Result<(), Fail> {
     )
 }
 
-// Checks that two purchases and the sale of a part, replayed, leave one lot, and that a position is
-// made of this lot. Fails if not, and if memory runs out.
 fn expect_replayed_lot(alloc: Global) -> Result<(), Fail> {
     let deals = [
         deal_from_numbers(1, Side::Buy, 100, 1010, 17)?,

@@ -7,8 +7,8 @@ use brk_tests_unit::expect::{expect_equal, expect_text};
 use std::alloc::Global;
 use std::test::Fail;
 
-// Checks that 5/10 is rounded to 1, that the commission of one share at 0.50 and 1 percent is 1
-// cent, and that the tax on a gain of 340.00 at 20 percent is 68.00. Fails if not.
+// The commission is that of one share at 0.50 and 1 percent, the tax that on a gain of 340.00 at 20
+// percent.
 fn expect_rounded_amounts() -> Result<(), Fail> {
     let rate = Rate::new(100).ok_or("rate")?;
     let qty = Qty::new(1).ok_or("quantity")?;
@@ -20,9 +20,7 @@ fn expect_rounded_amounts() -> Result<(), Fail> {
     expect_equal(tax(gain, rates).get(), 6_800)
 }
 
-// Checks that the stamp after 2024-03-01 00:00 UTC is 1 ms later, that its day is 2024-03-01, and
-// that this day and the amount -1025.10 are written as they are parsed. Fails if not. Fails also if
-// memory runs out.
+// The first stamp is 2024-03-01 00:00 UTC.
 fn expect_stamps_and_texts(alloc: Global) -> Result<(), Fail> {
     let first = Stamp::new(1_709_251_200_000).ok_or("stamp")?;
     let day = Day::new(19_783).ok_or("day")?;
@@ -57,8 +55,6 @@ const STATUSES: [(Status, &str); 5] = [
     (Status::Canceled, "CNCL"),
 ];
 
-// Checks the names and sides of `TYPES` and the codes of `STATUSES`. Fails with the first that
-// differs.
 fn expect_types_and_statuses() -> Result<(), Fail> {
     for (kind, name, side, is_market) in &TYPES {
         expect_text(kind.name(), name)?;
@@ -96,7 +92,6 @@ const FAULTS: [(Fault, u8); 3] = [
     (Fault::Damaged(Condition::Summary), 92),
 ];
 
-// Checks the words of `CONDITIONS` and the numbers of `FAULTS`. Fails with the first that differs.
 fn expect_conditions_and_faults() -> Result<(), Fail> {
     for (condition, word) in &CONDITIONS {
         expect_text(condition.output_word(), word)?;
@@ -144,7 +139,6 @@ const LIMITS: [(Limit, &str); 7] = [
     (Limit::Moves, "moves"),
 ];
 
-// Checks the numbers of `REFUSALS` and the words of `LIMITS`. Fails with the first that differs.
 fn expect_refusals_and_limits() -> Result<(), Fail> {
     for (refusal, number) in &REFUSALS {
         expect_equal(refusal.number(), *number)?;

@@ -1,41 +1,76 @@
 use brk_cli_args::{Job, UsageFault, read_words};
-use brk_cli_exit::brk_io::{BatchFault, FaultKind};
 use brk_cli_exit::{Ending, end_with};
-use brk_http_engine::{FaultKind as StreamFault, ServeFault};
+use brk_http::{FaultKind as StreamFault, ServeFault};
+use brk_import::{BatchFault, FaultKind};
 use brk_money::{Condition, Fault, Refusal};
-use brk_report_lines::ReportFault;
+use brk_report::StatementFault;
 use brk_tests_interfaces::endings::expect_status_and_line;
 use brk_tests_interfaces::words::words_of_command_line;
 use brk_tests_unit::expect::{expect, expect_equal, expect_text};
 use std::alloc::Global;
 use std::test::Fail;
 
-// Checks the exit status and the line of each ending that opens no desk or ends a job. Fails if one
-// differs, and if memory runs out.
-fn expect_endings(alloc: Global) -> Result<(), Fail> {
-    let mut errors = Vec::new(alloc);
-    expect_equal(end_with(&Ending::Done, &mut errors), 0)?;
-    expect_equal(errors.len(), 0)?;
+fn expect_no_line_after_done(alloc: Global) -> Result<(), Fail> {
+    let mut errors: Vec<u8> = Vec::new(alloc);
+    let status: u8 = end_with(&Ending::Done, &mut errors);
+    expect_equal((status, errors.len()), (0, 0))
+}
+
+// Faults of a batch, each with its exit status and its error line.
+const BATCHES: [(FaultKind, u8, &str); 6] = [
+    (FaultKind::BadHeader, 1, "brk: batch: bad header\n"),
+    (FaultKind::NoEnd, 1, "brk: batch: no end\n"),
+    (FaultKind::BadEnd, 1, "brk: batch: bad end\n"),
+    (FaultKind::Read, 3, "brk: fault: read\n"),
+    (FaultKind::Write, 3, "brk: fault: write\n"),
+    (FaultKind::Desk(Fault::Store), 3, "brk: fault: store\n"),
+];
+
+fn ending_of_batch(kind: FaultKind) -> Ending {
+    Ending::Batch(BatchFault { rows: 3, kind })
+}
+
+fn expect_endings_of_batches(alloc: Global) -> Result<(), Fail> {
+    for (kind, status, line) in &BATCHES {
+        expect_status_and_line(alloc, ending_of_batch(*kind), *status, line)?;
+    }
+    Ok(())
+}
+
+fn expect_endings_of_statements(alloc: Global) -> Result<(), Fail> {
+    let refused = Ending::Statement(StatementFault::Refused(Refusal::NoAccount));
+    expect_status_and_line(alloc, refused, 1, "brk: refused: 1\n")?;
+    let desk = Ending::Statement(StatementFault::Desk(Fault::Memory));
+    expect_status_and_line(alloc, desk, 3, "brk: fault: memory\n")?;
+    let write = Ending::Statement(StatementFault::Write);
+    expect_status_and_line(alloc, write, 3, "brk: fault: write\n")
+}
+
+// Faults of a stream, each with its error line.
+const STREAMS: [(StreamFault, &str); 3] = [
+    (StreamFault::Read, "brk: fault: read\n"),
+    (StreamFault::Write, "brk: fault: write\n"),
+    (StreamFault::Memory, "brk: fault: memory\n"),
+];
+
+fn ending_of_stream(kind: StreamFault) -> Ending {
+    Ending::Serve(ServeFault { done: 0, kind })
+}
+
+fn expect_endings_of_streams(alloc: Global) -> Result<(), Fail> {
+    for (kind, line) in &STREAMS {
+        expect_status_and_line(alloc, ending_of_stream(*kind), 3, line)?;
+    }
+    Ok(())
+}
+
+fn expect_other_endings(alloc: Global) -> Result<(), Fail> {
     let damaged = Ending::Open(Fault::Damaged(Condition::Summary));
     expect_status_and_line(alloc, damaged, 1, "brk: damaged: summary\n")?;
-    let batch = BatchFault {
-        rows: 3,
-        kind: FaultKind::NoEnd,
-    };
-    expect_status_and_line(alloc, Ending::Batch(batch), 1, "brk: batch: no end\n")?;
-    let refused = Ending::Statement(ReportFault::Refused(Refusal::NoAccount));
-    expect_status_and_line(alloc, refused, 1, "brk: refused: 1\n")?;
-    let stream = ServeFault {
-        done: 0,
-        kind: StreamFault::Memory,
-    };
-    expect_status_and_line(alloc, Ending::Serve(stream), 3, "brk: fault: memory\n")?;
     expect_status_and_line(alloc, Ending::Net, 3, "brk: fault: net\n")?;
     expect_status_and_line(alloc, Ending::Output, 3, "brk: fault: write\n")
 }
 
-// Checks the exit status and the line of each fault of the arguments. Fails if one differs, and if
-// memory runs out.
 fn expect_usage_faults(alloc: Global) -> Result<(), Fail> {
     let words = UsageFault::Words(String::from_str(alloc, "error: no\n")?);
     expect_status_and_line(alloc, Ending::Usage(words), 2, "error: no\n")?;
@@ -47,8 +82,7 @@ fn expect_usage_faults(alloc: Global) -> Result<(), Fail> {
     expect_status_and_line(alloc, memory, 3, "brk: fault: memory\n")
 }
 
-// Returns the job that a command line requests, whose words are separated by `|`. Fails if it
-// requests none, and if memory runs out.
+// The words of the line are separated by `|`.
 fn job_of_line(alloc: Global, line: &str) -> Result<Job, Fail> {
     match read_words(words_of_command_line(alloc, line)?) {
         Ok(job) => Ok(job),
@@ -56,7 +90,6 @@ fn job_of_line(alloc: Global, line: &str) -> Result<Job, Fail> {
     }
 }
 
-// Checks the jobs of four command lines. Fails if one differs, and if memory runs out.
 fn expect_jobs(alloc: Global) -> Result<(), Fail> {
     match job_of_line(alloc, "brk|batch|--at|0")? {
         Job::Batch { db, at } => {
@@ -99,7 +132,11 @@ fn expect_jobs(alloc: Global) -> Result<(), Fail> {
 /// Checks the public names of the program: its endings with their exit statuses and lines, and the
 /// jobs that its arguments request. Fails if an answer differs, and if memory runs out.
 pub fn surface_of_brk_cli(alloc: Global) -> Result<(), Fail> {
-    expect_endings(alloc)?;
+    expect_no_line_after_done(alloc)?;
+    expect_endings_of_batches(alloc)?;
+    expect_endings_of_statements(alloc)?;
+    expect_endings_of_streams(alloc)?;
+    expect_other_endings(alloc)?;
     expect_usage_faults(alloc)?;
     expect_jobs(alloc)
 }

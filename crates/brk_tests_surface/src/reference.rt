@@ -1,46 +1,37 @@
-use brk_money::{Planned, Qty, Rate, TaxRate};
+use brk_money::{Cents, Id, Planned, Qty, Rate, Stamp, TaxRate};
 use brk_ref::{
     Account, Band, BatchName, Broker, Charge, Customer, CustomerTax, Executor, Kept, Key, Listing,
-    Permission, RowNumber, Security, Tax, band_for, check_account, check_band, check_broker,
-    check_charge, check_customer, check_customer_tax, check_permission, check_security, check_tax,
-    overlaps, permitted, tax_sum,
+    OldCashRow, Permission, RowNumber, Security, Tax, band_for, check_account, check_band,
+    check_broker, check_charge, check_customer, check_customer_tax, check_permission,
+    check_security, check_tax, overlaps, permitted, tax_sum,
 };
 use brk_tests_unit::expect::{expect_equal, expect_text};
 use std::alloc::Global;
 use std::test::Fail;
 
-// The fields of a broker.
 const BROKER: [&[u8]; 2] = [b"1", b"Bo"];
 
-// The fields of a customer.
 const CUSTOMER: [&[u8]; 5] = [b"10", b"1", b"T10", b"Lee", b"Ann"];
 
-// The fields of an account.
 const ACCOUNT: [&[u8]; 6] = [b"100", b"10", b"1", b"Main", b"1", b"10000.00"];
 
-// The fields of a security and its price.
 const SECURITY: [&[u8]; 5] = [b"ABC", b"Acme", b"NYSE", b"Tech", b"10.00"];
 
-// The fields of a charge.
 const CHARGE: [&[u8]; 3] = [b"TMB", b"1", b"5.00"];
 
-// The fields of a commission band.
 const BAND: [&[u8]; 6] = [b"1", b"TMB", b"NYSE", b"1", b"999999", b"100"];
 
-// The fields of a band that has the last quantity of `BAND` alone.
+// It has the last quantity of `BAND` alone.
 const LAST_BAND: [&[u8]; 6] = [b"1", b"TMB", b"NYSE", b"999999", b"999999", b"50"];
 
-// The fields of a tax rate of 20 percent.
+// 20 percent.
 const TAX: [&[u8]; 3] = [b"1", b"State", b"20000"];
 
-// The fields of a tax rate of 80.001 percent.
+// 80.001 percent.
 const LARGE_TAX: [&[u8]; 3] = [b"2", b"Fed", b"80001"];
 
-// The fields of a tax of a customer.
 const CUSTOMER_TAX: [&[u8]; 2] = [b"10", b"1"];
 
-// Checks that the fields of a broker, a customer and an account are parsed to their records. Fails
-// if not, and if memory runs out.
 fn expect_people(alloc: Global) -> Result<(), Fail> {
     let checked: Planned<Broker> = check_broker(alloc, &BROKER);
     let Broker { id, name } = checked??;
@@ -56,8 +47,6 @@ fn expect_people(alloc: Global) -> Result<(), Fail> {
     )
 }
 
-// Checks that the fields of a security, a charge, a tax rate and a customer's tax are parsed to
-// their records. Fails if not, and if memory runs out.
 fn expect_markets(alloc: Global) -> Result<(), Fail> {
     let Listing { security, price } = check_security(alloc, &SECURITY)??;
     let Security { symbol, sector, .. } = security;
@@ -70,9 +59,7 @@ fn expect_markets(alloc: Global) -> Result<(), Fail> {
     expect_equal((customer.get(), tax.get()), (10, 1))
 }
 
-// Checks that a band has its rate for 100 shares, that a band overlaps with its last quantity, and
-// that tax rates of 20 percent are summed, but not with one of 80.001 percent. Fails if not, and if
-// memory runs out.
+// The sum of 20 percent and 80.001 percent is above the greatest rate.
 fn expect_rates(alloc: Global) -> Result<(), Fail> {
     let band: Band = check_band(alloc, &BAND)??;
     let last = check_band(alloc, &LAST_BAND)??;
@@ -86,15 +73,11 @@ fn expect_rates(alloc: Global) -> Result<(), Fail> {
     expect_equal(tax_sum(&taxes), None)
 }
 
-// Returns the permission of account 100 for Ann Lee with this tax id. Fails if the tax id is
-// malformed, and if memory runs out.
 fn permission_with_tax_id(alloc: Global, tax_id: &[u8]) -> Result<Permission, Fail> {
     let fields: [&[u8]; 5] = [b"100", b"0000", tax_id, b"Lee", b"Ann"];
     Ok(check_permission(alloc, &fields)??)
 }
 
-// Returns the executor Ann Lee with this tax id. Fails if the tax id is malformed, and if memory
-// runs out.
 fn executor_with_tax_id(alloc: Global, tax_id: &[u8]) -> Result<Executor, Fail> {
     let Permission {
         tax_id,
@@ -109,8 +92,7 @@ fn executor_with_tax_id(alloc: Global, tax_id: &[u8]) -> Result<Executor, Fail> 
     })
 }
 
-// Checks that a customer is permitted without a permission, and that an executor with another tax
-// id is permitted only with one. Fails if not, and if memory runs out.
+// A customer needs no permission; an executor with another tax id needs one.
 fn expect_permitted_executors(alloc: Global) -> Result<(), Fail> {
     let customer = check_customer(alloc, &CUSTOMER)??;
     let own = executor_with_tax_id(alloc, b"T10")?;
@@ -121,8 +103,6 @@ fn expect_permitted_executors(alloc: Global) -> Result<(), Fail> {
     expect_equal(permitted(&customer, &permissions, &other), true)
 }
 
-// Checks that a stored reply has the key, the row and the line that it was made of. Fails if not,
-// and if memory runs out.
 fn expect_kept_reply(alloc: Global) -> Result<(), Fail> {
     let batch = BatchName::parse(alloc, b"A")?.ok_or("batch name")?;
     let n = RowNumber::new(1).ok_or("number of a row")?;
@@ -142,6 +122,31 @@ fn expect_kept_reply(alloc: Global) -> Result<(), Fail> {
     expect_text(line.as_str(), "1709251200000")
 }
 
+fn old_cash_row(alloc: Global) -> Result<OldCashRow, Fail> {
+    let trade = Id::new(1).ok_or("trade")?;
+    let amount = Cents::new(-102_510).ok_or("amount")?;
+    Ok(OldCashRow {
+        trade,
+        stamp: Stamp::nearest(1_709_251_200_017),
+        amount,
+        name: String::from_str(alloc, "Market-Buy 100 shares of Acme")?,
+    })
+}
+
+fn expect_old_cash_row(alloc: Global) -> Result<(), Fail> {
+    let OldCashRow {
+        trade,
+        stamp,
+        amount,
+        name,
+    } = old_cash_row(alloc)?;
+    expect_equal(
+        (trade.get(), stamp.get(), amount.get()),
+        (1, 1_709_251_200_017, -102_510),
+    )?;
+    expect_text(name.as_str(), "Market-Buy 100 shares of Acme")
+}
+
 /// Checks the public names of brk_ref: the records and the parsers of their fields, which executor
 /// is permitted, the rate of a quantity, bands that overlap, and the sum of tax rates. Fails if an
 /// answer differs, and if memory runs out.
@@ -150,5 +155,6 @@ pub fn surface_of_brk_ref(alloc: Global) -> Result<(), Fail> {
     expect_markets(alloc)?;
     expect_rates(alloc)?;
     expect_permitted_executors(alloc)?;
-    expect_kept_reply(alloc)
+    expect_kept_reply(alloc)?;
+    expect_old_cash_row(alloc)
 }

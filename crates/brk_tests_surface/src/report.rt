@@ -8,8 +8,6 @@ use sqlite::{Alter, Connection};
 use std::alloc::Global;
 use std::test::Fail;
 
-// Writes the statement of an account for these days to `out`. Fails with the fault of the
-// statement.
 fn write_statement_of_account<S: Alter>(
     alloc: Global,
     desk: &mut Desk<S>,
@@ -21,8 +19,7 @@ fn write_statement_of_account<S: Alter>(
     statement(alloc, desk, account, from, to, out)
 }
 
-// Checks the statement of account 100 for March 2024, and that it is refused with `BadText` (18) if
-// the days are exchanged. Fails if not.
+// The statement of account 100 for March 2024, and then with its days exchanged.
 fn expect_statements<S: Alter>(alloc: Global, desk: &mut Desk<S>) -> Result<(), Fail> {
     let account = Id::new(100).ok_or("account")?;
     let from = parse_day(b"2024-03-01").ok_or("day")?;
@@ -41,9 +38,6 @@ fn expect_statements<S: Alter>(alloc: Global, desk: &mut Desk<S>) -> Result<(), 
     )
 }
 
-// Checks the statements of a desk over the store in the database of a connection, after two
-// purchases and a sale. Fails if one differs, without a connection, if the store cannot be set up,
-// and if memory runs out.
 fn expect_statements_after_trades<S: Alter + Drop>(
     alloc: Global,
     conn: Option<Connection<S>>,

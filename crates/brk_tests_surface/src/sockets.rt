@@ -1,7 +1,8 @@
 //! The test of streams over sockets of this machine, in one process.
 
+use brk_cli_exit::Ending;
+use brk_cli_jobs::serve_on;
 use brk_desk::Desk;
-use brk_http::{ListenFault, serve_on};
 use brk_tests::{Still, expect, new_desk, open_in_memory};
 use sqlite::{Alter, Connection};
 use std::alloc::Global;
@@ -65,10 +66,8 @@ pub(crate) fn connect_peer_and_send(
     Ok(peer)
 }
 
-// Connects all peers of `PEERS` in order and sends their bytes. Returns the streams of the peers
-// that wait for replies, with the wanted replies, and closes the other streams. Fails if the
-// address of the listener cannot be read, if a peer cannot connect, send or shut down, or if memory
-// runs out.
+// Returns the streams of the peers that wait for replies, with the wanted replies, and closes the
+// other streams.
 fn connect_all_peers_and_send(
     rt: &HostRuntime,
     listener: &TcpListener,
@@ -96,14 +95,12 @@ pub(crate) fn expect_peer_replies(
     Ok(())
 }
 
-// Serves `streams` streams of the listener on a desk at 2024-03-01 00:00 UTC, in sequence, by
-// `serve_on`. Fails with the fault of `serve_on`.
 fn serve_at_first_timestamp<S: Alter>(
     alloc: Global,
-    listener: &mut TcpListener,
+    listener: &TcpListener,
     streams: u32,
     desk: &mut Desk<S>,
-) -> Result<(), ListenFault> {
+) -> Result<(), Ending> {
     serve_on(
         alloc,
         listener,
@@ -113,24 +110,20 @@ fn serve_at_first_timestamp<S: Alter>(
     )
 }
 
-// Checks that six streams of the listener are served in sequence on one new desk in the database of
-// a connection, that the peers in `waiting` receive their wanted replies, and that serving fails
-// with `Net` if no stream can be accepted. Fails if not, without a connection, if the desk cannot
-// be created, if the stream of a peer cannot be read or is not UTF-8, if the listener cannot be set
-// to return at once, or if memory runs out.
+// Six streams of the listener are served in sequence; then none can be accepted.
 fn expect_streams_served_on_desk<S: Alter + Drop>(
     alloc: Global,
     conn: Option<Connection<S>>,
-    listener: &mut TcpListener,
+    listener: &TcpListener,
     waiting: Vec<(TcpStream, &'static str)>,
 ) -> Result<(), Fail> {
     let mut desk = new_desk(conn)?;
     let served = serve_at_first_timestamp(alloc, listener, 6, &mut desk);
-    expect(served == Ok(()), "six streams")?;
+    expect(served.is_ok(), "six streams")?;
     expect_peer_replies(alloc, waiting)?;
     listener.set_nonblocking(true)?;
     let served = serve_at_first_timestamp(alloc, listener, 1, &mut desk);
-    expect(served == Err(ListenFault::Net), "no stream")
+    expect(matches!(&served, Err(Ending::Net)), "no stream")
 }
 
 /// Checks that six streams over sockets are served in sequence on one desk, that the peers that
@@ -139,7 +132,7 @@ fn expect_streams_served_on_desk<S: Alter + Drop>(
 /// created, or if memory runs out.
 pub fn socket_streams_share_one_desk(rt: &HostRuntime) -> Result<(), Fail> {
     let alloc = rt.alloc();
-    let mut listener = TcpListener::bind(rt, ("127.0.0.1", 0))?;
+    let listener = TcpListener::bind(rt, ("127.0.0.1", 0))?;
     let waiting = connect_all_peers_and_send(rt, &listener)?;
-    expect_streams_served_on_desk(alloc, open_in_memory(alloc), &mut listener, waiting)
+    expect_streams_served_on_desk(alloc, open_in_memory(alloc), &listener, waiting)
 }

@@ -5,13 +5,11 @@ use brk_store::{LotPages, Store};
 use brk_tests::desks::{desk_with_reference_data, expect_batch_result, expect_connection};
 use brk_tests::statements::BOUGHT;
 use brk_tests::{expect, open_in_memory};
-use brk_trade_rows::{BrokerTotals, Change};
+use brk_trade::{BrokerTotals, Change};
 use sqlite::{Alter, Connection};
 use std::alloc::Global;
 use std::test::Fail;
 
-// Returns a new store in the database of a connection. Fails without a connection, and if the store
-// cannot be created.
 fn created_store<S: Alter + Drop>(conn: Option<Connection<S>>) -> Result<Store<S>, Fail> {
     match Store::create(expect_connection(conn)?) {
         Ok(store) => Ok(store),
@@ -19,7 +17,6 @@ fn created_store<S: Alter + Drop>(conn: Option<Connection<S>>) -> Result<Store<S
     }
 }
 
-// Returns the store in the database of a connection. Fails if it is not adopted.
 fn adopted_store<S: Alter + Drop>(alloc: Global, conn: Connection<S>) -> Result<Store<S>, Fail> {
     match Store::adopt(alloc, conn) {
         Ok(store) => Ok(store),
@@ -27,22 +24,18 @@ fn adopted_store<S: Alter + Drop>(alloc: Global, conn: Connection<S>) -> Result<
     }
 }
 
-// Adds broker 2 to a store. Fails if the store fails, and if memory runs out.
 fn apply_new_broker<S: Alter>(alloc: Global, store: &mut Store<S>) -> Result<(), Fail> {
     let broker = check_broker(alloc, &[b"2", b"Cy"])??;
     Ok(store.apply(&[Change::AddBroker(broker)])?)
 }
 
-// Returns the number of completed trades and the commissions in cents of a broker. Fails if there
-// is no such broker, and if the store fails.
+// The number of completed trades, and their commissions in cents.
 fn numbers_of_broker<S: Alter>(store: &mut Store<S>, broker: u64) -> Result<(u64, u64), Fail> {
     let broker = Id::new(broker).ok_or("broker")?;
     let numbers: BrokerTotals = store.broker_numbers(broker)?.ok_or("no broker")?;
     Ok((numbers.trades.get(), numbers.commissions.get()))
 }
 
-// Checks that a store is created, that its only broker has no trades, and that it is adopted with
-// this broker and passes its audit. Fails if not, without a connection, and if memory runs out.
 fn expect_store_with_new_broker<S: Alter + Drop>(
     alloc: Global,
     conn: Option<Connection<S>>,
@@ -57,15 +50,12 @@ fn expect_store_with_new_broker<S: Alter + Drop>(
     )
 }
 
-// Returns the balance of account 100 in cents. Fails if there is no such account, and if the store
-// fails.
+// In cents.
 fn balance_of_account<S: Alter>(store: &mut Store<S>) -> Result<i64, Fail> {
     let account = Id::new(100).ok_or("account")?;
     Ok(store.balance_of(account)?.ok_or("no account")?.get())
 }
 
-// Returns the shares of ABC that account 100 holds. Fails if it holds none, and if the store fails
-// or memory runs out.
 fn summary_of_position<S: Alter>(alloc: Global, store: &mut Store<S>) -> Result<i64, Fail> {
     let account = Id::new(100).ok_or("account")?;
     let symbol = Symbol::parse(alloc, b"ABC")?.ok_or("symbol")?;
@@ -73,20 +63,16 @@ fn summary_of_position<S: Alter>(alloc: Global, store: &mut Store<S>) -> Result<
     Ok(summary.qty)
 }
 
-// Returns the number of securities that account 100 holds. Fails if the store fails or memory runs
-// out.
 fn number_of_summaries<S: Alter>(alloc: Global, store: &mut Store<S>) -> Result<usize, Fail> {
     let account = Id::new(100).ok_or("account")?;
     Ok(store.summaries_of(alloc, account)?.len())
 }
 
-// Returns the next lot of a source. Fails if there is none, and with a fault of the source.
 fn next_lot<L: LotSource>(source: &mut L) -> Result<Lot, Fail> {
     Ok(source.next()?.ok_or("no lot")?)
 }
 
-// Returns the trade of the first lot of ABC of account 100, and the number of rows that were read.
-// Fails if there is no lot, and if the store fails or memory runs out.
+// The trade of the lot, and the number of rows that were read.
 fn first_lot_and_rows_read<S: Alter>(
     alloc: Global,
     store: &mut Store<S>,
@@ -99,20 +85,19 @@ fn first_lot_and_rows_read<S: Alter>(
 }
 
 /// Adds the amount of a cash row, in cents, to `sum`. Never fails.
-pub fn add_amount(sum: &mut i64, row: &CashRow) -> Result<(), Fault> {
+pub(crate) fn add_amount(sum: &mut i64, row: &CashRow) -> Result<(), Fault> {
     *sum = sum.saturating_add(row.amount.get());
     Ok(())
 }
 
 /// Adds the shares of a lot to `sum` if its symbol is ABC. Never fails.
-pub fn add_shares(sum: &mut i64, symbol: &str, lot: &Lot) -> Result<(), Fault> {
+pub(crate) fn add_shares(sum: &mut i64, symbol: &str, lot: &Lot) -> Result<(), Fault> {
     if symbol == "ABC" {
         *sum = sum.saturating_add(lot.qty);
     }
     Ok(())
 }
 
-// Adds the amounts of all cash rows of an account to `sum`. Fails with a fault of the store.
 fn sum_cash_rows<S: Alter>(store: &mut Store<S>, account: Id, sum: &mut i64) -> Result<(), Fault> {
     store.walk_cash(
         account,
@@ -122,7 +107,6 @@ fn sum_cash_rows<S: Alter>(store: &mut Store<S>, account: Id, sum: &mut i64) -> 
     )
 }
 
-// Adds the shares of all lots of ABC of an account to `sum`. Fails with a fault of the store.
 fn sum_lots<S: Alter>(store: &mut Store<S>, account: Id, sum: &mut i64) -> Result<(), Fault> {
     store.walk_lots(
         account,
@@ -130,8 +114,6 @@ fn sum_lots<S: Alter>(store: &mut Store<S>, account: Id, sum: &mut i64) -> Resul
     )
 }
 
-// Checks the sums of the cash rows and of the lots of account 100. Fails if one differs, and if the
-// store fails.
 fn expect_walked_sums<S: Alter>(store: &mut Store<S>) -> Result<(), Fail> {
     let account = Id::new(100).ok_or("account")?;
     let mut cash = 0i64;
@@ -141,8 +123,6 @@ fn expect_walked_sums<S: Alter>(store: &mut Store<S>) -> Result<(), Fail> {
     expect(cash == -159_660 && shares == 150, "other sums")
 }
 
-// Checks the numbers of a store after two purchases and a sale. Fails if one differs, if the store
-// fails, and if memory runs out.
 fn expect_numbers_after_trades<S: Alter>(alloc: Global, store: &mut Store<S>) -> Result<(), Fail> {
     expect(
         numbers_of_broker(store, 1)? == (3, 5_360),

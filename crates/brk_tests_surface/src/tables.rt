@@ -1,20 +1,16 @@
 use brk_money::{Fault, Id, Stamp};
 use brk_ref::{BrokerRow, check_broker};
-use brk_tables::{
-    add_broker, broker_by_id, create_third_schema_tables, last_stamp, set_last_stamp,
-};
+use brk_tables::{add_broker, broker_by_id, create_desk_tables, last_stamp, set_last_stamp};
 use brk_tests::desks::expect_connection;
 use brk_tests::{expect, open_in_memory};
 use sqlite::{Alter, Connection, Transaction};
 use std::alloc::Global;
 use std::test::Fail;
 
-// Creates the tables of a desk. Fails if a statement fails.
 fn create_tables<S: Alter>(tx: &mut Transaction<'_, S>) -> Result<(), Fault> {
-    create_third_schema_tables(tx)
+    create_desk_tables(tx)
 }
 
-// Adds broker 1 and sets the last stamp. Fails if a statement fails, and if memory runs out.
 fn write_broker_and_stamp<S: Alter>(
     alloc: Global,
     tx: &mut Transaction<'_, S>,
@@ -24,7 +20,6 @@ fn write_broker_and_stamp<S: Alter>(
     Ok(set_last_stamp(tx, Stamp::nearest(7))?)
 }
 
-// Returns broker 1 and the last stamp. Fails if a statement fails.
 fn read_broker_and_stamp<S: Alter>(
     tx: &mut Transaction<'_, S>,
 ) -> Result<(Option<BrokerRow>, Option<Stamp>), Fail> {
@@ -32,9 +27,6 @@ fn read_broker_and_stamp<S: Alter>(
     Ok((broker, last_stamp(tx)?))
 }
 
-// Checks that the tables are created in a transaction on a connection, and that a broker and a last
-// stamp are read as they were written. Fails if not, if a transaction is open, if a statement
-// fails, and if memory runs out.
 fn expect_broker_and_stamp<S: Alter>(alloc: Global, conn: &mut Connection<S>) -> Result<(), Fail> {
     if !conn.is_autocommit() {
         return Err("an open transaction")?;
@@ -53,7 +45,6 @@ fn expect_broker_and_stamp<S: Alter>(alloc: Global, conn: &mut Connection<S>) ->
     }
 }
 
-// The same in the database of a connection. Fails also without a connection.
 fn expect_broker_and_stamp_in_database<S: Alter + Drop>(
     alloc: Global,
     conn: Option<Connection<S>>,

@@ -10,10 +10,10 @@ use brk_view::{
 use std::alloc::Global;
 use std::test::Fail;
 
-/// Checks that the records of a view are the lines `wanted`, in which each field ends with a comma.
-/// Fails with both texts if not. Fails also if memory runs out.
-pub fn expect_records(alloc: Global, view: &View, wanted: &str) -> Result<(), Fail> {
-    let records = view_fields(alloc, view)?;
+/// Returns the records of a view as lines, in which each field ends with a comma. Fails only if
+/// memory runs out.
+pub(crate) fn format_records(alloc: Global, view: &View) -> Result<String, Fail> {
+    let records: Vec<Vec<String>> = view_fields(alloc, view)?;
     let mut told = String::new(alloc);
     for record in &records {
         for field in record {
@@ -22,10 +22,14 @@ pub fn expect_records(alloc: Global, view: &View, wanted: &str) -> Result<(), Fa
         }
         told.push_str("\n")?;
     }
+    Ok(told)
+}
+
+fn expect_records(alloc: Global, view: &View, wanted: &str) -> Result<(), Fail> {
+    let told = format_records(alloc, view)?;
     expect_text(told.as_str(), wanted)
 }
 
-// Checks the view of a customer's accounts. Fails if it differs, and if memory runs out.
 fn expect_worths(alloc: Global) -> Result<(), Fail> {
     let worth = AccountWorth {
         account: Id::new(100).ok_or("account")?,
@@ -36,7 +40,6 @@ fn expect_worths(alloc: Global) -> Result<(), Fail> {
     expect_records(alloc, &view, "100,8403.40,1500.00,\n")
 }
 
-// Checks the view of brokers' volumes. Fails if it differs, and if memory runs out.
 fn expect_volumes(alloc: Global) -> Result<(), Fail> {
     let Broker { id, name } = check_broker(alloc, &[b"1", b"Bo"])??;
     let volume = BrokerVolume {
@@ -48,21 +51,19 @@ fn expect_volumes(alloc: Global) -> Result<(), Fail> {
     expect_records(alloc, &view, "Bo,1,300.00,\n")
 }
 
-// Checks the view of submitted trades. Fails if it differs, and if memory runs out.
 fn expect_submitted(alloc: Global) -> Result<(), Fail> {
     let trades = [trade_row_of_case(alloc, &SUBMITTED_CASH_PURCHASE)?];
     let view = submitted(alloc, &trades)?;
     expect_records(alloc, &view, "1,TMB,ABC,100,10.00,\n")
 }
 
-// Returns the last and the first name of a customer. Fails only if memory runs out.
 fn names_of_customer(alloc: Global) -> Result<(Name, Name), Fail> {
     let fields: [&[u8]; 5] = [b"10", b"1", b"T10", b"Lee", b"Ann"];
     let customer: Customer = check_customer(alloc, &fields)??;
     Ok((customer.last_name, customer.first_name))
 }
 
-// Checks the view of an account without trades. Fails if it differs, and if memory runs out.
+// The account has no trades.
 fn expect_status(alloc: Global) -> Result<(), Fail> {
     let (last_name, first_name) = names_of_customer(alloc)?;
     let Broker { name, .. } = check_broker(alloc, &[b"1", b"Bo"])??;
@@ -75,7 +76,6 @@ fn expect_status(alloc: Global) -> Result<(), Fail> {
     expect_records(alloc, &view, "Lee,Ann,Bo,\n")
 }
 
-// Checks the views of no trades. Fails if one has a record, and if memory runs out.
 fn expect_no_trades(alloc: Global) -> Result<(), Fail> {
     let view = recent(alloc, Vec::new(alloc), Vec::new(alloc))?;
     expect_records(alloc, &view, "")?;
@@ -84,7 +84,6 @@ fn expect_no_trades(alloc: Global) -> Result<(), Fail> {
     expect_records(alloc, &lookup_symbol(Vec::new(alloc)), "")
 }
 
-// Checks the view of the lots that a trade touched. Fails if it differs, and if memory runs out.
 fn expect_touched_lots(alloc: Global) -> Result<(), Fail> {
     let trade = Id::new(1).ok_or("trade")?;
     let opened = LotTouch {

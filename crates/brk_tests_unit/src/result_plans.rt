@@ -1,12 +1,11 @@
 use crate::expect::expect;
 use crate::planned_reply::expect_planned_reply;
 use brk_lots::Position;
-use brk_money::{
-    Cents, Id, MoveId, Price, Qty, Rate, Stamp, Status, TaxRate, TaxStatus, TradeType,
-};
-use brk_ref::{ChargeAmount, Name, Symbol};
+use brk_money::{Cents, Id, MoveId, Price, Qty, Rate, Stamp, Status, TaxRate, TradeType};
+use brk_ref::{AccountRow, ChargeAmount, Listing, Symbol, Tier, check_account, check_security};
 use brk_trade::{
-    Amount, BrokerTotals, ResultAccount, ResultPlanFacts, TradeCount, TradeRow, plan_result,
+    Amount, BrokerTotals, Posting, ResultPlanFacts, SummaryRow, TradeCount, TradeParties, TradeRow,
+    TradedSecurity, plan_result,
 };
 use std::alloc::Global;
 use std::test::Fail;
@@ -73,12 +72,12 @@ pub fn trade_row_of_case(alloc: Global, case: &Case) -> Result<TradeRow, Fail> {
     })
 }
 
-// Returns the account of the trade of a case: broker 1, the tax status `Withheld`, and the balance
-// of the case. Fails if the balance is not within its limits.
-fn account_of_case(case: &Case) -> Result<ResultAccount, Fail> {
-    Ok(ResultAccount {
-        broker: Id::new(1).ok_or("broker")?,
-        tax_status: TaxStatus::Withheld,
+// Returns the row of account 100, with broker 1, the tax status `Withheld`, and the balance of the
+// case. Fails if the balance is not within its limits, and if memory runs out.
+fn account_of_case(alloc: Global, case: &Case) -> Result<AccountRow, Fail> {
+    let fields: [&[u8]; 6] = [b"100", b"10", b"1", b"Acc", b"1", b"10000.00"];
+    Ok(AccountRow {
+        account: check_account(alloc, &fields)??,
         balance: Cents::new(case.balance).ok_or("balance")?,
     })
 }
@@ -92,31 +91,54 @@ fn broker_totals_of_case(case: &Case) -> Result<BrokerTotals, Fail> {
     })
 }
 
+// Returns the account and the broker of a case, with a customer of tier 1 whose tax rates are 20
+// percent in all. Fails if a number is not within its limits, and if memory runs out.
+fn parties_of_case(alloc: Global, case: &Case) -> Result<TradeParties, Fail> {
+    Ok(TradeParties {
+        account: account_of_case(alloc, case)?,
+        broker: broker_totals_of_case(case)?,
+        tier: Tier::new(1).ok_or("tier")?,
+        rates: TaxRate::new(20_000).ok_or("rates")?,
+    })
+}
+
+// Returns the summary of ABC in account 100 with the shares held in a case, if any. Fails only if
+// memory runs out.
+fn summary_of_case(alloc: Global, case: &Case) -> Result<Option<SummaryRow>, Fail> {
+    let Some(qty) = case.held else {
+        return Ok(None);
+    };
+    Ok(Some(SummaryRow {
+        account: Id::new(100).ok_or("account")?,
+        symbol: Symbol::parse(alloc, b"ABC")?.ok_or("symbol")?,
+        qty,
+    }))
+}
+
+// Returns the security ABC with the rate of a case, if any. Fails if the rate is not within its
+// limits, and if memory runs out.
+fn security_of_case(alloc: Global, case: &Case) -> Result<TradedSecurity, Fail> {
+    let fields: [&[u8]; 5] = [b"ABC", b"Acme", b"NYSE", b"Tech", b"10.00"];
+    let rate = match case.rate {
+        Some(rate) => Some(Rate::new(rate).ok_or("rate")?),
+        None => None,
+    };
+    let Listing { security, .. } = check_security(alloc, &fields)??;
+    Ok(TradedSecurity { security, rate })
+}
+
 /// Returns the facts of the tables on which the plan for the result of a case depends, with tax
 /// rates of 20 percent in all, no first day of one-day settlement, and 1 as the number of the next
 /// cash row. Fails if the quantity, the rate, the balance or the commissions of the case are not
 /// within their limits, and if memory runs out; the shares held are not checked.
 pub fn result_facts(alloc: Global, case: &Case) -> Result<ResultPlanFacts, Fail> {
-    let rate = match case.rate {
-        Some(rate) => Some(Rate::new(rate).ok_or("rate")?),
-        None => None,
-    };
-    let rates = TaxRate::new(20_000).ok_or("rates")?;
     let next = MoveId::new(1).ok_or("number")?;
-    let account = account_of_case(case)?;
-    let broker = broker_totals_of_case(case)?;
-    let security = Name::parse(alloc, b"Acme")?.ok_or("security")?;
-    let trade = trade_row_of_case(alloc, case)?;
     Ok(ResultPlanFacts {
-        trade,
-        account,
-        broker,
-        summary: case.held,
-        security,
-        rate,
-        rates,
-        rule: None,
-        next,
+        trade: trade_row_of_case(alloc, case)?,
+        parties: parties_of_case(alloc, case)?,
+        summary: summary_of_case(alloc, case)?,
+        listed: security_of_case(alloc, case)?,
+        posting: Posting { rule: None, next },
     })
 }
 

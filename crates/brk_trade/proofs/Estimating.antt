@@ -1,4 +1,4 @@
--- What was found in a base makes the estimate that the definitions make of it.
+-- An estimate from the terms that an order has in a base is the estimate of the model.
 use Rattle.std.proofs.Common.{◌≡◌, ℕ, ◌+◌, List, length, refl, sym, ap, ◌∙◌}
 use Rattle.std.specs.Prelude.{Option, Some, None, unwrap_or, option_map}
 use Rattle.std.specs.Option.{option_map_or}

@@ -1,4 +1,4 @@
--- What a result comes to does not hang on the moment, and what is closed tells it.
+-- The values of the closed shares do not depend on the stamp, and decide how a result is refused.
 use Rattle.std.proofs.Common.{◌≡◌, ℕ, List, [], ◌∷◌, ◌++◌, refl, sym, ap, ◌∙◌, Option, Some, None}
 use Rattle.std.proofs.lemmas.List.{append_assoc}
 use Rattle.brk_lots.specs.Values.{closing_values_of_deal}

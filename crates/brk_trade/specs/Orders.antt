@@ -33,7 +33,8 @@ use Rattle.brk_trade_rows.specs.declared.change.Change.TheVariants as change
 use Rattle.brk_trade.specs.declared.order.Placement.{Placement}
 use Rattle.brk_trade.specs.declared.order.OrderPlanFacts.{OrderPlanFacts}
 use Rattle.brk_trade_plans.specs.declared.plan.Plan.{Plan}
-use Rattle.brk_trade_plans.specs.declared.reply.Reply.TheVariants.{Ordered}
+use Rattle.brk_trade_plans.specs.declared.reply.Reply.{Reply}
+use Rattle.brk_trade_plans.specs.declared.reply.Reply.TheVariants.{Ordered, Estimated}
 use Rattle.brk_ref.specs.declared.request_row.RequestRow.{RequestRow}
 use Rattle.brk_ref.specs.declared.trade_row.TradeRow.{TradeRow}
 
@@ -86,6 +87,12 @@ MatchesModelEstimate terms given estimate =
 pub record EstimatesCheckedOrder (order : Order) (found : OrderPlanFacts) (given : List Lot → Type 0) (estimate : Estimate) : Type 0 where
   pub accepted : first_refusal (order_checks found) ≡ None
   pub estimated : MatchesModelEstimate (terms_of_order order found) given estimate
+
+-- `reply` has an estimate of `order` by the checked facts `found` (`EstimatesCheckedOrder`).
+pub record RepliesWithEstimate (order : Order) (found : OrderPlanFacts) (given : List Lot → Type 0) (reply : Reply) : Type 0 where
+  pub estimate : Estimate
+  pub replied : reply ≡ Estimated estimate
+  pub checked : EstimatesCheckedOrder order found given estimate
 
 -- The check that a free id exists for a new trade (`Range(Trades)`): `last`, the greatest id of a
 -- trade, is below the limit of ids (`greatest_id`). It passes if `last` is `None`, which means that

@@ -1,5 +1,5 @@
 -- The figures of a result for the trade that it completes, and its checks.
-use Rattle.std.specs.Prelude.{ℕ, ◌+◌, ◌*◌, ◌&&◌, true, not, nat_lt, nat_abs, is_none, unwrap_or, if◌then◌else◌, ℤ, pos, ◌+ℤ◌, ◌-ℤ◌, List, [], ◌∷◌, ◌++◌, Option}
+use Rattle.std.specs.Prelude.{ℕ, ◌+◌, ◌*◌, ◌&&◌, true, not, nat_lt, nat_abs, is_none, unwrap_or, if◌then◌else◌, ℤ, pos, ◌+ℤ◌, ◌-ℤ◌, List, [], ◌∷◌, ◌++◌, Option, option_map}
 use Rattle.std.specs.Option.{option_map_or}
 use Rattle.brk_trade.specs.Estimates.{tax_on_gain_at_status}
 use Rattle.brk_lots.specs.declared.closed_values.Values.{Values}
@@ -28,27 +28,35 @@ greatest_trade_value = greatest_qty * greatest_price
 abbrev pub deal_of_trade_row : TradeRow → (price stamp : ℕ) → Deal
 deal_of_trade_row t price stamp = record { trade = t.id; side = side_of_trade_type t.kind; qty = t.qty; price = price; stamp = stamp; is_lifo = t.is_lifo }
 
+-- The quantity in the summary of the trade's account and security, or none if there is no summary.
+abbrev pub quantity_in_summary : ResultPlanFacts → Option ℤ
+quantity_in_summary found = option_map (λ s. s.qty) found.summary
+
+-- The number of shares of the trade's security that its account holds before the trade, below 0 if
+-- sold short, and 0 if there is no summary.
+abbrev pub shares_held_before_trade : ResultPlanFacts → ℤ
+shares_held_before_trade found = unwrap_or (quantity_in_summary found) (pos 0)
+
 -- The number of shares of the trade's security that its account holds after the trade, below 0 if
--- sold short: those in the summary, or 0 if there is none, plus the quantity of a purchase or minus
--- the quantity of a sale.
+-- sold short: those held before it plus the quantity of a purchase or minus the quantity of a sale.
 abbrev pub shares_held_after_trade : ResultPlanFacts → ℤ
-shares_held_after_trade found = unwrap_or found.summary (pos 0) +ℤ signed_by_side (side_of_trade_type found.trade.kind) found.trade.qty
+shares_held_after_trade found = shares_held_before_trade found +ℤ signed_by_side (side_of_trade_type found.trade.kind) found.trade.qty
 
 -- The commission of the trade at `price` cents a share, in whole cents, rounded half up
 -- (`commission`), at the commission rate of its band. The rate counts as 0 if there is no band.
 abbrev pub commission_of_result : ResultPlanFacts → ℕ → ℕ
-commission_of_result found price = commission (unwrap_or found.rate 0) found.trade.qty price
+commission_of_result found price = commission (unwrap_or found.listed.rate 0) found.trade.qty price
 
 -- The tax on the realised gain of `values`, in whole cents, rounded half up, at the tax status of
 -- the trade's account and the sum of the tax rates of the account's customer. The tax is 0 if gains
 -- are not taxable at this status, or if there is no gain (`tax_on_gain_at_status`).
 abbrev pub tax_of_result : ResultPlanFacts → Values → ℕ
-tax_of_result found values = tax_on_gain_at_status found.account.tax_status found.rates values
+tax_of_result found values = tax_on_gain_at_status found.parties.account.account.tax_status found.parties.rates values
 
 -- The part of the tax that is withheld from the settlement, in cents: all of it if the tax status
 -- of the account withholds it, otherwise 0.
 abbrev pub withheld_tax_of_result : ResultPlanFacts → Values → ℕ
-withheld_tax_of_result found values = if is_withholding_status found.account.tax_status then tax_of_result found values else 0
+withheld_tax_of_result found values = if is_withholding_status found.parties.account.account.tax_status then tax_of_result found values else 0
 
 -- The settlement amount of the trade at `price` cents a share, in cents, below 0 if the account
 -- pays: the value of the trade, negated for a purchase, minus the charge, the commission and the
@@ -61,7 +69,7 @@ settlement_amount_of_result found price values =
 -- The balance of the account, in cents, after a settlement of `amount` cents: a cash trade adds
 -- `amount`, and a margin trade does not change the balance.
 abbrev pub balance_after_settlement_amount : ResultPlanFacts → ℤ → ℤ
-balance_after_settlement_amount found amount = if found.trade.is_cash then found.account.balance +ℤ amount else found.account.balance
+balance_after_settlement_amount found amount = if found.trade.is_cash then found.parties.account.balance +ℤ amount else found.parties.account.balance
 
 -- The balance of the account after the trade at `price` cents a share, in cents: a cash trade adds
 -- its settlement amount, and a margin trade does not change the balance.
@@ -71,14 +79,14 @@ balance_after_result found price values = balance_after_settlement_amount found 
 -- The commissions of the account's broker after the trade at `price` cents a share, in cents: the
 -- commissions before the trade plus the commission of the trade.
 abbrev pub broker_commissions_after_result : ResultPlanFacts → ℕ → ℕ
-broker_commissions_after_result found price = found.broker.commissions + commission_of_result found price
+broker_commissions_after_result found price = found.parties.broker.commissions + commission_of_result found price
 
 -- The checks of a result that precede the reading of lots, in this order: the trade is submitted
 -- (`WrongStatus`, with its status), a commission rate applies (`NoRate`), and the absolute value of
 -- the number of shares held after the trade is at most 9,999,999,999 (`Range(Summary)`).
 abbrev pub checks_before_reading_lots : ResultPlanFacts → List RefusalCheck
 checks_before_reading_lots found =
-    (not (is_same_trade_status found.trade.status Submitted), WrongStatus found.trade.status) ∷ (is_none found.rate, NoRate)
+    (not (is_same_trade_status found.trade.status Submitted), WrongStatus found.trade.status) ∷ (is_none found.listed.rate, NoRate)
     ∷ (nat_lt greatest_summary_quantity (nat_abs (shares_held_after_trade found)), Range limit.Summary) ∷ []
 
 -- The check that `stamp` is not `None` and that the due day of a completion at `stamp` is not after
@@ -94,7 +102,7 @@ due_day_check rule stamp = (option_map_or (λ s. nat_lt greatest_day (due_day_of
 abbrev pub checks_after_reading_lots : ResultPlanFacts → ℕ → Values → Option ℕ → List RefusalCheck
 checks_after_reading_lots found price values stamp =
     (found.trade.is_cash && nat_lt greatest_amount (nat_abs (balance_after_result found price values)), Range limit.Balance)
-    ∷ (nat_lt greatest_amount (broker_commissions_after_result found price), Range limit.Broker) ∷ due_day_check found.rule stamp ∷ []
+    ∷ (nat_lt greatest_amount (broker_commissions_after_result found price), Range limit.Broker) ∷ due_day_check found.posting.rule stamp ∷ []
 
 -- All checks of a result at `price` cents a share: the checks that precede the reading of lots,
 -- then the checks that follow it.
@@ -109,7 +117,7 @@ reply_figures_of_result found price values stamp = record {
   commission = commission_of_result found price;
   tax = tax_of_result found values;
   amount = settlement_amount_of_result found price values;
-  due_day = due_day_of_completion_stamp found.rule stamp;
+  due_day = due_day_of_completion_stamp found.posting.rule stamp;
   buy_value = values.buy_value;
   sell_value = values.sell_value;
   balance = balance_after_result found price values;

@@ -24,6 +24,7 @@ use Rattle.brk_money.specs.declared.refusal.Refusal.TheVariants.{NoTrade}
 use Rattle.brk_money.specs.declared.status.Status.TheVariants as status
 use Rattle.brk_ref.specs.Rows.{abstract_cash_row}
 use Rattle.brk_trade.specs.Outcomes.{deal_of_trade_row, checks_before_reading_lots, result_checks, figures_of_result, reply_figures_of_result}
+use Rattle.brk_trade.specs.Outcomes.{quantity_in_summary, shares_held_before_trade}
 use Rattle.brk_ref.specs.declared.cash_type.CashType.{CashType}
 use Rattle.brk_ref.specs.declared.cash_type.CashType.TheVariants as cash_type
 use Rattle.brk_trade_rows.specs.declared.change.Change.{Change}
@@ -84,12 +85,12 @@ abbrev pub cash_row_of_result : ResultPlanFacts → Completed → Option tables.
 cash_row_of_result found completed =
     if found.trade.is_cash
     then Some (record {
-      id = found.next;
+      id = found.posting.next;
       account = found.trade.account;
       trade = Some found.trade.id;
       stamp = completed.stamp;
       amount = completed.amount;
-      name = cash_text_of_trade found.trade found.security;
+      name = cash_text_of_trade found.trade found.listed.security.name;
     })
     else None
 
@@ -108,7 +109,7 @@ row_changes_of_completed_trade trade price completed =
 -- The row change that sets the totals of the account's broker: one more completed trade, and
 -- `commissions`, the broker's new commission total in cents.
 abbrev pub row_change_of_broker_totals : ResultPlanFacts → ℕ → Change
-row_change_of_broker_totals found commissions = change.SetBrokerTotals found.account.broker (pos (found.broker.trades + 1)) commissions
+row_change_of_broker_totals found commissions = change.SetBrokerTotals found.parties.account.account.broker (pos (found.parties.broker.trades + 1)) commissions
 
 -- The row change that adds the SETTLEMENT row of the trade `t`: its settlement text, and the due
 -- day and the settlement amount of the figures `completed`.
@@ -120,7 +121,7 @@ row_change_adding_settlement t completed =
 -- sequence.
 abbrev pub summary_broker_settlement_changes : ResultPlanFacts → ResultFigures → List Change
 summary_broker_settlement_changes found outcome =
-    row_change_of_summary found.summary found.trade outcome.summary ∷ row_change_of_broker_totals found outcome.commissions
+    row_change_of_summary (quantity_in_summary found) found.trade outcome.summary ∷ row_change_of_broker_totals found outcome.commissions
     ∷ row_change_adding_settlement found.trade outcome.completed ∷ []
 
 -- The row changes that complete the trade of `found` at `price` cents a share, in this sequence: of
@@ -143,11 +144,6 @@ pub record AreResultChanges (found : ResultPlanFacts) (price : ℕ) (closed : Cl
   pub cash : Option CashRow
   pub moved : option_map abstract_cash_row cash ≡ cash_row_of_result found outcome.completed
   pub changed : changes ≡ row_changes_of_result found price closed outcome cash
-
--- The number of shares of the trade's security that its account holds before the trade, below 0 if
--- sold short, and 0 if there is no summary.
-abbrev pub shares_held_before_trade : ResultPlanFacts → ℤ
-shares_held_before_trade found = unwrap_or found.summary (pos 0)
 
 -- The source may return the lots `ls` of a position (`given`), from the end that the trade of
 -- `found` closes first; this trade opened none of them; and their quantities sum to the shares that

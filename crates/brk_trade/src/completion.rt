@@ -1,7 +1,8 @@
-//! The row changes that complete a trade.
+//! The row changes that complete a trade. A function that fails may have appended a part of them.
 
 ghost use Rattle.std.specs.Prelude.{◌≡◌, ◌++◌, flat_map, option_map, option_to_list, string_bytes, IfOk, OnOk, OnErr, Err};
 ghost use Rattle.brk_money.specs.declared.fault.Fault.TheVariants.{Memory};
+ghost use Rattle.brk_trade.specs.Outcomes.{quantity_in_summary};
 ghost use Rattle.brk_trade.specs.Results as spec;
 ghost use Rattle.brk_trade.specs.Results.{AreResultChanges};
 ghost use Rattle.brk_ref.specs.Rows.{abstract_cash_row};
@@ -17,10 +18,7 @@ use brk_trade_plans::Completed;
 use brk_trade_rows::{Amount, Change};
 use std::alloc::{AllocError, Global};
 
-// Appends to `changes` the row changes of the completed trade itself: the status, stamp, price,
-// commission and tax of its completion are set, and its TRADE_HISTORY row is added. Fails with
-// `Memory` only; a part of the row changes may then be appended.
-fn append_completed_trade_changes(
+fn append_trade(
     trade: Id,
     price: Price,
     completed: &Completed,
@@ -44,9 +42,7 @@ fn append_completed_trade_changes(
     Ok(())
 }
 
-// Returns the row change of the HOLDING row of a lot that a trade closes or reduces: the lot is
-// deleted if none of its shares remains, and otherwise its quantity is set.
-fn create_touched_lot_change(touch: &Touch) -> Change
+fn holding_change(touch: &Touch) -> Change
     ensures { result ≡ spec.row_change_of_touched_holding touch.now }
 {
     if touch.after == 0 {
@@ -59,8 +55,7 @@ fn create_touched_lot_change(touch: &Touch) -> Change
     }
 }
 
-// Returns the row change that adds the HOLDING_HISTORY row of a lot that `trade` closes or reduces.
-fn create_lot_history_change(trade: Id, touch: &Touch) -> Change
+fn history_change(trade: Id, touch: &Touch) -> Change
     ensures { result ≡ spec.row_change_adding_lot_history trade touch.now }
 {
     Change::AddLotChange(LotChange {
@@ -71,43 +66,26 @@ fn create_lot_history_change(trade: Id, touch: &Touch) -> Change
     })
 }
 
-// Appends to `changes` the row changes of one lot that `trade` closes or reduces: first of its
-// HOLDING row, then of its new HOLDING_HISTORY row. Fails with `Memory` only; a part of the row
-// changes may then be appended.
-fn append_touched_lot_changes(
-    trade: Id,
-    touch: &Touch,
-    changes: &mut Vec<Change>,
-) -> Result<(), Fault>
+fn append_touch(trade: Id, touch: &Touch, changes: &mut Vec<Change>) -> Result<(), Fault>
     ensures changes { OnOk result (changes.new.items ≡ changes.old.items ++ spec.row_changes_of_touched_lot trade touch.now) }
     ensures fault { OnErr result (result ≡ Err Memory) }
 {
-    changes.push(create_touched_lot_change(touch))?;
-    changes.push(create_lot_history_change(trade, touch))?;
+    changes.push(holding_change(touch))?;
+    changes.push(history_change(trade, touch))?;
     Ok(())
 }
 
-// Appends to `changes` the row changes of the lots `touched`, which `trade` closes or reduces, in
-// their sequence: for each first of its HOLDING row, then of its new HOLDING_HISTORY row. Fails
-// with `Memory` only; a part of the row changes may then be appended.
-fn append_changes_of_closed_and_reduced_lots(
-    trade: Id,
-    touched: &[Touch],
-    changes: &mut Vec<Change>,
-) -> Result<(), Fault>
+fn append_touches(trade: Id, touched: &[Touch], changes: &mut Vec<Change>) -> Result<(), Fault>
     ensures changes { OnOk result (changes.new.items ≡ changes.old.items ++ flat_map (spec.row_changes_of_touched_lot trade) touched.now) }
     ensures fault { OnErr result (result ≡ Err Memory) }
 {
     for touch in touched {
-        append_touched_lot_changes(trade, touch, changes)?;
+        append_touch(trade, touch, changes)?;
     }
     Ok(())
 }
 
-// Appends to `changes` the row changes that add the lot that the trade opens and its
-// HOLDING_HISTORY row, or nothing if it opens none. Fails with `Memory` only; a part of the row
-// changes may then be appended.
-fn append_opened_lot_changes(
+fn append_opened(
     trade: &TradeRow,
     opened: Option<Lot>,
     changes: &mut Vec<Change>,
@@ -135,11 +113,8 @@ fn append_opened_lot_changes(
     Ok(())
 }
 
-// Returns the row change of the HOLDING_SUMMARY row of the trade's account and symbol: if there was
-// no row, it is added with the shares held after the trade; otherwise it is deleted if these are 0,
-// and set to them if not. Fails with `Memory` only.
-fn create_summary_change(found: &ResultPlanFacts, outcome: &ResultFigures) -> Result<Change, Fault>
-    ensures change { IfOk result (λ change. change ≡ spec.row_change_of_summary found.now.summary found.now.trade outcome.now.summary) }
+fn summary_change(found: &ResultPlanFacts, outcome: &ResultFigures) -> Result<Change, Fault>
+    ensures change { IfOk result (λ change. change ≡ spec.row_change_of_summary (quantity_in_summary found.now) found.now.trade outcome.now.summary) }
     ensures fault { OnErr result (result ≡ Err Memory) }
 {
     let account = found.trade.account;
@@ -162,9 +137,7 @@ fn create_summary_change(found: &ResultPlanFacts, outcome: &ResultFigures) -> Re
     }))
 }
 
-// Returns the cash type of the settlement that a completion adds: `CashAccount` for a cash trade
-// (`is_cash`), `Margin` for a margin trade.
-fn initial_cash_type_of_settlement(is_cash: bool) -> CashType
+fn first_cash_type(is_cash: bool) -> CashType
     ensures { result ≡ spec.first_cash_type_of_trade is_cash }
 {
     if is_cash {
@@ -174,35 +147,28 @@ fn initial_cash_type_of_settlement(is_cash: bool) -> CashType
     }
 }
 
-// Returns the row change that sets the totals of the account's broker: one more completed trade,
-// and `commissions`, the broker's new commission total in cents.
-fn create_broker_totals_change(found: &ResultPlanFacts, commissions: Amount) -> Change
+fn totals_change(found: &ResultPlanFacts, commissions: Amount) -> Change
     ensures { result ≡ spec.row_change_of_broker_totals found.now commissions }
 {
     Change::SetBrokerTotals {
-        broker: found.account.broker,
-        trades: found.broker.trades.get() as i64 + 1,
+        broker: found.parties.account.account.broker,
+        trades: found.parties.broker.trades.get() as i64 + 1,
         commissions,
     }
 }
 
-// Returns the row change that adds the SETTLEMENT row of the trade: its cash type, its due
-// day and its settlement amount.
-fn create_settlement_change(trade: &TradeRow, completed: &Completed) -> Change
+fn settling_change(trade: &TradeRow, completed: &Completed) -> Change
     ensures { result ≡ spec.row_change_adding_settlement trade.now completed.now }
 {
     Change::AddSettlement(SettlementRow {
         trade: trade.id,
-        cash_type: initial_cash_type_of_settlement(trade.is_cash),
+        cash_type: first_cash_type(trade.is_cash),
         due_day: completed.due_day,
         amount: completed.amount,
     })
 }
 
-// Appends to `changes` the row changes of the account's summary, of the broker's totals and of the
-// settlement, in this sequence. Fails with `Memory` only; a part of the row changes may then be
-// appended.
-fn append_summary_broker_settlement_changes(
+fn append_sums(
     found: &ResultPlanFacts,
     outcome: &ResultFigures,
     changes: &mut Vec<Change>,
@@ -210,40 +176,31 @@ fn append_summary_broker_settlement_changes(
     ensures changes { OnOk result (changes.new.items ≡ changes.old.items ++ spec.summary_broker_settlement_changes found.now outcome.now) }
     ensures fault { OnErr result (result ≡ Err Memory) }
 {
-    let summary = create_summary_change(found, outcome)?;
+    let summary = summary_change(found, outcome)?;
     changes.push(summary)?;
-    changes.push(create_broker_totals_change(found, outcome.commissions))?;
-    changes.push(create_settlement_change(&found.trade, &outcome.completed))?;
+    changes.push(totals_change(found, outcome.commissions))?;
+    changes.push(settling_change(&found.trade, &outcome.completed))?;
     Ok(())
 }
 
-// Appends to `name` a space, the quantity in decimal digits, and the text " shares of ". Fails if
-// memory runs out; a part may then be appended.
-fn append_quantity_text(name: &mut String, qty: Qty) -> Result<(), AllocError>
+fn append_qty(name: &mut String, qty: Qty) -> Result<(), AllocError>
     ensures { OnOk result (string_bytes name.new ≡ string_bytes name.old ++ spec.cash_text_part_with_quantity qty) }
 {
     write!(name, " {} shares of ", qty.get())
 }
 
-// Returns the cash text of a trade: the name of its type, a space, its quantity, " shares of " and
-// the name of its security. Fails if memory runs out.
-fn format_trade_cash_text(
-    alloc: Global,
-    trade: &TradeRow,
-    security: &Name,
-) -> Result<String, AllocError>
+// For example `Limit-Buy 100 shares of Acme`. Text updates (`toggle_text`) and the audit
+// (`text_of_trade`) rely on the words.
+fn trade_cash_text(alloc: Global, trade: &TradeRow, security: &Name) -> Result<String, AllocError>
     ensures { IfOk result (λ name. string_bytes name ≡ spec.cash_text_of_trade trade.now security.now) }
 {
     let mut name = String::from_str(alloc, trade.kind.name())?;
-    append_quantity_text(&mut name, trade.qty)?;
+    append_qty(&mut name, trade.qty)?;
     name.push_str(security.as_str())?;
     Ok(name)
 }
 
-// Returns the CASH_MOVE row of the completed trade, with the next id and with the stamp and the
-// settlement amount of the figures `completed`, or `None` if the trade is a margin trade. Fails if
-// memory runs out.
-fn create_result_cash_row(
+fn result_cash_row(
     alloc: Global,
     found: &ResultPlanFacts,
     completed: &Completed,
@@ -254,19 +211,16 @@ fn create_result_cash_row(
         return Ok(None);
     }
     Ok(Some(CashRow {
-        id: found.next,
+        id: found.posting.next,
         account: found.trade.account,
         trade: Some(found.trade.id),
         stamp: completed.stamp,
         amount: completed.amount,
-        name: format_trade_cash_text(alloc, &found.trade, &found.security)?,
+        name: trade_cash_text(alloc, &found.trade, &found.listed.security.name)?,
     }))
 }
 
-// Appends to `changes` the row changes of the cash row `cash`: it is added, and the balance of
-// `account` is set to that of the figures `completed`. Appends nothing if `cash` is `None`. Fails
-// with `Memory` only; a part of the row changes may then be appended.
-fn append_cash_row_changes(
+fn append_cash(
     account: Id,
     completed: &Completed,
     cash: Option<CashRow>,
@@ -287,11 +241,7 @@ fn append_cash_row_changes(
     Ok(())
 }
 
-// Returns all row changes of a completion, in this sequence: of the trade, of the lots that it
-// closes or reduces, of the lot that it opens, if any, of the summary, the broker's totals and the
-// settlement, of the cash row and the account's balance if `cash` is a row, and of the last stamp.
-// Fails with `Memory` only.
-fn create_result_changes(
+fn row_changes(
     alloc: Global,
     found: &ResultPlanFacts,
     price: Price,
@@ -305,18 +255,16 @@ fn create_result_changes(
     let trade = &found.trade;
     let completed = &outcome.completed;
     let mut changes = Vec::new(alloc);
-    append_completed_trade_changes(trade.id, price, completed, &mut changes)?;
-    append_changes_of_closed_and_reduced_lots(trade.id, &closed.touched, &mut changes)?;
-    append_opened_lot_changes(trade, closed.opened, &mut changes)?;
-    append_summary_broker_settlement_changes(found, outcome, &mut changes)?;
-    append_cash_row_changes(trade.account, completed, cash, &mut changes)?;
+    append_trade(trade.id, price, completed, &mut changes)?;
+    append_touches(trade.id, &closed.touched, &mut changes)?;
+    append_opened(trade, closed.opened, &mut changes)?;
+    append_sums(found, outcome, &mut changes)?;
+    append_cash(trade.account, completed, cash, &mut changes)?;
     changes.push(Change::SetLastStamp(completed.stamp))?;
     Ok(changes)
 }
 
-// Creates the cash row of the trade, if it is a cash trade, and returns all row changes that
-// complete the trade with the lots `closed` and the figures `outcome`. Fails with `Memory` only.
-pub(crate) fn create_completion_changes(
+pub(crate) fn result_changes(
     alloc: Global,
     found: &ResultPlanFacts,
     price: Price,
@@ -326,7 +274,7 @@ pub(crate) fn create_completion_changes(
     ensures changes { IfOk result (λ changes. AreResultChanges found.now price closed.now outcome.now changes.items) }
     ensures fault { OnErr result (result ≡ Err Memory) }
 {
-    let cash = create_result_cash_row(alloc, found, &outcome.completed)?;
-    let changes = create_result_changes(alloc, found, price, closed, outcome, cash)?;
+    let cash = result_cash_row(alloc, found, &outcome.completed)?;
+    let changes = row_changes(alloc, found, price, closed, outcome, cash)?;
     Ok(changes)
 }

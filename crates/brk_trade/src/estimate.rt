@@ -12,9 +12,7 @@ ghost use Rattle.brk_lots.specs.Values.{closing_values_of_deal};
 ghost use Rattle.brk_trade.specs.Estimates.{AreOrderTermsInBase, OrderReadsAtMostOneLotMore, commission_from_terms, deal_from_terms, tax_on_gain_at_status};
 ghost use Rattle.brk_trade_plans.specs.Replies.{estimate_from_model};
 
-use brk_lots::{
-    LotSource, Values, estimate_closing_values, is_trade_closing_lots, zero_closing_values,
-};
+use brk_lots::{LotSource, Values, estimate_values, is_trade_closing_lots, zero_values};
 use brk_money::{
     Amount, Cents, Fault, Price, Qty, Rate, Side, TaxRate, TaxStatus, Wide, commission, tax,
 };
@@ -41,34 +39,26 @@ pub struct Terms {
     pub held: i64,
 }
 
-// Returns the realised gain of shares in cents, below 0 for a loss: their sell value minus their
-// buy value.
-fn realised_gain_of_values(values: Values) -> Cents
+fn gain_of_values(values: Values) -> Cents
     ensures { result ≡ pos values.sell_value -ℤ pos values.buy_value }
 {
     Cents::new(values.sell_value.get() as i64 - values.buy_value.get() as i64).unwrap()
 }
 
-/// Returns the tax on the realised gain of shares, in whole cents, rounded half up. `rates` is the
-/// sum of the rates that the account's customer pays, in hundred-thousandths. The tax is 0 if gains
-/// are not taxable at the tax status, or if there is no gain.
+/// Returns the tax on the realised gain of shares, in whole cents, rounded half up; 0 without a
+/// gain, or if gains are not taxable at the tax status. `rates` is the sum of the rates that the
+/// account's customer pays, in hundred-thousandths.
 pub fn tax_on_realised_gain(values: Values, status: TaxStatus, rates: TaxRate) -> Amount
     ensures { result ≡ tax_on_gain_at_status status rates values }
 {
     if is_taxable_status(status) {
-        tax(realised_gain_of_values(values), rates).unsigned_abs()
+        tax(gain_of_values(values), rates).unsigned_abs()
     } else {
         Amount::new(0).unwrap()
     }
 }
 
-// Returns the buy value and the sell value, in cents, of the shares that an order would close. They
-// are specified only over the lots of a position whose quantities sum to the shares held, and only
-// under the disk assumption. Reads no lot if the account holds no shares that the order would
-// close; otherwise, over the lots of a position under the disk assumption, at most one lot more
-// than the order would close or reduce, also if it fails. Fails only with a fault of the source.
-// The lots that it did not take remain in the source, also if it fails, under the disk assumption.
-fn values_of_shares_to_close<L: LotSource>(source: &mut L, terms: &Terms) -> Result<Values, Fault>
+fn closing_values<L: LotSource>(source: &mut L, terms: &Terms) -> Result<Values, Fault>
     // The source is in a state to which its calls can lead.
     ensures leads { L.leads source.old source.new }
 
@@ -91,23 +81,17 @@ fn values_of_shares_to_close<L: LotSource>(source: &mut L, terms: &Terms) -> Res
         → (n : ℕ) × L.remaining source.new (drop n ls) }
 {
     if is_trade_closing_lots(terms.side, terms.held) {
-        estimate_closing_values(source, terms.side, terms.qty, terms.price)
+        estimate_values(source, terms.side, terms.qty, terms.price)
     } else {
-        Ok(zero_closing_values())
+        Ok(zero_values())
     }
 }
 
-/// Returns the estimated figures of an order, in cents (Trade-Order): its price, the buy value and
-/// the sell value of the shares that it would close, the tax, the commission, the charge and the
-/// assets. They follow from its terms and from the lots of its account and symbol, which `source`
-/// returns in the sequence in which the order closes them. The commission follows from the terms
-/// alone. The other figures are specified only if the lots form a position and their quantities sum
-/// to the shares held, and only under the disk assumption.
+/// Returns the estimated figures of an order, in cents (Trade-Order). `source` returns the lots of
+/// its account and symbol in the sequence in which the order closes them.
 ///
-/// Reads no lot if the account holds no shares that the order would close; otherwise, over the lots
-/// of a position under the disk assumption, at most one lot more than the order would close or
-/// reduce, also if it fails. Fails only with a fault of the source. The lots that it did not take
-/// remain in the source, also if it fails, under the disk assumption.
+/// The figures that depend on lots are specified only if the lots form a position whose quantities
+/// sum to `terms.held`, and only under the disk assumption. Fails only with a fault of the source.
 pub fn estimate_order<L: LotSource>(source: &mut L, terms: &Terms) -> Result<Estimate, Fault>
     ensures leads { L.leads source.old source.new }
     // The estimate equals the model's estimate, in a base that has the terms and the shares of the
@@ -125,10 +109,11 @@ pub fn estimate_order<L: LotSource>(source: &mut L, terms: &Terms) -> Result<Est
     // At `Ok` the source counted no fault; a fault is one with which a call of the source failed.
     ensures faulted { IfOk result (λ estimate. L.faulted source.new ≡ L.faulted source.old) }
     ensures fault { IfErr result (λ fault. (before : L) × L.fails before fault source.new) }
+    // Under the disk assumption, the lots that it did not take remain in the source.
     ensures rest { (ls : List Lot) → AreLotsOfFaithfulSource (L.reads_faithfully source.new) (L.remaining source.old) ls
         → (n : ℕ) × L.remaining source.new (drop n ls) }
 {
-    let values = values_of_shares_to_close(source, terms)?;
+    let values = closing_values(source, terms)?;
     Ok(Estimate {
         price: terms.price,
         buy_value: values.buy_value,

@@ -26,4 +26,4 @@ pub use estimate::{Terms, estimate_order, tax_on_realised_gain};
 pub use order::{OrderAccount, OrderPlanFacts, plan_estimate, plan_order};
 pub use outcome::ResultFigures;
 pub use result::plan_result;
-pub use result_found::{ResultAccount, ResultPlanFacts};
+pub use result_found::{Posting, ResultPlanFacts, TradeParties, TradedSecurity};

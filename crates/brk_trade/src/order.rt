@@ -12,7 +12,7 @@ ghost use Rattle.brk_trade.specs.Estimates.{OrderReadsAtMostOneLotMore, commissi
 ghost use Rattle.brk_trade.specs.Orders as spec;
 ghost use Rattle.brk_trade_plans.specs.Reference.{later_stamp_check};
 ghost use Rattle.brk_ref.specs.Rows.{abstract_trade_row};
-ghost use Rattle.brk_trade.specs.Orders.{AreOrderChanges, EstimatesCheckedOrder, IsOrderPlan};
+ghost use Rattle.brk_trade.specs.Orders.{AreOrderChanges, IsOrderPlan, RepliesWithEstimate};
 ghost use Rattle.brk_trade.specs.Orders.{IsCheckedPlacement, order_checks, terms_of_order};
 ghost use Rattle.brk_trade.specs.Orders.{free_trade_id_check};
 
@@ -24,16 +24,14 @@ use brk_money::{
 };
 use brk_ref::{ChargeAmount, Executor, HistoryRow, RequestRow, Symbol, TradeRow};
 use brk_ref_orders::Order;
-use brk_trade_plans::{Estimate, Ordered, Plan, Reply};
+use brk_trade_plans::{Ordered, Plan, Reply};
 use brk_trade_rows::{Amount, Change};
 use std::alloc::{AllocError, Global};
 
 /// The facts of an order's account that decide on the order.
 #[derive(Clone, Copy, PartialEq, Eq)]
 pub struct OrderAccount {
-    /// Its broker.
     pub broker: Id,
-    /// Its tax status.
     pub tax_status: TaxStatus,
 }
 
@@ -70,16 +68,12 @@ struct Placement {
     broker: Id,
 }
 
-// Returns the price that the order asks for, or `last`, the last price of its security, if it asks
-// for none; both are in cents.
 fn bid_price_of_order(order: &Order, last: Price) -> Price
     ensures { result ≡ spec.requested_or_last_price order.now last }
 {
     order.order_type.price().unwrap_or(last)
 }
 
-// Returns the terms of an order and the broker of its account, or the first refusal that applies of
-// `NoAccount`, `NoSecurity`, `NotPermitted`, `NoCharge` and `NoRate`.
 fn checked_placement(order: &Order, found: &OrderPlanFacts) -> Result<Placement, Refusal>
     ensures { MatchResult result
         (IsCheckedPlacement order.now found.now)
@@ -116,27 +110,22 @@ fn checked_placement(order: &Order, found: &OrderPlanFacts) -> Result<Placement,
     })
 }
 
-/// Returns the estimate of an order, or the refusal, from the facts in the tables, `found`, and the
-/// lots of its account and symbol, which `source` returns in the sequence in which the order closes
-/// them (Trade-Order). The estimate is specified only if these lots form a position and their
-/// quantities sum to the shares held, and only under the disk assumption.
+/// Replies with the estimate of an order (`Reply::Estimated`), or refuses it (Trade-Order). `source`
+/// returns the lots of its account and symbol in the sequence in which the order closes them. The
+/// estimate is specified only if they form a position whose quantities sum to the shares held, and
+/// only under the disk assumption.
 ///
-/// Refuses with the first that applies of `NoAccount`, `NoSecurity` (the account or the security
-/// does not exist), `NotPermitted` (the executor is neither the account's customer nor has a
-/// permission of the account), `NoCharge` and `NoRate` (no charge or no commission rate applies).
-/// Reads no lot if it refuses, or if the account holds no shares that the order would close;
-/// otherwise, over the lots of a position under the disk assumption, at most one lot more than the
-/// order would close or reduce, also if it fails. Fails only with a fault of the source. The lots
-/// that it did not take remain in the source, also if it refuses or fails, under the disk
-/// assumption.
+/// Refuses with the first that applies of `NoAccount`, `NoSecurity`, `NotPermitted` (the executor
+/// is neither the account's customer nor has a permission of the account), `NoCharge` and `NoRate`,
+/// and then reads no lot. Fails only with a fault of the source.
 pub fn plan_estimate<L: LotSource>(
     order: &Order,
     found: &OrderPlanFacts,
     source: &mut L,
-) -> Planned<Estimate>
+) -> Planned<Reply>
     ensures leads { L.leads source.old source.new }
     ensures planned { IfOk result (λ planned. MatchResult planned
-        (EstimatesCheckedOrder order.now found.now (AreLotsOfFaithfulSource (L.reads_faithfully source.new) (L.remaining source.old)))
+        (RepliesWithEstimate order.now found.now (AreLotsOfFaithfulSource (L.reads_faithfully source.new) (L.remaining source.old)))
         (λ refusal. first_refusal (order_checks found.now) ≡ Some refusal)) }
     ensures refused { IfOk result (λ planned. OnErr planned (source.new ≡ source.old)) }
     // It reads at most one lot more than the order would close or reduce, also if it fails.
@@ -148,6 +137,7 @@ pub fn plan_estimate<L: LotSource>(
     // A fault of the source is never ignored, and is returned unchanged.
     ensures faulted { IfOk result (λ planned. L.faulted source.new ≡ L.faulted source.old) }
     ensures fault { IfErr result (λ fault. (before : L) × L.fails before fault source.new) }
+    // Under the disk assumption, the lots that it did not take remain in the source.
     ensures rest { (ls : List Lot) → AreLotsOfFaithfulSource (L.reads_faithfully source.new) (L.remaining source.old) ls
         → (n : ℕ) × L.remaining source.new (drop n ls) }
 {
@@ -156,13 +146,10 @@ pub fn plan_estimate<L: LotSource>(
         Err(refusal) => return Ok(Err(refusal)),
     };
     let estimate = estimate_order(source, &placement.terms)?;
-    Ok(Ok(estimate))
+    Ok(Ok(Reply::Estimated(estimate)))
 }
 
-// Returns the id of the next trade: `last`, the greatest id of a trade, plus 1, or 1 if `last` is
-// `None`, which means that there are no trades. Returns `None` if `last` is the greatest id that is
-// allowed, so that no free id exists.
-fn next_free_trade_id(last: Option<Id>) -> Option<Id>
+fn free_trade_id(last: Option<Id>) -> Option<Id>
     ensures { MatchOption result
         (first_refusal (free_trade_id_check last ∷ []) ≡ Some (Range limit.Trades))
         (λ trade. (first_refusal (free_trade_id_check last ∷ []) ≡ None) × (trade ≡ spec.next_trade_id last)) }
@@ -173,8 +160,6 @@ fn next_free_trade_id(last: Option<Id>) -> Option<Id>
     }
 }
 
-// Returns the first status of an order of the type: `Submitted` for a market type, otherwise
-// `Pending`.
 fn first_status(kind: TradeType) -> Status
     ensures { result ≡ model.first_status kind }
 {
@@ -185,8 +170,6 @@ fn first_status(kind: TradeType) -> Status
     }
 }
 
-// Returns the executor's name as a TRADE row stores it: the first name, a space, the last name.
-// Fails if memory runs out.
 fn executor_name(alloc: Global, executor: &Executor) -> Result<String, AllocError>
     ensures { IfOk result (λ name. string_bytes name ≡ model.executor_name (abstract_executor executor.now)) }
 {
@@ -196,11 +179,8 @@ fn executor_name(alloc: Global, executor: &Executor) -> Result<String, AllocErro
     Ok(name)
 }
 
-// Returns the TRADE row of a new order with the terms, the commission in cents, the id, the stamp,
-// the symbol and the executor's name that are passed: in its first status, with the price of the
-// terms as its bid price, without a completion price, with tax 0. `commission` must be the
-// commission of the terms.
-fn create_trade_row_with_symbol_and_executor(
+// Takes the two texts of the row as values, so that it cannot fail.
+fn row_with_texts(
     order: &Order,
     terms: &Terms,
     commission: Amount,
@@ -231,11 +211,7 @@ fn create_trade_row_with_symbol_and_executor(
     }
 }
 
-// Returns the TRADE row of a new order with the terms, the commission in cents, the id and the
-// stamp that are passed: in its first status, with the price of the terms as its bid price and the
-// full name of the order's executor, without a completion price, with tax 0. `commission` must be
-// the commission of the terms. Fails if memory runs out.
-fn create_order_trade_row(
+fn new_trade_row(
     alloc: Global,
     order: &Order,
     terms: &Terms,
@@ -248,14 +224,10 @@ fn create_order_trade_row(
 {
     let symbol = order.symbol.clone()?;
     let executor = executor_name(alloc, &order.executor)?;
-    Ok(create_trade_row_with_symbol_and_executor(
-        order, terms, commission, trade, stamp, symbol, executor,
-    ))
+    Ok(row_with_texts(order, terms, commission, trade, stamp, symbol, executor))
 }
 
-// Returns the TRADE_REQUEST row of the new trade `trade` of an order, or `None` for a market order.
-// Fails if memory runs out.
-fn create_order_request_row(
+fn new_request_row(
     order: &Order,
     placement: &Placement,
     trade: Id,
@@ -275,9 +247,7 @@ fn create_order_request_row(
     }))
 }
 
-// Returns the row changes that add the TRADE row `row`, its first TRADE_HISTORY row and its
-// request, if any, and that set the last stamp to the stamp of the row. Fails if memory runs out.
-fn create_new_trade_changes(
+fn trade_changes(
     alloc: Global,
     row: TradeRow,
     request: Option<RequestRow>,
@@ -300,11 +270,7 @@ fn create_new_trade_changes(
     Ok(changes)
 }
 
-// Returns the row changes of an accepted order with the placement, the commission in cents, the id
-// and the stamp that are passed: its TRADE row, its first TRADE_HISTORY row and its request, if
-// any, are added, and the last stamp is set. `commission` must be the commission of the placement's
-// terms. Fails if memory runs out.
-fn create_order_changes(
+fn order_changes(
     alloc: Global,
     order: &Order,
     placement: &Placement,
@@ -316,30 +282,21 @@ fn create_order_changes(
     ensures { IfOk result (λ changes. AreOrderChanges order.now placement.now.terms placement.now.broker trade stamp changes.items) }
 {
     let terms = &placement.terms;
-    let row = create_order_trade_row(alloc, order, terms, commission, trade, stamp)?;
-    let request = create_order_request_row(order, placement, trade)?;
-    let changes = create_new_trade_changes(alloc, row, request)?;
+    let row = new_trade_row(alloc, order, terms, commission, trade, stamp)?;
+    let request = new_request_row(order, placement, trade)?;
+    let changes = trade_changes(alloc, row, request)?;
     Ok(changes)
 }
 
-/// Plans an order from the facts in the tables, `found`, and the lots of its account and symbol,
-/// which `source` returns in the sequence in which the order closes them (Trade-Order). `last` is
-/// the stamp of the last accepted command, if any, and `now` the clock reading.
+/// Plans an order (Trade-Order): the trade in its first status, its history row and, if it is
+/// pending, its request. The reply has the estimate, specified as that of `plan_estimate`. `source`
+/// returns the lots of its account and symbol in the sequence in which the order closes them,
+/// `last` is the stamp of the last accepted command, if any, and `now` the clock reading.
 ///
-/// The plan adds the trade in its first status, a history row for this status and, if it is
-/// pending, its request, and sets the last stamp. Its reply has the stamp, the id, the status and
-/// the estimate. The estimate is specified only if the lots form a position and their quantities
-/// sum to the shares held, and only under the disk assumption.
-///
-/// Refuses with the first that applies of `NoAccount`, `NoSecurity` (the account or the security
-/// does not exist), `NotPermitted` (the executor is neither the account's customer nor has a
-/// permission of the account), `NoCharge`, `NoRate` (no charge or no commission rate applies);
-/// `Range(Trades)`, if no free id exists; and `ClockEnd`, if no stamp later than `last` exists.
-/// Reads no lot if it refuses, or if the account holds no shares that the order would close;
-/// otherwise, over the lots of a position under the disk assumption, at most one lot more than the
-/// order would close or reduce, also if it fails. Fails with `Memory` or a fault of the source. The
-/// lots that it did not take remain in the source, also if it refuses or fails, under the disk
-/// assumption.
+/// Refuses with the first that applies of `NoAccount`, `NoSecurity`, `NotPermitted`, `NoCharge`,
+/// `NoRate` (each as `plan_estimate` does), `Range(Trades)` (no free id exists) and `ClockEnd` (no
+/// stamp later than `last` exists), and then reads no lot. Fails with `Memory` or a fault of the
+/// source.
 pub fn plan_order<L: LotSource>(
     alloc: Global,
     order: &Order,
@@ -362,6 +319,7 @@ pub fn plan_order<L: LotSource>(
     // A fault of the source is never ignored, and is returned unchanged.
     ensures faulted { IfOk result (λ planned. L.faulted source.new ≡ L.faulted source.old) }
     ensures fault { IfErr result (λ fault. (fault ≡ Fault.Memory) ⊎ ((before : L) × L.fails before fault source.new)) }
+    // Under the disk assumption, the lots that it did not take remain in the source.
     ensures rest { (ls : List Lot) → AreLotsOfFaithfulSource (L.reads_faithfully source.new) (L.remaining source.old) ls
         → (n : ℕ) × L.remaining source.new (drop n ls) }
 {
@@ -369,21 +327,14 @@ pub fn plan_order<L: LotSource>(
         Ok(placement) => placement,
         Err(refusal) => return Ok(Err(refusal)),
     };
-    let Some(trade) = next_free_trade_id(found.last_trade) else {
+    let Some(trade) = free_trade_id(found.last_trade) else {
         return Ok(Err(Refusal::Range(Limit::Trades)));
     };
     let Some(stamp) = stamp_after(last, now) else {
         return Ok(Err(Refusal::ClockEnd));
     };
     let estimate = estimate_order(source, &placement.terms)?;
-    let changes = create_order_changes(
-        alloc,
-        order,
-        &placement,
-        estimate.commission,
-        trade,
-        stamp,
-    )?;
+    let changes = order_changes(alloc, order, &placement, estimate.commission, trade, stamp)?;
     let reply = Reply::Ordered(Ordered {
         stamp,
         trade,

@@ -11,25 +11,14 @@ ghost use Rattle.brk_trade.specs.Outcomes.{deal_of_trade_row};
 ghost use Rattle.brk_trade.specs.Results.{AreLotsBeforeTrade, ResultReadsAtMostOneLotMore, CompletesExistingTrade};
 ghost use Rattle.brk_trade.specs.Results.{IsResultRefusal, ClosesNoHeldShares, stamp_or_clock_reading};
 
-use crate::completion::create_completion_changes;
-use crate::outcome::{checked_rate_and_summary, checked_result_figures};
+use crate::completion::result_changes;
+use crate::outcome::{checked_before_lots, checked_figures, shares_held_before_trade};
 use crate::result_found::ResultPlanFacts;
-use brk_lots::{
-    ClosedLots, LotSource, close_lots_and_open_rest, effect_of_trade_closing_no_lot,
-    is_trade_closing_lots,
-};
+use brk_lots::{ClosedLots, LotSource, close_lots, is_trade_closing_lots, opening_effect};
 use brk_money::{Fault, Planned, Price, Refusal, Stamp, stamp_after};
 use brk_trade_plans::{Plan, Reply};
 use std::alloc::Global;
 
-// Returns the effect of the trade at `price` and `stamp` on the lots: the lots that it closes or
-// reduces, the lot that it opens, if any, and the values of the closed shares. They are specified
-// only over the lots of a position, none of them opened by this trade, whose quantities sum to the
-// shares held, and only under the disk assumption; but the sell value is always at most the value
-// of the trade's quantity at the greatest price. Reads no lot if the account holds no shares that
-// the trade would close; otherwise, over such lots, at most one lot more than the trade would close
-// or reduce, also if it fails. Fails with `Memory` or a fault of the source. The lots that it did
-// not take remain in the source, also if it fails, under the disk assumption.
 fn effect_of_trade_on_lots<L: LotSource>(
     alloc: Global,
     source: &mut L,
@@ -61,39 +50,27 @@ fn effect_of_trade_on_lots<L: LotSource>(
 {
     let trade = &found.trade;
     let side = trade.kind.side();
-    if is_trade_closing_lots(side, found.summary.unwrap_or(0)) {
-        close_lots_and_open_rest(alloc, source, side, trade.qty, trade.id, price, stamp)
+    if is_trade_closing_lots(side, shares_held_before_trade(found)) {
+        close_lots(alloc, source, side, trade.qty, trade.id, price, stamp)
     } else {
-        Ok(effect_of_trade_closing_no_lot(alloc, side, trade.qty, trade.id, price, stamp))
+        Ok(opening_effect(alloc, side, trade.qty, trade.id, price, stamp))
     }
 }
 
-/// Plans the result of a trade at `price` (Trade-Result). `found` has the facts in the tables, and
-/// is `None` if there is no such trade. `source` returns the lots of the trade's account and symbol
-/// in the sequence in which the trade closes them, `last` is the stamp of the last accepted
-/// command, if any, and `now` the clock reading.
+/// Plans the result of a trade at `price` (Trade-Result): the completed trade, the lots that it
+/// closes, reduces or opens with their changes, the summary, the broker totals, the settlement and,
+/// for a cash trade, the cash row and the balance. `found` is `None` if there is no such trade,
+/// `source` returns the lots of its account and symbol in the sequence in which the trade closes
+/// them, `last` is the stamp of the last accepted command, if any, and `now` the clock reading.
 ///
-/// The plan completes the trade: it sets the status, stamp, price, commission and tax of the trade
-/// and adds a history row. It closes or reduces lots and opens one with the rest of the quantity,
-/// if any, and adds the lot changes (HOLDING_HISTORY). It adds, sets or deletes the summary, sets
-/// the broker totals and adds the settlement. For a cash trade it adds a cash row and sets the
-/// balance of the account. The plan then sets the last stamp. Its reply has the figures of the
-/// completion.
-///
-/// Refuses with the first that applies of `NoTrade`, if `found` is `None`; `WrongStatus`, if the
-/// trade is not submitted; `NoRate`, if no commission rate applies; `Range(Summary)`, if the
-/// absolute value of the number of shares held would exceed 9,999,999,999; `Range(Balance)` and
-/// `Range(Broker)`, if the absolute value of the balance after a cash trade or the broker's
-/// commissions would exceed 10^17 cents; and `ClockEnd`, if no stamp later than `last` exists or
-/// the due day is after 9999-12-31.
-///
-/// The changes of lots, the values of the closed shares and, if none of the first four refusals
-/// applies, the refusal are specified only over the lots of a position, none of them opened by this
-/// trade, whose quantities sum to the shares held, and only under the disk assumption. Reads no lot
-/// if there is no such trade, or if the account holds no shares that the trade would close;
-/// otherwise, over the lots of such a position, at most one lot more than the trade would close or
-/// reduce, also if it refuses or fails. Fails with `Memory` or a fault of the source. The lots that
-/// it did not take remain in the source, also if it refuses or fails, under the disk assumption.
+/// Refuses with the first that applies of `NoTrade`, `WrongStatus` (the trade is not submitted),
+/// `NoRate`, `Range(Summary)` (above 9,999,999,999 shares, held or sold short), `Range(Balance)`,
+/// `Range(Broker)` (the balance after a cash trade, or the broker's commissions, above 10^17 cents
+/// in absolute value) and `ClockEnd` (no stamp later than `last` exists, or the due day is after
+/// 9999-12-31). If none of the first four applies, the refusal, or the changes of lots and the
+/// values of the closed shares, are specified only over the lots of a position, none of them opened
+/// by this trade, whose quantities sum to the shares held, and only under the disk assumption.
+/// Fails with `Memory` or a fault of the source.
 pub fn plan_result<L: LotSource>(
     alloc: Global,
     found: Option<&ResultPlanFacts>,
@@ -116,13 +93,14 @@ pub fn plan_result<L: LotSource>(
     // At `Ok` the source counted no fault; a fault is `Memory` or that of a call of the source.
     ensures faulted { IfOk result (λ planned. L.faulted source.new ≡ L.faulted source.old) }
     ensures fault { IfErr result (λ fault. (fault ≡ Fault.Memory) ⊎ ((before : L) × L.fails before fault source.new)) }
+    // Under the disk assumption, the lots that it did not take remain in the source.
     ensures rest { (ls : List Lot) → AreLotsOfFaithfulSource (L.reads_faithfully source.new) (L.remaining source.old) ls
         → (n : ℕ) × L.remaining source.new (drop n ls) }
 {
     let Some(found) = found else {
         return Ok(Err(Refusal::NoTrade));
     };
-    let known = match checked_rate_and_summary(found) {
+    let known = match checked_before_lots(found) {
         Ok(known) => known,
         Err(refusal) => return Ok(Err(refusal)),
     };
@@ -134,11 +112,11 @@ pub fn plan_result<L: LotSource>(
         None => now,
     };
     let closed = effect_of_trade_on_lots(alloc, source, found, price, at)?;
-    let outcome = match checked_result_figures(found, price, &known, &closed, moved) {
+    let outcome = match checked_figures(found, price, &known, &closed, moved) {
         Ok(outcome) => outcome,
         Err(refusal) => return Ok(Err(refusal)),
     };
-    let changes = create_completion_changes(alloc, found, price, &closed, &outcome)?;
+    let changes = result_changes(alloc, found, price, &closed, &outcome)?;
     let reply = Reply::Completed(outcome.completed);
     Ok(Ok(Plan { changes, reply }))
 }

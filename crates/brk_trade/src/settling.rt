@@ -18,12 +18,10 @@ use brk_lots::Values;
 use brk_money::{Cents, Day, Price, Rate, Side, Stamp, TaxStatus, commission};
 use brk_ref::TradeRow;
 use brk_trade_plans::add_within_balance_limit;
-use brk_trade_rows::{Amount, BrokerTotals, due_day_after_completion};
+use brk_trade_rows::{Amount, BrokerTotals, completion_due_day};
 
-// Returns the commission of a trade at `price` and at `rate` (hundredths of a percent), in whole
-// cents, rounded half up. It is at most the greatest value of a trade.
 #[tactic(auto, using(crate::proofs::Bounds::commission_high))]
-pub(crate) fn commission_at_price_and_rate(trade: &TradeRow, price: Price, rate: Rate) -> Amount
+pub(crate) fn commission_of(trade: &TradeRow, price: Price, rate: Rate) -> Amount
     ensures value { result ≡ amounts.commission rate trade.now.qty price }
     ensures high { result ≤ greatest_trade_value }
 {
@@ -31,23 +29,18 @@ pub(crate) fn commission_at_price_and_rate(trade: &TradeRow, price: Price, rate:
     commission(rate, trade.qty, price).unsigned_abs()
 }
 
-// Returns the tax on the realised gain of the closed shares, in whole cents, rounded half up; 0 if
-// gains are not taxable at the account's tax status, or if there is no gain. The tax is at most the
-// greatest value of a trade. The sell value must be at most the value of the trade's quantity at
-// the greatest price.
 #[tactic(auto, using(crate::proofs::Bounds::tax_at_high))]
-pub(crate) fn tax_on_closed_shares(found: &ResultPlanFacts, values: Values) -> Amount
+pub(crate) fn tax_on_closed(found: &ResultPlanFacts, values: Values) -> Amount
     requires { values.sell_value ≤ found.now.trade.qty * greatest_price }
     ensures value { result ≡ spec.tax_of_result found.now values }
     ensures high { result ≤ greatest_trade_value }
 {
-    let _limits = (found.rates.get(), found.trade.qty.get());
-    tax_on_realised_gain(values, found.account.tax_status, found.rates)
+    let parties = &found.parties;
+    let _limits = (parties.rates.get(), found.trade.qty.get());
+    tax_on_realised_gain(values, parties.account.account.tax_status, parties.rates)
 }
 
-// Returns the part of the tax that is withheld from the settlement, in cents: all of it at the tax
-// status `Withheld`, otherwise 0.
-fn withheld_part_of_tax(status: TaxStatus, tax: Amount) -> u64
+fn withheld_part(status: TaxStatus, tax: Amount) -> u64
     ensures { result ≡ (if is_withholding_status status then tax else 0) }
 {
     match status {
@@ -56,9 +49,6 @@ fn withheld_part_of_tax(status: TaxStatus, tax: Amount) -> u64
     }
 }
 
-// Returns the proceeds of a trade minus the costs `taken_off`, in cents. The proceeds are `value`
-// for a sale, and `-value` for a purchase. `value` must be at most the greatest value of a trade,
-// and `taken_off` at most three times as much.
 fn proceeds_less_costs(side: Side, value: u64, taken_off: u64) -> Cents
     requires value { value ≤ greatest_trade_value }
     requires taken_off { taken_off ≤ 3 * greatest_trade_value }
@@ -71,10 +61,8 @@ fn proceeds_less_costs(side: Side, value: u64, taken_off: u64) -> Cents
     Cents::new(brought - taken_off as i64).unwrap()
 }
 
-// Returns the settlement amount of the trade, in cents, below 0 if the account pays: the value of
-// the trade at `price`, negated for a purchase, minus the charge, the commission and the withheld
-// tax. `commission` and `tax` must each be at most the greatest value of a trade.
-pub(crate) fn settlement_amount_of_trade(
+// Returns an amount below 0 if the account pays.
+pub(crate) fn settled_amount(
     found: &ResultPlanFacts,
     price: Price,
     commission: Amount,
@@ -84,39 +72,30 @@ pub(crate) fn settlement_amount_of_trade(
     requires tax { tax ≤ greatest_trade_value }
     ensures { result
         ≡ signed_proceeds (side_of_trade_type found.now.trade.kind) (found.now.trade.qty * price) -ℤ pos (found.now.trade.charge + commission
-        + (if is_withholding_status found.now.account.tax_status then tax else 0)) }
+        + (if is_withholding_status found.now.parties.account.account.tax_status then tax else 0)) }
 {
     let trade = &found.trade;
     let value = u64::from(trade.qty.get()) * u64::from(price.get());
     let charge = u64::from(trade.charge.get());
-    let taken_off = charge + commission.get() + withheld_part_of_tax(found.account.tax_status, tax);
+    let status = found.parties.account.account.tax_status;
+    let taken_off = charge + commission.get() + withheld_part(status, tax);
     proceeds_less_costs(trade.kind.side(), value, taken_off)
 }
 
-// Returns the balance of the account, in cents, after a settlement of `amount`: for a cash trade
-// the sum of both, or `None` if its absolute value exceeds 10^17 cents; for a margin trade the
-// balance before it.
-pub(crate) fn balance_after_trade_if_within_limit(
-    found: &ResultPlanFacts,
-    amount: Cents,
-) -> Option<Cents>
+// Returns the balance unchanged for a margin trade.
+pub(crate) fn balance_after(found: &ResultPlanFacts, amount: Cents) -> Option<Cents>
     ensures { MatchOption result
         (found.now.trade.is_cash && nat_lt greatest_amount (nat_abs (spec.balance_after_settlement_amount found.now amount)) ≡ true)
         (λ after. (after ≡ spec.balance_after_settlement_amount found.now amount)
         × (found.now.trade.is_cash && nat_lt greatest_amount (nat_abs (spec.balance_after_settlement_amount found.now amount)) ≡ false)) }
 {
     if !found.trade.is_cash {
-        return Some(found.account.balance);
+        return Some(found.parties.account.balance);
     }
-    add_within_balance_limit(found.account.balance, amount)
+    add_within_balance_limit(found.parties.account.balance, amount)
 }
 
-// Returns the commissions of the broker plus `commission`, in cents, or `None` if the sum exceeds
-// 10^17 cents.
-pub(crate) fn commissions_after_trade_if_within_limit(
-    broker: BrokerTotals,
-    commission: Amount,
-) -> Option<Amount>
+pub(crate) fn checked_commissions(broker: BrokerTotals, commission: Amount) -> Option<Amount>
     ensures { MatchOption result
         (nat_lt greatest_amount (broker.commissions + commission) ≡ true)
         (λ after. (after ≡ broker.commissions + commission) × (nat_lt greatest_amount (broker.commissions + commission) ≡ false)) }
@@ -124,12 +103,11 @@ pub(crate) fn commissions_after_trade_if_within_limit(
     Amount::new(broker.commissions.get() + commission.get())
 }
 
-// Returns the due day of a trade that is completed at `stamp`, or `None` if it is after 9999-12-31.
-// `rule` is the first day whose completions settle after one day, if it is set.
-pub(crate) fn due_day_if_in_calendar(rule: Option<Day>, stamp: Stamp) -> Option<Day>
+// Returns `None` if the due day is after 9999-12-31.
+pub(crate) fn checked_due_day(rule: Option<Day>, stamp: Stamp) -> Option<Day>
     ensures { MatchOption result
         (nat_lt greatest_day (derived.due_day_of_completion_stamp rule stamp) ≡ true)
         (λ day. (day ≡ derived.due_day_of_completion_stamp rule stamp) × (nat_lt greatest_day (derived.due_day_of_completion_stamp rule stamp) ≡ false)) }
 {
-    due_day_after_completion(rule, stamp)
+    completion_due_day(rule, stamp)
 }

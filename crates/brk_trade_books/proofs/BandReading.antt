@@ -1,5 +1,5 @@
--- The band of a quantity is found among the rows of its tier, its type and its exchange, as no two
--- bands share a quantity.
+-- The band of a quantity among the rows of its tier, type and exchange is unique, as no two bands
+-- overlap.
 use Rattle.std.proofs.Common.{◌≡◌, ℕ, ◌==◌, ◌&&◌, Bool, true, false, cond, List, [], ◌∷◌, refl, sym, ◌∙◌, ap, filter, arith, Some}
 use Rattle.std.specs.Prelude.{⊤, ◌||◌, find, nat_le, bytes_eq}
 use Rattle.std.specs.List.{list_any}

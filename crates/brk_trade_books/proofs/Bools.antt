@@ -1,4 +1,4 @@
--- Tests that say the same.
+-- Equal tests: Booleans that imply each other, and comparisons in either order.
 use Rattle.std.proofs.Common.{◌≡◌, ℕ, ◌==◌, Bool, true, false, refl, sym}
 use Rattle.std.specs.Prelude.{bytes_eq}
 use Rattle.std.proofs.lemmas.Bool.{eqb-true, eq-eqb}

@@ -1,4 +1,4 @@
--- A trade that is completed after all others: what it does to the shares of each of them.
+-- The effect of a trade that is completed after all others on the shares of each trade.
 use Rattle.std.proofs.Common.{◌≡◌, ◌==◌, ◌&&◌, Bool, true, false, cond, List, [], ◌∷◌, ◌++◌, refl, sym, ◌∙◌, ap, subst, filter}
 use Rattle.std.specs.Prelude.{bytes_eq}
 use Rattle.std.specs.List.{AllByRecursion}

@@ -1,4 +1,4 @@
--- When trades were completed: what orders, cancels and ticks leave as it was.
+-- Orders, cancels and ticks do not change when trades were completed.
 use Rattle.std.proofs.Common.{◌≡◌, ◌≤◌, ℕ, ◌+◌, ◌==◌, Bool, true, false, cond, max, List, [], ◌∷◌, refl, sym, ◌∙◌, ap, subst, filter, arith, Option, Some, None}
 use Rattle.std.specs.Prelude.{◌&&◌, bytes_eq}
 use Rattle.std.specs.List.{AllByRecursion}

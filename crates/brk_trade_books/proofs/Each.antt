@@ -1,4 +1,4 @@
--- Changes made for each element of a list, in whatever order where they do not meet.
+-- Changes made for each element of a list, in any order if they do not affect each other.
 use Rattle.std.proofs.Common.{◌≡◌, Bool, true, false, not, cond, List, [], ◌∷◌, ◌++◌, refl, sym, ◌∙◌, ap, map, filter, reverse}
 use Rattle.std.specs.Prelude.{⊤, fold}
 use Rattle.std.specs.List.{AllByRecursion}

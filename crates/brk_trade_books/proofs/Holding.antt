@@ -1,5 +1,4 @@
--- The lots that are given of an account in a symbol are those of a position, and the summary is all
--- that they have.
+-- The lots that are read of an account in a symbol form a position, and its summary is their sum.
 use Rattle.std.proofs.Common.{◌≡◌, ℕ, Bool, List, [], ◌∷◌, refl, ap, map, ◌∙◌, ℤ, pos, ◌+ℤ◌}
 use Rattle.std.specs.Prelude.{Option, Some, None, is_some, option_map, true, unwrap_or}
 use Rattle.brk_lots.specs.Books.{lot_quantity_sum}

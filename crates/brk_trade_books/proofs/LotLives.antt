@@ -1,4 +1,4 @@
--- The rows of a lot's changes, by the completion of their trades, are its life.
+-- The changes of a lot, in the order in which their trades were completed, form a chain.
 use Rattle.std.proofs.Common.{◌≡◌, ◌<◌, ℕ, ◌==◌, Bool, true, false, not, cond, List, [], ◌∷◌, ◌++◌, refl, sym, ◌∙◌, ap, subst, map, filter, arith, ℤ, pos, negsuc, zero, suc, ◌-ℤ◌, Option, Some, None}
 use Rattle.std.specs.Prelude.{⊤, find, flat_map, is_some, nat_lt, option_map}
 use Rattle.std.specs.Option.{option_map_or}

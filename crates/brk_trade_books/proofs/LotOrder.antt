@@ -1,4 +1,4 @@
--- The lots of an account in a symbol, as they are read, are those of a position.
+-- The lots of an account in a symbol, in the order in which they are read, form a position.
 use Rattle.std.proofs.Common.{◌≡◌, ◌≢◌, ◌<◌, ℕ, ◌==◌, zero, suc, Bool, true, false, not, cond, List, [], ◌∷◌, ◌++◌, refl, sym, ◌∙◌, ap, subst, map, filter, arith, ℤ, pos}
 use Rattle.std.specs.Prelude.{⊤, bytes_eq, flat_map, nat_lt}
 use Rattle.std.specs.List.{AllByRecursion}

@@ -1,5 +1,4 @@
--- What the rows of cash tell of postings: all of them in turn, which are movements, and how many
--- there are.
+-- Cash rows in the order of the postings, the movements among them, and the number of both.
 use Rattle.std.proofs.Common.{◌≡◌, ℕ, ◌+◌, Bool, true, false, cond, List, [], ◌∷◌, ◌++◌, refl, sym, ◌∙◌, ap, map, filter, length, arith, Option, Some, None}
 use Rattle.std.specs.Prelude.{is_none, nat_lt, option_map, reverse, slice_get, unwrap_or}
 use Rattle.std.proofs.lemmas.List.{reverse-append}

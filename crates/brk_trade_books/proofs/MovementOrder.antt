@@ -1,4 +1,4 @@
--- Movements stay in order.
+-- Commands preserve the part of the books invariant that concerns movements.
 use Rattle.std.proofs.Common.{◌≡◌, ◌<◌, ◌≤◌, ℕ, ◌+◌, ◌==◌, false, max, List, [], ◌∷◌, ◌++◌, ◌∙◌, ap, subst, arith, Option, Some, None}
 use Rattle.std.specs.Prelude.{is_some, find}
 use Rattle.std.specs.Option.{option_map_or}

@@ -1,4 +1,4 @@
--- The tables and the base after a movement, and after a first day of one-day settlement is set.
+-- The tables and the base after a movement, and after the first day of one-day settlement is set.
 use Rattle.std.proofs.Common.{◌≡◌, ◌<◌, ◌≤◌, ℕ, ◌+◌, ◌==◌, true, false, cond, [], ◌∷◌, ◌++◌, refl, sym, ◌∙◌, ap, subst, map, filter, arith, ℤ, ◌+ℤ◌, Option, Some, None}
 use Rattle.std.specs.Prelude.{is_none, is_some, nat_le}
 use Rattle.std.specs.List.{AllByRecursion}

@@ -1,5 +1,4 @@
--- The tables after a waiting trade came to another status, and after several did, one after
--- another.
+-- The tables after one pending trade, or several in sequence, changed to another status.
 use Rattle.std.proofs.Common.{◌≡◌, ℕ, ◌==◌, Bool, true, false, not, cond, List, [], ◌∷◌, ◌++◌, refl, sym, subst, ◌∙◌, ap, map, filter}
 use Rattle.std.specs.Prelude.{flat_map}
 use Rattle.std.specs.Option.{option_map_or}

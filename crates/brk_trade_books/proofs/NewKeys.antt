@@ -1,4 +1,4 @@
--- Records of which none is found have a key that is new.
+-- A record has a new key if no record with its key is found.
 use Rattle.std.proofs.Common.{◌≡◌, ℕ, ◌==◌, ◌&&◌, Bool, true, false, List, [], ◌∷◌, refl, sym, ◌∙◌, subst}
 use Rattle.std.specs.Prelude.{is_some, nat_le, bytes_eq}
 use Rattle.std.specs.List.{AllByRecursion}

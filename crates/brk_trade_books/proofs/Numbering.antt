@@ -1,5 +1,4 @@
--- The ids and the last statuses of trades: an id is of one trade, and a trade that came to another
--- status waits no more.
+-- Each id belongs to one trade, and a trade whose status changes from `Pending` is pending no more.
 use Rattle.std.proofs.Common.{◌≡◌, ℕ, ◌+◌, ◌==◌, Bool, true, false, cond, List, [], ◌∷◌, ◌++◌, refl, sym, subst, ◌∙◌, ap, length, arith, Option, Some, None}
 use Rattle.std.specs.Prelude.{◌<◌}
 use Rattle.std.specs.Option.{option_map_or}

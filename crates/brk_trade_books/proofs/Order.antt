@@ -1,5 +1,4 @@
--- Keys stand in one order, and rows that are sorted by it: a row that is put in, changed rows, and
--- rows left out.
+-- Rows sorted by key, which is a total order: insertions, changes and deletions.
 use Rattle.std.proofs.Common.{◌≡◌, Bool, true, false, not, cond, List, [], ◌∷◌, ◌++◌, refl, sym, ◌∙◌, ap, map, filter, arith}
 use Rattle.std.specs.Prelude.{⊤, ◌&&◌, ◌||◌, nat_lt}
 use Rattle.std.specs.List.{AllByRecursion}

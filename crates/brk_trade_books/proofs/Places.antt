@@ -1,4 +1,4 @@
--- One element in its place among others, and changes of some elements.
+-- A list around one of its elements, and changes of the elements that pass a test.
 use Rattle.std.proofs.Common.{◌≡◌, Bool, true, false, cond, List, [], ◌∷◌, ◌++◌, refl, subst, ◌∙◌, ap, map, filter, Option, Some, None}
 use Rattle.std.specs.Prelude.{flat_map, find, is_some}
 use Rattle.std.specs.List.{AllByRecursion}

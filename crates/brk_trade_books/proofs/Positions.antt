@@ -1,5 +1,4 @@
--- The deals, the shares and the summary of a position, where one of its trades is completed after
--- all others.
+-- The deals, the shares and the summary of a position after one of its trades is completed last.
 use Rattle.std.proofs.Common.{◌≡◌, ◌<◌, ℕ, ◌==◌, ◌&&◌, Bool, true, false, cond, List, [], ◌∷◌, ◌++◌, refl, sym, ◌∙◌, ap, map, filter, arith, ◌+ℤ◌}
 use Rattle.std.specs.Prelude.{bytes_eq, fold, nat_lt}
 use Rattle.std.specs.List.{AllByRecursion}

@@ -1,5 +1,4 @@
--- Postings with one more among them, and their rows: the one with the last stamp has the last
--- number.
+-- Postings and their rows with one posting more: that with the last stamp has the last number.
 use Rattle.std.proofs.Common.{◌≡◌, ◌<◌, ◌≤◌, ℕ, ◌+◌, ◌==◌, Bool, true, false, cond, List, [], ◌∷◌, ◌++◌, refl, sym, ◌∙◌, ap, subst, map, filter, length, arith, ℤ, ◌+ℤ◌}
 use Rattle.std.specs.Prelude.{nat_lt}
 use Rattle.std.specs.List.{AllByRecursion}

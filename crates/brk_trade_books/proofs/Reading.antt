@@ -1,4 +1,4 @@
--- What is read from the tables of a base is what the definitions find in the base.
+-- Lookups in the tables of a base find the records that the model finds in the base.
 use Rattle.std.proofs.Common.{◌≡◌, ℕ, ◌+◌, ◌==◌, Bool, true, false, cond, List, [], ◌∷◌, refl, sym, ◌∙◌, ap, map, filter, length, arith, Option, Some, None}
 use Rattle.std.specs.Prelude.{◌||◌, find, is_none, is_some, option_map, bytes_eq}
 use Rattle.std.specs.List.{list_any}

@@ -1,4 +1,4 @@
--- The tables after a broker, a customer or an account more.
+-- The tables after a broker, a customer or an account is added.
 use Rattle.std.proofs.Common.{◌≡◌, ℕ, ◌==◌, Bool, true, false, List, [], ◌∷◌, ◌++◌, refl, ◌∙◌, ap, subst, map, filter, length, pos, ◌+ℤ◌, Option, Some, None}
 use Rattle.std.specs.Prelude.{flat_map, is_some, sum_by, bytes_eq}
 use Rattle.std.specs.Option.{option_map_or}

@@ -1,4 +1,4 @@
--- An accepted result: its rows, and the base in order after it.
+-- The rows of an accepted result, and the books invariant after it.
 use Rattle.std.proofs.Common.{◌≡◌, ◌<◌, ◌≤◌, ℕ, ◌==◌, ◌+◌, true, false, max, List, [], ◌∷◌, ◌++◌, refl, sym, subst, ◌∙◌, ap, filter, arith, Option, Some, None}
 use Rattle.std.specs.Option.{option_map_or}
 use Rattle.std.specs.List.{AllByRecursion}

@@ -1,4 +1,4 @@
--- The tables after a result are those before with its rows.
+-- The tables after a result are the tables before it with the rows of the result.
 use Rattle.std.proofs.Common.{◌≡◌, ◌<◌, ℕ, ◌==◌, Bool, true, false, not, cond, List, [], ◌∷◌, ◌++◌, refl, sym, subst, ◌∙◌, ap, map, filter, ℤ, pos, Option, Some, None, length, ◌+◌}
 use Rattle.std.specs.Prelude.{flat_map, unwrap_or}
 use Rattle.std.specs.Option.{option_map_or}

@@ -1,4 +1,4 @@
--- What the completion of a trade adds to the sums that it counts in.
+-- The sums that the completion of a trade raises, and by how much.
 use Rattle.std.proofs.Common.{◌≡◌, ℕ, ◌==◌, ◌+◌, true, false, List, ◌∷◌, ◌++◌, refl, sym, ◌∙◌, ap, filter, length, map, arith, ℤ, ◌+ℤ◌}
 use Rattle.std.specs.Prelude.{sum_by}
 use Rattle.std.proofs.lemmas.Bool.{eq-eqb}

@@ -1,4 +1,4 @@
--- Every accepted command, and every run of calls, leaves the base in order.
+-- Every accepted command and every run of calls preserves the books invariant.
 use Rattle.std.proofs.Common.{◌≡◌, ◌≤◌, ℕ, ◌==◌, Bool, true, false, cond, List, [], ◌∷◌, refl, sym, subst, ◌∙◌, ap, filter, Option, Some, None}
 use Rattle.std.specs.Prelude.{Result, Ok, Err}
 use Rattle.std.specs.Option.{option_map_or}

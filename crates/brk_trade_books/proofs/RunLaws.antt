@@ -1,4 +1,4 @@
--- What holds of the tables after any run of calls: lots, their cost, and the taxes of results.
+-- Lots, their cost basis and the taxes of results in the tables after any run of calls.
 use Rattle.std.proofs.Common.{◌≡◌, ℕ, ◌==◌, ◌+ℤ◌, Bool, true, false, cond, List, [], ◌∷◌, ◌++◌, refl, sym, subst, ◌∙◌, ap, map, Option, Some, None}
 use Rattle.std.specs.Prelude.{find, is_some, option_map}
 use Rattle.std.specs.Option.{option_map_or}

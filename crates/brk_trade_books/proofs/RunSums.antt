@@ -1,4 +1,4 @@
--- What a run of calls comes to: a base in order, sums of rows, and the taxes of its results.
+-- A run of calls preserves the books invariant, the sums of rows and the taxes of its results.
 use Rattle.std.proofs.Common.{◌≡◌, ℕ, Bool, true, false, cond, List, [], ◌∷◌, map, refl, sym, subst, ap, Option, Some, None}
 use Rattle.brk_lots.specs.Lots.{abstract_lot}
 use Rattle.brk_money.specs.declared.refusal.Refusal.{Refusal}

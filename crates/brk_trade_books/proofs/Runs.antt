@@ -1,5 +1,4 @@
--- The shares that deals leave are runs of those that each deal opened, and a run is told by its
--- lot.
+-- The shares after some deals are runs of equal shares, one for each deal that opened a lot.
 use Rattle.std.proofs.Common.{◌≡◌, ℕ, ◌-◌, ◌==◌, zero, suc, Bool, true, false, cond, List, [], ◌∷◌, ◌++◌, refl, sym, ◌∙◌, ap, subst, length, take, drop, replicate, arith, pos, ◌+ℤ◌}
 use Rattle.std.specs.Prelude.{fold}
 use Rattle.std.specs.List.{AllByRecursion}

@@ -1,4 +1,4 @@
--- Lists whose elements give the same, and lists with one more element.
+-- Lists whose elements are mapped to equal values, and lists with one more element.
 use Rattle.std.proofs.Common.{◌≡◌, Bool, true, false, cond, List, [], ◌∷◌, ◌++◌, refl, subst, sym, ◌∙◌, ap, map, filter, ℤ, ◌+ℤ◌, Some}
 use Rattle.std.specs.Prelude.{flat_map, find, is_some}
 use Rattle.std.specs.List.{AllByRecursion, list_any}

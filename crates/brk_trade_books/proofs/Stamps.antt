@@ -1,4 +1,4 @@
--- A stamp is left where the next stamp is one that there is.
+-- A next stamp exists exactly if it does not exceed the greatest stamp.
 use Rattle.std.proofs.Common.{◌≡◌, ◌≤◌, ℕ, ◌+◌, ◌==◌, Bool, true, false, cond, Option, Some, None, max, refl, sym, ◌∙◌, ap, arith}
 use Rattle.std.specs.Prelude.{IfSome, is_none, nat_lt}
 use Rattle.std.proofs.lemmas.Bool.Decides.{nat_tests}

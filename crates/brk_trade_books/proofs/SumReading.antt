@@ -1,4 +1,4 @@
--- The balance of an account and the numbers of a broker, by the rows that they count.
+-- The balance of an account and the totals of a broker, from the rows that they count.
 use Rattle.std.proofs.Common.{◌≡◌, ℕ, ◌+◌, ◌==◌, ◌&&◌, false, cond, List, [], ◌∷◌, refl, sym, ◌∙◌, ap, length, map, filter, arith, ℤ, pos, ◌+ℤ◌, Option, Some, None}
 use Rattle.std.specs.Prelude.{find, option_map, sum_by}
 use Rattle.std.specs.Option.{option_map_or}

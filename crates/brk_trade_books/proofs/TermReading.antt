@@ -1,5 +1,4 @@
--- What is read of permissions, securities, charges, bands and taxes is what the definitions find in
--- the base.
+-- Lookups of permissions, securities, charges, bands and taxes find the records of the base.
 use Rattle.std.proofs.Common.{◌≡◌, ℕ, ◌+◌, ◌==◌, ◌&&◌, Bool, true, false, cond, List, [], ◌∷◌, refl, sym, ◌∙◌, ap, map, filter, arith, Option, Some, None}
 use Rattle.std.specs.Prelude.{◌||◌, find, is_some, option_map, unwrap_or, sum_by, nat_le, bytes_eq}
 use Rattle.std.specs.List.{list_any}

@@ -1,4 +1,5 @@
--- The tables after a permission, a security, a charge, a band, a tax rate or a customer's tax more.
+-- The tables after a permission, a security, a charge, a band, a tax rate or a customer's tax is
+-- added.
 use Rattle.std.proofs.Common.{◌≡◌, ℕ, ◌==◌, List, [], ◌∷◌, ◌++◌, ◌∙◌, ap}
 use Rattle.std.specs.Prelude.{flat_map, bytes_eq}
 use Rattle.brk_money.specs.Spelling.{Text}

@@ -1,4 +1,4 @@
--- What a tick leaves of the last trades and of the requests that were read.
+-- The last trades and the requests in the tables after a tick.
 use Rattle.std.proofs.Common.{◌≡◌, ℕ, ◌+◌, ◌==◌, ◌&&◌, Bool, true, false, not, cond, List, [], ◌∷◌, refl, sym, ◌∙◌, ap, subst, map, filter, Option, Some, None}
 use Rattle.std.specs.Prelude.{◌||◌, find, option_map, bytes_eq}
 use Rattle.std.specs.Option.{option_map_or}

@@ -1,4 +1,4 @@
--- What a deal changes of a position, trade by trade.
+-- The changes that a deal makes to a position, trade by trade.
 use Rattle.std.proofs.Common.{◌≡◌, ℕ, ◌==◌, zero, suc, Bool, true, false, not, cond, List, [], ◌∷◌, refl, sym, ◌∙◌, ap, length, map, filter, arith, pos, ◌-ℤ◌}
 use Rattle.std.specs.List.{AllByRecursion}
 use Rattle.brk_money.specs.Spelling.{Text}

@@ -1,4 +1,4 @@
--- An accepted order, cancel or feed leaves the base in order.
+-- An accepted order, cancel or feed preserves the books invariant.
 use Rattle.std.proofs.Common.{◌≡◌, ℕ, ◌+◌, ◌==◌, false, List, [], ◌∷◌, Some, refl, sym, subst, length, arith}
 use Rattle.std.specs.Prelude.{is_some, nat_lt}
 use Rattle.std.specs.List.{AllByRecursion, list_any}

@@ -1,4 +1,4 @@
--- What is read of trades and requests is what the definitions find in the base.
+-- Lookups of trades and requests find the trades of the base.
 use Rattle.std.proofs.Common.{◌≡◌, ℕ, ◌+◌, ◌==◌, Bool, true, false, cond, not, List, [], ◌∷◌, ◌++◌, refl, sym, ◌∙◌, ap, map, filter, length, arith, Option, Some, None}
 use Rattle.std.specs.Prelude.{nat_lt, ◌&&◌, ◌||◌, ◌<◌, find, option_map, unwrap_or, slice_get, reverse, bytes_eq}
 use Rattle.std.specs.Option.{option_map_or}

@@ -1,4 +1,4 @@
--- A feed exceeds a volume where it exceeds that of the symbol of one of its ticks.
+-- A feed exceeds the limit of a volume in the base exactly if it does in the tables.
 use Rattle.std.proofs.Common.{◌≡◌, ◌≤◌, ℕ, ◌+◌, Bool, true, false, cond, List, [], ◌∷◌, refl, sym, ◌∙◌, ap, subst, filter, arith, Some}
 use Rattle.std.specs.Prelude.{◌||◌, ◌<◌, find, is_some, option_map, nat_lt, sum_by, bytes_eq}
 use Rattle.std.specs.Option.{option_map_or}

@@ -1,4 +1,4 @@
--- What an account has is read of its balance and its summaries, at the last prices that are read.
+-- The assets of an account, from its balance and its summaries at last prices.
 use Rattle.std.proofs.Common.{◌≡◌, ℕ, ◌==◌, Bool, true, false, not, cond, List, [], ◌∷◌, ◌++◌, refl, sym, ◌∙◌, ap, subst, filter, arith, ℤ, pos, negsuc, suc, zero, ◌+ℤ◌, Option, Some, None}
 use Rattle.std.specs.Prelude.{◌*◌, ◌*ℤ◌, flat_map, find, option_map}
 use Rattle.std.specs.Option.{option_map_or}

@@ -15,8 +15,7 @@ pub fn empty_base_satisfies_books_invariant()
     ensures { BooksInvariant empty_base }
 {}
 
-/// Proves that each accepted command that adds a record of reference data preserves the books
-/// invariant.
+/// Proves that an accepted record of reference data preserves the invariant.
 pub fn reference_records_preserve_books_invariant()
     // Brokers, customers, accounts and permissions.
     ensures broker { (base : Base) (now : ℕ) (b : Broker) → PreservesBooksInvariant base now (AddBroker b) }
@@ -34,36 +33,34 @@ pub fn reference_records_preserve_books_invariant()
     ensures customer_tax { (base : Base) (now : ℕ) (x : CustomerTax) → PreservesBooksInvariant base now (AddCustomerTax x) }
 {}
 
-/// Proves that an accepted order preserves the books invariant.
+/// Proves that an accepted order preserves the invariant.
 pub fn orders_preserve_books_invariant()
     ensures { (base : Base) (now : ℕ) (o : Order) → PreservesBooksInvariant base now (PlaceOrder o) }
 {}
 
-/// Proves that an accepted cancel preserves the books invariant.
+/// Proves that an accepted cancel preserves the invariant.
 pub fn cancels_preserve_books_invariant()
     ensures { (base : Base) (now id : ℕ) → PreservesBooksInvariant base now (CancelTrade id) }
 {}
 
-/// Proves that an accepted feed preserves the books invariant.
+/// Proves that an accepted feed preserves the invariant.
 pub fn feeds_preserve_books_invariant()
     ensures { (base : Base) (now : ℕ) (ticks : List Tick) → PreservesBooksInvariant base now (FeedTicks ticks) }
 {}
 
-/// Proves that an accepted result preserves the books invariant.
+/// Proves that an accepted result preserves the invariant.
 pub fn results_preserve_books_invariant()
     ensures { (base : Base) (now id price : ℕ) → PreservesBooksInvariant base now (CompleteTrade id price) }
 {}
 
-/// Proves that an accepted deposit, an accepted withdrawal and an accepted command that sets the
-/// first day of one-day settlement preserve the books invariant.
+/// Proves that an accepted movement, or first day of one-day settlement, preserves the invariant.
 pub fn movements_and_oneday_preserve_books_invariant()
     ensures deposit { (base : Base) (now account amount : ℕ) → PreservesBooksInvariant base now (DepositCash account amount) }
     ensures withdrawal { (base : Base) (now account amount : ℕ) → PreservesBooksInvariant base now (WithdrawCash account amount) }
     ensures one_day { (base : Base) (now day : ℕ) → PreservesBooksInvariant base now (SetOneDay day) }
 {}
 
-/// Proves that storing a command and its reply under a key preserves the books invariant. Without a
-/// key nothing is stored.
+/// Proves that a reply stored under a key preserves the invariant.
 pub fn stored_replies_preserve_books_invariant()
     ensures { (base : Base) (key : Option Key) (command : Command) (reply : Reply) → BooksInvariant base
         → BooksInvariant (base_with_stored_reply key command reply base) }

@@ -1,4 +1,5 @@
-//! Theorems: an accepted command changes only its own rows of the tables.
+//! Theorems: a command that a base accepts changes only its own rows of the tables and the last
+//! stamp, if the base satisfies the books invariant.
 
 ghost use Rattle.std.specs.Prelude.{◌≡◌, ℕ, List, None, Some, not};
 ghost use Rattle.std.specs.List.{AllByRecursion};
@@ -26,15 +27,13 @@ ghost use Rattle.brk_trade_books.specs.Movements.{tables_after_movement};
 ghost use Rattle.brk_trade_books.specs.Results.{tables_after_result, result_rows_of_trade};
 ghost use Rattle.brk_trade_books.specs.Trading.{tables_after_cancel, trade_ids_triggered_by_feed, tables_after_feed, tables_after_order};
 
-/// Proves that the tables of the empty base have no rows, no last stamp and no first day of one-day
+/// Proves that the tables of the empty base have no rows, no last stamp and no day of one-day
 /// settlement.
 pub fn empty_base_has_no_rows()
     ensures { sheets empty_base ≡ tables_without_rows }
 {}
 
-/// Proves, if the base satisfies the books invariant, that an accepted command that adds a record
-/// of reference data adds one row, or for a security two rows, one of SECURITY and one of
-/// LAST_TRADE, and sets the last stamp. No other row changes.
+/// Proves that a record of reference data adds one row, or two for a security.
 pub fn reference_records_add_only_their_rows()
     // Brokers, customers, accounts and permissions.
     ensures broker { (base : Base) (now : ℕ) (b : Broker) → HasTableEffect base now (AddBroker b) (tables_with_broker b) }
@@ -53,9 +52,8 @@ pub fn reference_records_add_only_their_rows()
     ensures customer_tax { (base : Base) (now : ℕ) (x : CustomerTax) → HasTableEffect base now (AddCustomerTax x) (tables_with_customer_tax x) }
 {}
 
-/// Proves, if the base satisfies the books invariant, that an accepted order adds its row of TRADE,
-/// one row of TRADE_HISTORY and, if it is pending, one row of TRADE_REQUEST with the broker of its
-/// account, and sets the last stamp. No other row changes.
+/// Proves that an order adds rows of TRADE and TRADE_HISTORY and, if it is pending, of
+/// TRADE_REQUEST.
 pub fn orders_change_only_their_rows()
     ensures { (base : Base) (now : ℕ) (o : Order)
         → HasTableEffect base now (PlaceOrder o)
@@ -63,19 +61,13 @@ pub fn orders_change_only_their_rows()
         (not (is_market_type (trade_type_of_order_type o.order_type))) (broker_id_of_account base o.account)) }
 {}
 
-/// Proves, if the base satisfies the books invariant, that an accepted cancel sets the status of
-/// its trade to `Canceled` and the stamp of the trade's row, adds a row of TRADE_HISTORY, deletes
-/// the trade's row of TRADE_REQUEST, and sets the last stamp. No other row changes.
+/// Proves that a cancel changes the row of its trade, adds to the history and deletes the request.
 pub fn cancels_change_only_their_rows()
     ensures { (base : Base) (now id : ℕ) → HasTableEffect base now (CancelTrade id) (tables_after_cancel (stamp_of_next_command base now) id) }
 {}
 
-/// Proves, if the base satisfies the books invariant, that an accepted feed, tick by tick, updates
-/// the row of LAST_TRADE of the tick's symbol and submits the trades whose requests the tick's
-/// price triggers, and then sets the last stamp. To submit a trade is to set its status and stamp,
-/// to add a row of TRADE_HISTORY and to delete its row of TRADE_REQUEST. No other row changes
-/// (`rows`). The ids of the submitted trades equal those of the triggered trades of the model, in
-/// the same sequence (`triggered`).
+/// Proves that a feed changes last trades and submits, tick by tick, the trades that the model
+/// triggers.
 pub fn feeds_change_only_their_rows()
     ensures rows { (base : Base) (now : ℕ) (ticks : List Tick)
         → HasTableEffect base now (FeedTicks ticks) (tables_after_feed (stamp_of_next_command base now) ticks) }
@@ -83,21 +75,13 @@ pub fn feeds_change_only_their_rows()
         → triggered_trade_ids (stamp_of_next_command base now) base ticks ≡ trade_ids_triggered_by_feed (stamp_of_next_command base now) ticks (sheets base) }
 {}
 
-/// Proves, if the base satisfies the books invariant and the trade exists, that an accepted result
-/// sets the status, stamp, price, commission and tax of its trade and adds the completion to
-/// TRADE_HISTORY. It sets the quantities of the lots that the trade reduces, deletes the lots that
-/// it closes, and adds the lot that it opens, if any, each with a new row of HOLDING_HISTORY. It
-/// adds, sets or deletes the summary, sets the broker totals and adds the settlement. For a cash
-/// trade it adds the cash row and sets the balance of the account. It sets the last stamp. No other
-/// row changes.
+/// Proves that a result changes only rows of its trade, lots, summary, broker, settlement and cash.
 pub fn results_change_only_their_rows()
     ensures { (base : Base) (now id price : ℕ) (t : Trade) → trade_with_id base id ≡ Some t
         → HasTableEffect base now (CompleteTrade id price) (tables_after_result (result_rows_of_trade base (stamp_of_next_command base now) price t)) }
 {}
 
-/// Proves, if the base satisfies the books invariant, that an accepted deposit or withdrawal adds a
-/// cash row with the next number, sets the balance of its account, and sets the last stamp. No
-/// other row changes.
+/// Proves that a movement adds the next cash row and sets the account's balance.
 pub fn movements_change_only_their_rows()
     ensures deposit { (base : Base) (now account amount : ℕ)
         → HasTableEffect base now (DepositCash account amount)
@@ -107,17 +91,15 @@ pub fn movements_change_only_their_rows()
         (tables_after_movement base (withdrawal_movement (stamp_of_next_command base now) account amount)) }
 {}
 
-/// Proves, if the base satisfies the books invariant, that an accepted command that sets the first
-/// day of one-day settlement changes only that day and the last stamp (`row`), and that the new day
-/// does not change the due day of a trade of the base that is already completed (`due_days`).
+/// Proves that the first day of one-day settlement changes no other row and no due day of a
+/// completed trade.
 pub fn one_day_settlement_start_changes_only_its_row()
     ensures row { (base : Base) (now day : ℕ) → HasTableEffect base now (SetOneDay day) (tables_with_one_day_settlement_start day) }
     ensures due_days { (base : Base) (now day : ℕ) → BooksInvariant base → refusal_of_command base now (SetOneDay day) ≡ None
         → AllByRecursion (λ t. due_day (Some day) t ≡ due_day base.rule t) (completed_trades base) }
 {}
 
-/// Proves that storing a command and its reply under a new key adds one row of KEPT. No other row
-/// changes.
+/// Proves that a reply stored under a new key adds one row of KEPT.
 pub fn stored_replies_add_only_one_row()
     ensures { (base : Base) (key : Key) (command : Command) (reply : Reply) → stored_row_with_key base key ≡ None
         → sheets (base_with_stored_reply (Some key) command reply base) ≡ tables_with_stored_reply (stored_reply_row key command reply) (sheets base) }

@@ -1,4 +1,5 @@
-//! Theorems: lookups in the tables of a base return the values that the model finds in the base.
+//! Theorems: lookups in the tables of a base return the values that the model finds in the base,
+//! which must satisfy the books invariant where a clause names it.
 
 ghost use Rattle.std.specs.Prelude.{◌&&◌, ◌+ℤ◌, ◌≡◌, ◌==◌, ℕ, List, Some, bytes_eq, false, filter, find, flat_map};
 ghost use Rattle.std.specs.Prelude.{is_none, is_some, length, map, option_map, pos, sum_by, true};
@@ -36,9 +37,8 @@ ghost use Rattle.brk_trade_books.specs.TradeReads.{holding_rows_of_position, per
 ghost use Rattle.brk_trade_books.specs.TradeReads.{summary_row_if_nonzero, summary_quantity_or_zero, summary_row_of_position};
 ghost use Rattle.brk_trade_books.specs.Trading.{trade_ids_triggered_by_tick};
 
-/// Proves that the first row of a broker, a customer, an account or a tax rate with an id, in the
-/// order of the table, is the row of the base's first record with this id, in the order of the
-/// base, and that there is no such row if and only if the base has no such record.
+/// Proves that the first broker, customer, account or tax rate with an id in the tables is the
+/// first in the base.
 pub fn rows_by_id_match_records()
     ensures broker { (base : Base) (id : ℕ)
         → find (λ r. r.id == id) (sheets base).brokers ≡ option_map (broker_row base.accounts (completed_trades base)) (broker_with_id base id) }
@@ -48,11 +48,8 @@ pub fn rows_by_id_match_records()
     ensures tax_rate { (base : Base) (id : ℕ) → find (λ r. r.id == id) (sheets base).tax_rates ≡ tax_rate_record_with_id base id }
 {}
 
-/// Proves that the first row with a key, in the order of the table, is the row of the base's first
-/// record with this key, in the order of the base, and that there is no such row if and only if the
-/// base has no such record. The key is the account and the tax id of a permission, the symbol of a
-/// security or a last trade, the trade type and the tier of a charge, and the customer and the tax
-/// rate of a customer's tax.
+/// Proves that the first permission, security, last trade, charge or customer's tax with a key in
+/// the tables is the first in the base.
 pub fn rows_by_key_match_records()
     // Permissions by account and tax id.
     ensures permission { (base : Base) (account : ℕ) (tax_id : Text)
@@ -73,134 +70,109 @@ pub fn rows_by_key_match_records()
         ≡ find (λ x. (x.customer == customer) && (x.tax == tax)) base.customer_taxes }
 {}
 
-/// Proves that a band overlaps a band of the tables if and only if it overlaps a band of the base.
-/// Two bands overlap if they have the same tier, trade type and exchange and the lower bound of
-/// each is at most the upper bound of the other.
+/// Proves that a band overlaps one in the tables exactly if it overlaps one in the base.
 pub fn band_overlaps_match_the_base()
     ensures { (base : Base) (b : Band) → overlaps_some_band (sheets base) b ≡ list_any (bands_overlap b) base.bands }
 {}
 
-/// Proves that the rates of a list of tax rates sum to the sum of a customer's tax rates in the
-/// tables, if the list has exactly the tax rates of the taxes that the customer pays, in the order
-/// of CUSTOMER_TAXRATE.
+/// Proves that the rates of a customer's taxes sum to the customer's sum in the tables.
 pub fn tax_rates_sum_to_customer_rates()
     ensures { (t : Tables) (customer : ℕ) (taxes : List Tax)
         → map (λ tax. Some (abstract_tax_rate tax)) taxes ≡ map (λ r. tax_rate_with_id t r.tax) (filter (λ r. r.customer == customer) t.customer_taxes)
         → sum_by (λ tax. tax.rate) taxes ≡ customer_tax_rate_sum t customer }
 {}
 
-/// Proves that the sum of a customer's tax rates in the tables equals the sum of the customer's tax
-/// rates in the base.
+/// Proves that a customer's tax rates have one sum in the tables and in the base.
 pub fn customer_tax_rate_sums_match_the_base()
     ensures { (base : Base) (customer : ℕ) → customer_tax_rate_sum (sheets base) customer ≡ base_spec.tax_rate_sum_of_customer base customer }
 {}
 
-/// Proves that the tables contain a customer with a tax id if and only if a customer of the base
-/// has this tax id.
+/// Proves that a tax id is in use in the tables exactly if it is in the base.
 pub fn tax_ids_match_the_base()
     ensures { (base : Base) (tax_id : Text) → contains_customer_with_tax_id (sheets base) tax_id ≡ list_any (λ c. bytes_eq c.tax_id tax_id) base.customers }
 {}
 
-/// Proves that the tables have as many account rows of a customer as the base has accounts of this
-/// customer.
+/// Proves that a customer has as many accounts in the tables as in the base.
 pub fn account_counts_match_the_base()
     ensures { (base : Base) (customer : ℕ) → account_count_of_customer (sheets base) customer ≡ length (filter (λ a. a.customer == customer) base.accounts) }
 {}
 
-/// Proves that the last stamp in the tables equals the last stamp of the base.
+/// Proves that the last stamp in the tables equals the base's.
 pub fn last_stamp_matches_the_base()
     ensures { (base : Base) → (sheets base).last ≡ base.last }
 {}
 
-/// Proves that the first row of KEPT with a key, in the order of the table, is the first row that
-/// the base stores under this key, in the order of the base, and that there is no such row if and
-/// only if the base stores none.
+/// Proves that the first row of KEPT with a key is the first stored in the base.
 pub fn stored_replies_match_the_base()
     ensures { (base : Base) (key : Key)
         → find (λ k. bytes_eq k.key.batch key.batch && (k.key.n == key.n)) (sheets base).kept ≡ stored_row_with_key base key }
 {}
 
-/// Proves that the first row of TRADE with an id, in the order of the table, is the row of the
-/// base's first trade with this id, in the order of the base, and that there is no such row if and
-/// only if the base has no such trade.
+/// Proves that the first row of TRADE with an id equals the row of the base's first such trade.
 pub fn trade_rows_match_trades()
     ensures { (base : Base) (id : ℕ) → trade_row_with_id (sheets base) id ≡ option_map trade_row (trade_with_id base id) }
 {}
 
-/// Proves that the id in the last row of TRADE, in the order of the table, or 0 if there are no
-/// trades, equals the number of trades of the base, if the base satisfies the books invariant.
+/// Proves that the id in the last row of TRADE, or 0, is the number of trades.
 pub fn trade_id_in_last_row_is_trade_count()
     ensures { (base : Base) → BooksInvariant base → trade_id_in_last_row_or_zero (sheets base) ≡ length base.trades }
 {}
 
-/// Proves that the number in the last row of CASH_MOVE, in the order of the table, or 0 if there
-/// are no cash rows, equals the number of postings of the base, and that as many cash rows have no
-/// trade as the base has movements.
+/// Proves that the last number in CASH_MOVE counts the postings, and the rows without a trade the
+/// movements.
 pub fn cash_row_counts_match_the_base()
     ensures rows { (base : Base) → last_cash_row_number_or_zero (sheets base) ≡ length (postings_of_base base) }
     ensures movements { (base : Base) → length (filter (λ r. is_none r.trade) (sheets base).moves) ≡ length base.movements }
 {}
 
-/// Proves that the requests that a tick triggers belong to exactly the trades that the tick
-/// triggers in the base, in ascending order of their ids, if the base satisfies the books
-/// invariant.
+/// Proves that a tick triggers the requests of exactly the trades that it triggers, in ascending
+/// order.
 pub fn triggered_requests_match_trades()
     ensures trades { (base : Base) (tick : Tick) → BooksInvariant base
         → trade_ids_triggered_by_tick tick (sheets base) ≡ map (λ t. t.id) (filter (is_triggered_by_tick tick) base.trades) }
     ensures ascending { (base : Base) (tick : Tick) → BooksInvariant base → is_strictly_ascending (trade_ids_triggered_by_tick tick (sheets base)) ≡ true }
 {}
 
-/// Proves that no two requests belong to the same trade, if the base satisfies the books invariant.
+/// Proves that no two requests belong to the same trade.
 pub fn requests_belong_to_distinct_trades()
     ensures { (base : Base) → BooksInvariant base → all_distinct (map (λ r. r.trade) (sheets base).requests) ≡ true }
 {}
 
-/// Proves that an executor is the customer `c` or has the account's permission for the executor's
-/// tax id in the tables if and only if the executor is the customer `c` or has at least one of the
-/// account's permissions in the base, if the base satisfies the books invariant. To have a
-/// permission is to have its first name, last name and tax id.
+/// Proves that the permission for an executor's tax id decides as all permissions of the account in
+/// the base do.
 pub fn permission_by_tax_id_matches_the_base()
     ensures { (base : Base) (account : ℕ) (c : Customer) (e : Executor) → BooksInvariant base
         → is_customer_or_has_permission c (permission_list_for_tax_id (sheets base) account e.tax_id) e
         ≡ is_customer_or_has_permission c (filter (λ p. p.account == account) base.permissions) e }
 {}
 
-/// Proves that an executor is the customer `c` or has at least one of an account's permissions in
-/// the tables if and only if the executor is the customer `c` or has at least one of the account's
-/// permissions in the base. To have a permission is to have its first name, last name and tax id.
+/// Proves that the permissions of an account in the tables decide as those in the base do.
 pub fn account_permissions_match_the_base()
     ensures { (base : Base) (account : ℕ) (c : Customer) (e : Executor)
         → is_customer_or_has_permission c (permissions_of_account (sheets base) account) e
         ≡ is_customer_or_has_permission c (filter (λ p. p.account == account) base.permissions) e }
 {}
 
-/// Proves that the commission band in the tables for a tier, a trade type, an exchange and a
-/// quantity equals the commission band of the base for them, if the base satisfies the books
-/// invariant. If one of the two is `None`, so is the other.
+/// Proves that a quantity has one commission band, or none, in the tables and in the base.
 pub fn commission_bands_match_the_base()
     ensures { (base : Base) (tier : ℕ) (kind : TradeType) (exchange : Text) (qty : ℕ) → BooksInvariant base
         → commission_band_of_quantity (sheets base) tier kind exchange qty ≡ commission_band_for_quantity base tier kind exchange qty }
 {}
 
-/// Proves that the assets of an account in the base equal the balance of its row plus the market
-/// value of its holding summaries at last prices, in cents, if the base satisfies the books
-/// invariant.
+/// Proves that an account's assets are its balance plus its summaries at last prices, in cents.
 pub fn assets_equal_balance_plus_holdings()
     ensures { (base : Base) (id : ℕ) (r : AccountRow) → BooksInvariant base → account_row_with_id (sheets base) id ≡ Some r
         → r.balance +ℤ market_value_of_account_row (sheets base) r ≡ assets_of_account base id }
 {}
 
-/// Proves that the single shares of the lots of an account in a symbol, the oldest lot first, equal
-/// the shares that the account holds in the base, if the base satisfies the books invariant.
+/// Proves that the lots of an account in a symbol, the oldest first, have the shares of the base.
 pub fn lot_shares_match_the_base()
     ensures { (base : Base) (account : ℕ) (symbol : Text) → BooksInvariant base
         → flat_map shares_of_lot_row (holding_rows_of_position (sheets base) account symbol) ≡ shares_of_position (completed_trades base) account symbol }
 {}
 
-/// Proves that the lots of an account in a symbol, the oldest first, form a position with the
-/// shares that the account holds in the base, if the base satisfies the books invariant. Each lot
-/// was opened before the stamp of the next command, and no trade of the base that is not completed
-/// opened one of them.
+/// Proves that the lots of an account in a symbol form a position, opened before the next stamp and
+/// by no uncompleted trade.
 pub fn lots_form_a_position()
     ensures position { (base : Base) (account : ℕ) (symbol : Text) → BooksInvariant base → IsPosition (lots_of_position (sheets base) account symbol) }
     ensures shares { (base : Base) (account : ℕ) (symbol : Text) → BooksInvariant base
@@ -211,10 +183,7 @@ pub fn lots_form_a_position()
         → AreOpenedByOtherTrades id (lots_of_position (sheets base) account symbol) }
 {}
 
-/// Proves that the holding summary of an existing account in an existing symbol has the quantity
-/// that the base computes, that there is no row if that quantity is 0 (`row`), and that the
-/// quantity of the row, or 0 without a row, is the quantity that the base computes (`number`), if
-/// the base satisfies the books invariant.
+/// Proves that a summary has the quantity of the base, and no row if that is 0.
 pub fn summary_rows_match_the_base()
     ensures row { (base : Base) (account : ℕ) (symbol : Text) → BooksInvariant base → is_some (account_with_id base account) ≡ true
         → is_some (security_with_symbol base symbol) ≡ true
@@ -225,16 +194,13 @@ pub fn summary_rows_match_the_base()
         → summary_quantity_or_zero (summary_row_of_position (sheets base) account symbol) ≡ holding_summary_quantity (completed_trades base) account symbol }
 {}
 
-/// Proves that the balance in an account's row equals its opening balance plus the amounts of its
-/// cash rows, if the base satisfies the books invariant.
+/// Proves that a balance is the opening balance plus the amounts of the account's cash rows.
 pub fn balances_equal_opening_plus_cash_rows()
     ensures { (base : Base) (id : ℕ) (r : AccountRow) → BooksInvariant base → account_row_with_id (sheets base) id ≡ Some r
         → r.balance ≡ r.opening +ℤ total_by (λ r. r.amount) (cash_move_rows_of_account (sheets base) id) }
 {}
 
-/// Proves that the totals of a broker's row equal the number of the rows of TRADE that are
-/// completed trades of the broker's accounts and the sum of their commissions, in cents, if the
-/// base satisfies the books invariant.
+/// Proves that a broker's totals count the completed trades and sum their commissions, in cents.
 pub fn broker_totals_equal_trade_sums()
     ensures trades { (base : Base) (id : ℕ) (r : BrokerRow) → BooksInvariant base → find (λ r. r.id == id) (sheets base).brokers ≡ Some r
         → r.trades ≡ pos (length (completed_trade_rows_of_broker (sheets base) id)) }

@@ -22,8 +22,7 @@ ghost use Rattle.brk_trade_books.specs.Runs.{TradeRowHasTax, CompletedTradeHasTa
 ghost use Rattle.brk_trade_books.specs.Sums.{TableSumsMatchTheirRows};
 ghost use Rattle.brk_trade_books.specs.TradeReads.{lots_of_position};
 
-/// Proves that every accepted command and every run of calls preserves the books invariant, and
-/// that every base that a run reaches from the empty base satisfies it.
+/// Proves that every accepted command and every run preserves the invariant.
 pub fn runs_preserve_books_invariant()
     ensures command { (base : Base) (now : ℕ) (command : Command) → PreservesBooksInvariant base now command }
     ensures run { (base : Base) (calls : List (ℕ × Call)) (outcomes : List Outcome) (after : Base)
@@ -32,11 +31,8 @@ pub fn runs_preserve_books_invariant()
         → Run empty_base calls outcomes after → BooksInvariant after }
 {}
 
-/// Proves that, after any run from a base that satisfies the books invariant, the lots of an
-/// account in a symbol, the oldest first, form a position and have exactly the shares that remain
-/// if the completed trades are replayed in the order of their completion. The lots equal the lots
-/// that the model forms from these shares, and the changes of each lot form a chain from 0 to its
-/// remaining quantity (`IsLotHistory`).
+/// Proves that lots have the shares that replaying the completed trades yields, and that their
+/// changes form chains (`IsLotHistory`).
 pub fn lots_match_replayed_shares()
     ensures position { (base after : Base) (calls : List (ℕ × Call)) (outcomes : List Outcome) (account : ℕ) (symbol : Text)
         → BooksInvariant base → Run base calls outcomes after → IsPosition (lots_of_position (sheets after) account symbol) }
@@ -52,10 +48,8 @@ pub fn lots_match_replayed_shares()
         (lot_quantity (replay (deals_of_position (completed_trades after) account symbol)) lot) }
 {}
 
-/// Proves that, after any run from a base that satisfies the books invariant, the quantities of the
-/// lots of an account in a symbol sum to the quantities bought minus the quantities sold. The cost
-/// basis of these lots, in cents, is the value of the purchases minus the value of the sales plus
-/// the realised gains.
+/// Proves that lots sum to purchases minus sales, and their cost basis to purchases minus sales in
+/// value plus realised gains.
 pub fn lot_sums_match_deals()
     ensures quantities { (base after : Base) (calls : List (ℕ × Call)) (outcomes : List Outcome) (account : ℕ) (symbol : Text)
         → BooksInvariant base → Run base calls outcomes after
@@ -67,23 +61,15 @@ pub fn lot_sums_match_deals()
         +ℤ purchase_value_minus_sale_value (deals_of_position (completed_trades after) account symbol) }
 {}
 
-/// Proves that the broker totals, balances and summaries in the tables of a base match the rows
-/// that they count, that no summary is 0, that each lot has a summary, that the lots of an account
-/// in a symbol form a position, and that the changes of each lot form a chain
-/// (`TableSumsMatchTheirRows`), if the base satisfies the books invariant, and also after any run
-/// from such a base.
+/// Proves that broker totals, balances, summaries and lot histories match the rows that they count.
 pub fn table_sums_match_their_rows()
     ensures base { (base : Base) → BooksInvariant base → TableSumsMatchTheirRows (sheets base) }
     ensures run { (base after : Base) (calls : List (ℕ × Call)) (outcomes : List Outcome)
         → BooksInvariant base → Run base calls outcomes after → TableSumsMatchTheirRows (sheets after) }
 {}
 
-/// Proves that an accepted result, with or without a key, records the tax on the gain of exactly
-/// the shares that it closes, at the rates of the base before it, if that base satisfies the books
-/// invariant. Any run from a base that satisfies the invariant preserves the tax of a completed
-/// trade. In the tables of any base, the row of TRADE of a completed trade has the tax of the
-/// trade. After any run from a base that satisfies the invariant, the row of the trade of each
-/// result that the run accepted has the tax of its completion.
+/// Proves that a result records the tax on the gain of exactly the shares that it closes, and that
+/// runs preserve this tax.
 pub fn results_are_taxed_on_closed_shares()
     // An accepted result records the tax, as a command and as a call with or without a key.
     ensures taxed { (base : Base) (now id price : ℕ) (t : Trade)
@@ -103,11 +89,7 @@ pub fn results_are_taxed_on_closed_shares()
         → BooksInvariant base → Run base calls outcomes after → RecordsTaxesOfResults (sheets after) base calls outcomes }
 {}
 
-/// Proves that a run from the empty base, or from a base that satisfies the books invariant,
-/// reaches a base that satisfies the books invariant. The sums in the tables of the base reached
-/// match their rows (`TableSumsMatchTheirRows`), and the row of the trade of each accepted result
-/// of the run has the tax on the gain of exactly the shares that the result closed
-/// (`RecordsTaxesOfResults`).
+/// Proves for a run at once the invariant, the sums in the tables and the taxes of results.
 pub fn runs_preserve_sums_and_taxes()
     ensures run { (base after : Base) (calls : List (ℕ × Call)) (outcomes : List Outcome)
         → BooksInvariant base → Run base calls outcomes after → IsRunWithSumsAndTaxes base calls outcomes after }

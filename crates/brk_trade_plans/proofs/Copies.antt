@@ -1,4 +1,4 @@
--- Values that are made of equal parts.
+-- Values that one function makes of equal parts are equal.
 use Rattle.std.proofs.Common.{◌≡◌}
 
 -- values that one function makes of two equal parts are equal

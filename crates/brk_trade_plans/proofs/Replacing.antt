@@ -1,5 +1,4 @@
--- A text that is cut at the first occurrence of a part: what is replaced before the cut and after
--- it.
+-- A text cut at the first occurrence of a part, and the replacements before and after the cut.
 use Rattle.std.proofs.Common.{◌≡◌, ℕ, zero, suc, ◌<◌, ◌≤◌, ◌||◌, Bool, true, false, refl, sym, subst, ap, ◌∙◌, length, [], ◌∷◌, ◌++◌, append_assoc, take, drop, arith}
 use Rattle.std.specs.Prelude.{nat_eq, None, Some, MatchBool}
 use Rattle.std.specs.List.{starts_with}

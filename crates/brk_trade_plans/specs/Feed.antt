@@ -156,6 +156,7 @@ IsTickedReply stamp ids (reply.Canceled at) = ⊥
 IsTickedReply stamp ids (reply.Completed completed) = ⊥
 IsTickedReply stamp ids (reply.Changed at count) = ⊥
 IsTickedReply stamp ids (reply.Moved at number balance) = ⊥
+IsTickedReply stamp ids (reply.Estimated estimate) = ⊥
 
 -- `plan` applies `ticks` at the stamp of the command, where `quotes` are the states of their
 -- symbols, `last` is the stamp of the last accepted command, and `now` the clock reading. The ticks

@@ -38,9 +38,9 @@ band_checks band found = (nat_lt band.to_qty band.from_qty, BadQty) ∷ (found.o
 -- True if the sum of a customer's tax rates plus the rate of another tax exceeds the greatest rate,
 -- 100,000 hundred-thousandths (100 percent). True also if the sum is `None`, which means that it
 -- exceeds the greatest rate already. A rate of `None` counts as 0.
-abbrev pub is_sum_above_greatest_tax_rate : Option ℕ → Option ℕ → Bool
-is_sum_above_greatest_tax_rate None rate = true
-is_sum_above_greatest_tax_rate (Some rates) rate = nat_lt greatest_tax_rate (rates + unwrap_or rate 0)
+abbrev pub exceeds_tax_limit : Option ℕ → Option ℕ → Bool
+exceeds_tax_limit None rate = true
+exceeds_tax_limit (Some rates) rate = nat_lt greatest_tax_rate (rates + unwrap_or rate 0)
 
 -- The checks of a new tax of a customer against the facts `found`, in this order: the customer and
 -- the tax exist (`NoCustomer`, `NoTax`), the customer does not pay it yet (`Exists`), and the sum
@@ -48,7 +48,7 @@ is_sum_above_greatest_tax_rate (Some rates) rate = nat_lt greatest_tax_rate (rat
 abbrev pub customer_tax_checks : ReferenceFacts → List RefusalCheck
 customer_tax_checks found =
     (not found.customer, NoCustomer) ∷ (is_none found.rate, NoTax) ∷ duplicate_check found.same_id
-    ∷ (is_sum_above_greatest_tax_rate found.rates found.rate, TaxSum) ∷ []
+    ∷ (exceeds_tax_limit found.rates found.rate, TaxSum) ∷ []
 
 -- The checks of a new record of reference data against the facts `found`. An account, a permission,
 -- a band and a tax of a customer have the checks of their kind. Any other record must have a new

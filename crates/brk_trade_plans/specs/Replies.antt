@@ -1,6 +1,6 @@
 -- The replies of the model for the program's replies.
 use Rattle.brk_model.specs.Commands as model
-use Rattle.brk_model.specs.Commands.{Reply, Booked, Ordered, Ticked, CanceledTrade, CompletedTrade, Changed, MovedCash}
+use Rattle.brk_model.specs.Commands.{Reply, Booked, Ordered, Ticked, CanceledTrade, CompletedTrade, Changed, MovedCash, Estimated}
 use Rattle.brk_trade_plans.specs.declared.estimate.Estimate.{Estimate}
 use Rattle.brk_trade_plans.specs.declared.reply.Completed.{Completed}
 use Rattle.brk_trade_plans.specs.declared.reply.Reply as trade
@@ -39,6 +39,7 @@ abstract_reply (reply.Canceled stamp) = CanceledTrade stamp
 abstract_reply (reply.Completed completed) = CompletedTrade completed.stamp (abstract_completion completed)
 abstract_reply (reply.Changed stamp count) = Changed stamp count
 abstract_reply (reply.Moved stamp number balance) = MovedCash stamp number balance
+abstract_reply (reply.Estimated e) = Estimated (abstract_estimate e)
 
 -- The typed estimate with the values of the model's estimate `e`.
 abbrev pub estimate_from_model : model.Estimate → Estimate

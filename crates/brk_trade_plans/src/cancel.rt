@@ -6,14 +6,11 @@ ghost use Rattle.brk_trade_plans.specs.Reference.{later_stamp_check};
 
 use crate::plan::Plan;
 use crate::reply::Reply;
-use crate::waiting::append_pending_trade_changes;
+use crate::waiting::append_pending_changes;
 use brk_money::{Fault, Id, Planned, Refusal, Stamp, Status, stamp_after};
 use brk_trade_rows::Change;
 use std::alloc::Global;
 
-// Returns the refusal of a cancel of the trade whose status is `found`: `NoTrade` if `found` is
-// `None`, which means that there is no such trade, or `WrongStatus` with the status if the trade is
-// not pending. Returns `None` if the trade is pending.
 fn refusal_of_cancel(found: Option<Status>) -> Option<Refusal>
     ensures { result ≡ first_refusal (cancel_checks found) }
 {
@@ -24,27 +21,21 @@ fn refusal_of_cancel(found: Option<Status>) -> Option<Refusal>
     }
 }
 
-// Returns the row changes that cancel the pending trade `trade` at `stamp` and then set the last
-// stamp to `stamp`. Fails with `Memory` only.
-fn create_cancel_changes(alloc: Global, trade: Id, stamp: Stamp) -> Result<Vec<Change>, Fault>
+fn cancel_changes(alloc: Global, trade: Id, stamp: Stamp) -> Result<Vec<Change>, Fault>
     ensures changes { IfOk result (λ changes. changes.items ≡ row_changes_of_cancel trade stamp) }
     ensures fault { OnErr result (result ≡ Err Memory) }
 {
     let mut changes = Vec::new(alloc);
-    append_pending_trade_changes(trade, Status::Canceled, stamp, &mut changes)?;
+    append_pending_changes(trade, Status::Canceled, stamp, &mut changes)?;
     changes.push(Change::SetLastStamp(stamp))?;
     Ok(changes)
 }
 
-/// Plans the cancel of a trade. `found` is its status, or `None` if there is no such trade, `last`
-/// the stamp of the last accepted command, if any, and `now` the clock reading.
+/// Plans the cancel of a pending trade. `found` is its status, or `None` if there is no such trade,
+/// `last` the stamp of the last accepted command, if any, and `now` the clock reading.
 ///
-/// The plan sets the status to `Canceled` and the stamp of the trade, adds a history row, deletes
-/// the request and sets the last stamp. Its reply has the stamp.
-///
-/// Refuses with the first that applies of `NoTrade`, if `found` is `None`; `WrongStatus` with the
-/// status, if the trade is not pending; and `ClockEnd`, if no stamp later than `last` exists. Fails
-/// with `Memory` only.
+/// Refuses with the first that applies of `NoTrade`, `WrongStatus` and `ClockEnd` (no stamp later
+/// than `last` exists). Fails with `Memory` only.
 pub fn plan_cancel(
     alloc: Global,
     trade: Id,
@@ -63,7 +54,7 @@ pub fn plan_cancel(
     let Some(stamp) = stamp_after(last, now) else {
         return Ok(Err(Refusal::ClockEnd));
     };
-    let changes = create_cancel_changes(alloc, trade, stamp)?;
+    let changes = cancel_changes(alloc, trade, stamp)?;
     Ok(Ok(Plan {
         changes,
         reply: Reply::Canceled(stamp),

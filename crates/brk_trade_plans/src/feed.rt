@@ -16,16 +16,15 @@ ghost use Rattle.brk_trade_rows.specs.declared.change.Change.TheVariants.{SetLas
 use crate::plan::Plan;
 use crate::quote::Quote;
 use crate::reply::Reply;
-use crate::waiting::append_pending_trade_changes;
+use crate::waiting::append_pending_changes;
 use brk_money::{Fault, Id, Limit, Planned, Price, Refusal, Stamp, Status, TradeType, stamp_after};
 use brk_ref::{LastTrade, RequestRow, Symbol, Volume};
 use brk_ref_orders::{Feed, Tick};
 use brk_trade_rows::Change;
 use std::alloc::Global;
 
-/// Returns true if a market price of `price` cents triggers a pending trade of the type `kind` with
-/// the requested price `bid` (Market-Feed). A stop loss and a limit buy are triggered at the bid or
-/// below, a limit sell at the bid or above, and market types never.
+/// Returns true if the market price `price` triggers a pending trade (Market-Feed): a stop loss or
+/// a limit buy at its bid or below, a limit sell at its bid or above, a market type never.
 pub fn is_triggered_at_price(kind: TradeType, bid: Price, price: Price) -> bool
     ensures { result ≡ definition.is_triggering_price kind bid price }
 {
@@ -37,8 +36,7 @@ pub fn is_triggered_at_price(kind: TradeType, bid: Price, price: Price) -> bool
     }
 }
 
-// Returns true if the last trade of the quote has the symbol `symbol`.
-fn is_quote_of_symbol(quote: &Quote, symbol: &Symbol) -> bool
+fn quotes_symbol(quote: &Quote, symbol: &Symbol) -> bool
     ensures { result ≡ is_state_of_symbol symbol.now (state_of_quote quote.now) }
 {
     quote.last.symbol.as_str() == symbol.as_str()
@@ -50,10 +48,9 @@ pub fn has_no_quote_of_symbol(quotes: &[Quote], tick: &Tick) -> bool
 {
     !quotes
         .iter()
-        .any(|quote| is_quote_of_symbol(quote, &tick.symbol))
+        .any(|quote| quotes_symbol(quote, &tick.symbol))
 }
 
-// Returns true if at least one of the ticks has a symbol that none of the quotes has.
 fn has_tick_without_quote(quotes: &[Quote], ticks: &[Tick]) -> bool
     ensures { result ≡ list_any (has_no_state_of_symbol (states_of_quotes quotes.now)) ticks.now }
 {
@@ -62,14 +59,7 @@ fn has_tick_without_quote(quotes: &[Quote], ticks: &[Tick]) -> bool
         .any(|tick| has_no_quote_of_symbol(quotes, tick))
 }
 
-// Returns the last trade `last` of a symbol after the tick: its price is the price of the tick, its
-// stamp is `stamp`, and its volume is greater by the quantity of the tick. Refuses with
-// `Range(Volume)` if the volume would exceed its limit, 10^17 shares.
-fn checked_last_trade_after_tick(
-    stamp: Stamp,
-    tick: &Tick,
-    last: LastTrade,
-) -> Result<LastTrade, Refusal>
+fn last_after_tick(stamp: Stamp, tick: &Tick, last: LastTrade) -> Result<LastTrade, Refusal>
     ensures after { IfOk result (λ after. after ≡ spec.last_trade_after_tick stamp tick.now last) }
     ensures refusal { IfErr result (λ refusal. (refusal ≡ Range limit.Volume)
         × (has_volume_above_limit (record { last = spec.last_trade_after_tick stamp tick.now last; requests = [] }) ≡ true)) }
@@ -86,8 +76,7 @@ fn checked_last_trade_after_tick(
     })
 }
 
-// Returns the row change that sets the last trade of a symbol to `last`. Fails with `Memory` only.
-fn create_last_trade_change(last: &LastTrade) -> Result<Change, Fault>
+fn last_trade_change(last: &LastTrade) -> Result<Change, Fault>
     ensures change { IfOk result (λ change. change ≡ SetLastTrade last.now) }
     ensures fault { OnErr result (result ≡ Err Memory) }
 {
@@ -99,10 +88,7 @@ fn create_last_trade_change(last: &LastTrade) -> Result<Change, Fault>
     }))
 }
 
-// Appends to `changes` the row changes that submit, at `stamp`, the trades of those requests that
-// the price triggers, and to `ids` the ids of these trades, both in the sequence of the requests.
-// Fails with `Memory` only; a part of the row changes and of the ids may then be appended.
-fn append_submission_changes_and_ids(
+fn submit_triggered(
     stamp: Stamp,
     price: Price,
     requests: &[RequestRow],
@@ -115,16 +101,14 @@ fn append_submission_changes_and_ids(
 {
     for request in requests {
         if is_triggered_at_price(request.kind, request.bid, price) {
-            append_pending_trade_changes(request.trade, Status::Submitted, stamp, changes)?;
+            append_pending_changes(request.trade, Status::Submitted, stamp, changes)?;
             ids.push(request.trade)?;
         }
     }
     Ok(())
 }
 
-// Returns the requests that the price does not trigger, in their sequence. Fails with `Memory`
-// only.
-fn requests_not_triggered(
+fn still_pending(
     alloc: Global,
     price: Price,
     requests: Vec<RequestRow>,
@@ -141,13 +125,8 @@ fn requests_not_triggered(
     Ok(waiting)
 }
 
-// Returns the quote after the tick at `stamp`: with the new last trade, and without the requests
-// that the tick triggers. Appends to `changes` the row changes that set the last trade and submit
-// the triggered trades, and to `ids` the ids of these trades, both in the sequence of the requests.
-// A tick of another symbol changes nothing. Refuses with `Range(Volume)` if the volume would exceed
-// its limit, 10^17 shares. Fails with `Memory` only. If it refuses or fails, a part of the row
-// changes and of the ids may be appended.
-fn apply_tick_to_quote(
+// Returns the quote unchanged if the tick has another symbol.
+fn apply_to_quote(
     alloc: Global,
     stamp: Stamp,
     tick: &Tick,
@@ -166,29 +145,23 @@ fn apply_tick_to_quote(
     ensures refusal { IfOk result (λ taken. IfErr taken (λ refusal. (refusal ≡ Range limit.Volume)
         × (list_any has_volume_above_limit (states_after_tick stamp (state_of_quote quote ∷ []) tick.now) ≡ true))) }
 
-    // The only fault is `Memory`.
     ensures fault { OnErr result (result ≡ Err Memory) }
 {
-    if !is_quote_of_symbol(&quote, &tick.symbol) {
+    if !quotes_symbol(&quote, &tick.symbol) {
         return Ok(Ok(quote));
     }
     let Quote { last, requests } = quote;
-    let last = match checked_last_trade_after_tick(stamp, tick, last) {
+    let last = match last_after_tick(stamp, tick, last) {
         Ok(last) => last,
         Err(refusal) => return Ok(Err(refusal)),
     };
-    changes.push(create_last_trade_change(&last)?)?;
-    append_submission_changes_and_ids(stamp, tick.price, &requests, changes, ids)?;
-    let requests = requests_not_triggered(alloc, tick.price, requests)?;
+    changes.push(last_trade_change(&last)?)?;
+    submit_triggered(stamp, tick.price, &requests, changes, ids)?;
+    let requests = still_pending(alloc, tick.price, requests)?;
     Ok(Ok(Quote { last, requests }))
 }
 
-// Returns the quotes after the tick at `stamp`, in their sequence. Appends the row changes of the
-// tick to `changes`, and the ids of the trades that it triggers to `ids`, both quote by quote as
-// `apply_tick_to_quote` appends them. Refuses with `Range(Volume)` if a volume would exceed its
-// limit, 10^17 shares. Fails with `Memory` only. If it refuses or fails, a part of the row changes
-// and of the ids may be appended.
-fn apply_tick_to_quotes(
+fn apply_to_quotes(
     alloc: Global,
     stamp: Stamp,
     tick: &Tick,
@@ -208,12 +181,11 @@ fn apply_tick_to_quotes(
     ensures refusal { IfOk result (λ taken. IfErr taken (λ refusal. (refusal ≡ Range limit.Volume)
         × (list_any has_volume_above_limit (states_after_tick stamp (states_of_quotes quotes.items) tick.now) ≡ true))) }
 
-    // The only fault is `Memory`.
     ensures fault { OnErr result (result ≡ Err Memory) }
 {
     let mut after = Vec::new(alloc);
     for quote in quotes {
-        match apply_tick_to_quote(alloc, stamp, tick, quote, changes, ids)? {
+        match apply_to_quote(alloc, stamp, tick, quote, changes, ids)? {
             Ok(quote) => after.push(quote)?,
             Err(refusal) => return Ok(Err(refusal)),
         }
@@ -221,9 +193,8 @@ fn apply_tick_to_quotes(
     Ok(Ok(after))
 }
 
-// Proves that the volume in the last trade of each quote is at most the greatest volume, 10^17
-// shares. Changes nothing.
-fn prove_volumes_are_within_limit(quotes: &[Quote])
+// Brings the limit of each volume, which its type has, into the proof. Changes nothing.
+fn prove_volumes(quotes: &[Quote])
     ensures { list_any has_volume_above_limit (states_of_quotes quotes.now) ≡ false }
 {
     for quote in quotes {
@@ -231,11 +202,8 @@ fn prove_volumes_are_within_limit(quotes: &[Quote])
     }
 }
 
-// Applies the ticks in sequence to the quotes, each at `stamp`. Appends their row changes to
-// `changes`, and the ids of the trades that they trigger to `ids`, both tick by tick. Refuses with
-// `Range(Volume)` if a volume would exceed its limit, 10^17 shares. Fails with `Memory` only. If it
-// refuses or fails, a part of the row changes and of the ids may be appended.
-fn append_tick_changes_and_ids(
+// If it refuses or fails, a part of the row changes and of the ids may be appended.
+fn apply_ticks(
     alloc: Global,
     stamp: Stamp,
     ticks: &[Tick],
@@ -255,13 +223,12 @@ fn append_tick_changes_and_ids(
     ensures refusal { IfOk result (λ taken. IfErr taken (λ refusal. (refusal ≡ Range limit.Volume)
         × (list_any has_volume_above_limit (states_after_ticks stamp ticks.now (states_of_quotes quotes.items)) ≡ true))) }
 
-    // The only fault is `Memory`.
     ensures fault { OnErr result (result ≡ Err Memory) }
 {
-    prove_volumes_are_within_limit(&quotes);
+    prove_volumes(&quotes);
     let mut current = quotes;
     for tick in ticks {
-        current = match apply_tick_to_quotes(alloc, stamp, tick, current, changes, ids)? {
+        current = match apply_to_quotes(alloc, stamp, tick, current, changes, ids)? {
             Ok(after) => after,
             Err(refusal) => return Ok(Err(refusal)),
         };
@@ -269,17 +236,14 @@ fn append_tick_changes_and_ids(
     Ok(Ok(()))
 }
 
-/// Plans a feed. `quotes` has the quote of each symbol of the feed that is listed, `last` is the
-/// stamp of the last accepted command, if any, and `now` the clock reading.
+/// Plans a feed: each tick in sequence sets the last trade of its symbol and submits the trades
+/// that its price triggers. `quotes` has the quote of each listed symbol of the feed, `last` is the
+/// stamp of the last accepted command, if any, and `now` the clock reading. The reply has the ids
+/// of the triggered trades, tick by tick.
 ///
-/// Each tick in sequence sets the last trade of its symbol and submits the trades whose requests it
-/// triggers, after the changes of the ticks before it. For each submitted trade the plan sets its
-/// status and its stamp, adds a history row and deletes its request. The plan then sets the last
-/// stamp. Its reply has the stamp and the ids of the triggered trades, tick by tick.
-///
-/// Refuses with the first that applies of `NoSecurity`, if the symbol of a tick has no quote;
-/// `Range(Volume)`, if a volume exceeds 10^17 shares after all ticks; and `ClockEnd`, if no stamp
-/// later than `last` exists. Fails with `Memory` only.
+/// Refuses with the first that applies of `NoSecurity` (a symbol has no quote), `Range(Volume)` (a
+/// volume exceeds 10^17 shares after all ticks) and `ClockEnd` (no stamp later than `last` exists).
+/// Fails with `Memory` only.
 pub fn plan_feed(
     alloc: Global,
     feed: &Feed,
@@ -305,7 +269,7 @@ pub fn plan_feed(
         Some(stamp) => stamp,
         None => now,
     };
-    let taken = append_tick_changes_and_ids(alloc, at, ticks, quotes, &mut changes, &mut ids)?;
+    let taken = apply_ticks(alloc, at, ticks, quotes, &mut changes, &mut ids)?;
     if let Err(refusal) = taken {
         return Ok(Err(refusal));
     }

@@ -26,8 +26,7 @@ pub struct MovementPlanFacts {
     pub next: MoveId,
 }
 
-// Returns the amount of the movement in cents, negated for a withdrawal.
-fn signed_movement_amount(movement: &Movement) -> Cents
+fn signed_amount(movement: &Movement) -> Cents
     ensures { result ≡ spec.signed_amount_of_movement movement.now }
 {
     let cents = movement.amount.get() as i64;
@@ -38,8 +37,8 @@ fn signed_movement_amount(movement: &Movement) -> Cents
     Cents::new(cents).unwrap()
 }
 
-// Returns the text of the cash row of a movement (CM_NAME): `Deposit` or `Withdrawal`.
-fn movement_cash_text(direction: Direction) -> &'static str
+// Returns the CM_NAME of the cash row.
+fn movement_text(direction: Direction) -> &'static str
     ensures { result.now ≡ spec.cash_text_of_direction direction }
 {
     match direction {
@@ -48,8 +47,8 @@ fn movement_cash_text(direction: Direction) -> &'static str
     }
 }
 
-/// Returns the sum of `balance` and `amount` in cents, or `None` if the absolute value of the sum
-/// exceeds the limit of a balance, 10^17 cents.
+/// Returns the sum in cents, or `None` if its absolute value exceeds 10^17 cents, the limit of a
+/// balance.
 pub fn add_within_balance_limit(balance: Cents, amount: Cents) -> Option<Cents>
     ensures { MatchOption result
         (nat_lt greatest_amount (nat_abs (balance +ℤ amount)) ≡ true)
@@ -58,14 +57,7 @@ pub fn add_within_balance_limit(balance: Cents, amount: Cents) -> Option<Cents>
     Cents::new(balance.get() + amount.get())
 }
 
-// Returns the balance of the account after the movement, in cents, or the first refusal that
-// applies: `NoAccount`, if the account does not exist; `Range(Balance)`, if the absolute value of
-// the balance would exceed 10^17 cents; or `Range(Moves)`, if there are already `Id::GREATEST`
-// deposits and withdrawals.
-fn checked_balance_after_movement(
-    movement: &Movement,
-    found: &MovementPlanFacts,
-) -> Result<Cents, Refusal>
+fn checked_balance(movement: &Movement, found: &MovementPlanFacts) -> Result<Cents, Refusal>
     ensures { MatchResult result
         (λ balance. (first_refusal (movement_checks movement.now found.now) ≡ None) × (balance ≡ spec.balance_after_movement movement.now found.now))
         (λ refusal. first_refusal (movement_checks movement.now found.now) ≡ Some refusal) }
@@ -73,7 +65,7 @@ fn checked_balance_after_movement(
     let Some(balance) = found.balance else {
         return Err(Refusal::NoAccount);
     };
-    let Some(balance) = add_within_balance_limit(balance, signed_movement_amount(movement)) else {
+    let Some(balance) = add_within_balance_limit(balance, signed_amount(movement)) else {
         return Err(Refusal::Range(Limit::Balance));
     };
     if found.has_all_movements {
@@ -82,9 +74,7 @@ fn checked_balance_after_movement(
     Ok(balance)
 }
 
-// Returns the CASH_MOVE row of the movement with the id `number` and the stamp `stamp`. It has no
-// trade. Fails if memory runs out.
-fn create_movement_cash_row(
+fn moved_cash_row(
     alloc: Global,
     movement: &Movement,
     number: MoveId,
@@ -97,14 +87,12 @@ fn create_movement_cash_row(
         account: movement.account,
         trade: None,
         stamp,
-        amount: signed_movement_amount(movement),
-        name: String::from_str(alloc, movement_cash_text(movement.direction))?,
+        amount: signed_amount(movement),
+        name: String::from_str(alloc, movement_text(movement.direction))?,
     })
 }
 
-// Returns the row changes of a movement: the cash row `row` is added, the balance of `account` is
-// set to `balance`, and the last stamp to `stamp`. Fails with `Memory` only.
-fn create_movement_changes(
+fn move_changes(
     alloc: Global,
     account: Id,
     row: CashRow,
@@ -121,10 +109,7 @@ fn create_movement_changes(
     Ok(changes)
 }
 
-// Returns the plan of an accepted movement: it adds a cash row with the id `number`, and sets the
-// balance of the account to `balance` cents and the last stamp to `stamp`. Its reply has the stamp,
-// the id and the balance. Fails with `Memory` only.
-fn create_movement_plan(
+fn movement_plan(
     alloc: Global,
     movement: &Movement,
     number: MoveId,
@@ -134,8 +119,8 @@ fn create_movement_plan(
     ensures moved { IfOk result (λ plan. AppliesMovement movement.now number balance stamp plan) }
     ensures fault { OnErr result (result ≡ Err Memory) }
 {
-    let row = create_movement_cash_row(alloc, movement, number, stamp)?;
-    let changes = create_movement_changes(alloc, movement.account, row, balance, stamp)?;
+    let row = moved_cash_row(alloc, movement, number, stamp)?;
+    let changes = move_changes(alloc, movement.account, row, balance, stamp)?;
     Ok(Plan {
         changes,
         reply: Reply::Moved {
@@ -146,16 +131,13 @@ fn create_movement_plan(
     })
 }
 
-/// Plans a deposit or a withdrawal from the facts in the tables, `found`. `last` is the stamp of
-/// the last accepted command, if any, and `now` the clock reading.
+/// Plans a deposit or a withdrawal: a cash row with the number `found.next`, and the new balance of
+/// the account. `last` is the stamp of the last accepted command, if any, and `now` the clock
+/// reading.
 ///
-/// The plan adds a cash row with the number `found.next`, and sets the balance of the account and
-/// the last stamp. Its reply has the stamp, the number and the balance in cents.
-///
-/// Refuses with the first that applies of `NoAccount`, if the account does not exist;
-/// `Range(Balance)`, if the absolute value of the balance would exceed 10^17 cents; `Range(Moves)`,
-/// if there are already `Id::GREATEST` deposits and withdrawals; and `ClockEnd`, if no stamp later
-/// than `last` exists. Fails with `Memory` only.
+/// Refuses with the first that applies of `NoAccount`, `Range(Balance)` (the absolute value of the
+/// balance would exceed 10^17 cents), `Range(Moves)` (there are `Id::GREATEST` movements already)
+/// and `ClockEnd` (no stamp later than `last` exists). Fails with `Memory` only.
 pub fn plan_move(
     alloc: Global,
     movement: &Movement,
@@ -168,13 +150,13 @@ pub fn plan_move(
         (λ refusal. first_refusal (movement_checks movement.now found.now ++ later_stamp_check last now ∷ []) ≡ Some refusal)) }
     ensures fault { OnErr result (result ≡ Err Memory) }
 {
-    let balance = match checked_balance_after_movement(movement, found) {
+    let balance = match checked_balance(movement, found) {
         Ok(balance) => balance,
         Err(refusal) => return Ok(Err(refusal)),
     };
     let Some(stamp) = stamp_after(last, now) else {
         return Ok(Err(Refusal::ClockEnd));
     };
-    let plan = create_movement_plan(alloc, movement, found.next, balance, stamp)?;
+    let plan = movement_plan(alloc, movement, found.next, balance, stamp)?;
     Ok(Ok(plan))
 }

@@ -10,13 +10,7 @@ use brk_money::{Day, Fault, Planned, Refusal, Stamp, day_of, stamp_after};
 use brk_trade_rows::Change;
 use std::alloc::Global;
 
-// Returns the row changes that set the first day of one-day settlement to `day` and the last stamp
-// to `stamp`. Fails with `Memory` only.
-fn create_one_day_settlement_changes(
-    alloc: Global,
-    day: Day,
-    stamp: Stamp,
-) -> Result<Vec<Change>, Fault>
+fn one_day_changes(alloc: Global, day: Day, stamp: Stamp) -> Result<Vec<Change>, Fault>
     ensures changes { IfOk result (λ changes. changes.items ≡ change.SetOneDaySettlementStart day ∷ change.SetLastStamp stamp ∷ []) }
     ensures fault { OnErr result (result ≡ Err Memory) }
 {
@@ -26,15 +20,13 @@ fn create_one_day_settlement_changes(
     Ok(changes)
 }
 
-/// Plans to set `day` as the first day of one-day settlement. `rule` is the first day of one-day
-/// settlement that is set already, if any, `last` the stamp of the last accepted command, if any,
-/// and `now` the clock reading.
+/// Plans to set `day` as the first day of one-day settlement. `rule` is the day that is set
+/// already, if any, `last` the stamp of the last accepted command, if any, and `now` the clock
+/// reading.
 ///
-/// The plan sets the day and the last stamp. Its reply has the stamp.
-///
-/// Refuses with the first that applies of `Exists`, if a first day of one-day settlement is set;
-/// `ClockEnd`, if no stamp later than `last` exists; and `TooEarly`, if `day` is not later than the
-/// day (UTC) of the command's stamp. Fails with `Memory` only.
+/// Refuses with the first that applies of `Exists` (a day is set), `ClockEnd` (no stamp later than
+/// `last` exists) and `TooEarly` (`day` is not later than the UTC day of the command's stamp).
+/// Fails with `Memory` only.
 pub fn plan_oneday(
     alloc: Global,
     day: Day,
@@ -56,7 +48,7 @@ pub fn plan_oneday(
     if day.get() <= day_of(stamp).get() {
         return Ok(Err(Refusal::TooEarly));
     }
-    let changes = create_one_day_settlement_changes(alloc, day, stamp)?;
+    let changes = one_day_changes(alloc, day, stamp)?;
     Ok(Ok(Plan {
         changes,
         reply: Reply::Booked(stamp),

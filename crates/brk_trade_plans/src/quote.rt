@@ -14,8 +14,7 @@ pub struct Quote {
     pub requests: Vec<RequestRow>,
 }
 
-/// Returns the quote with the last trade `last` and with all requests of the three lists, sorted by
-/// trade, ascending. Fails with `Memory` only.
+/// Returns the quote with all requests of the three lists, sorted by trade, ascending.
 pub fn create_quote(
     last: LastTrade,
     stop_losses: Vec<RequestRow>,

@@ -5,7 +5,7 @@ ghost use Rattle.brk_money.specs.declared.refusal.Refusal.TheVariants.{Exists};
 ghost use Rattle.brk_trade_plans.specs.Reference as spec;
 ghost use Rattle.brk_trade_rows.specs.declared.change.Change.TheVariants as change;
 ghost use Rattle.brk_trade_plans.specs.Reference.{IsReferencePlan, account_checks, band_checks, later_stamp_check, customer_tax_checks};
-ghost use Rattle.brk_trade_plans.specs.Reference.{is_sum_above_greatest_tax_rate, permission_checks, row_change_adding_record, row_changes_adding_record};
+ghost use Rattle.brk_trade_plans.specs.Reference.{exceeds_tax_limit, permission_checks, row_change_adding_record, row_changes_adding_record};
 ghost use Rattle.brk_trade_plans.specs.Reference.{reference_checks};
 
 use crate::plan::Plan;
@@ -62,35 +62,28 @@ pub struct ReferenceFacts {
 /// The greatest number of accounts of a customer.
 pub const MOST_ACCOUNTS: usize = 10;
 
-// Returns the refusal `Exists` if `found` is true, otherwise `None`.
-fn refusal_if_exists(found: bool) -> Option<Refusal>
+fn exists_refusal(found: bool) -> Option<Refusal>
     ensures { result ≡ (if found then Some Exists else None) }
 {
     if found { Some(Refusal::Exists) } else { None }
 }
 
-// Returns the first refusal that applies to a new record of reference data against the facts
-// `found`, in the sequence of the checks of its kind (`reference_checks`), or `None` if none
-// applies.
-fn reference_refusal(reference: &Reference, found: ReferenceFacts) -> Option<Refusal>
+fn record_refusal(reference: &Reference, found: ReferenceFacts) -> Option<Refusal>
     ensures { result ≡ first_refusal (reference_checks reference.now found) }
 {
     match reference {
-        Reference::Broker(_) => refusal_if_exists(found.same_id),
-        Reference::Customer(_) => refusal_if_exists(found.same_id || found.same_tax_id),
+        Reference::Broker(_) => exists_refusal(found.same_id),
+        Reference::Customer(_) => exists_refusal(found.same_id || found.same_tax_id),
         Reference::Account(_) => account_refusal(found),
         Reference::Permission(_) => permission_refusal(found),
         Reference::Security(_) | Reference::Charge(_) | Reference::TaxRate(_) => {
-            refusal_if_exists(found.same_id)
+            exists_refusal(found.same_id)
         }
         Reference::Band(band) => band_refusal(band, found),
         Reference::CustomerTax(_) => customer_tax_refusal(found),
     }
 }
 
-// Returns the first refusal that applies to a new account: `NoCustomer`, if its customer does not
-// exist, `NoBroker`, if its broker does not exist, `Exists`, if its id is in use, or
-// `Range(Accounts)`, if its customer has 10 accounts or more. Returns `None` if none applies.
 fn account_refusal(found: ReferenceFacts) -> Option<Refusal>
     ensures { result ≡ first_refusal (account_checks found) }
 {
@@ -109,21 +102,15 @@ fn account_refusal(found: ReferenceFacts) -> Option<Refusal>
     None
 }
 
-// Returns the first refusal that applies to a new permission: `NoAccount`, if its account does not
-// exist, or `Exists`, if a permission has its account and its tax id. Returns `None` if neither
-// applies.
 fn permission_refusal(found: ReferenceFacts) -> Option<Refusal>
     ensures { result ≡ first_refusal (permission_checks found) }
 {
     if !found.account {
         return Some(Refusal::NoAccount);
     }
-    refusal_if_exists(found.same_id)
+    exists_refusal(found.same_id)
 }
 
-// Returns the first refusal that applies to a new commission band: `BadQty`, if its upper bound is
-// below its lower bound, or `Overlap`, if a band of its tier, type and exchange overlaps it.
-// Returns `None` if neither applies.
 fn band_refusal(band: &Band, found: ReferenceFacts) -> Option<Refusal>
     ensures { result ≡ first_refusal (band_checks band.now found) }
 {
@@ -136,11 +123,9 @@ fn band_refusal(band: &Band, found: ReferenceFacts) -> Option<Refusal>
     None
 }
 
-// Returns true if `rates`, the sum of a customer's tax rates, plus `rate` exceeds the greatest rate
-// (hundred-thousandths). If `rates` is `None`, the sum exceeds it already, and the function returns
-// true.
-fn is_sum_above_greatest_tax_rate(rates: Option<TaxRate>, rate: TaxRate) -> bool
-    ensures { result ≡ spec.is_sum_above_greatest_tax_rate rates (Some rate) }
+// `rates` is `None` if the sum exceeds the greatest rate already.
+fn exceeds_tax_limit(rates: Option<TaxRate>, rate: TaxRate) -> bool
+    ensures { result ≡ spec.exceeds_tax_limit rates (Some rate) }
 {
     match rates {
         Some(rates) => rates.get() + rate.get() > TaxRate::GREATEST,
@@ -148,10 +133,6 @@ fn is_sum_above_greatest_tax_rate(rates: Option<TaxRate>, rate: TaxRate) -> bool
     }
 }
 
-// Returns the first refusal that applies to a new tax of a customer: `NoCustomer`, if the customer
-// does not exist, `NoTax`, if the tax does not exist, `Exists`, if the customer pays the tax
-// already, or `TaxSum`, if the rates of the customer, this tax included, exceed 100 percent in sum.
-// Returns `None` if none applies.
 fn customer_tax_refusal(found: ReferenceFacts) -> Option<Refusal>
     ensures { result ≡ first_refusal (customer_tax_checks found) }
 {
@@ -164,15 +145,14 @@ fn customer_tax_refusal(found: ReferenceFacts) -> Option<Refusal>
     if found.same_id {
         return Some(Refusal::Exists);
     }
-    if is_sum_above_greatest_tax_rate(found.rates, rate) {
+    if exceeds_tax_limit(found.rates, rate) {
         return Some(Refusal::TaxSum);
     }
     None
 }
 
-// Returns the row change that adds the row of the record; for a listing, its SECURITY row. Fails if
-// memory runs out.
-fn create_record_change(reference: &Reference) -> Result<Change, AllocError>
+// For a listing, adds the SECURITY row only.
+fn record_change(reference: &Reference) -> Result<Change, AllocError>
     ensures { IfOk result (λ change. change ≡ row_change_adding_record reference.now) }
 {
     match reference {
@@ -188,9 +168,7 @@ fn create_record_change(reference: &Reference) -> Result<Change, AllocError>
     }
 }
 
-// Returns the first LAST_TRADE row of a newly listed security, with its first price, volume 0 and
-// the stamp. Fails if memory runs out.
-fn create_initial_last_trade_row(listing: &Listing, stamp: Stamp) -> Result<LastTrade, AllocError>
+fn first_last_trade(listing: &Listing, stamp: Stamp) -> Result<LastTrade, AllocError>
     ensures { IfOk result (λ row. row ≡ spec.initial_last_trade_of_listing stamp listing.now) }
 {
     Ok(LastTrade {
@@ -201,38 +179,28 @@ fn create_initial_last_trade_row(listing: &Listing, stamp: Stamp) -> Result<Last
     })
 }
 
-// Returns the row changes that add the record, for a listing also its LAST_TRADE row, and that set
-// the last stamp to `stamp`. Fails with `Memory` only.
-fn create_reference_changes(
-    alloc: Global,
-    reference: &Reference,
-    stamp: Stamp,
-) -> Result<Vec<Change>, Fault>
+fn record_changes(alloc: Global, reference: &Reference, stamp: Stamp) -> Result<Vec<Change>, Fault>
     ensures changes { IfOk result (λ changes. changes.items ≡ row_changes_adding_record stamp reference.now ++ change.SetLastStamp stamp ∷ []) }
     ensures fault { OnErr result (result ≡ Err Memory) }
 {
     let mut changes = Vec::new(alloc);
-    changes.push(create_record_change(reference)?)?;
+    changes.push(record_change(reference)?)?;
     if let Reference::Security(listing) = reference {
-        changes.push(Change::AddLastTrade(create_initial_last_trade_row(listing, stamp)?))?;
+        changes.push(Change::AddLastTrade(first_last_trade(listing, stamp)?))?;
     }
     changes.push(Change::SetLastStamp(stamp))?;
     Ok(changes)
 }
 
-/// Plans a new record of reference data from the facts in the tables, `found`. `last` is the stamp
-/// of the last accepted command, if any, and `now` the clock reading.
+/// Plans a new record of reference data: its row and, for a listing, its first LAST_TRADE row.
+/// `last` is the stamp of the last accepted command, if any, and `now` the clock reading.
 ///
-/// The plan adds the row of the record, for a listing also its LAST_TRADE row, and sets the last
-/// stamp. Its reply has the stamp.
-///
-/// Refuses with the first that applies of `BadQty` (the upper bound of a band is below its lower
-/// bound), `NoAccount`, `NoCustomer`, `NoBroker`, `NoTax` (the record names one that does not
-/// exist), `Exists` (the key of a record that is no band, or the tax id of a customer, is in use),
-/// `Overlap` (a band of its tier, type and exchange overlaps a new band), `TaxSum` (the rates of a
-/// customer, the new tax included, exceed 100 percent in sum) and `Range(Accounts)` (the customer
-/// has 10 accounts or more); and then with `ClockEnd`, if no stamp later than `last` exists. Fails
-/// with `Memory` only.
+/// Refuses with the first that applies of `BadQty` (a band ends below its start), `NoAccount`,
+/// `NoCustomer`, `NoBroker`, `NoTax` (the record names one that does not exist), `Exists` (the key
+/// of a record that is no band, or the tax id of a customer, is in use), `Overlap` (with a band of
+/// the same tier, type and exchange), `TaxSum` (the rates of the customer exceed 100 percent in
+/// sum), `Range(Accounts)` (the customer has 10 accounts or more) and `ClockEnd` (no stamp later
+/// than `last` exists). Fails with `Memory` only.
 pub fn plan_reference(
     alloc: Global,
     reference: &Reference,
@@ -245,13 +213,13 @@ pub fn plan_reference(
         (λ refusal. first_refusal (reference_checks reference.now found ++ later_stamp_check last now ∷ []) ≡ Some refusal)) }
     ensures fault { OnErr result (result ≡ Err Memory) }
 {
-    if let Some(refusal) = reference_refusal(reference, found) {
+    if let Some(refusal) = record_refusal(reference, found) {
         return Ok(Err(refusal));
     }
     let Some(stamp) = stamp_after(last, now) else {
         return Ok(Err(Refusal::ClockEnd));
     };
-    let changes = create_reference_changes(alloc, reference, stamp)?;
+    let changes = record_changes(alloc, reference, stamp)?;
     Ok(Ok(Plan {
         changes,
         reply: Reply::Booked(stamp),

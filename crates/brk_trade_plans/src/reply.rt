@@ -32,7 +32,7 @@ pub struct Completed {
     pub balance: Cents,
 }
 
-/// The reply to an accepted command, with its stamp.
+/// The reply to an accepted command, with its stamp, or to an estimate.
 #[derive(Drop)]
 pub enum Reply {
     /// A row of reference data was added, or the first day of one-day settlement was set.
@@ -56,4 +56,6 @@ pub enum Reply {
         /// The balance of the account after the deposit or the withdrawal.
         balance: Cents,
     },
+    /// An order was estimated, and nothing was booked. No command has this reply.
+    Estimated(Estimate),
 }

@@ -11,8 +11,7 @@ pub struct PriceSpan {
     pub highest: Price,
 }
 
-// Returns the span of prices, in cents, widened to include `price`.
-fn widen_price_span(span: PriceSpan, price: Price) -> PriceSpan
+fn widen_span(span: PriceSpan, price: Price) -> PriceSpan
     ensures { result ≡ spec.span_including_price price span }
 {
     let lowest = if price.get() < span.lowest.get() {
@@ -28,8 +27,7 @@ fn widen_price_span(span: PriceSpan, price: Price) -> PriceSpan
     PriceSpan { lowest, highest }
 }
 
-/// Returns the lowest and the highest price, in cents, of `first` and of those ticks of `others`
-/// that have the symbol of `first`.
+/// Returns the price span of `first` and of those ticks of `others` that have its symbol.
 pub fn first_symbol_price_span(first: &Tick, others: &[Tick]) -> PriceSpan
     ensures { result ≡ spec.price_span_of_first_symbol first.now others.now }
 {
@@ -39,7 +37,7 @@ pub fn first_symbol_price_span(first: &Tick, others: &[Tick]) -> PriceSpan
     };
     for tick in others {
         if tick.symbol.as_str() == first.symbol.as_str() {
-            span = widen_price_span(span, tick.price);
+            span = widen_span(span, tick.price);
         }
     }
     span

@@ -10,16 +10,14 @@ ghost use Rattle.brk_trade_plans.specs.Update.{tables_with_updated_executor_name
 use crate::corrected::{CashText, SettlementText, TextUpdate};
 use crate::plan::Plan;
 use crate::reply::Reply;
-use crate::wording::{toggle_cash_text, toggle_cash_type, toggle_executor_name};
+use crate::wording::{toggle_executor, toggle_text, toggle_type};
 use brk_money::{Fault, Planned, Refusal, Stamp, stamp_after};
 use brk_ref::{Name, TradeRow};
 use brk_ref_orders::Update;
 use brk_trade_rows::Change;
 use std::alloc::Global;
 
-// Returns the refusal of a text update whose target does not exist: `NoTrade` if it names trades,
-// `NoAccount` if it names an account, and `NoSecurity` if it names a security.
-fn refusal_of_missing_target(update: &Update) -> Refusal
+fn target_refusal(update: &Update) -> Refusal
     ensures { result ≡ spec.missing_target_refusal update.now }
 {
     match update {
@@ -29,73 +27,60 @@ fn refusal_of_missing_target(update: &Update) -> Refusal
     }
 }
 
-// Returns the row change that replaces the executor's name of a trade by its new one
-// (`toggle_executor_name`). Fails with `Memory` only.
-fn create_executor_name_change(alloc: Global, trade: &TradeRow) -> Result<Change, Fault>
+fn executor_change(alloc: Global, trade: &TradeRow) -> Result<Change, Fault>
     ensures change { IfOk result (λ change. tables_after_change change ≡ tables_with_updated_executor_name trade.now) }
     ensures fault { OnErr result (result ≡ Err Memory) }
 {
-    let executor = toggle_executor_name(alloc, trade.executor.as_str())?;
+    let executor = toggle_executor(alloc, trade.executor.as_str())?;
     Ok(Change::SetExecutor {
         trade: trade.id,
         executor,
     })
 }
 
-// Returns the row change that replaces the settlement text of a trade by its new one
-// (`toggle_cash_type`).
-fn create_cash_type_change(settled: &SettlementText) -> Change
+fn cash_type_change(settled: &SettlementText) -> Change
     ensures { tables_after_change result ≡ tables_with_toggled_cash_type settled.now }
 {
     Change::SetCashType {
         trade: settled.trade,
-        cash_type: toggle_cash_type(settled.is_cash, settled.cash_type),
+        cash_type: toggle_type(settled.is_cash, settled.cash_type),
     }
 }
 
-// Returns the row change that replaces the cash text of a trade by its new one
-// (`toggle_cash_text`). `security` is the name of its security. Fails with `Memory` only.
-fn create_cash_text_change(alloc: Global, security: &Name, paid: &CashText) -> Result<Change, Fault>
+fn cash_name_change(alloc: Global, security: &Name, paid: &CashText) -> Result<Change, Fault>
     ensures change { IfOk result (λ change. tables_after_change change ≡ tables_with_toggled_cash_text security.now paid.now) }
     ensures fault { OnErr result (result ≡ Err Memory) }
 {
-    let name = toggle_cash_text(alloc, paid, security)?;
+    let name = toggle_text(alloc, paid, security)?;
     Ok(Change::SetCashName {
         trade: paid.trade,
         name,
     })
 }
 
-// Returns the row changes that replace the executors' names of the trades by their new ones
-// (`toggle_executor_name`), in the sequence of the trades. Fails with `Memory` only.
-fn create_executor_name_changes(alloc: Global, trades: &[TradeRow]) -> Result<Vec<Change>, Fault>
+fn executor_changes(alloc: Global, trades: &[TradeRow]) -> Result<Vec<Change>, Fault>
     ensures changes { IfOk result (λ changes. map tables_after_change changes.items ≡ map tables_with_updated_executor_name trades.now) }
     ensures fault { OnErr result (result ≡ Err Memory) }
 {
     let mut changes = Vec::new(alloc);
     for trade in trades {
-        changes.push(create_executor_name_change(alloc, trade)?)?;
+        changes.push(executor_change(alloc, trade)?)?;
     }
     Ok(changes)
 }
 
-// Returns the row changes that replace the settlement texts of the trades by their new ones
-// (`toggle_cash_type`), in the sequence of the trades. Fails with `Memory` only.
-fn create_cash_type_changes(alloc: Global, settled: &[SettlementText]) -> Result<Vec<Change>, Fault>
+fn cash_type_changes(alloc: Global, settled: &[SettlementText]) -> Result<Vec<Change>, Fault>
     ensures changes { IfOk result (λ changes. map tables_after_change changes.items ≡ map tables_with_toggled_cash_type settled.now) }
     ensures fault { OnErr result (result ≡ Err Memory) }
 {
     let mut changes = Vec::new(alloc);
     for one in settled {
-        changes.push(create_cash_type_change(one))?;
+        changes.push(cash_type_change(one))?;
     }
     Ok(changes)
 }
 
-// Returns the row changes that replace the cash texts of the trades by their new ones
-// (`toggle_cash_text`), in the sequence of the trades. `security` is the name of their security.
-// Fails with `Memory` only.
-fn create_cash_text_changes(
+fn cash_name_changes(
     alloc: Global,
     security: &Name,
     paid: &[CashText],
@@ -105,26 +90,23 @@ fn create_cash_text_changes(
 {
     let mut changes = Vec::new(alloc);
     for one in paid {
-        changes.push(create_cash_text_change(alloc, security, one)?)?;
+        changes.push(cash_name_change(alloc, security, one)?)?;
     }
     Ok(changes)
 }
 
-// Returns the row changes of a text update, one for each of its trades, in sequence. Fails with
-// `Memory` only.
-fn create_text_changes(alloc: Global, found: &TextUpdate) -> Result<Vec<Change>, Fault>
+fn update_changes(alloc: Global, found: &TextUpdate) -> Result<Vec<Change>, Fault>
     ensures changes { IfOk result (λ changes. map tables_after_change changes.items ≡ table_updates_of_text_update found.now) }
     ensures fault { OnErr result (result ≡ Err Memory) }
 {
     match found {
-        TextUpdate::Executors(trades) => create_executor_name_changes(alloc, trades),
-        TextUpdate::CashTypes(settled) => create_cash_type_changes(alloc, settled),
-        TextUpdate::CashNames(security, paid) => create_cash_text_changes(alloc, security, paid),
+        TextUpdate::Executors(trades) => executor_changes(alloc, trades),
+        TextUpdate::CashTypes(settled) => cash_type_changes(alloc, settled),
+        TextUpdate::CashNames(security, paid) => cash_name_changes(alloc, security, paid),
     }
 }
 
-// Returns the number of trades whose text a text update replaces.
-fn count_updated_trades(found: &TextUpdate) -> usize
+fn count_updated(found: &TextUpdate) -> usize
     ensures { result ≡ count_of_updated_trades found.now }
 {
     match found {
@@ -134,14 +116,12 @@ fn count_updated_trades(found: &TextUpdate) -> usize
     }
 }
 
-/// Plans a text update (Trade-Update). `found` has the trades that it selects, or is `None` if its
-/// target does not exist, `last` is the stamp of the last accepted command, if any, and `now` the
+/// Plans a text update (Trade-Update): replaces one text of each selected trade, but changes no
+/// status and no stamp of a trade. `found` has these trades, or is `None` if the target of the
+/// update does not exist, `last` is the stamp of the last accepted command, if any, and `now` the
 /// clock reading.
 ///
-/// The plan replaces one text of each trade and sets the last stamp. Its reply has the stamp and
-/// the number of trades. No status and no stamp of a trade changes.
-///
-/// Refuses, if `found` is `None`, with `NoTrade`, `NoAccount` or `NoSecurity`, as the update names
+/// Refuses with `NoTrade`, `NoAccount` or `NoSecurity` if `found` is `None`, as the update names
 /// trades, an account or a security, and otherwise with `ClockEnd` if no stamp later than `last`
 /// exists. Fails with `Memory` only.
 pub fn plan_update(
@@ -157,15 +137,15 @@ pub fn plan_update(
     ensures fault { OnErr result (result ≡ Err Memory) }
 {
     let Some(found) = found else {
-        return Ok(Err(refusal_of_missing_target(update)));
+        return Ok(Err(target_refusal(update)));
     };
     let Some(stamp) = stamp_after(last, now) else {
         return Ok(Err(Refusal::ClockEnd));
     };
-    let mut changes = create_text_changes(alloc, &found)?;
+    let mut changes = update_changes(alloc, &found)?;
     changes.push(Change::SetLastStamp(stamp))?;
     Ok(Ok(Plan {
         changes,
-        reply: Reply::Changed(stamp, count_updated_trades(&found)),
+        reply: Reply::Changed(stamp, count_updated(&found)),
     }))
 }

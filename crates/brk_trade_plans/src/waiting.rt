@@ -6,10 +6,8 @@ use brk_money::{Fault, Id, Stamp, Status};
 use brk_ref::HistoryRow;
 use brk_trade_rows::Change;
 
-// Appends to `changes` the row changes by which a pending trade changes to the status `status` at
-// `stamp`: its status and its stamp are set, a history row is added, and its request is deleted.
-// Fails with `Memory` only; a part of the row changes may then be appended.
-pub(crate) fn append_pending_trade_changes(
+// Sets the status and the stamp, adds a history row and deletes the trade's request.
+pub(crate) fn append_pending_changes(
     trade: Id,
     status: Status,
     stamp: Stamp,

@@ -13,14 +13,8 @@ use brk_money::Qty;
 use brk_ref::{CashType, Name};
 use std::alloc::{AllocError, Global};
 
-// Returns the text with each occurrence of `part`, which is not empty, replaced by `new`, from the
-// left without overlap. Fails if memory runs out.
-fn replace_all_occurrences(
-    alloc: Global,
-    text: &str,
-    part: &str,
-    new: &str,
-) -> Result<String, AllocError>
+// Replaces from the left, without overlap.
+fn replace_each(alloc: Global, text: &str, part: &str, new: &str) -> Result<String, AllocError>
     requires { 1 ≤ length part.now }
     ensures { IfOk result (λ result. string_bytes result ≡ replace_text part.now new.now text.now) }
 {
@@ -35,30 +29,27 @@ fn replace_all_occurrences(
     Ok(written)
 }
 
-// Returns true if the text contains `part`.
 fn contains_part(text: &str, part: &str) -> bool
     ensures { result ≡ contains_text part.now text.now }
 {
     text.contains(part)
 }
 
-/// Returns the new name of an executor: the name with each " X ", from the left without overlap,
-/// replaced by a space or, if it has no " X ", with each space replaced by " X ". Fails if memory
-/// runs out.
-pub fn toggle_executor_name(alloc: Global, name: &str) -> Result<String, AllocError>
+/// Returns the name with each " X " replaced by a space or, if it has no " X ", with each space
+/// replaced by " X ".
+pub fn toggle_executor(alloc: Global, name: &str) -> Result<String, AllocError>
     ensures { IfOk result (λ result. string_bytes result ≡ definition.updated_executor_name name.now) }
 {
     if contains_part(name, " X ") {
-        replace_all_occurrences(alloc, name, " X ", " ")
+        replace_each(alloc, name, " X ", " ")
     } else {
-        replace_all_occurrences(alloc, name, " ", " X ")
+        replace_each(alloc, name, " ", " X ")
     }
 }
 
-/// Returns the new settlement text of a trade whose present one is `cash_type`. For a cash trade
-/// (`is_cash`) it is `Cash` if the present one is `CashAccount`, otherwise `CashAccount`; for a
-/// margin trade it is `Margin` if the present one is `MarginAccount`, otherwise `MarginAccount`.
-pub fn toggle_cash_type(is_cash: bool, cash_type: CashType) -> CashType
+/// Returns `Cash` for `CashAccount` and otherwise `CashAccount` if the trade is a cash trade, and
+/// `Margin` for `MarginAccount` and otherwise `MarginAccount` if it is a margin trade.
+pub fn toggle_type(is_cash: bool, cash_type: CashType) -> CashType
     ensures { cash_type_text result ≡ spec.toggled_cash_type_text is_cash (cash_type_text cash_type) }
 {
     match (is_cash, cash_type) {
@@ -69,17 +60,13 @@ pub fn toggle_cash_type(is_cash: bool, cash_type: CashType) -> CashType
     }
 }
 
-// Appends to `text` a space, the quantity in decimal digits, and the text `words`. Fails if memory
-// runs out; a part may then be appended.
-fn append_quantity_and_words(text: &mut String, qty: Qty, words: &str) -> Result<(), AllocError>
+fn append_quantity(text: &mut String, qty: Qty, words: &str) -> Result<(), AllocError>
     ensures { OnOk result (string_bytes text.new ≡ string_bytes text.old ++ 32 ∷ decimal qty ++ words.now) }
 {
     write!(text, " {}{words}", qty.get())
 }
 
-// Returns the cash text of a trade: the name of its type, a space, its quantity in decimal digits,
-// the text `words`, and the name of its security. Fails if memory runs out.
-fn format_cash_text(
+fn format_text(
     alloc: Global,
     paid: &CashText,
     words: &str,
@@ -88,24 +75,19 @@ fn format_cash_text(
     ensures { IfOk result (λ text. string_bytes text ≡ cash_row_name_from_parts words.now paid.now.kind paid.now.qty security.now) }
 {
     let mut text = String::from_str(alloc, paid.kind.name())?;
-    append_quantity_and_words(&mut text, paid.qty, words)?;
+    append_quantity(&mut text, paid.qty, words)?;
     text.push_str(security.as_str())?;
     Ok(text)
 }
 
-/// Returns the new cash text of a trade: the name of its type, a space, its quantity in decimal
-/// digits, the words " Shares of " if the present text contains " shares of " and " shares of "
-/// otherwise, and the name of its security. Fails if memory runs out.
-pub fn toggle_cash_text(
-    alloc: Global,
-    paid: &CashText,
-    security: &Name,
-) -> Result<String, AllocError>
+/// Returns the cash text formed anew: with " Shares of " if the present text has " shares of " and
+/// with " shares of " otherwise.
+pub fn toggle_text(alloc: Global, paid: &CashText, security: &Name) -> Result<String, AllocError>
     ensures { IfOk result (λ text. string_bytes text ≡ spec.toggled_cash_text_of_trade security.now paid.now) }
 {
     if contains_part(paid.name.as_str(), " shares of ") {
-        format_cash_text(alloc, paid, " Shares of ", security)
+        format_text(alloc, paid, " Shares of ", security)
     } else {
-        format_cash_text(alloc, paid, " shares of ", security)
+        format_text(alloc, paid, " shares of ", security)
     }
 }

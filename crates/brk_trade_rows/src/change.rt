@@ -5,30 +5,22 @@ use brk_ref::{
     SummaryRow, Symbol, Tax, TradeRow,
 };
 
-/// A change of one row of a table: the row is inserted, updated or deleted.
+/// A change of one row of a table: `Add` inserts the row, `Set` and `Complete` update it, `Remove`
+/// deletes it.
 #[derive(Drop)]
 pub enum Change {
     /// Inserts a broker, with no trades and no commissions yet.
     AddBroker(Broker),
-    /// Inserts a customer.
     AddCustomer(Customer),
     /// Inserts an account, whose balance is its opening balance.
     AddAccount(Account),
-    /// Inserts a permission of an account.
     AddPermission(Permission),
-    /// Inserts a security.
     AddSecurity(Security),
-    /// Inserts the last trade of a security on the market.
     AddLastTrade(LastTrade),
-    /// Inserts the charge of a type and a tier.
     AddCharge(Charge),
-    /// Inserts a commission band.
     AddBand(Band),
-    /// Inserts a tax with its rate.
     AddTaxRate(Tax),
-    /// Inserts a tax that a customer pays.
     AddCustomerTax(CustomerTax),
-    /// Inserts a trade.
     AddTrade(TradeRow),
     /// Sets the status of a trade and the stamp at which the trade reached it.
     SetStatus {
@@ -36,9 +28,7 @@ pub enum Change {
         status: Status,
         stamp: Stamp,
     },
-    /// Inserts a status that a trade reached.
     AddHistory(HistoryRow),
-    /// Inserts the request of a pending trade.
     AddRequest(RequestRow),
     /// Deletes the request of a trade.
     RemoveRequest(Id),
@@ -61,7 +51,6 @@ pub enum Change {
     },
     /// Deletes the lot that a trade opened.
     RemoveLot(Id),
-    /// Inserts the change of a lot by a trade.
     AddLotChange(LotChange),
     /// Inserts the number of shares of a security that an account holds; the account had no such
     /// row.
@@ -73,7 +62,6 @@ pub enum Change {
         account: Id,
         symbol: Symbol,
     },
-    /// Inserts the settlement of a completed trade.
     AddSettlement(SettlementRow),
     /// Inserts a cash row of a cash trade, a deposit or a withdrawal (CASH_MOVE).
     AddMove(CashRow),

@@ -12,7 +12,7 @@ pub mod trade_count;
 pub use brk_money::Amount;
 pub use broker_totals::BrokerTotals;
 pub use change::Change;
-pub use due::{days_to_settlement, due_day_after_completion};
+pub use due::{completion_due_day, days_to_settlement};
 pub use schema::Schema;
 pub use sheets::Sheets;
 pub use trade_count::TradeCount;

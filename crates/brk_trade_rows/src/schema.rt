@@ -17,7 +17,7 @@ pub enum Schema {
 }
 
 impl Schema {
-    /// Returns the number of the schema, 1 to 3 (D_SCHEMA).
+    /// Returns the number of the schema (D_SCHEMA).
     pub fn number(self) -> u32
         ensures { result ≡ (abstract_schema self).number }
     {
@@ -28,8 +28,6 @@ impl Schema {
         }
     }
 
-    /// Returns true if the schema has the table CASH_MOVE, whose cash rows are numbered and may
-    /// have no trade.
     pub fn has_cash_move_table(self) -> bool
         ensures { result ≡ (abstract_schema self).has_cash_move_table }
     {
@@ -39,8 +37,6 @@ impl Schema {
         }
     }
 
-    /// Returns true if the schema has the table SETTLE_RULE, which stores the first day of one-day
-    /// settlement.
     pub fn has_settle_rule_table(self) -> bool
         ensures { result ≡ (abstract_schema self).has_settle_rule_table }
     {
@@ -50,8 +46,7 @@ impl Schema {
         }
     }
 
-    /// Returns the greatest quantity, in shares, that the schema allows for a trade, a request and
-    /// a bound of a commission band: 9,999,999 for the third schema, otherwise 999,999.
+    /// Returns the greatest quantity of a trade, a request or a bound of a band.
     pub fn greatest_qty(self) -> u32
         ensures { result ≡ (abstract_schema self).greatest_qty }
     {
@@ -61,8 +56,7 @@ impl Schema {
         }
     }
 
-    /// Returns the greatest number of shares of a security that the schema allows an account to
-    /// hold or to be short of: 9,999,999,999 for the third schema, otherwise 999,999,999.
+    /// Returns the greatest number of shares of a security that an account may hold or be short of.
     pub fn greatest_summary_quantity(self) -> u64
         ensures { result ≡ (abstract_schema self).greatest_summary_quantity }
     {

@@ -1,4 +1,5 @@
 //! Written by tools/generate/tables.py.
+use crate::schema::Schema;
 use brk_money::{Day, Stamp};
 use brk_ref::{
     AccountRow, Band, BrokerRow, CashRow, Charge, Customer, CustomerTax, HistoryRow, HoldingRow,
@@ -9,6 +10,8 @@ use brk_ref::{
 /// The rows of all tables of a desk, each list sorted by key, ascending.
 #[derive(Drop)]
 pub struct Sheets {
+    /// The schema that the tables have.
+    pub schema: Schema,
     /// The stamp of the last accepted command.
     pub last: Option<Stamp>,
     /// The keys of the rows of KEPT. The texts of these rows are no part of the sheets.

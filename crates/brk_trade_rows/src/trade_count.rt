@@ -21,7 +21,6 @@ impl TradeCount {
     /// The greatest count, equal to the greatest trade id.
     pub const GREATEST: u64 = 1_000_000_000_000;
 
-    /// Returns the count `trades`, or `None` if `trades` exceeds `GREATEST`.
     pub fn new(trades: u64) -> Option<TradeCount>
         ensures { SomeIff result (trades ≤ TradeCount.GREATEST) trades }
     {
@@ -32,7 +31,6 @@ impl TradeCount {
         }
     }
 
-    /// Returns the number of trades, which is at most `GREATEST`.
     pub fn get(self) -> u64
         ensures value { result ≡ self }
         ensures high { self ≤ TradeCount.GREATEST }

@@ -1,5 +1,5 @@
--- A cancel that was planned from what was read is refused as the definitions refuse it, and its
--- changes do it.
+-- A cancel planned from facts of the tables is refused as in the model, and its plan implements the
+-- command.
 use Rattle.std.proofs.Common.{◌≡◌, ℕ, [], ◌∷◌, ◌++◌, refl, sym, ◌∙◌, ap, Option, Some, None}
 use Rattle.std.specs.Prelude.{option_map, Ok, Err}
 use Rattle.brk_money.specs.Moments.{stamp_after}

@@ -1,5 +1,5 @@
--- A correction that was planned from what was read is refused as the definitions refuse it, and its
--- changes do it.
+-- A text update planned from facts of the tables is refused as in the model, and its plan
+-- implements the command.
 use Rattle.std.proofs.Common.{◌≡◌, ℕ, ◌==◌, ◌&&◌, ◌||◌, Bool, true, false, cond, List, [], ◌∷◌, ◌++◌, refl, sym, ap, ◌∙◌, map, fold, length, Option, Some, None, Ok, Err}
 use Rattle.std.specs.Prelude.{bytes_eq, find, is_none, nat_lt, option_map, string_bytes}
 use Rattle.std.specs.Option.{option_map_or}

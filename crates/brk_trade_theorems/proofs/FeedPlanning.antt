@@ -1,5 +1,4 @@
--- A feed that was planned from quotes is refused as the definitions refuse it, and its changes do
--- it.
+-- A feed planned from quotes is refused as in the model, and its plan implements the command.
 use Rattle.std.proofs.Common.{◌≡◌, ℕ, Bool, true, false, not, List, [], ◌∷◌, ◌++◌, refl, sym, ◌∙◌, ap, Option, Some, None}
 use Rattle.std.specs.Prelude.{◌||◌, is_some, Ok, Err}
 use Rattle.std.specs.List.{AllByRecursion, list_any}
@@ -113,6 +112,7 @@ told_reply stamp ids (reply.Canceled at) k = absurd k
 told_reply stamp ids (reply.Completed completed) k = absurd k
 told_reply stamp ids (reply.Changed at count) k = absurd k
 told_reply stamp ids (reply.Moved at number balance) k = absurd k
+told_reply stamp ids (reply.Estimated estimate) k = absurd k
 
 pub feed_plan_does : (base : Base) (ticks : List Tick) (quotes : List SymbolState) (last : Option ℕ) (now : ℕ) (plan : Plan) → PlanFeedPrecondition base ticks quotes last now
     → IsFeedPlan ticks quotes last now plan → PlanImplementsCommand base now (FeedTicks (abstract_ticks ticks)) plan

@@ -1,5 +1,5 @@
--- Movements of cash and settlement days are refused by what was read as by the base, and planned
--- from it they are done.
+-- Movements and the first day of one-day settlement are refused by the facts as in the model, and
+-- their plans implement the commands.
 use Rattle.std.proofs.Common.{◌≡◌, ◌≤◌, ℕ, ◌+◌, ◌==◌, Bool, true, false, List, [], ◌∷◌, ◌++◌, refl, sym, ◌∙◌, ap, length, filter, arith, ℤ, pos, ◌+ℤ◌, Option, Some, None}
 use Rattle.std.specs.Prelude.{is_none, is_some, nat_abs, nat_le, nat_lt, option_map, unwrap_or, Ok, Err}
 use Rattle.std.specs.Option.{option_map_or}

@@ -1,4 +1,4 @@
--- The plan of an order does its command, and its estimate answers the query for it.
+-- The plan of an order implements its command, and its estimate is the result of the query for it.
 use Rattle.std.proofs.Common.{◌≡◌, ℕ, ◌+◌, Bool, true, false, not, cond, List, [], ◌∷◌, ◌++◌, refl, sym, ◌∙◌, ap, length, Option, Some, None}
 use Rattle.std.specs.Prelude.{nat_le, nat_lt, option_map, unwrap_or, Ok, Err}
 use Rattle.std.specs.Option.{option_map_or}

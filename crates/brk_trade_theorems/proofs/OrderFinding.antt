@@ -1,5 +1,5 @@
--- An order is refused by what was found for it as by the base, and where it is not, what was found
--- are the terms that the base has for it.
+-- An order is refused by the facts as in the base, and otherwise has from the facts the terms of
+-- the base.
 use Rattle.std.proofs.Common.{◌≡◌, ℕ, ◌==◌, Bool, true, false, not, List, [], ◌∷◌, ◌++◌, refl, sym, subst, ◌∙◌, ap, filter, ◌+ℤ◌, Option, Some, None}
 use Rattle.std.specs.Prelude.{is_some, is_none, option_map, unwrap_or, find, IfSome}
 use Rattle.std.specs.Option.{option_map_or}

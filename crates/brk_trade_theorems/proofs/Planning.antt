@@ -1,5 +1,4 @@
--- A plan of a record is refused as the definitions refuse its command, and its changes do the
--- command.
+-- A reference record is refused as in the model, and its plan implements the command.
 use Rattle.std.proofs.Common.{◌≡◌, ◌≤◌, ℕ, ◌+◌, true, not, [], ◌∷◌, ◌++◌, refl, sym, ◌∙◌, ap, arith, Option, Some, None}
 use Rattle.std.specs.Prelude.{nat_le, nat_lt, is_none, unwrap_or, SomeIff, Ok, Err}
 use Rattle.std.proofs.lemmas.Bool.Decides.{nat_tests}
@@ -15,7 +14,7 @@ use Rattle.brk_model.specs.Commands.{Booked}
 use Rattle.brk_model.specs.Tests.{checks_of_command, refusal_of_command, first_refusal, duplicate_check, stamp_of_next_command}
 use Rattle.brk_model.specs.Step.{reply_to_command, step, value_unless_refused}
 use Rattle.brk_trade_rows.specs.Changes.{tables_after_changes}
-use Rattle.brk_trade_plans.specs.Reference.{IsReferencePlan, later_stamp_check, is_sum_above_greatest_tax_rate, row_changes_adding_record, reference_checks}
+use Rattle.brk_trade_plans.specs.Reference.{IsReferencePlan, later_stamp_check, exceeds_tax_limit, row_changes_adding_record, reference_checks}
 use Rattle.brk_trade_rows.specs.declared.change.Change.TheVariants as change
 use Rattle.brk_trade_plans.specs.declared.plan.Plan.{Plan}
 use Rattle.brk_trade_plans.specs.declared.reference.ReferenceFacts.{ReferenceFacts}
@@ -40,7 +39,7 @@ clock_read base last now books l h = ap (λ o. is_none (stamp_after o now)) (l �
 
 -- a customer's rates with another one, by their sum where it is no more than the whole
 exceeds_read : (rates : Option ℕ) (sum : ℕ) (rate : Option ℕ) → SomeIff rates (sum ≤ greatest_tax_rate) sum
-    → is_sum_above_greatest_tax_rate rates rate ≡ nat_lt greatest_tax_rate (sum + unwrap_or rate 0)
+    → exceeds_tax_limit rates rate ≡ nat_lt greatest_tax_rate (sum + unwrap_or rate 0)
 exceeds_read None sum rate h = above sum (unwrap_or rate 0) h
   where
     above : (m n : ℕ) → (m ≤ greatest_tax_rate → ⊥) → true ≡ nat_lt greatest_tax_rate (m + n)

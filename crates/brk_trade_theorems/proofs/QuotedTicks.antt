@@ -1,5 +1,5 @@
--- The changes of a tick, planned from quotes, make its rows; and the quotes after it are what
--- stands in the tables after it.
+-- The changes of a tick that is planned from quotes yield its rows, and the quotes after it match
+-- the tables after it.
 use Rattle.std.proofs.Common.{◌≡◌, ℕ, ◌+◌, Bool, true, false, not, cond, List, [], ◌∷◌, ◌++◌, refl, sym, ◌∙◌, ap, map, filter, Some}
 use Rattle.std.specs.Prelude.{◌||◌, ◌&&◌, flat_map, option_map, bytes_eq}
 use Rattle.std.specs.List.{AllByRecursion, list_any}

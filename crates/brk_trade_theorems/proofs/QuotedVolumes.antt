@@ -1,4 +1,4 @@
--- A feed that was planned from quotes exceeds a volume where it exceeds one by the tables.
+-- A feed exceeds the limit of a volume by the quotes exactly if it does by the tables.
 use Rattle.std.proofs.Common.{◌≡◌, ◌≤◌, ℕ, ◌+◌, Bool, true, false, cond, List, [], ◌∷◌, refl, sym, subst, ◌∙◌, ap, map, Option, Some, None}
 use Rattle.std.specs.Prelude.{◌||◌, find, is_some, nat_lt, option_map, bytes_eq}
 use Rattle.std.specs.Option.{option_map_or}

@@ -1,4 +1,4 @@
--- Quotes that were read, one after another, and the one of a symbol.
+-- Quotes that are read one after another, and the quote of a symbol.
 use Rattle.std.proofs.Common.{◌≡◌, Bool, true, false, List, [], ◌∷◌, ◌++◌, refl, sym, subst, ◌∙◌, ap, map, filter, Some, None}
 use Rattle.std.specs.Prelude.{◌||◌, find, is_some, bytes_eq}
 use Rattle.std.specs.Option.{option_map_or}

@@ -1,4 +1,4 @@
--- The plan of a result does its command.
+-- The plan of a result implements its command.
 use Rattle.std.proofs.Common.{◌≡◌, ◌<◌, ℕ, ◌+◌, Bool, true, false, cond, zero, suc, List, [], ◌∷◌, ◌++◌, refl, sym, subst, ◌∙◌, ap, length, map, arith, ℤ, pos, ◌+ℤ◌, Option, Some, None}
 use Rattle.std.specs.Prelude.{decimal, codes, is_none, is_some, option_map, option_to_list, unwrap_or, flat_map, Ok}
 use Rattle.std.specs.Option.{option_map_or}
@@ -32,7 +32,7 @@ use Rattle.brk_money.specs.declared.side.Side.TheVariants.{Buy, Sell}
 use Rattle.brk_money.specs.declared.status.Status.TheVariants.{Completed}
 use Rattle.brk_trade_rows.specs.Changes.{tables_after_change, tables_after_changes, tables_with_balance, tables_with_broker_totals, tables_with_trade_completed}
 use Rattle.brk_trade_rows.specs.Changes.{tables_with_history_row, tables_with_last_stamp, tables_with_lot_change, tables_with_cash_row, tables_with_settlement}
-use Rattle.brk_trade.specs.Outcomes.{deal_of_trade_row, figures_of_result, result_checks, shares_held_after_trade}
+use Rattle.brk_trade.specs.Outcomes.{deal_of_trade_row, figures_of_result, quantity_in_summary, result_checks, shares_held_after_trade}
 use Rattle.brk_trade_plans.specs.Replies.{abstract_reply}
 use Rattle.brk_trade.specs.Results as planner
 use Rattle.brk_trade.specs.Results.{CompletesExistingTrade, row_changes_of_cash_row, row_changes_of_result, first_cash_type_of_trade, row_changes_of_opened_lot}
@@ -56,8 +56,8 @@ use Rattle.brk_trade_books.specs.Results.{tables_after_result, result_rows_of_tr
 use Rattle.brk_trade_books.specs.TradeReads.{lots_of_position, summary_row_if_nonzero, summary_row_of_position}
 use Rattle.brk_trade_books.specs.Trading.{history_row_of_status}
 use Rattle.brk_trade_theorems.proofs.QuotedTicks.{after_more}
-use Rattle.brk_trade_theorems.proofs.ResultFinding.{TradeFound, amount_read, balance_read, broker_found, commission_read, commissions_read, held_found}
-use Rattle.brk_trade_theorems.proofs.ResultFinding.{account_found, next_found, passes_rate, passes_status, passes_summary, result_refusal, result_values}
+use Rattle.brk_trade_theorems.proofs.ResultFinding.{TradeFound, amount_read, balance_read, broker_found, commission_read, commissions_read}
+use Rattle.brk_trade_theorems.proofs.ResultFinding.{AccountTerms, account_found, next_found, passes_rate, passes_status, passes_summary, result_refusal, result_values}
 use Rattle.brk_trade_theorems.proofs.ResultFinding.{rule_found, security_found, summary_found, summary_read, tax_read, trade_found}
 use Rattle.brk_trade_books.proofs.ResultKeeping.{Found, books_result, found_at, step_result, submitted}
 use Rattle.brk_trade_books.proofs.ResultRows.{IsResult, moment_then}
@@ -100,9 +100,9 @@ moved_some Sell (suc n) h = ap is_zero (plain (signed_by_side Sell (suc n)))
     plain : (z : ℤ) → pos 0 +ℤ z ≡ z
     plain z = omega (arith, ints)
 
-summary_made : (found : ResultPlanFacts) (row : Option SummaryRow) (before after : ℤ) (t : Tables) → found.summary ≡ option_map (λ r. r.qty) row
+summary_made : (found : ResultPlanFacts) (row : Option SummaryRow) (before after : ℤ) (t : Tables) → quantity_in_summary found ≡ option_map (λ r. r.qty) row
     → (row ≡ None → is_zero before ≡ true) → ((r : SummaryRow) → row ≡ Some r → is_zero before ≡ false) → (row ≡ None → is_zero after ≡ false)
-    → tables_after_change (row_change_of_summary found.summary found.trade after) t
+    → tables_after_change (row_change_of_summary (quantity_in_summary found) found.trade after) t
     ≡ tables_with_summary_changed before after (record { account = found.trade.account; symbol = found.trade.symbol; qty = after }) t
 summary_made found row before after t e none some new = by_row row refl e
   where
@@ -120,7 +120,7 @@ summary_made found row before after t e none some new = by_row row refl e
     set q true = refl
     set q false = refl
 
-    by_row : (o : Option SummaryRow) → row ≡ o → found.summary ≡ option_map (λ r. r.qty) row → F found.summary ≡ M (is_zero after) (is_zero before)
+    by_row : (o : Option SummaryRow) → row ≡ o → quantity_in_summary found ≡ option_map (λ r. r.qty) row → F (quantity_in_summary found) ≡ M (is_zero after) (is_zero before)
     by_row None f e = ap F (e ∙ ap (option_map (λ r. r.qty)) f) ∙ sym (λ i. M (new f i) (none f i))
     by_row (Some r) f e = ap F (e ∙ ap (option_map (λ r. r.qty)) f) ∙ set r.qty (is_zero after) ∙ sym (ap (M (is_zero after)) (some r f))
 
@@ -139,7 +139,7 @@ record Planned (base : Base) (price : ℕ) (last : Option ℕ) (now : ℕ) (t : 
       (touches_of_existing_lots (deal_of_result stamp price t) (shares_of_position (completed_trades base) t.account t.symbol))
   pub opened : map abstract_lot (option_to_list closed.opened) ≡ lots_of_shares (opened_shares (deal_of_result stamp price t) (shares_of_position (completed_trades base) t.account t.symbol))
   pub one : PassesFirstResultChecks 1 found
-  pub rated : is_none found.rate ≡ false
+  pub rated : is_none found.listed.rate ≡ false
   pub two : PassesFirstResultChecks 2 found
   pub three : PassesFirstResultChecks 3 found
 
@@ -156,8 +156,8 @@ record Agrees (base : Base) (price : ℕ) (t : Trade) (found : ResultPlanFacts) 
   pub balance : (outcome_planned found price closed stamp).completed.balance ≡ balance_of_account base.accounts (postings_of_base (base_after_result base stamp price t)) t.account
   pub commissions : (outcome_planned found price closed stamp).commissions
       ≡ commission_total_of_broker base.accounts (completed_trades (base_after_result base stamp price t)) (broker_id_of_account base t.account)
-  pub trades : pos (found.broker.trades + 1) ≡ pos (trade_count_of_broker base.accounts (completed_trades (base_after_result base stamp price t)) (broker_id_of_account base t.account))
-  pub broker : found.account.broker ≡ broker_id_of_account base t.account
+  pub trades : pos (found.parties.broker.trades + 1) ≡ pos (trade_count_of_broker base.accounts (completed_trades (base_after_result base stamp price t)) (broker_id_of_account base t.account))
+  pub broker : found.parties.account.account.broker ≡ broker_id_of_account base t.account
 
 agrees : (base : Base) (price : ℕ) (last : Option ℕ) (now : ℕ) (t : Trade) (found : ResultPlanFacts) (closed : ClosedLots) (stamp : ℕ) → Planned base price last now t found closed stamp
     → Agrees base price t found closed stamp
@@ -171,9 +171,9 @@ agrees base price last now t found closed stamp k =
       summary = summary_read base stamp price t k.front k.back found f k.result k.two;
       balance = ap (λ v. (figures_of_result found price v stamp).completed.balance) k.values ∙ balance_read base stamp price t k.front k.back found f k.result k.three k.rated k.one;
       commissions = commissions_read base stamp price t k.front k.back found f k.result k.three k.rated k.one;
-      trades = one_more found.broker.trades (trade_count_of_broker base.accounts (completed_trades base) (broker_id_of_account base t.account)) (broker_found base t found f k.three).0
+      trades = one_more found.parties.broker.trades (trade_count_of_broker base.accounts (completed_trades base) (broker_id_of_account base t.account)) (broker_found base t found f k.three).0
           ∙ ap pos (sym (count_grows base stamp price t k.front k.back k.result));
-      broker = ap (λ a. a.broker) (account_found base t found f k.three);
+      broker = ap (λ (a : AccountTerms). a.broker) (account_found base t found f k.three);
     }
   where
     one_more : (m n : ℕ) → pos m ≡ pos n → pos (m + 1) ≡ pos (n + 1)
@@ -224,14 +224,13 @@ cash_type_read false = refl
 
 -- the summary is a row where it is not 0
 summary_row_is : (base : Base) (price : ℕ) (last : Option ℕ) (now : ℕ) (t : Trade) (found : ResultPlanFacts) (closed : ClosedLots) (stamp : ℕ) → Planned base price last now t found closed stamp
-    → (x : Tables) → tables_after_change (row_change_of_summary found.summary found.trade (outcome_planned found price closed stamp).summary) x
+    → (x : Tables) → tables_after_change (row_change_of_summary (quantity_in_summary found) found.trade (outcome_planned found price closed stamp).summary) x
     ≡ tables_with_summary_changed (holding_summary_quantity (completed_trades base) t.account t.symbol)
     (holding_summary_quantity (completed_trades (base_after_result base stamp price t)) t.account t.symbol)
     (record { account = t.account; symbol = t.symbol; qty = holding_summary_quantity (completed_trades (base_after_result base stamp price t)) t.account t.symbol }) x
 summary_row_is base price last now t found closed stamp k x =
     let a = agrees base price last now t found closed stamp k in
     let f = k.found_it in
-    let held : unwrap_or found.summary (pos 0) ≡ holding_summary_quantity (completed_trades base) t.account t.symbol = held_found base t found f k.two in
     let row : summary_row_of_position (sheets base) t.account t.symbol ≡ summary_row_if_nonzero t.account t.symbol (holding_summary_quantity (completed_trades base) t.account t.symbol) =
     reads_summary_row base t.account t.symbol f.books (ap is_some f.owner.there) (ap is_some f.listed_is) in
     summary_made found (summary_row_of_position (sheets base) t.account t.symbol) (holding_summary_quantity (completed_trades base) t.account t.symbol)

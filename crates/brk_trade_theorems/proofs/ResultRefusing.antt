@@ -1,4 +1,4 @@
--- The lots that are given for a result, and its refusal by what was read.
+-- The lots that are read for a result, and its refusal by the facts and these lots.
 use Rattle.std.proofs.Common.{◌≡◌, ℕ, ◌==◌, Bool, true, false, not, List, refl, sym, subst, ◌∙◌, ap, Option, Some, None}
 use Rattle.std.specs.Prelude.{option_map, Err}
 use Rattle.std.proofs.lemmas.Bool.{eqb-true}
@@ -20,8 +20,8 @@ use Rattle.brk_money.specs.Kinds.{is_same_trade_status, side_of_trade_type}
 use Rattle.brk_money.specs.Moments.{stamp_after}
 use Rattle.brk_money.specs.declared.refusal.Refusal.{Refusal}
 use Rattle.brk_money.specs.declared.status.Status.TheVariants.{Submitted}
-use Rattle.brk_trade.specs.Outcomes.{deal_of_trade_row, checks_before_reading_lots, result_checks}
-use Rattle.brk_trade.specs.Results.{AreLotsBeforeTrade, IsResultRefusal, shares_held_before_trade}
+use Rattle.brk_trade.specs.Outcomes.{deal_of_trade_row, checks_before_reading_lots, result_checks, shares_held_before_trade}
+use Rattle.brk_trade.specs.Results.{AreLotsBeforeTrade, IsResultRefusal}
 use Rattle.brk_trade.proofs.Results.{first_refuses}
 use Rattle.brk_ref.specs.Rows.{abstract_trade_row}
 use Rattle.brk_trade.specs.declared.result_found.ResultPlanFacts.{ResultPlanFacts}

@@ -1,5 +1,4 @@
--- The tables of a base of whose trades words are changed: no column but those of these words
--- changes.
+-- The tables of a base after texts of its trades change: no other column changes.
 use Rattle.std.proofs.Common.{◌≡◌, ℕ, ◌==◌, not, List, [], ◌∷◌, ◌++◌, refl, sym, ap, ◌∙◌, map, filter, length, pos, ◌+ℤ◌}
 use Rattle.std.specs.Prelude.{flat_map, nat_lt, sum_by, bytes_eq}
 use Rattle.std.proofs.lemmas.List.{length-map}

@@ -1,4 +1,4 @@
--- Words that are set one after another, each by the key of its row, are those of all rows at once.
+-- Texts set one after another, each by the key of its row, equal texts set in all rows at once.
 use Rattle.std.proofs.Common.{◌≡◌, ℕ, ◌==◌, ◌||◌, Bool, true, false, cond, List, [], ◌∷◌, ◌++◌, refl, sym, ap, ◌∙◌, map, fold}
 use Rattle.std.specs.List.{AllByRecursion}
 use Rattle.brk_money.specs.Spelling.{Text}

@@ -1,4 +1,4 @@
--- What a correction of words leaves as it is.
+-- Text updates change one text column each, and nothing else.
 use Rattle.std.proofs.Common.{◌≡◌, ℕ, List, [], refl, sym, ap, ◌∙◌, map}
 use Rattle.brk_money.specs.Spelling.{Text}
 use Rattle.brk_model.specs.Base.{Base, completed_trades}

@@ -1,4 +1,4 @@
--- Lists of which each element is changed: what is kept, sorted, taken and added up of them.
+-- Lists whose elements are mapped: filtered, sorted, cut and summed.
 use Rattle.std.proofs.Common.{◌≡◌, ℕ, zero, suc, Bool, true, false, cond, ◌&&◌, List, [], ◌∷◌, ◌++◌, refl, sym, ap, ◌∙◌, map, filter, take, ℤ, ◌+ℤ◌, ◌+◌}
 use Rattle.std.specs.Prelude.{flat_map, sum_by}
 use Rattle.std.specs.List.{AllByRecursion}

@@ -1,5 +1,5 @@
--- Cancels and feeds are refused by what is read from the tables as by the base, and planned from
--- them they are done.
+-- Cancels and feeds are refused by the tables as in the base, and their plans implement the
+-- commands.
 use Rattle.std.proofs.Common.{◌≡◌, ◌≤◌, ℕ, true, false, not, List, [], ◌∷◌, ◌++◌, refl, sym, ◌∙◌, ap, Bool, Option, Some, None}
 use Rattle.std.specs.Prelude.{is_some, is_none, nat_lt, option_map, Ok, Err}
 use Rattle.std.specs.Option.{option_map_or}

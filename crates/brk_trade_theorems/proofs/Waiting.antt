@@ -1,5 +1,5 @@
--- The requests that the ticks of a feed may trigger: a selection for each type that waits, merged
--- by rising trade, is all of them.
+-- The requests that the ticks of a feed may trigger: the selections by type, merged by trade in
+-- ascending order, are all of them.
 use Rattle.std.proofs.Common.{◌≡◌, ◌≤◌, ◌<◌, ℕ, ◌==◌, Bool, true, false, not, cond, List, [], ◌∷◌, ◌++◌, refl, sym, ◌∙◌, ap, subst, map, filter, arith}
 use Rattle.std.specs.Prelude.{◌&&◌, fold, nat_le, nat_lt, bytes_eq}
 use Rattle.std.specs.Bool.{Decides}

@@ -4,12 +4,12 @@ use Rattle.brk_lots.specs.declared.lot.Lot.{Lot}
 use Rattle.brk_model.specs.Base.{Base}
 use Rattle.brk_model.specs.Joins.{account_row_with_id, security_row_with_symbol, trade_row_with_id}
 use Rattle.brk_model.specs.Sheets.{sheets}
-use Rattle.brk_model.specs.Tables.{AccountRow, Tables}
+use Rattle.brk_model.specs.Tables.{Tables}
 use Rattle.brk_model.specs.Tests.{first_refusal}
 use Rattle.brk_money.specs.Moments.{greatest_stamp}
 use Rattle.brk_trade.specs.Outcomes.{checks_before_reading_lots}
-use Rattle.brk_ref.specs.Rows.{abstract_trade_row}
-use Rattle.brk_trade.specs.declared.result_found.ResultAccount.{ResultAccount}
+use Rattle.brk_ref.specs.Records.{abstract_account_row, abstract_security_row}
+use Rattle.brk_ref.specs.Rows.{abstract_summary_row, abstract_trade_row}
 use Rattle.brk_trade.specs.declared.result_found.ResultPlanFacts.{ResultPlanFacts}
 use Rattle.brk_ref.specs.declared.trade_row.TradeRow.{TradeRow}
 use Rattle.brk_trade_books.specs.Books.{BooksInvariant}
@@ -25,13 +25,9 @@ use Rattle.brk_trade_books.specs.TradeReads.{commission_band_of_quantity, last_c
 abbrev pub PassesFirstResultChecks : ℕ → ResultPlanFacts → Type 0
 PassesFirstResultChecks n found = first_refusal (take n (checks_before_reading_lots found)) ≡ None
 
--- The broker, the tax status and the balance in the row `r` of CUSTOMER_ACCOUNT.
-abbrev pub result_account_of_row : AccountRow → ResultAccount
-result_account_of_row r = record { broker = r.broker; tax_status = r.tax_status; balance = r.balance }
-
 -- The facts `found` about the result of a trade are true of the tables: the commission rate, the
--- summary, the account, the sum of the customer's tax rates, the broker totals, the security's
--- name, the first day of one-day settlement, and the number of the next cash row. A clause is
+-- rows of the summary, of the account and of the security, the sum of the customer's tax rates, the
+-- broker totals, the first day of one-day settlement, and the number of the next cash row. A clause is
 -- vacuous if one of the checks that it names fails, since the fact is not read then. The clauses
 -- `rate`, `account`, `rates`, `broker` and `security` are also vacuous if an account, a customer, a
 -- broker or a security whose row they read does not exist.
@@ -40,22 +36,23 @@ pub record ResultFactsMatchTables (t : Tables) (found : ResultPlanFacts) : Type 
   -- the trade's type and the security's exchange, or is `None` if there is no such band.
   pub rate : PassesFirstResultChecks 1 found
       → CustomerOfAccountSatisfies t found.trade.account (λ c. IfSome (security_row_with_symbol t found.trade.symbol) (λ s.
-      found.rate ≡ option_map (λ b. b.rate) (commission_band_of_quantity t c.tier found.trade.kind s.exchange found.trade.qty)))
-  -- The summary is the quantity of the account's holding summary in the symbol, or `None` if there
-  -- is no such summary.
-  pub summary : PassesFirstResultChecks 2 found → found.summary ≡ option_map (λ r. r.qty) (summary_row_of_position t found.trade.account found.trade.symbol)
-  pub account : PassesFirstResultChecks 3 found → IfSome (account_row_with_id t found.trade.account) (λ a. found.account ≡ result_account_of_row a)
+      found.listed.rate ≡ option_map (λ b. b.rate) (commission_band_of_quantity t c.tier found.trade.kind s.exchange found.trade.qty)))
+  -- The summary is the account's holding summary in the symbol, or `None` if there is none.
+  pub summary : PassesFirstResultChecks 2 found
+      → option_map abstract_summary_row found.summary ≡ summary_row_of_position t found.trade.account found.trade.symbol
+  pub account : PassesFirstResultChecks 3 found
+      → IfSome (account_row_with_id t found.trade.account) (λ a. abstract_account_row found.parties.account ≡ a)
   -- The tax rates are the sum of the rates of the taxes that the customer pays.
-  pub rates : PassesFirstResultChecks 3 found → IfSome (account_row_with_id t found.trade.account) (λ a. found.rates ≡ customer_tax_rate_sum t a.customer)
+  pub rates : PassesFirstResultChecks 3 found → IfSome (account_row_with_id t found.trade.account) (λ a. found.parties.rates ≡ customer_tax_rate_sum t a.customer)
   -- The totals are the trade count and the commission total of the account's broker.
   pub broker : PassesFirstResultChecks 3 found
       → IfSome (account_row_with_id t found.trade.account) (λ a. IfSome (find (λ r. r.id == a.broker) t.brokers) (λ b.
-      (pos found.broker.trades ≡ b.trades) × (found.broker.commissions ≡ b.commissions)))
-  pub security : PassesFirstResultChecks 3 found → IfSome (security_row_with_symbol t found.trade.symbol) (λ s. found.security ≡ s.name)
+      (pos found.parties.broker.trades ≡ b.trades) × (found.parties.broker.commissions ≡ b.commissions)))
+  pub security : PassesFirstResultChecks 3 found → IfSome (security_row_with_symbol t found.trade.symbol) (λ s. abstract_security_row found.listed.security ≡ s)
   -- The first day of one-day settlement equals that of the tables, and the next cash row has the
   -- number after that of the last cash row, or 1 if there are no cash rows.
-  pub rule : PassesFirstResultChecks 3 found → found.rule ≡ t.rule
-  pub next : PassesFirstResultChecks 3 found → found.next ≡ last_cash_row_number_or_zero t + 1
+  pub rule : PassesFirstResultChecks 3 found → found.posting.rule ≡ t.rule
+  pub next : PassesFirstResultChecks 3 found → found.posting.next ≡ last_cash_row_number_or_zero t + 1
 
 -- ---- lots
 

@@ -16,9 +16,8 @@ ghost use Rattle.brk_trade_plans.specs.declared.plan.Plan.{Plan};
 ghost use Rattle.brk_trade_theorems.specs.Plans.{PlanImplementsCommand};
 ghost use Rattle.brk_trade_theorems.specs.Corrections.{ChangesOnlyExecutorNames, ChangesOnlyCashTexts, ChangesOnlySettlementTexts, PlanUpdatePrecondition};
 
-/// Proves, under `PlanUpdatePrecondition`, that the checks of a text update against the lookup
-/// result, followed by the check that a stamp after the last stamp exists (`later_stamp_check`),
-/// refuse it exactly as the model does, and that the plan of a text update implements the command.
+/// Proves, under `PlanUpdatePrecondition`, that a text update is refused as in the model, and that
+/// its plan implements the command.
 pub fn update_plans_implement_commands()
     ensures first { (base : Base) (update : Update) (found : Option TextUpdate) (last : Option ℕ) (now : ℕ) → PlanUpdatePrecondition base update found last now
         → first_refusal (update_checks update found ++ later_stamp_check last now ∷ []) ≡ refusal_of_command base now (text_update_command update) }
@@ -31,9 +30,8 @@ pub fn update_plans_implement_commands()
         → IsUpdatePlan found last now plan → PlanImplementsCommand base now (text_update_command update) plan }
 {}
 
-/// Proves that a text update, as if the base accepted it, changes only one text column of one
-/// table, and the last stamp. `ChangeExecutors` changes only executor names in TRADE,
-/// `ChangeCashTypes` only texts in SETTLEMENT, and `ChangeCashNames` only texts in CASH_MOVE.
+/// Proves that a text update changes only executor names, settlement texts or cash texts, and the
+/// last stamp.
 pub fn updates_change_one_text_column()
     ensures executors { (base : Base) (now : ℕ) (ids : List ℕ) → ChangesOnlyExecutorNames base now (ChangeExecutors ids) }
     ensures cash_types { (base : Base) (now account first last : ℕ) → ChangesOnlySettlementTexts base now (ChangeCashTypes account first last) }

@@ -17,10 +17,8 @@ ghost use Rattle.brk_trade_plans.specs.declared.plan.Plan.{Plan};
 ghost use Rattle.brk_trade_theorems.specs.MovePlans.{PlanMovementPrecondition, PlanOneDaySettlementPrecondition};
 ghost use Rattle.brk_trade_theorems.specs.Plans.{PlanImplementsCommand};
 
-/// Proves, under `PlanMovementPrecondition`, that the checks of a deposit or a withdrawal against
-/// the facts, followed by the check that a stamp after the last stamp exists
-/// (`later_stamp_check`), refuse it exactly as the model does, and that the plan of the movement
-/// implements the command.
+/// Proves, under `PlanMovementPrecondition`, that a movement is refused as in the model, and that
+/// its plan implements the command.
 pub fn movement_plans_implement_commands()
     ensures first { (base : Base) (m : Movement) (found : MovementPlanFacts) (last : Option ℕ) (now : ℕ) → PlanMovementPrecondition base m found last now
         → first_refusal (movement_checks m found ++ later_stamp_check last now ∷ []) ≡ refusal_of_command base now (movement_command m) }
@@ -32,9 +30,8 @@ pub fn movement_plans_implement_commands()
         → IsMovementPlan m found last now plan → PlanImplementsCommand base now (movement_command m) plan }
 {}
 
-/// Proves, under `PlanOneDaySettlementPrecondition`, that the checks of a command that sets the
-/// first day of one-day settlement refuse it exactly as the model does, and that the plan of
-/// setting this day implements the command.
+/// Proves, under `PlanOneDaySettlementPrecondition`, that setting the first day is refused as in
+/// the model, and that its plan implements the command.
 pub fn one_day_settlement_plans_implement_commands()
     ensures first { (base : Base) (day : ℕ) (rule last : Option ℕ) (now : ℕ) → PlanOneDaySettlementPrecondition base rule last now
         → first_refusal (one_day_settlement_checks day rule last now) ≡ refusal_of_command base now (SetOneDay day) }

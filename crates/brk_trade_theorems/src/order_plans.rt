@@ -1,4 +1,5 @@
-//! Theorems: the plans and the estimates of orders implement their commands and queries.
+//! Theorems: the plans and the estimates of orders implement their commands and queries, in a base
+//! that satisfies the books invariant.
 
 ghost use Rattle.std.specs.Prelude.{◌≡◌, ◌∷◌, ◌++◌, [], ℕ, Err, List, None, Ok, Option, Some};
 ghost use Rattle.brk_trade.specs.Estimates.{AreOrderTermsInBase};
@@ -27,19 +28,15 @@ ghost use Rattle.brk_trade_books.specs.Books.{BooksInvariant};
 ghost use Rattle.brk_trade_theorems.specs.OrderPlans.{OrderPositionLotsSatisfy, EstimateFactsMatchTables, PlanOrderPrecondition};
 ghost use Rattle.brk_trade_theorems.specs.Plans.{PlanImplementsCommand};
 
-/// Proves that the terms of an order that are computed from facts that are true of the tables of a
-/// base (`EstimateFactsMatchTables`) are the terms of the order in this base
-/// (`AreOrderTermsInBase`, which says nothing of the shares held), if the order passes its checks
-/// against these facts and the base satisfies the books invariant.
+/// Proves that the terms of an order from facts of the tables are its terms in the base, except the
+/// shares held.
 pub fn terms_from_order_facts_match_the_base()
     ensures { (base : Base) (order : Order) (found : OrderPlanFacts) → BooksInvariant base → EstimateFactsMatchTables (sheets base) order found
         → first_refusal (order_checks found) ≡ None → AreOrderTermsInBase base (abstract_order order) (terms_of_order order found) }
 {}
 
-/// Proves, under `PlanOrderPrecondition`, that the checks of an order against the facts, followed
-/// by the checks that a free trade id (`free_trade_id_check`) and a stamp after the last stamp
-/// (`later_stamp_check`) exist, refuse it exactly as the model does, and that the plan of an order
-/// from the lots of its account and symbol implements the command.
+/// Proves, under `PlanOrderPrecondition`, that an order is refused as in the model, and that its
+/// plan implements the command.
 pub fn order_plans_implement_commands()
     ensures first { (base : Base) (order : Order) (found : OrderPlanFacts) (last : Option ℕ) (now : ℕ) → PlanOrderPrecondition base order found last now
         → first_refusal (order_checks found ++ free_trade_id_check found.last_trade ∷ later_stamp_check last now ∷ [])
@@ -54,10 +51,8 @@ pub fn order_plans_implement_commands()
         → PlanImplementsCommand base now (PlaceOrder (abstract_order order)) plan }
 {}
 
-/// Proves, for a base that satisfies the books invariant and facts that are true of its tables,
-/// that the refusal of an estimate by the checks of the order is the refusal of its query in the
-/// model. Proves also that an estimate from the lots of the order's account and symbol equals the
-/// estimate of the model, and that the query of the model returns the fields of this estimate.
+/// Proves that an estimate is refused as its query in the model, and otherwise equals the estimate
+/// of the model.
 pub fn estimates_equal_model_estimates()
     ensures refused { (base : Base) (order : Order) (found : OrderPlanFacts) (refusal : Refusal) → BooksInvariant base
         → EstimateFactsMatchTables (sheets base) order found

@@ -12,9 +12,7 @@ ghost use Rattle.brk_trade_plans.specs.declared.reference.Reference.{Reference};
 ghost use Rattle.brk_trade_plans.specs.Commands.{command_adding_record};
 ghost use Rattle.brk_trade_theorems.specs.Plans.{PlanImplementsCommand, PlanReferencePrecondition};
 
-/// Proves, under `PlanReferencePrecondition`, that the checks of a record of reference data against
-/// the facts, followed by the check that a stamp after the last stamp exists
-/// (`later_stamp_check`), refuse it exactly as the model does.
+/// Proves, under `PlanReferencePrecondition`, that a reference record is refused as in the model.
 pub fn reference_checks_refuse_as_the_model_does()
     ensures first { (base : Base) (reference : Reference) (found : ReferenceFacts) (last : Option ℕ) (now : ℕ)
         → PlanReferencePrecondition base reference found last now
@@ -25,8 +23,8 @@ pub fn reference_checks_refuse_as_the_model_does()
         → step base now (command_adding_record reference) ≡ Err refusal }
 {}
 
-/// Proves, under `PlanReferencePrecondition`, that the plan that adds a record of reference data
-/// implements its command.
+/// Proves, under `PlanReferencePrecondition`, that the plan of a reference record implements its
+/// command.
 pub fn reference_plans_implement_commands()
     ensures { (base : Base) (reference : Reference) (found : ReferenceFacts) (last : Option ℕ) (now : ℕ) (plan : Plan)
         → PlanReferencePrecondition base reference found last now

@@ -1,5 +1,6 @@
 //! Theorems: the checks and the row changes of cancels and feeds from the tables implement their
-//! commands.
+//! commands, in a base that satisfies the books invariant and at a clock reading of at most the
+//! greatest stamp.
 
 ghost use Rattle.std.specs.Prelude.{◌+◌, ◌≡◌, ◌≤◌, ℕ, Err, List, None, Some, is_some, true};
 ghost use Rattle.std.specs.List.{AllByRecursion};
@@ -19,19 +20,14 @@ ghost use Rattle.brk_trade_theorems.specs.TradeTests.{cancel_checks_on_trade_row
 ghost use Rattle.brk_trade_books.specs.Ticks.{tick_quantity_sum_of_symbol};
 ghost use Rattle.brk_trade_books.specs.Trading.{tables_after_cancel, trade_ids_triggered_by_feed, tables_after_feed};
 
-/// Proves that the model's step returns the refusal of the first check of the command that fails,
-/// if one fails.
+/// Proves that the model's step returns the refusal of the first check that fails.
 pub fn refused_commands_return_their_refusal()
     ensures { (base : Base) (now : ℕ) (command : Command) (refusal : Refusal) → refusal_of_command base now command ≡ Some refusal
         → step base now command ≡ Err refusal }
 {}
 
-/// Proves, for a base that satisfies the books invariant and a clock reading of at most the
-/// greatest stamp, that the checks of a cancel against the row of its trade, or against `None` if
-/// there is no such row, refuse it exactly as the model does. If they pass, the model accepts the
-/// cancel with the reply `CanceledTrade`. The tables after it equal those of `tables_after_cancel`,
-/// with the stamp of the cancel as the last stamp, and the base after it satisfies the books
-/// invariant.
+/// Proves that a cancel is refused by its row as in the model, and otherwise changes the tables by
+/// `tables_after_cancel`.
 pub fn cancels_change_tables_as_specified()
     ensures first { (base : Base) (now id : ℕ) → BooksInvariant base → now ≤ greatest_stamp
         → first_refusal (cancel_checks_on_trade_row (trade_row_with_id (sheets base) id) (sheets base).last now)
@@ -42,12 +38,8 @@ pub fn cancels_change_tables_as_specified()
         → IsAcceptedWithEffect base now (CancelTrade id) stamp (CanceledTrade stamp) (tables_after_cancel stamp id) }
 {}
 
-/// Proves, for a base that satisfies the books invariant and a clock reading of at most the
-/// greatest stamp, that the checks of a feed against the last trades of its symbols refuse it
-/// exactly as the model does. If they pass, the model accepts the feed with the reply `Ticked`,
-/// which lists the trades that it triggers. The tables after it equal those of `tables_after_feed`,
-/// with the stamp of the feed as the last stamp, and the base after it satisfies the books
-/// invariant.
+/// Proves that a feed is refused by last trades as in the model, and otherwise changes the tables
+/// by `tables_after_feed`.
 pub fn feeds_change_tables_as_specified()
     ensures first { (base : Base) (now : ℕ) (ticks : List Tick) → BooksInvariant base → now ≤ greatest_stamp
         → first_refusal (feed_checks_on_tables (sheets base) ticks (sheets base).last now) ≡ refusal_of_command base now (FeedTicks ticks) }
@@ -57,8 +49,7 @@ pub fn feeds_change_tables_as_specified()
         (tables_after_feed stamp ticks) }
 {}
 
-/// Proves that a feed adds the quantities of the ticks of a symbol to the volume of that symbol, if
-/// this symbol and the symbols of all ticks exist and the base satisfies the books invariant.
+/// Proves that a feed of listed symbols adds the quantities of a symbol's ticks to its volume.
 pub fn feeds_add_tick_quantities_to_volumes()
     ensures { (base : Base) (stamp : ℕ) (ticks : List Tick) (symbol : Text) → BooksInvariant base
         → AllByRecursion (λ tick. is_some (security_with_symbol base tick.symbol) ≡ true) ticks → is_some (security_with_symbol base symbol) ≡ true

@@ -1,4 +1,4 @@
--- Records put behind others, some after some.
+-- A record and the lists of records after it, appended one by one, are one list appended at once.
 use Rattle.std.proofs.Common.{◌≡◌, List, [], ◌∷◌, ◌++◌, refl, ap, ◌∙◌}
 
 assoc : {X : Type 0} (xs ys zs : List X) → (xs ++ ys) ++ zs ≡ xs ++ (ys ++ zs)

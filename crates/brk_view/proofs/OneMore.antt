@@ -1,4 +1,4 @@
--- Records to which those of one more element of a list were added.
+-- The records of the first elements of a list, and those of one more element.
 use Rattle.std.proofs.Common.{◌≡◌, ◌∙◌, ◌+◌, ◌<◌, ◌++◌, ◌∷◌, [], ℕ, List, ap, append_assoc, get_or, length, map, sym, take}
 use Rattle.std.proofs.lemmas.List.{flat_map_more, map_more, map_push, take_more}
 use Rattle.std.specs.Prelude.{flat_map}

@@ -1,4 +1,5 @@
-//! The records of the views of accounts.
+//! The records of the views of accounts: the worth of each, the recent activity of one, and its
+//! status.
 
 ghost use Rattle.std.specs.Prelude.{◌≡◌, ◌++◌, IfOk, OnOk, map};
 ghost use Rattle.brk_ref.specs.Rows.{abstract_trade_row};
@@ -15,9 +16,7 @@ use brk_view_rows::statuses::{AccountStatus, TradeStatus};
 use brk_view_rows::worths::AccountWorth;
 use std::alloc::{AllocError, Global};
 
-// Returns the record of an account: its id, its balance and the market value of its holdings. Fails
-// only if memory runs out.
-fn account_worth_texts(alloc: Global, account: &AccountWorth) -> Result<Vec<String>, AllocError>
+fn worth_texts(alloc: Global, account: &AccountWorth) -> Result<Vec<String>, AllocError>
     ensures { IfOk result (λ texts. texts_of_record texts ≡ account_worth_record account.now) }
 {
     let mut texts = Vec::new(alloc);
@@ -27,9 +26,7 @@ fn account_worth_texts(alloc: Global, account: &AccountWorth) -> Result<Vec<Stri
     Ok(texts)
 }
 
-// Returns a record for each account, in sequence: its id, its balance and the market value of its
-// holdings. Fails only if memory runs out.
-pub(crate) fn account_worth_records(
+pub(crate) fn worth_records(
     alloc: Global,
     accounts: &[AccountWorth],
 ) -> Result<Vec<Vec<String>>, AllocError>
@@ -37,15 +34,13 @@ pub(crate) fn account_worth_records(
 {
     let mut records = Vec::new(alloc);
     for account in accounts {
-        let texts = account_worth_texts(alloc, account)?;
+        let texts = worth_texts(alloc, account)?;
         records.push(texts)?;
     }
     Ok(records)
 }
 
-// Returns the record of one of an account's last trades: the word `trade`, its id, its symbol and
-// its quantity. Fails only if memory runs out.
-fn recent_trade_texts(alloc: Global, trade: &TradeRow) -> Result<Vec<String>, AllocError>
+fn trade_row_texts(alloc: Global, trade: &TradeRow) -> Result<Vec<String>, AllocError>
     ensures { IfOk result (λ texts. texts_of_record texts ≡ recents.recent_trade_record (abstract_trade_row trade.now)) }
 {
     let mut texts = Vec::new(alloc);
@@ -56,9 +51,7 @@ fn recent_trade_texts(alloc: Global, trade: &TradeRow) -> Result<Vec<String>, Al
     Ok(texts)
 }
 
-// Returns the record of a status of one of an account's last trades: the word `history`, the id of
-// the trade, the name of the status and its stamp. Fails only if memory runs out.
-fn recent_status_texts(alloc: Global, row: &HistoryRow) -> Result<Vec<String>, AllocError>
+fn history_texts(alloc: Global, row: &HistoryRow) -> Result<Vec<String>, AllocError>
     ensures { IfOk result (λ texts. texts_of_record texts ≡ recents.recent_status_record row.now) }
 {
     let mut texts = Vec::new(alloc);
@@ -69,23 +62,18 @@ fn recent_status_texts(alloc: Global, row: &HistoryRow) -> Result<Vec<String>, A
     Ok(texts)
 }
 
-// Returns a record for each of an account's last trades, in sequence: the word `trade`, its id, its
-// symbol and its quantity. Fails only if memory runs out.
-fn recent_trade_records(alloc: Global, trades: &[TradeRow]) -> Result<Vec<Vec<String>>, AllocError>
+fn trade_records(alloc: Global, trades: &[TradeRow]) -> Result<Vec<Vec<String>>, AllocError>
     ensures { IfOk result (λ records. texts_of_records records ≡ map recents.recent_trade_record (map abstract_trade_row trades.now)) }
 {
     let mut records = Vec::new(alloc);
     for trade in trades {
-        let texts = recent_trade_texts(alloc, trade)?;
+        let texts = trade_row_texts(alloc, trade)?;
         records.push(texts)?;
     }
     Ok(records)
 }
 
-// Appends to `records` a record for each status of an account's last trades, in sequence: the word
-// `history`, the id of the trade, the name of the status and its stamp. Fails only if memory runs
-// out. Some of these records may then be appended.
-fn append_recent_status_records(
+fn append_history(
     alloc: Global,
     records: &mut Vec<Vec<String>>,
     history: &[HistoryRow],
@@ -93,28 +81,24 @@ fn append_recent_status_records(
     ensures { OnOk result (texts_of_records records.new ≡ texts_of_records records.old ++ map recents.recent_status_record history.now) }
 {
     for row in history {
-        let texts = recent_status_texts(alloc, row)?;
+        let texts = history_texts(alloc, row)?;
         records.push(texts)?;
     }
     Ok(())
 }
 
-// Returns a record for each of the last trades of an account, followed by one for each status of
-// these trades, both in the sequence of `recent`. Fails only if memory runs out.
-pub(crate) fn activity_records(
+pub(crate) fn recent_records(
     alloc: Global,
     recent: &Activity,
 ) -> Result<Vec<Vec<String>>, AllocError>
     ensures { IfOk result (λ records. texts_of_records records ≡ recents.records_of_activity recent.now) }
 {
-    let mut records = recent_trade_records(alloc, &recent.trades)?;
-    append_recent_status_records(alloc, &mut records, &recent.history)?;
+    let mut records = trade_records(alloc, &recent.trades)?;
+    append_history(alloc, &mut records, &recent.history)?;
     Ok(records)
 }
 
-// Returns the record of the names of an account's customer and broker: last name, first name, name
-// of the broker. Fails only if memory runs out.
-fn party_name_texts(alloc: Global, account: &AccountStatus) -> Result<Vec<String>, AllocError>
+fn party_texts(alloc: Global, account: &AccountStatus) -> Result<Vec<String>, AllocError>
     ensures { IfOk result (λ texts. texts_of_record texts ≡ statuses.party_names_record account.now) }
 {
     let mut texts = Vec::new(alloc);
@@ -124,10 +108,7 @@ fn party_name_texts(alloc: Global, account: &AccountStatus) -> Result<Vec<String
     Ok(texts)
 }
 
-// Returns the first five of the ten fields of the record of a trade in the view of an account's
-// status: its id, its stamp, the names of its status and type, and its symbol. Fails only if memory
-// runs out.
-fn first_fields_of_trade_status(alloc: Global, trade: &TradeRow) -> Result<Vec<String>, AllocError>
+fn status_head(alloc: Global, trade: &TradeRow) -> Result<Vec<String>, AllocError>
     ensures { IfOk result (λ texts. texts_of_record texts ≡ statuses.first_five_status_fields trade.now) }
 {
     let mut texts = Vec::new(alloc);
@@ -139,10 +120,7 @@ fn first_fields_of_trade_status(alloc: Global, trade: &TradeRow) -> Result<Vec<S
     Ok(texts)
 }
 
-// Appends to `texts` the last five of the ten fields of the record of a trade in the view of an
-// account's status: its quantity, executor and charge, and the name and the exchange of its
-// security. Fails only if memory runs out. Some of these fields may then be appended.
-fn append_last_fields_of_trade_status(
+fn status_tail(
     alloc: Global,
     texts: &mut Vec<String>,
     status: &TradeStatus,
@@ -160,22 +138,15 @@ fn append_last_fields_of_trade_status(
     push_text(alloc, texts, status.security.exchange.as_str())
 }
 
-// Returns the record of a trade with its security in the view of an account's status, in ten
-// fields: the id, the stamp, the names of the status and type, the symbol, quantity, executor and
-// charge of the trade, and the name and the exchange of its security. Fails only if memory runs
-// out.
-fn trade_status_texts(alloc: Global, status: &TradeStatus) -> Result<Vec<String>, AllocError>
+fn status_texts(alloc: Global, status: &TradeStatus) -> Result<Vec<String>, AllocError>
     ensures { IfOk result (λ texts. texts_of_record texts ≡ statuses.trade_status_record status.now) }
 {
-    let mut texts = first_fields_of_trade_status(alloc, &status.trade)?;
-    append_last_fields_of_trade_status(alloc, &mut texts, status)?;
+    let mut texts = status_head(alloc, &status.trade)?;
+    status_tail(alloc, &mut texts, status)?;
     Ok(texts)
 }
 
-// Appends to `records` the record of each of `trades`, in sequence: the ten fields of a trade with
-// its security (`trade_status_texts`). Fails only if memory runs out. Some of these records may
-// then be appended.
-fn append_trade_status_records(
+fn append_statuses(
     alloc: Global,
     records: &mut Vec<Vec<String>>,
     trades: &[TradeStatus],
@@ -183,23 +154,21 @@ fn append_trade_status_records(
     ensures { OnOk result (texts_of_records records.new ≡ texts_of_records records.old ++ map statuses.trade_status_record trades.now) }
 {
     for trade in trades {
-        let texts = trade_status_texts(alloc, trade)?;
+        let texts = status_texts(alloc, trade)?;
         records.push(texts)?;
     }
     Ok(())
 }
 
-// Returns the record of the names of an account's customer and broker, followed by one record for
-// each trade of `account`, in sequence. Fails only if memory runs out.
-pub(crate) fn account_status_records(
+pub(crate) fn status_records(
     alloc: Global,
     account: &AccountStatus,
 ) -> Result<Vec<Vec<String>>, AllocError>
     ensures { IfOk result (λ records. texts_of_records records ≡ statuses.records_of_account_status account.now) }
 {
     let mut records = Vec::new(alloc);
-    let names = party_name_texts(alloc, account)?;
+    let names = party_texts(alloc, account)?;
     records.push(names)?;
-    append_trade_status_records(alloc, &mut records, &account.trades)?;
+    append_statuses(alloc, &mut records, &account.trades)?;
     Ok(records)
 }

@@ -12,8 +12,7 @@ pub use brk_view_rows::{
     AccountStatus, AccountWorth, Activity, BrokerNames, BrokerVolume, LookedUp, LotTouch,
     MOST_CHANGES, NamedTrades, Query, SubmittedTrade, TouchedLots, TradeStatus, View, ViewName,
     broker_volume, create_looked_up_trade, lookup_account, lookup_ids, lookup_lots, lookup_symbol,
-    merge_lot_changes_into_first_twenty, parse_broker_names, parse_named_trades, parse_query,
-    parse_query_of_view, position, recent, sort_trades_oldest_first, status, submitted,
-    total_bid_value_of_requests,
+    merge_touches, oldest_first, parse_brokers, parse_for_view, parse_named, parse_query, position,
+    recent, status, submitted, total_bid_value,
 };
 pub use fields::view_fields;

@@ -1,4 +1,5 @@
-//! The records of trades that are looked up.
+//! The records of looked-up trades: one of the trade, in fifteen fields, then those of its
+//! settlement, its cash row and its statuses.
 
 ghost use Rattle.std.specs.Prelude.{◌≡◌, ◌++◌, ◌∷◌, [], IfOk, OnOk, flat_map, map, option_map, option_to_list};
 ghost use Rattle.brk_ref.specs.Rows.{abstract_cash_row, abstract_settlement_row, abstract_trade_row};
@@ -7,17 +8,14 @@ ghost use Rattle.brk_view_rows.specs.Lookup.{cash_and_lifo_fields, price_and_cos
 ghost use Rattle.brk_view_rows.specs.Lookup.{history_status_record, first_five_trade_fields, order_fields_of_trade};
 ghost use Rattle.brk_view_rows.specs.Views.{texts_of_record, texts_of_records};
 
-use crate::texts::{
-    push_amount, push_day, push_number, push_optional_price, push_stamp, push_text,
-};
+use crate::texts::{push_amount, push_day, push_number, push_price, push_stamp, push_text};
 use brk_money::Wide;
 use brk_ref::{CashRow, SettlementRow, TradeRow, cash_or_margin_word, lifo_or_fifo_word};
 use brk_view_rows::lookups::{LookedUp, StampedStatus};
 use std::alloc::{AllocError, Global};
 
-// Returns the first five of the fifteen fields of the record of a looked-up trade: the word
-// `trade`, its id, its stamp, and the codes of its status and type. Fails only if memory runs out.
-fn first_fields_of_trade_record(alloc: Global, trade: &TradeRow) -> Result<Vec<String>, AllocError>
+// Returns the fields 1 to 5.
+fn trade_head(alloc: Global, trade: &TradeRow) -> Result<Vec<String>, AllocError>
     ensures { IfOk result (λ texts. texts_of_record texts ≡ first_five_trade_fields (abstract_trade_row trade.now)) }
 {
     let mut texts = Vec::new(alloc);
@@ -29,14 +27,8 @@ fn first_fields_of_trade_record(alloc: Global, trade: &TradeRow) -> Result<Vec<S
     Ok(texts)
 }
 
-// Appends to `texts` the fields 6 to 9 of the fifteen fields of the record of a looked-up trade:
-// its symbol, quantity, bid price and executor. Fails only if memory runs out. Some of these fields
-// may then be appended.
-fn append_order_texts(
-    alloc: Global,
-    texts: &mut Vec<String>,
-    trade: &TradeRow,
-) -> Result<(), AllocError>
+// Appends the fields 6 to 9.
+fn append_order(alloc: Global, texts: &mut Vec<String>, trade: &TradeRow) -> Result<(), AllocError>
     ensures { OnOk result (texts_of_record texts.new ≡ texts_of_record texts.old ++ order_fields_of_trade (abstract_trade_row trade.now)) }
 {
     push_text(alloc, texts, trade.symbol.as_str())?;
@@ -45,52 +37,34 @@ fn append_order_texts(
     push_text(alloc, texts, trade.executor.as_str())
 }
 
-// Appends to `texts` the fields 10 to 13 of the fifteen fields of the record of a looked-up trade:
-// its price, which is empty if the trade has none, its charge, commission and tax. Fails only if
-// memory runs out. Some of these fields may then be appended.
-fn append_price_and_cost_texts(
-    alloc: Global,
-    texts: &mut Vec<String>,
-    trade: &TradeRow,
-) -> Result<(), AllocError>
+// Appends the fields 10 to 13; the price is empty if the trade has none.
+fn append_costs(alloc: Global, texts: &mut Vec<String>, trade: &TradeRow) -> Result<(), AllocError>
     ensures { OnOk result (texts_of_record texts.new ≡ texts_of_record texts.old ++ price_and_cost_fields (abstract_trade_row trade.now)) }
 {
-    push_optional_price(alloc, texts, trade.price)?;
+    push_price(alloc, texts, trade.price)?;
     push_amount(alloc, texts, Wide::new(i128::from(trade.charge.get())))?;
     push_amount(alloc, texts, Wide::from(trade.commission))?;
     push_amount(alloc, texts, Wide::from(trade.tax))
 }
 
-// Appends to `texts` the last two of the fifteen fields of the record of a looked-up trade: `cash`
-// or, if it is no cash trade, `margin`; and `lifo` if it closes the newest lots first, otherwise
-// `fifo`. Fails only if memory runs out. Some of these fields may then be appended.
-fn append_cash_and_lifo_texts(
-    alloc: Global,
-    texts: &mut Vec<String>,
-    trade: &TradeRow,
-) -> Result<(), AllocError>
+// Appends the fields 14 and 15.
+fn append_flags(alloc: Global, texts: &mut Vec<String>, trade: &TradeRow) -> Result<(), AllocError>
     ensures { OnOk result (texts_of_record texts.new ≡ texts_of_record texts.old ++ cash_and_lifo_fields (abstract_trade_row trade.now)) }
 {
     push_text(alloc, texts, cash_or_margin_word(trade.is_cash))?;
     push_text(alloc, texts, lifo_or_fifo_word(trade.is_lifo))
 }
 
-// Returns the record of a looked-up trade, in fifteen fields: the word `trade`, its id and stamp,
-// the codes of its status and type, its symbol, quantity, bid price, executor, price (empty if it
-// has none), charge, commission and tax, `cash` or `margin`, and `lifo` or `fifo`. Fails only if
-// memory runs out.
-fn looked_up_trade_texts(alloc: Global, trade: &TradeRow) -> Result<Vec<String>, AllocError>
+fn looked_up_texts(alloc: Global, trade: &TradeRow) -> Result<Vec<String>, AllocError>
     ensures { IfOk result (λ texts. texts_of_record texts ≡ model.trade_record (abstract_trade_row trade.now)) }
 {
-    let mut texts = first_fields_of_trade_record(alloc, trade)?;
-    append_order_texts(alloc, &mut texts, trade)?;
-    append_price_and_cost_texts(alloc, &mut texts, trade)?;
-    append_cash_and_lifo_texts(alloc, &mut texts, trade)?;
+    let mut texts = trade_head(alloc, trade)?;
+    append_order(alloc, &mut texts, trade)?;
+    append_costs(alloc, &mut texts, trade)?;
+    append_flags(alloc, &mut texts, trade)?;
     Ok(texts)
 }
 
-// Returns the record of a settlement: the word `settlement`, the text of its cash type, the due day
-// and the amount. Fails only if memory runs out.
 fn settlement_texts(alloc: Global, row: SettlementRow) -> Result<Vec<String>, AllocError>
     ensures { IfOk result (λ texts. texts_of_record texts ≡ model.settlement_record (abstract_settlement_row row)) }
 {
@@ -102,8 +76,6 @@ fn settlement_texts(alloc: Global, row: SettlementRow) -> Result<Vec<String>, Al
     Ok(texts)
 }
 
-// Returns the record of a cash row: the word `cash`, its stamp, its amount and its text. Fails only
-// if memory runs out.
 fn cash_row_texts(alloc: Global, row: &CashRow) -> Result<Vec<String>, AllocError>
     ensures { IfOk result (λ texts. texts_of_record texts ≡ model.cash_record (abstract_cash_row row.now)) }
 {
@@ -115,9 +87,7 @@ fn cash_row_texts(alloc: Global, row: &CashRow) -> Result<Vec<String>, AllocErro
     Ok(texts)
 }
 
-// Returns the record of a status of a trade: the word `history`, the stamp of the status and its
-// code. Fails only if memory runs out.
-fn history_status_texts(alloc: Global, moment: StampedStatus) -> Result<Vec<String>, AllocError>
+fn moment_texts(alloc: Global, moment: StampedStatus) -> Result<Vec<String>, AllocError>
     ensures { IfOk result (λ texts. texts_of_record texts ≡ history_status_record moment) }
 {
     let mut texts = Vec::new(alloc);
@@ -127,9 +97,7 @@ fn history_status_texts(alloc: Global, moment: StampedStatus) -> Result<Vec<Stri
     Ok(texts)
 }
 
-// Appends to `records` the record of the settlement `row`, or nothing if `row` is `None`. Fails
-// only if memory runs out.
-fn append_settlement_record(
+fn append_settled(
     alloc: Global,
     records: &mut Vec<Vec<String>>,
     row: Option<SettlementRow>,
@@ -144,9 +112,7 @@ fn append_settlement_record(
     Ok(())
 }
 
-// Appends to `records` the record of the cash row `row`, or nothing if `row` is `None`. Fails only
-// if memory runs out.
-fn append_cash_record(
+fn append_cash_row(
     alloc: Global,
     records: &mut Vec<Vec<String>>,
     row: &Option<CashRow>,
@@ -161,10 +127,7 @@ fn append_cash_record(
     Ok(())
 }
 
-// Appends to `records` a record for each status of a trade, in sequence: the word `history`, the
-// stamp of the status and its code. Fails only if memory runs out. Some of these records may then
-// be appended.
-fn append_history_records(
+fn append_moments(
     alloc: Global,
     records: &mut Vec<Vec<String>>,
     history: &[StampedStatus],
@@ -172,14 +135,12 @@ fn append_history_records(
     ensures { OnOk result (texts_of_records records.new ≡ texts_of_records records.old ++ map history_status_record history.now) }
 {
     for moment in history {
-        let texts = history_status_texts(alloc, *moment)?;
+        let texts = moment_texts(alloc, *moment)?;
         records.push(texts)?;
     }
     Ok(())
 }
 
-// Appends to `records` the record of a trade, in fifteen fields (`looked_up_trade_texts`). Fails
-// only if memory runs out.
 fn append_trade_record(
     alloc: Global,
     records: &mut Vec<Vec<String>>,
@@ -187,14 +148,11 @@ fn append_trade_record(
 ) -> Result<(), AllocError>
     ensures { OnOk result (texts_of_records records.new ≡ texts_of_records records.old ++ model.trade_record (abstract_trade_row trade.now) ∷ []) }
 {
-    records.push(looked_up_trade_texts(alloc, trade)?)?;
+    records.push(looked_up_texts(alloc, trade)?)?;
     Ok(())
 }
 
-// Appends to `records` the records of a looked-up trade, in this order: one for the trade, one for
-// its settlement, if it exists, one for its cash row, if it exists, and one for each of its
-// statuses, in sequence. Fails only if memory runs out. Some of these records may then be appended.
-fn append_looked_up_records(
+fn append_found(
     alloc: Global,
     records: &mut Vec<Vec<String>>,
     found: &LookedUp,
@@ -202,16 +160,13 @@ fn append_looked_up_records(
     ensures { OnOk result (texts_of_records records.new ≡ texts_of_records records.old ++ records_of_looked_up_trade found.now) }
 {
     append_trade_record(alloc, records, &found.trade)?;
-    append_settlement_record(alloc, records, found.settlement)?;
-    append_cash_record(alloc, records, &found.cash)?;
-    append_history_records(alloc, records, &found.history)?;
+    append_settled(alloc, records, found.settlement)?;
+    append_cash_row(alloc, records, &found.cash)?;
+    append_moments(alloc, records, &found.history)?;
     Ok(())
 }
 
-// Returns the records of looked-up trades, in sequence. The records of a trade are, in this order,
-// one for the trade, one for its settlement, if it exists, one for its cash row, if it exists, and
-// one for each of its statuses, in sequence. Fails only if memory runs out.
-pub(crate) fn looked_up_trade_records(
+pub(crate) fn lookup_records(
     alloc: Global,
     trades: &[LookedUp],
 ) -> Result<Vec<Vec<String>>, AllocError>
@@ -219,7 +174,7 @@ pub(crate) fn looked_up_trade_records(
 {
     let mut records = Vec::new(alloc);
     for found in trades {
-        append_looked_up_records(alloc, &mut records, found)?;
+        append_found(alloc, &mut records, found)?;
     }
     Ok(records)
 }

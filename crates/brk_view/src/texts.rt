@@ -12,7 +12,6 @@ use brk_desk_commands::day_text;
 use brk_money::{Day, Price, Stamp, Wide};
 use std::alloc::{AllocError, Global};
 
-// Appends a copy of the text `word` to `texts`, as one field. Fails only if memory runs out.
 pub(crate) fn push_text(
     alloc: Global,
     texts: &mut Vec<String>,
@@ -24,7 +23,6 @@ pub(crate) fn push_text(
     Ok(())
 }
 
-// Appends the text of a number to `texts`, in decimal digits. Fails only if memory runs out.
 pub(crate) fn push_number(
     alloc: Global,
     texts: &mut Vec<String>,
@@ -36,9 +34,8 @@ pub(crate) fn push_number(
     Ok(())
 }
 
-// Appends the text of a number of shares to `texts`: decimal digits, with a minus sign if it is
-// below 0 (shares that were sold short). Fails only if memory runs out.
-pub(crate) fn push_signed_shares(
+// Shares that were sold short have a minus sign.
+pub(crate) fn push_shares(
     alloc: Global,
     texts: &mut Vec<String>,
     shares: i64,
@@ -49,8 +46,7 @@ pub(crate) fn push_signed_shares(
     Ok(())
 }
 
-// Appends the text of a stamp to `texts`: its milliseconds since 1970-01-01 UTC, in decimal digits.
-// Fails only if memory runs out.
+// The text is the number of milliseconds since 1970-01-01 UTC.
 pub(crate) fn push_stamp(
     alloc: Global,
     texts: &mut Vec<String>,
@@ -61,7 +57,7 @@ pub(crate) fn push_stamp(
     push_number(alloc, texts, stamp.get().unsigned_abs())
 }
 
-// Appends the text of a day to `texts`, such as `2024-03-01`. Fails only if memory runs out.
+// The text is, for example, `2024-03-01`.
 pub(crate) fn push_day(alloc: Global, texts: &mut Vec<String>, day: Day) -> Result<(), AllocError>
     ensures { OnOk result (texts_of_record texts.new ≡ texts_of_record texts.old ++ spelling.day_text day ∷ []) }
 {
@@ -72,8 +68,7 @@ pub(crate) fn push_day(alloc: Global, texts: &mut Vec<String>, day: Day) -> Resu
     Ok(())
 }
 
-// Appends the text of an amount in cents to `texts`, such as `-12.05` for -1,205. Fails only if
-// memory runs out.
+// The text is, for example, `-12.05` for -1,205 cents.
 pub(crate) fn push_amount(
     alloc: Global,
     texts: &mut Vec<String>,
@@ -85,9 +80,8 @@ pub(crate) fn push_amount(
     Ok(())
 }
 
-// Appends the text of a price to `texts`, such as `10.00` for 1,000 cents, or an empty text if it
-// is `None`. Fails only if memory runs out.
-pub(crate) fn push_optional_price(
+// The text is, for example, `10.00` for 1,000 cents, and empty for `None`.
+pub(crate) fn push_price(
     alloc: Global,
     texts: &mut Vec<String>,
     price: Option<Price>,

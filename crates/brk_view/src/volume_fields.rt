@@ -8,9 +8,7 @@ use crate::texts::{push_amount, push_number, push_text};
 use brk_view_rows::volumes::BrokerVolume;
 use std::alloc::{AllocError, Global};
 
-// Returns the record of a broker's volume: the name of the broker, its id and its volume. Fails
-// only if memory runs out.
-fn broker_volume_texts(alloc: Global, broker: &BrokerVolume) -> Result<Vec<String>, AllocError>
+fn volume_texts(alloc: Global, broker: &BrokerVolume) -> Result<Vec<String>, AllocError>
     ensures { IfOk result (λ texts. texts_of_record texts ≡ broker_volume_record broker.now) }
 {
     let mut texts = Vec::new(alloc);
@@ -20,9 +18,7 @@ fn broker_volume_texts(alloc: Global, broker: &BrokerVolume) -> Result<Vec<Strin
     Ok(texts)
 }
 
-// Returns a record for each broker's volume, in sequence: the name of the broker, its id and its
-// volume. Fails only if memory runs out.
-pub(crate) fn broker_volume_records(
+pub(crate) fn volume_records(
     alloc: Global,
     brokers: &[BrokerVolume],
 ) -> Result<Vec<Vec<String>>, AllocError>
@@ -30,7 +26,7 @@ pub(crate) fn broker_volume_records(
 {
     let mut records = Vec::new(alloc);
     for broker in brokers {
-        let texts = broker_volume_texts(alloc, broker)?;
+        let texts = volume_texts(alloc, broker)?;
         records.push(texts)?;
     }
     Ok(records)

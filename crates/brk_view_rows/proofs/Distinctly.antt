@@ -1,4 +1,4 @@
--- Ids that are read are different, and at most twenty.
+-- Parsed ids are different, and at most twenty.
 use Rattle.std.proofs.Common.{◌≡◌, ◌≤◌, ℕ, List, [], ◌∷◌, Bool, true, false, cond, Ok, Err, leb-true, length, refl, sym, subst, ap, ◌∙◌}
 use Rattle.std.specs.Prelude.{nat_le}
 use Rattle.brk_money.specs.declared.refusal.Refusal.TheVariants.{BadText, TooMany}

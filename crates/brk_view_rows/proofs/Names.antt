@@ -1,4 +1,4 @@
--- Texts compared by their bytes, and brokers by what they have to trade.
+-- Texts compared by their bytes, and brokers by their volumes.
 use Rattle.std.proofs.Common.{◌≡◌, ℕ, List, [], ◌∷◌, Bool, true, false, not, ◌&&◌, ◌||◌, ◌==◌, Ordering, nat_cmp, refl, sym, ◌∙◌, inl, inr, arith, eq-eqb, ne_eqb}
 use Rattle.std.specs.Prelude.{nat_lt, int_lt, pos, bytes_eq}
 use Rattle.std.specs.Cmp.Lexicographic.{slice_cmp}

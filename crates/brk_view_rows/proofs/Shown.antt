@@ -1,4 +1,4 @@
--- The views of rows are those of the definitions over the tables that the rows were read of.
+-- The views of rows equal the specified views of the tables from which the rows were read.
 use Rattle.std.proofs.Common.{◌≡◌, ℕ, zero, suc, List, [], ◌∷◌, ◌++◌, Bool, refl, sym, ap, ◌∙◌, map, filter, take}
 use Rattle.std.specs.Prelude.{◌&&◌, ◌||◌, ◌==◌, IfSome, Option, Some, None, bytes_eq, codes, decimal, flat_map, nat_lt, option_map, option_to_list}
 use Rattle.std.specs.Fmt.{signed_decimal}

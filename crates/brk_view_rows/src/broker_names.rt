@@ -33,9 +33,7 @@ impl BrokerNames {
     /// The greatest number of names.
     pub const MOST: usize = 20;
 
-    // Creates the list of the names `names`, which must be different. Refuses with `BadText` (18)
-    // if there is no name, and with `TooMany` (20) if there are more than 20. Never allocates.
-    fn from_distinct_names(names: Vec<Name>) -> Result<BrokerNames, Refusal>
+    fn from_distinct(names: Vec<Name>) -> Result<BrokerNames, Refusal>
         requires { distinct_texts names.items ≡ names.items }
         ensures { ParsesAs (λ told. told) result (one_to_twenty_elements names.items) }
     {
@@ -48,8 +46,6 @@ impl BrokerNames {
         Ok(BrokerNames { names })
     }
 
-    /// Returns the names, which are all different, in the sequence of their first occurrences in
-    /// the query's arguments.
     pub fn names(&self) -> &[Name]
         ensures names { result.now ≡ self.now }
         ensures distinct { distinct_texts result.now ≡ result.now }
@@ -58,16 +54,14 @@ impl BrokerNames {
     }
 }
 
-// Returns true if `name` equals one of `names`.
 fn is_among_names(name: &Name, names: &[Name]) -> bool
     ensures { result ≡ contains_name names.now name.now }
 {
     names.iter().any(|other| name.as_str() == other.as_str())
 }
 
-// Appends `name` to `names` if no element of `names` equals it. Fails with `Memory` only.
 #[tactic(auto, using(crate::proofs::Distinct::still_distinct))]
-fn push_name_if_absent(names: &mut Vec<Name>, name: Name) -> Result<(), Fault>
+fn push_new_name(names: &mut Vec<Name>, name: Name) -> Result<(), Fault>
     ensures names { OnOk result (names.new.items ≡ names_with_new_name names.old.items name) }
     ensures fault { OnErr result (result ≡ Err Memory) }
 {
@@ -77,9 +71,7 @@ fn push_name_if_absent(names: &mut Vec<Name>, name: Name) -> Result<(), Fault>
     Ok(())
 }
 
-// Parses a name from each field and returns the names in sequence, each only where it first occurs.
-// Refuses with `BadText` if a field is malformed. Fails with `Memory` only.
-fn parse_distinct_names(alloc: Global, fields: &[&[u8]]) -> Planned<Vec<Name>>
+fn parse_distinct(alloc: Global, fields: &[&[u8]]) -> Planned<Vec<Name>>
     ensures read { IfOk result (λ read. ParsesAs names_of_vector read (distinct_parsed_names (read_each_text read_name (texts_of_fields fields.now)))) }
     ensures distinct { IfOk result (λ read. IfOk read (λ names. distinct_texts names.items ≡ names.items)) }
     ensures fault { OnErr result (result ≡ Err Memory) }
@@ -89,23 +81,21 @@ fn parse_distinct_names(alloc: Global, fields: &[&[u8]]) -> Planned<Vec<Name>>
         let Some(name) = Name::parse(alloc, field)? else {
             return Ok(Err(Refusal::BadText));
         };
-        push_name_if_absent(&mut names, name)?;
+        push_new_name(&mut names, name)?;
     }
     Ok(Ok(names))
 }
 
-/// Parses 1 to 20 broker names, one from each field; a name that occurs more than once is counted
-/// once, at its first occurrence. Fails with `Memory` only.
+/// Parses 1 to 20 broker names, one from each field; a repeated name counts once.
 ///
 /// Refuses with `BadText` (18) if a field is malformed or there is no field, and otherwise with
-/// `TooMany` (20) if there are more than 20 different names. All fields are checked before the
-/// number of names.
-pub fn parse_broker_names(alloc: Global, fields: &[&[u8]]) -> Planned<BrokerNames>
+/// `TooMany` (20) if there are more than 20 different names.
+pub fn parse_brokers(alloc: Global, fields: &[&[u8]]) -> Planned<BrokerNames>
     ensures read { IfOk result (λ read. ParsesAs (λ names. names) read (read_broker_names (texts_of_fields fields.now))) }
     ensures fault { OnErr result (result ≡ Err Memory) }
 {
-    match parse_distinct_names(alloc, fields)? {
-        Ok(names) => Ok(BrokerNames::from_distinct_names(names)),
+    match parse_distinct(alloc, fields)? {
+        Ok(names) => Ok(BrokerNames::from_distinct(names)),
         Err(refusal) => Ok(Err(refusal)),
     }
 }

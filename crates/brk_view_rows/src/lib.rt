@@ -19,21 +19,18 @@ pub mod view_name;
 pub mod volumes;
 pub mod worths;
 
-pub use broker_names::{BrokerNames, parse_broker_names};
+pub use broker_names::{BrokerNames, parse_brokers};
 pub use lookups::{
-    LookedUp, create_looked_up_trade, lookup_account, lookup_ids, lookup_symbol,
-    sort_trades_oldest_first,
+    LookedUp, create_looked_up_trade, lookup_account, lookup_ids, lookup_symbol, oldest_first,
 };
-pub use named_trades::{NamedTrades, parse_named_trades};
-pub use parse::{parse_query, parse_query_of_view};
+pub use named_trades::{NamedTrades, parse_named};
+pub use parse::{parse_for_view, parse_query};
 pub use query::Query;
 pub use recents::{Activity, recent};
 pub use statuses::{AccountStatus, TradeStatus, status};
 pub use submitted_rows::submitted;
-pub use touched_lots::{
-    LotTouch, MOST_CHANGES, TouchedLots, lookup_lots, merge_lot_changes_into_first_twenty,
-};
+pub use touched_lots::{LotTouch, MOST_CHANGES, TouchedLots, lookup_lots, merge_touches};
 pub use view::{SubmittedTrade, View};
 pub use view_name::ViewName;
-pub use volumes::{BrokerVolume, broker_volume, total_bid_value_of_requests};
+pub use volumes::{BrokerVolume, broker_volume, total_bid_value};
 pub use worths::{AccountWorth, position};

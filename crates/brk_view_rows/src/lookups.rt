@@ -12,7 +12,7 @@ ghost use Rattle.brk_view_rows.specs.Lookup.{table_rows_of_trade, stamped_status
 ghost use Rattle.brk_view_rows.specs.Views.{records_of_view};
 ghost use Rattle.brk_view_rows.specs.declared.view.View.TheVariants as views;
 
-use crate::ordering::{Ranked, sort_rows_by_rank};
+use crate::ordering::{Ranked, sort_by_rank};
 use crate::view::View;
 use brk_money::{Fault, Stamp, Status};
 use brk_ref::{CashRow, HistoryRow, SettlementRow, TradeRow};
@@ -28,7 +28,7 @@ pub struct StampedStatus {
 impl Ranked for StampedStatus {
     ghost before = { is_older_status };
 
-    /// Returns true if the status has a smaller stamp than `other`.
+    /// Ranks by stamp, ascending.
     fn ranks_before(&self, other: &StampedStatus) -> bool {
         self.stamp.get() < other.stamp.get()
     }
@@ -37,8 +37,7 @@ impl Ranked for StampedStatus {
 impl Ranked for TradeRow {
     ghost before = { is_older_trade };
 
-    /// Returns true if the trade has a smaller stamp than `other`, or an equal stamp and a smaller
-    /// id.
+    /// Ranks by stamp, then by id, ascending.
     fn ranks_before(&self, other: &TradeRow) -> bool {
         if self.stamp.get() == other.stamp.get() {
             return self.id.get() < other.id.get();
@@ -59,12 +58,7 @@ pub struct LookedUp {
     pub history: Vec<StampedStatus>,
 }
 
-// Returns the statuses of a trade with their stamps, from its TRADE_HISTORY rows, sorted by stamp,
-// ascending; the sort is stable. Fails with `Memory` only.
-fn sorted_statuses_of_history(
-    alloc: Global,
-    history: &[HistoryRow],
-) -> Result<Vec<StampedStatus>, Fault>
+fn sorted_statuses(alloc: Global, history: &[HistoryRow]) -> Result<Vec<StampedStatus>, Fault>
     ensures order { IfOk result (λ moments. moments.items ≡ sort_by is_older_status (map stamped_status_of_typed_history_row history.now)) }
     ensures fault { OnErr result (result ≡ Err Memory) }
 {
@@ -75,14 +69,11 @@ fn sorted_statuses_of_history(
             status: row.status,
         })?;
     }
-    sort_rows_by_rank(alloc, moments)
+    sort_by_rank(alloc, moments)
 }
 
-/// Returns a trade with its settlement, its cash row and its statuses, from their rows. Sorts the
-/// statuses by stamp, ascending; the sort is stable. If `settlement`, `cash` and `history` are
-/// exactly the rows of the trade in some tables, `history` in the sequence of the table
-/// (`AreRowsOfTrade`), the records of the result are those that the model specifies for these
-/// tables. Fails with `Memory` only.
+/// Returns a trade with its rows of other tables and its statuses, sorted by stamp, ascending:
+/// those that the model joins if `AreRowsOfTrade` holds of the rows.
 #[tactic(auto, using(crate::proofs::Shown::one_shown, crate::proofs::Shown::one_carried))]
 pub fn create_looked_up_trade(
     alloc: Global,
@@ -97,7 +88,7 @@ pub fn create_looked_up_trade(
         → rows_of_looked_up_trade found ≡ table_rows_of_trade t (abstract_trade_row trade)) }
     ensures fault { OnErr result (result ≡ Err Memory) }
 {
-    let history = sorted_statuses_of_history(alloc, history)?;
+    let history = sorted_statuses(alloc, history)?;
     Ok(LookedUp {
         trade,
         settlement,
@@ -106,23 +97,17 @@ pub fn create_looked_up_trade(
     })
 }
 
-/// Returns the trades sorted by the stamp of their current status, then by id, ascending. Fails
-/// with `Memory` only.
+/// Returns the trades sorted by the stamp of their current status, then by id, ascending.
 #[tactic(auto, using(crate::proofs::Shown::older_shown))]
-pub fn sort_trades_oldest_first(
-    alloc: Global,
-    trades: Vec<TradeRow>,
-) -> Result<Vec<TradeRow>, Fault>
+pub fn oldest_first(alloc: Global, trades: Vec<TradeRow>) -> Result<Vec<TradeRow>, Fault>
     ensures order { IfOk result (λ ordered. map abstract_trade_row ordered.items ≡ trade_rows_oldest_first (map abstract_trade_row trades.items)) }
     ensures fault { OnErr result (result ≡ Err Memory) }
 {
-    sort_rows_by_rank(alloc, trades)
+    sort_by_rank(alloc, trades)
 }
 
-/// Returns the view of the trades that a query selects by their ids (Trade-Lookup), without reading
-/// a table. The caller passes these trades, sorted by the stamp of the last status change, then by
-/// id, ascending, or only the first 20 if there are more, each with its settlement, cash row and
-/// history. Does not allocate.
+/// Returns the view of trades that a query selects by their ids (Trade-Lookup). The caller passes
+/// the first 20 in the order of `oldest_first`.
 pub fn lookup_ids(trades: Vec<LookedUp>) -> View
     ensures records { records_of_view result ≡ flat_map records_of_looked_up_trade trades.items }
     ensures value { result ≡ views.Lookup trades }
@@ -134,10 +119,8 @@ pub fn lookup_ids(trades: Vec<LookedUp>) -> View
     View::Lookup(trades)
 }
 
-/// Returns the view of an account's trades whose last status change has a stamp between two stamps,
-/// both included (Trade-Lookup), without reading a table. The caller passes these trades, sorted by
-/// that stamp, then by id, ascending, or only the first 20 if there are more, each with its
-/// settlement, cash row and history. Does not allocate.
+/// Returns the view of an account's trades with a stamp between two stamps, both included
+/// (Trade-Lookup). The caller passes them as to `lookup_ids`.
 pub fn lookup_account(trades: Vec<LookedUp>) -> View
     ensures records { records_of_view result ≡ flat_map records_of_looked_up_trade trades.items }
     ensures value { result ≡ views.Lookup trades }
@@ -150,10 +133,8 @@ pub fn lookup_account(trades: Vec<LookedUp>) -> View
     View::Lookup(trades)
 }
 
-/// Returns the view of a symbol's trades whose last status change has a stamp between two stamps,
-/// both included (Trade-Lookup), without reading a table. The caller passes these trades, sorted by
-/// that stamp, then by id, ascending, or only the first 20 if there are more, each with its
-/// settlement, cash row and history. Does not allocate.
+/// Returns the view of a symbol's trades with a stamp between two stamps, both included
+/// (Trade-Lookup). The caller passes them as to `lookup_ids`.
 pub fn lookup_symbol(trades: Vec<LookedUp>) -> View
     ensures records { records_of_view result ≡ flat_map records_of_looked_up_trade trades.items }
     ensures value { result ≡ views.Lookup trades }

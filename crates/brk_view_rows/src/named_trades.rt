@@ -17,9 +17,8 @@ pub struct NamedTrades {
 }
 
 impl NamedTrades {
-    /// Creates the list of the ids `ids`. Refuses with `BadText` (18) if an id occurs twice or
-    /// there is no id, and otherwise with `TooMany` (20) if there are more than 20. Never
-    /// allocates.
+    /// Refuses with `BadText` (18) if an id occurs twice or there is no id, and otherwise with
+    /// `TooMany` (20) if there are more than 20.
     pub fn new(ids: Vec<Id>) -> Result<NamedTrades, Refusal>
         ensures { ParsesAs (λ named. named.trades) result (one_to_twenty_distinct_ids ids.items) }
     {
@@ -30,11 +29,9 @@ impl NamedTrades {
     }
 }
 
-/// Parses 1 to 20 different ids of trades, one from each field. Fails with `Memory` only.
-///
-/// Refuses with `BadText` (18) if a field is malformed, if an id occurs twice, or if there is no
-/// field, and otherwise with `TooMany` (20) if there are more than 20.
-pub fn parse_named_trades(alloc: Global, fields: &[&[u8]]) -> Planned<NamedTrades>
+/// Parses the ids, one from each field. Refuses a malformed field with `BadText` (18), and
+/// otherwise as `NamedTrades::new` does.
+pub fn parse_named(alloc: Global, fields: &[&[u8]]) -> Planned<NamedTrades>
     ensures read { IfOk result (λ read. ParsesAs (λ named. named.trades) read (read_distinct_ids (texts_of_fields fields.now))) }
     ensures fault { OnErr result (result ≡ Err Memory) }
 {

@@ -12,10 +12,7 @@ use brk_money::{Planned, Refusal};
 use brk_ref::{TaxId, parse_id};
 use std::alloc::Global;
 
-// Parses the query of the balances and market values of a customer's accounts from its one
-// argument, the id of the customer. Refuses malformed arguments, or a wrong number of them, with
-// `BadText`.
-pub(crate) fn parse_account_values_query(arguments: &[&[u8]]) -> Result<Query, Refusal>
+pub(crate) fn parse_customer(arguments: &[&[u8]]) -> Result<Query, Refusal>
     ensures { ParsesAs abstract_query result (read_single_argument (read_and_wrap PositionOf read_id) (texts_of_fields arguments.now)) }
 {
     let [customer] = arguments else {
@@ -27,13 +24,7 @@ pub(crate) fn parse_account_values_query(arguments: &[&[u8]]) -> Result<Query, R
     Ok(Query::Position(customer))
 }
 
-// Parses the query of the balances and market values of a customer's accounts from its one
-// argument, the tax id of the customer. Refuses malformed arguments, or a wrong number of them,
-// with `BadText`. Fails with `Memory` only.
-pub(crate) fn parse_account_values_by_tax_id_query(
-    alloc: Global,
-    arguments: &[&[u8]],
-) -> Planned<Query>
+pub(crate) fn parse_by_tax_id(alloc: Global, arguments: &[&[u8]]) -> Planned<Query>
     ensures read { IfOk result (λ read. ParsesAs abstract_query read
         (read_single_argument (read_and_wrap PositionOfTaxId read_tax_id) (texts_of_fields arguments.now))) }
     ensures fault { OnErr result (result ≡ Err Memory) }
@@ -47,9 +38,7 @@ pub(crate) fn parse_account_values_by_tax_id_query(
     Ok(Ok(Query::PositionOfTaxId(tax_id)))
 }
 
-// Parses the query of an account's last trades and their statuses from its one argument, the id of
-// the account. Refuses malformed arguments, or a wrong number of them, with `BadText`.
-pub(crate) fn parse_recent_trades_query(arguments: &[&[u8]]) -> Result<Query, Refusal>
+pub(crate) fn parse_recent(arguments: &[&[u8]]) -> Result<Query, Refusal>
     ensures { ParsesAs abstract_query result (read_single_argument (read_and_wrap RecentOf read_id) (texts_of_fields arguments.now)) }
 {
     let [account] = arguments else {
@@ -61,9 +50,6 @@ pub(crate) fn parse_recent_trades_query(arguments: &[&[u8]]) -> Result<Query, Re
     Ok(Query::Recent(account))
 }
 
-// Parses the query of the names of an account's customer and broker, and of its last trades, from
-// its one argument, the id of the account. Refuses malformed arguments, or a wrong number of them,
-// with `BadText`.
 pub(crate) fn parse_account_status_query(arguments: &[&[u8]]) -> Result<Query, Refusal>
     ensures { ParsesAs abstract_query result (read_single_argument (read_and_wrap StatusOf read_id) (texts_of_fields arguments.now)) }
 {

@@ -7,30 +7,24 @@ ghost use Rattle.brk_money.specs.declared.fault.Fault.TheVariants.{Memory};
 ghost use Rattle.brk_ref.specs.Fields.{ParsesAs, texts_of_fields};
 ghost use Rattle.brk_view_rows.specs.Queries.{abstract_query};
 
-use crate::broker_names::parse_broker_names;
-use crate::named_trades::parse_named_trades;
+use crate::broker_names::parse_brokers;
+use crate::named_trades::parse_named;
 use crate::query::Query;
 use brk_money::{Planned, Refusal};
 use brk_ref::{Name, Span, Symbol, parse_id, parse_stamp};
 use std::alloc::Global;
 
-// Parses the query of trades from its arguments, 1 to 20 different ids. Refuses with `BadText` if
-// an argument is malformed, if an id occurs twice, or if there is no argument, and otherwise with
-// `TooMany` if there are more than 20. Fails with `Memory` only.
-pub(crate) fn parse_trades_query(alloc: Global, arguments: &[&[u8]]) -> Planned<Query>
+pub(crate) fn parse_trades(alloc: Global, arguments: &[&[u8]]) -> Planned<Query>
     ensures read { IfOk result (λ read. ParsesAs abstract_query read (read_and_wrap TradesWith read_distinct_ids (texts_of_fields arguments.now))) }
     ensures fault { OnErr result (result ≡ Err Memory) }
 {
-    match parse_named_trades(alloc, arguments)? {
+    match parse_named(alloc, arguments)? {
         Ok(trades) => Ok(Ok(Query::Trades(trades))),
         Err(refusal) => Ok(Err(refusal)),
     }
 }
 
-// Parses the query of an account's trades between two stamps from its arguments: the account, the
-// first stamp and the last, which may be before the first. Refuses malformed arguments, or a wrong
-// number of them, with `BadText`.
-pub(crate) fn parse_account_trades_query(arguments: &[&[u8]]) -> Result<Query, Refusal>
+pub(crate) fn parse_by_account(arguments: &[&[u8]]) -> Result<Query, Refusal>
     ensures { ParsesAs abstract_query result
         (read_value_and_stamps read_id (λ account first last. TradesOfAccount account first last) (texts_of_fields arguments.now)) }
 {
@@ -50,10 +44,7 @@ pub(crate) fn parse_account_trades_query(arguments: &[&[u8]]) -> Result<Query, R
     Ok(Query::AccountTrades { account, span })
 }
 
-// Parses the query of a symbol's trades between two stamps from its arguments: the symbol, the
-// first stamp and the last, which may be before the first. Refuses malformed arguments, or a wrong
-// number of them, with `BadText`. Fails with `Memory` only.
-pub(crate) fn parse_symbol_trades_query(alloc: Global, arguments: &[&[u8]]) -> Planned<Query>
+pub(crate) fn parse_by_symbol(alloc: Global, arguments: &[&[u8]]) -> Planned<Query>
     ensures read { IfOk result (λ read. ParsesAs abstract_query read
         (read_value_and_stamps read_symbol (λ symbol first last. TradesOfSymbol symbol first last) (texts_of_fields arguments.now))) }
     ensures fault { OnErr result (result ≡ Err Memory) }
@@ -74,10 +65,7 @@ pub(crate) fn parse_symbol_trades_query(alloc: Global, arguments: &[&[u8]]) -> P
     Ok(Ok(Query::SymbolTrades { symbol, span }))
 }
 
-// Parses the query of the lots that the oldest trade of an account at or after a stamp touched,
-// from its arguments: the account and the stamp. Refuses malformed arguments, or a wrong number of
-// them, with `BadText`.
-pub(crate) fn parse_lots_query(arguments: &[&[u8]]) -> Result<Query, Refusal>
+pub(crate) fn parse_lots(arguments: &[&[u8]]) -> Result<Query, Refusal>
     ensures { ParsesAs abstract_query result (read_lots_query (texts_of_fields arguments.now)) }
 {
     let [account, first] = arguments else {
@@ -92,12 +80,8 @@ pub(crate) fn parse_lots_query(arguments: &[&[u8]]) -> Result<Query, Refusal>
     Ok(Query::Lots { account, first })
 }
 
-// Parses the query of the brokers' volumes in a sector from its arguments: the sector and 1 to 20
-// different broker names; a name that occurs more than once is counted once. Checks all arguments
-// before the number of names: refuses malformed arguments, no sector or no name with `BadText`, and
-// otherwise more than 20 different names with `TooMany`. Fails with `Memory` only.
 #[tactic(auto, using(brk_ref::proofs::Applied::text_left, brk_ref::proofs::Applied::text_right))]
-pub(crate) fn parse_volume_query(alloc: Global, arguments: &[&[u8]]) -> Planned<Query>
+pub(crate) fn parse_volume(alloc: Global, arguments: &[&[u8]]) -> Planned<Query>
     ensures read { IfOk result (λ read. ParsesAs abstract_query read (read_volume_query (texts_of_fields arguments.now))) }
     ensures fault { OnErr result (result ≡ Err Memory) }
 {
@@ -107,7 +91,7 @@ pub(crate) fn parse_volume_query(alloc: Global, arguments: &[&[u8]]) -> Planned<
     let Some(sector) = Name::parse(alloc, sector)? else {
         return Ok(Err(Refusal::BadText));
     };
-    match parse_broker_names(alloc, names)? {
+    match parse_brokers(alloc, names)? {
         Ok(names) => Ok(Ok(Query::Volume { sector, names })),
         Err(refusal) => Ok(Err(refusal)),
     }

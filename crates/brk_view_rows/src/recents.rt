@@ -13,7 +13,7 @@ ghost use Rattle.brk_view_rows.specs.Recent.{is_newer_status, recent_status_reco
 ghost use Rattle.brk_view_rows.specs.Views.{records_of_view};
 ghost use Rattle.brk_view_rows.specs.declared.view.View.TheVariants as views;
 
-use crate::ordering::{Ranked, sort_rows_by_rank};
+use crate::ordering::{Ranked, sort_by_rank};
 use crate::view::View;
 use brk_money::Fault;
 use brk_ref::{HistoryRow, TradeRow};
@@ -31,8 +31,7 @@ pub struct Activity {
 impl Ranked for HistoryRow {
     ghost before = { is_newer_status };
 
-    /// Returns true if the status has a greater stamp than `other`, or an equal stamp and a trade
-    /// with a greater id.
+    /// Ranks by stamp, then by trade, descending.
     fn ranks_before(&self, other: &HistoryRow) -> bool {
         if self.stamp.get() == other.stamp.get() {
             return self.trade.get() > other.trade.get();
@@ -41,11 +40,9 @@ impl Ranked for HistoryRow {
     }
 }
 
-/// Returns the view of an account's last trades (Customer-Position), without reading a table. The
-/// caller passes the last ten trades, or all if there are fewer, sorted by the stamp of the last
-/// status change, then by id, descending, and all their TRADE_HISTORY rows, trade by trade, which
-/// this function sorts by stamp, then by trade, descending; the sort is stable. Fails with `Memory`
-/// only.
+/// Returns the view of an account's last trades (Customer-Position). The caller passes the last
+/// ten, the most recent first, and all their TRADE_HISTORY rows, trade by trade, which this
+/// function sorts by stamp, then by trade, descending. Fails with `Memory` only.
 pub fn recent(alloc: Global, trades: Vec<TradeRow>, history: Vec<HistoryRow>) -> Result<View, Fault>
     ensures records { IfOk result (λ view. records_of_view view
         ≡ map recent_trade_record (map abstract_trade_row trades.items) ++ map recent_status_record (sort_by is_newer_status history.items)) }
@@ -59,6 +56,6 @@ pub fn recent(alloc: Global, trades: Vec<TradeRow>, history: Vec<HistoryRow>) ->
         → records_of_view view ≡ recent_trades_view t account) }
     ensures fault { OnErr result (result ≡ Err Memory) }
 {
-    let history = sort_rows_by_rank(alloc, history)?;
+    let history = sort_by_rank(alloc, history)?;
     Ok(View::Recent(Activity { trades, history }))
 }

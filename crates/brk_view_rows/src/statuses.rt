@@ -29,10 +29,8 @@ pub struct AccountStatus {
     pub trades: Vec<TradeStatus>,
 }
 
-/// Returns the view of an account's trades (Trade-Status), without reading a table. The caller
-/// passes the names of the account's customer and broker, and the account's last fifty trades, or
-/// all if it has fewer, sorted by stamp, then by id, both descending, each with its security. Does
-/// not allocate.
+/// Returns the view of an account's parties and its last trades (Trade-Status). The caller passes
+/// the last fifty trades, sorted by stamp, then by id, descending.
 #[tactic(auto, using(crate::proofs::Shown::status_shown))]
 pub fn status(account: AccountStatus) -> View
     ensures records { records_of_view result ≡ party_names_record account ∷ map trade_status_record account.trades.items }

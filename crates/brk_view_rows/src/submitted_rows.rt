@@ -16,8 +16,6 @@ use brk_money::Fault;
 use brk_ref::TradeRow;
 use std::alloc::Global;
 
-// Returns the values of a submitted trade that a view shows: its id, type, symbol, quantity and bid
-// price. Fails with `Memory` only.
 fn submitted_trade(row: &TradeRow) -> Result<SubmittedTrade, Fault>
     ensures shown { IfOk result (λ trade. submitted_trade_record trade ≡ record_of_submitted_row (abstract_trade_row row.now)) }
     ensures fault { OnErr result (result ≡ Err Memory) }
@@ -32,9 +30,8 @@ fn submitted_trade(row: &TradeRow) -> Result<SubmittedTrade, Fault>
     })
 }
 
-/// Returns the view of the submitted trades (Trade-Order), without reading a table. It shows every
-/// row of `rows`, in sequence; the caller passes exactly the rows with the status `Submitted`,
-/// sorted by id, ascending. Fails with `Memory` only.
+/// Returns the view of the submitted trades (Trade-Order), each row in sequence. The caller passes
+/// exactly the rows with the status `Submitted`, sorted by id, ascending. Fails with `Memory` only.
 pub fn submitted(alloc: Global, rows: &[TradeRow]) -> Result<View, Fault>
     ensures records { IfOk result (λ view. records_of_view view ≡ map record_of_submitted_row (map abstract_trade_row rows.now)) }
     ensures value { IfOk result (λ view. (trades : Vec SubmittedTrade)

@@ -13,10 +13,8 @@ ghost use Rattle.brk_model.specs.Tables.{Tables};
 ghost use Rattle.brk_view_rows.specs.Views.{records_of_view, has_submitted_status, record_of_submitted_row};
 ghost use Rattle.brk_view_rows.specs.declared.view.View.TheVariants as views;
 
-/// Proves that the records of the TRADE rows with the status `Submitted`, in the order of the
-/// table, equal the view of the submitted trades: for tables whose TRADE rows have different ids
-/// and are sorted by id, ascending (`sorted`), and for any tables after their rows are sorted by
-/// key (`stored`).
+/// Proves that the TRADE rows with the status `Submitted`, sorted by id, make the view of the
+/// submitted trades.
 pub fn submitted_row_records_equal_view()
     // For tables whose TRADE rows have different ids and are sorted by id, ascending.
     ensures sorted { (t : Tables) → is_sorted_by_unique_key trade_key t.trades ≡ true
@@ -25,8 +23,7 @@ pub fn submitted_row_records_equal_view()
     ensures stored { (t : Tables) → map record_of_submitted_row (filter has_submitted_status (tables_sorted_by_key t).trades) ≡ submitted_trades_view t }
 {}
 
-/// Proves that the view of an estimate of the model has exactly one record, which consists of the
-/// seven fields of the estimate: price, buy value, sell value, tax, commission, charge and assets.
+/// Proves that the view of an estimate has one record: the seven fields of the estimate.
 pub fn estimate_view_is_one_record()
     ensures { (e : Estimate) → records_of_view (views.Estimate (estimate_from_model e)) ≡ estimate_fields e ∷ [] }
 {}

@@ -30,7 +30,7 @@ pub enum ViewName {
 }
 
 impl ViewName {
-    /// Returns the view name whose text is `text`, or `None` if no view has this name.
+    /// Returns `None` if no view has the name `text`.
     pub fn from_text(text: &str) -> Option<ViewName>
         ensures { MatchOption result
             (list_any (λ name. bytes_eq name text.now) texts_of_view_names ≡ Bool.false)
@@ -52,7 +52,6 @@ impl ViewName {
         }
     }
 
-    /// Returns the text of the view name, such as `accounttrades` for `AccountTrades`.
     pub fn as_str(self) -> &'static str
         ensures { result.now ≡ text_of_view_name self }
     {

@@ -16,7 +16,7 @@ ghost use Rattle.brk_view_rows.specs.Volume.{is_before_by_broker_name, is_before
 ghost use Rattle.brk_view_rows.specs.declared.view.View.TheVariants as views;
 ghost use Rattle.brk_view_rows.specs.declared.volumes.BrokerVolume.{BrokerVolume};
 
-use crate::ordering::{Ranked, sort_rows_by_rank};
+use crate::ordering::{Ranked, sort_by_rank};
 use crate::view::View;
 use brk_money::{Fault, Id, Wide};
 use brk_ref::{Name, RequestRow};
@@ -32,10 +32,8 @@ pub struct BrokerVolume {
     pub volume: Wide,
 }
 
-// Returns true if the broker `one` is before `other` when they are sorted by name, then by id,
-// ascending.
 #[tactic(auto, using(crate::proofs::Names::names_compared))]
-fn is_broker_before_by_name(one: &BrokerVolume, other: &BrokerVolume) -> bool
+fn before_by_name(one: &BrokerVolume, other: &BrokerVolume) -> bool
     ensures { result ≡ is_before_by_broker_name one.now other.now }
 {
     match one.name.as_str().cmp(other.name.as_str()) {
@@ -48,40 +46,37 @@ fn is_broker_before_by_name(one: &BrokerVolume, other: &BrokerVolume) -> bool
 impl Ranked for BrokerVolume {
     ghost before = { is_before_by_broker_volume };
 
-    /// Returns true if the broker has a greater volume than `other`, or an equal volume and is
-    /// before `other` when they are sorted by name, then by id, ascending.
+    /// Ranks by volume, descending, then by name and id, ascending.
     fn ranks_before(&self, other: &BrokerVolume) -> bool {
         if self.volume.get() == other.volume.get() {
-            return is_broker_before_by_name(self, other);
+            return before_by_name(self, other);
         }
         self.volume.get() > other.volume.get()
     }
 }
 
-// Returns the quantity of a request times its bid price, in cents, at most 99,999,980,000,001.
-fn request_bid_value(request: &RequestRow) -> u128
+// The limit is the greatest quantity times the greatest price, in cents.
+fn bid_value(request: &RequestRow) -> u128
     ensures worth { result ≡ request_value_at_bid (abstract_request_row request.now) }
     ensures limit { result ≤ 99999980000001 }
 {
     u128::from(request.qty.get()) * u128::from(request.bid.get())
 }
 
-/// Returns the sum, in cents, of the quantity times the bid price of each of the requests; 0 if
-/// there are none.
-pub fn total_bid_value_of_requests(requests: &[RequestRow]) -> Wide
+/// Returns the value of the requests at their bid prices, in cents.
+pub fn total_bid_value(requests: &[RequestRow]) -> Wide
     ensures { result ≡ pos (sum_by request_value_at_bid (map abstract_request_row requests.now)) }
 {
     let mut cents: u128 = 0;
     for request in requests {
-        cents += request_bid_value(request);
+        cents += bid_value(request);
     }
     Wide::new(cents as i128)
 }
 
 /// Returns the view of the brokers' volumes in a sector (Broker-Volume), sorted by volume,
-/// descending, then by name and id, ascending, without reading a table. The caller passes the
-/// volumes of exactly the brokers that have one of the names of the query and a pending request for
-/// a security of the sector. Fails with `Memory` only.
+/// descending, then by name and id, ascending. The caller passes exactly the brokers that have one
+/// of the names of the query and a pending request in the sector. Fails with `Memory` only.
 pub fn broker_volume(alloc: Global, brokers: Vec<BrokerVolume>) -> Result<View, Fault>
     ensures records { IfOk result (λ view. records_of_view view ≡ map broker_volume_record (sort_by is_before_by_broker_volume brokers.items)) }
     ensures value { IfOk result (λ view. (sorted : Vec BrokerVolume)
@@ -95,6 +90,6 @@ pub fn broker_volume(alloc: Global, brokers: Vec<BrokerVolume>) -> Result<View, 
         → records_of_view view ≡ broker_volume_view t sector names) }
     ensures fault { OnErr result (result ≡ Err Memory) }
 {
-    let ordered = sort_rows_by_rank(alloc, brokers)?;
+    let ordered = sort_by_rank(alloc, brokers)?;
     Ok(View::Volume(ordered))
 }

@@ -13,7 +13,7 @@ ghost use Rattle.brk_view_rows.specs.Worths.{is_worth_before_by_market_value, wo
 ghost use Rattle.brk_view_rows.specs.declared.view.View.TheVariants as views;
 ghost use Rattle.brk_view_rows.specs.declared.worths.AccountWorth.{AccountWorth};
 
-use crate::ordering::{Ranked, sort_rows_by_rank};
+use crate::ordering::{Ranked, sort_by_rank};
 use crate::view::View;
 use brk_money::{Cents, Fault, Id, Wide};
 use std::alloc::Global;
@@ -31,8 +31,7 @@ pub struct AccountWorth {
 impl Ranked for AccountWorth {
     ghost before = { is_worth_before_by_market_value };
 
-    /// Returns true if the account has a smaller market value than `other`, or an equal market
-    /// value and a smaller id.
+    /// Ranks by market value, then by id, ascending.
     fn ranks_before(&self, other: &AccountWorth) -> bool {
         if self.assets.get() == other.assets.get() {
             return self.account.get() < other.account.get();
@@ -41,10 +40,9 @@ impl Ranked for AccountWorth {
     }
 }
 
-/// Returns the view of a customer's accounts with their balances and market values
-/// (Customer-Position), sorted by market value, then by id, ascending, without reading a table. The
-/// caller passes the values of exactly the accounts of the customer, in the sequence of the table.
-/// Fails with `Memory` only.
+/// Returns the view of a customer's accounts (Customer-Position), sorted by market value, then by
+/// id, ascending. The caller passes exactly these accounts, in the sequence of the table. Fails
+/// with `Memory` only.
 pub fn position(alloc: Global, accounts: Vec<AccountWorth>) -> Result<View, Fault>
     ensures records { IfOk result (λ view. records_of_view view ≡ map account_worth_record (sort_by is_worth_before_by_market_value accounts.items)) }
     ensures value { IfOk result (λ view. (sorted : Vec AccountWorth)
@@ -56,6 +54,6 @@ pub fn position(alloc: Global, accounts: Vec<AccountWorth>) -> Result<View, Faul
         → records_of_view view ≡ customer_position_view t test) }
     ensures fault { OnErr result (result ≡ Err Memory) }
 {
-    let ordered = sort_rows_by_rank(alloc, accounts)?;
+    let ordered = sort_by_rank(alloc, accounts)?;
     Ok(View::Position(ordered))
 }

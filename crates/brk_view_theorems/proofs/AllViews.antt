@@ -1,4 +1,4 @@
--- Each view is the same in the tables of a base and as a store reads them.
+-- No view changes if the tables of a base are sorted by key, as a store reads them.
 use Rattle.std.proofs.Common.{◌≡◌, ◌==◌, List, [], ◌∷◌, refl, ap, map, filter}
 use Rattle.std.specs.Prelude.{◌&&◌, Some, bytes_eq, decimal, nat_lt}
 use Rattle.brk_money.specs.Kinds.{is_same_trade_status, trade_type_code}

@@ -1,4 +1,4 @@
--- A completed trade among all.
+-- The place of a completed trade among all, and its unique id and stamp.
 use Rattle.std.proofs.Common.{◌≡◌, ◌==◌, true, false, List, [], ◌∷◌, ◌++◌, Some, ◌∙◌, ap, subst, filter}
 use Rattle.std.specs.List.{AllByRecursion}
 use Rattle.brk_model.specs.Base.{Base, completed_trades, is_completed, last_status_stamp_of_trade, trade_with_id}

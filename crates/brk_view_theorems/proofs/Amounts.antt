@@ -1,4 +1,4 @@
--- The settlement of a trade, its tax and its commission, as they are printed.
+-- The printed settlement, tax and commission of a trade.
 use Rattle.std.proofs.Common.{◌≡◌, ℕ, ◌+◌, ◌*◌, ◌==◌, ◌&&◌, Bool, true, false, cond, List, [], ◌∷◌, Option, Some, None, refl, sym, ◌∙◌, ap, map, filter, arith}
 use Rattle.std.proofs.Common.{ℤ, pos, neg_ℤ, ◌+ℤ◌, ◌-ℤ◌, sum_by, is_some}
 use Rattle.std.specs.Prelude.{bytes_eq, find, flat_map, nat_le, option_map, option_to_list, unwrap_or}
@@ -21,7 +21,7 @@ use Rattle.brk_model.specs.Keys.{rows_sorted_by_key, settlement_key}
 use Rattle.brk_model.specs.Records.{Account, Band, Customer, CustomerTax, Security, SettleRule, TaxRate, Trade}
 use Rattle.brk_model.specs.Sheets.{sheets, tables_sorted_by_key}
 use Rattle.brk_model.specs.Tables.{AccountRow, SettlementRow, Tables, account_row, security_row, settlement_row, tables_of_base_in_schema, trade_row}
-use Rattle.brk_model_explain.specs.Trades.{band_for_customer_and_security, band_of_trade, band_for_tier_and_exchange, commission_in_current_band}
+use Rattle.brk_model_explain.specs.Trades.{band_for_customer_and_security, band_of_trade, band_for_tier_and_exchange, current_commission}
 use Rattle.brk_model_explain.specs.Trades.{zero_settlement_row, tax_rates_of_customer, sum_of_tax_rates, settlement_of_trade_or_zeros, tax_at_current_rates}
 use Rattle.brk_model_explain.specs.Trades.{signed_trade_value, withheld_tax_of_trade}
 use Rattle.brk_trade_books.specs.Books.{BooksInvariant}
@@ -170,7 +170,7 @@ band_found base t books e =
     security = reads_security base t.symbol ∙ ap (option_map security_row) s.1
 
 commission_is : (base : Base) (t : Trade) → BooksInvariant base → trade_with_id base t.id ≡ Some t
-    → commission_in_current_band (order_details_in_base base t) (result_details_in_base base t) ≡ commission_by_band base t.account t.kind t.symbol t.qty (completion_price t)
+    → current_commission (order_details_in_base base t) (result_details_in_base base t) ≡ commission_by_band base t.account t.kind t.symbol t.qty (completion_price t)
 commission_is base t books e = ap (option_map (λ (b : Band). commission b.rate t.qty (completion_price t))) (band_found base t books e)
 
 -- ---- the whole

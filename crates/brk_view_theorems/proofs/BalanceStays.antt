@@ -1,4 +1,4 @@
--- The balance after a trade stays as it was after its result, through any run.
+-- No run of calls changes the printed balance after a completed trade.
 use Rattle.std.proofs.Common.{◌≡◌, ◌≤◌, ℕ, ◌+◌, ◌*◌, ◌-ℤ◌, ◌==◌, Bool, true, cond, List, ◌++◌, Option, Some, None, refl, sym, ◌∙◌, ap, subst, map, filter, arith, ℤ, pos, ◌+ℤ◌, is_some}
 use Rattle.std.specs.Prelude.{nat_le}
 use Rattle.std.specs.Option.{option_map_or}

@@ -1,4 +1,4 @@
--- The explanation of a completed trade stays, through any run of calls.
+-- No run of calls changes the figures in the explanation of a completed trade.
 use Rattle.std.proofs.Common.{◌≡◌, ◌≤◌, ℕ, ◌-◌, ◌==◌, eqb, Bool, true, false, cond, List, [], ◌∷◌, ◌++◌, length, Option, Some, None, refl, sym, ◌∙◌, ap, subst}
 use Rattle.std.proofs.Common.{map, filter, arith, ℤ, pos, ◌+ℤ◌, is_some, unsigned_abs}
 use Rattle.std.specs.Prelude.{bytes_eq, find, flat_map, nat_lt}

@@ -1,5 +1,5 @@
--- What a store finds by a key is all that there is of it, and trades that are found one after
--- another are all that are named.
+-- The row that is found by a key is the only one with this key, and trades that are read id by id
+-- are all trades with these ids.
 use Rattle.std.proofs.Common.{◌≡◌, ℕ, ◌==◌, List, [], ◌∷◌, Bool, true, false, not, refl, sym, ap, subst, ◌∙◌, filter, find, arith}
 use Rattle.std.specs.Prelude.{◌&&◌, ◌||◌, flat_map, nat_lt, option_to_list}
 use Rattle.std.specs.List.{AllByRecursion, list_any}

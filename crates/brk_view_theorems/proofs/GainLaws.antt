@@ -1,4 +1,4 @@
--- The totals of a holding's explanation are those of the deals of its position.
+-- The totals of a holding's explanation equal the sums over the deals of its position.
 use Rattle.std.proofs.Common.{◌≡◌, ℕ, ◌==◌, ◌*◌, ◌&&◌, Bool, true, false, cond, List, [], ◌∷◌, Option, Some, None, refl, sym, ◌∙◌, ap, map, filter, arith, ℤ, pos, ◌+ℤ◌, ◌-ℤ◌, ◌*ℤ◌, is_some}
 use Rattle.std.specs.Prelude.{bytes_eq, int_lt, unwrap_or}
 use Rattle.std.specs.Option.{option_map_or}
@@ -21,7 +21,7 @@ use Rattle.brk_lots.specs.Books.{realised_gain_sum, cost_basis_of_lots, purchase
 use Rattle.brk_lots.specs.Chains.{ShrinksTowardZero, IsLotHistory}
 use Rattle.brk_lots.specs.declared.lot.Lot.{Lot}
 use Rattle.brk_model_explain.specs.Holdings.{LotChange, LotDetails, realised_gain_of_change, remaining_cost_of_lot, remaining_cost_of_lots}
-use Rattle.brk_model_explain.specs.Holdings.{completed_trades_in_symbol, realised_gain_in_symbol, remaining_quantity_of_lot, recorded_lot_change}
+use Rattle.brk_model_explain.specs.Holdings.{completed_trades_in_symbol, realised_gain_in_symbol, remaining_quantity, recorded_lot_change}
 use Rattle.brk_model_explain.specs.Holdings.{realised_gain_of_lot, lot_with_changes_by_others, lots_opened_in_symbol, total_purchase_value, negated_total_sale_value}
 use Rattle.brk_model_explain.specs.Holdings.{signed_quantity_of_trade, signed_value_of_trade}
 use Rattle.brk_model_explain.specs.Running.{running_totals}
@@ -231,19 +231,19 @@ life_ends T [] to h = h
 life_ends T (x ∷ xs) to h = falls_end T x.after xs to h.1
 
 left_rows : (base : Base) (v : Trade) → BooksInvariant base → Among base v
-    → remaining_quantity_of_lot (lot_with_changes_by_others (sheets base) (trade_row v)) ≡ rows_leave (sheets base) (lot_rows_with_quantity_change (completed_trades base) v)
+    → remaining_quantity (lot_with_changes_by_others (sheets base) (trade_row v)) ≡ rows_leave (sheets base) (lot_rows_with_quantity_change (completed_trades base) v)
 left_rows base v books a =
     λ i. unwrap_or (last_or None (map (λ (c : LotChange). c.after) (changes_are_rest base v books a i))) (option_map_or (λ (r : HoldingHistoryRow). r.after) (own_is_first base v books a i) (pos 0))
 
 left_is : (base : Base) (account : ℕ) (symbol : Text) (v : Trade) → BooksInvariant base → IsOf base account symbol v
-    → remaining_quantity_of_lot (lot_with_changes_by_others (sheets base) (trade_row v)) ≡ lot_quantity (replay (deals_of_position (completed_trades base) account symbol)) v.id
+    → remaining_quantity (lot_with_changes_by_others (sheets base) (trade_row v)) ≡ lot_quantity (replay (deals_of_position (completed_trades base) account symbol)) v.id
 left_is base account symbol v books k =
     left_rows base v books k.among_all ∙ ap (rows_leave (sheets base)) k.history
     ∙ life_ends (sheets base) (filter has_quantity_change (lot_history_rows_per_deal v.id [] (deals_of_position (completed_trades base) account symbol)))
     (lot_quantity (replay (deals_of_position (completed_trades base) account symbol)) v.id) (lot_lives base account symbol v.id books)
 
 none_left : (base : Base) (v : Trade) → BooksInvariant base → Among base v → is_some (opened_lot_row (sheets base) v.id) ≡ false
-    → remaining_quantity_of_lot (lot_with_changes_by_others (sheets base) (trade_row v)) ≡ pos 0
+    → remaining_quantity (lot_with_changes_by_others (sheets base) (trade_row v)) ≡ pos 0
 none_left base v books a e = left_rows base v books a ∙ ap (rows_leave (sheets base)) (no_history base v books a e)
 
 -- ---- what the lots cost, and how many shares they have
@@ -293,10 +293,10 @@ unfolding holding_summary_quantity
 deals_sum base account symbol = total_sorted (λ v. signed_by_side (side_of_trade_type v.kind) v.qty) (by last_status_stamp_of_trade) (trades_of_position (completed_trades base) account symbol)
 
 left_are : (base : Base) (account : ℕ) (symbol : Text) → BooksInvariant base
-    → total_by remaining_quantity_of_lot (lots_opened_in_symbol (sheets base) account symbol) ≡ holding_summary_quantity (completed_trades base) account symbol
+    → total_by remaining_quantity (lots_opened_in_symbol (sheets base) account symbol) ≡ holding_summary_quantity (completed_trades base) account symbol
 left_are base account symbol books =
-    told_sum base account symbol remaining_quantity_of_lot books (All-map W (λ v k e. none_left base v books k.among_all e) known)
-    ∙ total_by-same (λ v. remaining_quantity_of_lot (lot_with_changes_by_others (sheets base) (trade_row v))) (λ v. lot_quantity us v.id) W
+    told_sum base account symbol remaining_quantity books (All-map W (λ v k e. none_left base v books k.among_all e) known)
+    ∙ total_by-same (λ v. remaining_quantity (lot_with_changes_by_others (sheets base) (trade_row v))) (λ v. lot_quantity us v.id) W
     (All-map W (λ v k. left_is base account symbol v books k) known)
     ∙ sym (lots_sum base account symbol (λ (l : Lot). l.qty) books (λ l e. e))
     ∙ quantities_sum base account symbol books ∙ total-map (λ (d : Deal). signed_by_side d.side d.qty) deal_of_trade W ∙ deals_sum base account symbol

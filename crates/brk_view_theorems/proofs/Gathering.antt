@@ -1,5 +1,5 @@
--- Rows that were gathered by one value after another stand, once they are sorted, as those that
--- have one of the values.
+-- Rows that are read value by value, and then sorted, equal the sorted rows that have one of the
+-- values.
 use Rattle.std.proofs.Common.{◌≡◌, List, [], ◌∷◌, ◌++◌, Bool, true, false, not, cond, refl, sym, ap, ◌∙◌, filter}
 use Rattle.std.specs.Prelude.{⊤, ◌&&◌, ◌||◌, flat_map}
 use Rattle.std.specs.List.{AllByRecursion, list_any}

@@ -1,5 +1,5 @@
--- What no accepted command changes: the trades that were completed by a stamp, but for their words,
--- the movements by it, and the accounts.
+-- Accepted commands change no account, no movement up to a stamp, and of a trade that was completed
+-- up to it no column but its executor, its cash type and its cash name.
 use Rattle.std.proofs.Common.{◌≡◌, ◌≤◌, ◌<◌, ℕ, ◌+◌, ◌==◌, ◌&&◌, max, Bool, true, false, cond, List, [], ◌∷◌, ◌++◌, Option, Some, None, refl, sym, ◌∙◌, ap, subst, map, filter, arith}
 use Rattle.std.specs.Prelude.{nat_le, nat_lt}
 use Rattle.std.specs.Option.{option_map_or}

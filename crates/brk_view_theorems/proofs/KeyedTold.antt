@@ -1,4 +1,4 @@
--- A result with a key is told as one without.
+-- The explanation after a result with a key prints the figures of the reply, as after one without.
 use Rattle.std.proofs.Common.{◌≡◌, ℕ, Bool, true, false, cond, Option, Some, None, refl, sym, ◌∙◌, ap, subst}
 use Rattle.std.specs.Prelude.{Err, Ok, Result, bytes_eq}
 use Rattle.brk_money.specs.Spelling.{Text}

@@ -1,5 +1,5 @@
--- Trades that are looked up, with what became of them, are the same in the tables of a base and as
--- a store reads them.
+-- Sorting the tables by key changes no looked-up trade, and neither its settlement, its cash row
+-- nor its statuses.
 use Rattle.std.proofs.Common.{◌≡◌, ℕ, ◌==◌, List, [], ◌∷◌, ◌++◌, Bool, true, false, not, ap, ◌∙◌, map, filter, arith, take}
 use Rattle.std.specs.Prelude.{codes, decimal, flat_map, nat_lt}
 use Rattle.std.specs.List.{AllByRecursion}

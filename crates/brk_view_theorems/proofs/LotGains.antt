@@ -1,4 +1,4 @@
--- Gains added up lot by lot are gains added up deal by deal.
+-- The sum of gains lot by lot equals the sum of gains deal by deal.
 use Rattle.std.proofs.Common.{◌≡◌, ℕ, ◌==◌, ◌*◌, ℤ, pos, negsuc, zero, suc, ◌+ℤ◌, ◌-ℤ◌, ◌*ℤ◌, Bool, true, false, cond, List, [], ◌∷◌, ◌++◌, filter, Some, refl, sym, ap, subst, ◌∙◌, arith}
 use Rattle.std.specs.Prelude.{find}
 use Rattle.std.specs.List.{AllByRecursion}

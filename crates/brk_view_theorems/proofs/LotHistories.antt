@@ -1,4 +1,4 @@
--- The changes of a lot, as the tables have them, are those of its trade's deals, in their order.
+-- The changes of a lot in the tables are those of the deals of its trades, in order.
 use Rattle.std.proofs.Common.{◌≡◌, ◌<◌, ℕ, ◌==◌, ◌&&◌, Bool, true, false, not, cond, List, [], ◌∷◌, ◌++◌, refl, sym, ◌∙◌, ap, subst, map, filter, arith}
 use Rattle.std.specs.Prelude.{⊤, flat_map, nat_lt}
 use Rattle.std.specs.List.{AllByRecursion}

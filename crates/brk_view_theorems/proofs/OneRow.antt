@@ -1,4 +1,5 @@
--- Rows of one key stand as a store reads them as in the tables of a base.
+-- Sorting the tables by key leaves rows with one key in their order, and a row that is found by a
+-- unique key is the only one.
 use Rattle.std.proofs.Common.{◌≡◌, List, [], ◌∷◌, Bool, true, false, cond, Option, Some, None, refl, sym, ap, ◌∙◌, filter, find}
 use Rattle.std.specs.Prelude.{⊤, option_to_list}
 use Rattle.std.specs.List.{AllByRecursion}

@@ -1,4 +1,4 @@
--- What an account did last is the same in the tables of a base and as a store reads them.
+-- Sorting the tables by key changes neither an account's recent trades nor their statuses.
 use Rattle.std.proofs.Common.{◌≡◌, ℕ, ◌==◌, List, [], ◌∷◌, ◌++◌, Bool, true, false, not, ap, ◌∙◌, map, filter, arith, take}
 use Rattle.std.specs.Prelude.{codes, decimal, flat_map, nat_lt}
 use Rattle.std.specs.List.{AllByRecursion}

@@ -1,4 +1,5 @@
--- The number of a trade's cash row, and the number of its account's cash rows before it, stay.
+-- No run of calls changes the id of a trade's cash row, or the number of its account's cash rows
+-- before it.
 use Rattle.std.proofs.Common.{◌≡◌, ℕ, suc, ◌+◌, ◌==◌, Bool, true, false, cond, List, [], ◌∷◌, ◌++◌, Option, Some, None, refl, sym, ◌∙◌, ap, subst, map, filter, length, arith}
 use Rattle.std.specs.Prelude.{find, nat_le, nat_lt, option_map}
 use Rattle.std.specs.List.{AllByRecursion}

@@ -1,4 +1,5 @@
--- A completed trade stays as it is, but for its words.
+-- No run of calls changes a completed trade, except for its executor, its cash type and its cash
+-- name.
 use Rattle.std.proofs.Common.{◌≡◌, ◌≤◌, ℕ, ◌==◌, ◌&&◌, Bool, true, false, cond, List, [], ◌∷◌, ◌++◌, Some, None, refl, sym, ◌∙◌, ap, subst, filter, arith, is_some}
 use Rattle.std.specs.Prelude.{find, nat_le, option_map}
 use Rattle.std.specs.Option.{option_map_or}

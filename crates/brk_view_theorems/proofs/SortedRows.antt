@@ -1,4 +1,4 @@
--- Sorting by a number: what was sorted before, what is mapped, and where an element stands.
+-- Lists sorted by a number: sorted again, mapped, summed, and split at an element.
 use Rattle.std.proofs.Common.{◌≡◌, ℕ, ◌==◌, Bool, true, false, not, cond, List, [], ◌∷◌, ◌++◌, Option, Some, None, refl, sym, ◌∙◌, ap, subst, map, filter, arith, ℤ, ◌+ℤ◌}
 use Rattle.std.specs.Prelude.{⊤, find, nat_lt}
 use Rattle.std.specs.List.{AllByRecursion}

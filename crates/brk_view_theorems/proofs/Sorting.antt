@@ -1,4 +1,4 @@
--- Rows that are sorted once more, and rows of which those that pass a test are taken.
+-- A list that is sorted in one order and then in another, also after a selection.
 use Rattle.std.proofs.Common.{◌≡◌, List, [], ◌∷◌, ◌++◌, Bool, true, false, not, cond, refl, sym, subst, ap, ◌∙◌, map, filter}
 use Rattle.std.specs.Prelude.{⊤, flat_map}
 use Rattle.std.specs.List.{AllByRecursion}

@@ -1,5 +1,5 @@
--- Whose account it is, and its last trades, are the same in the tables of a base and as a store
--- reads them.
+-- Sorting the tables by key changes neither the names of an account's customer and broker nor its
+-- recent trades.
 use Rattle.std.proofs.Common.{◌≡◌, ℕ, ◌==◌, [], ◌∷◌, ◌++◌, ap, map, filter, take}
 use Rattle.std.specs.Prelude.{bytes_eq, decimal, flat_map}
 use Rattle.std.specs.Option.{option_map_or}

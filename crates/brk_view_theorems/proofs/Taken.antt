@@ -1,4 +1,4 @@
--- What is taken of lots, lot by lot, and what it was bought and sold for.
+-- The shares that a deal closes, lot by lot, and their buy value and sell value.
 use Rattle.std.proofs.Common.{◌≡◌, ◌≢◌, ℕ, ◌+◌, ◌*◌, ◌-◌, ◌≤◌, min, eqb, Bool, true, false, cond, List, [], ◌∷◌, length, map, unsigned_abs, nat_abs, sum_by}
 use Rattle.std.proofs.Common.{refl, sym, ◌∙◌, ap, arith, ℤ, pos, negsuc, ◌-ℤ◌}
 use Rattle.std.specs.List.{AllByRecursion}

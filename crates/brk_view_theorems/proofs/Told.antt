@@ -1,5 +1,4 @@
--- After an accepted result the figures of its reply are those that the explanation of its trade
--- prints.
+-- After an accepted result, the explanation of its trade prints the figures of the reply.
 use Rattle.std.proofs.Common.{◌≡◌, ◌<◌, ℕ, Bool, true, false, List, Option, Some, None, refl, sym, ◌∙◌, ap, subst, filter, arith}
 use Rattle.std.specs.Prelude.{Ok, nat_lt}
 use Rattle.std.specs.Option.{option_map_or}

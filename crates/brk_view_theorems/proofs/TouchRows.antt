@@ -1,5 +1,4 @@
--- What became of the lots that a trade touched is the same in the tables of a base and as a store
--- reads them.
+-- Sorting the tables by key does not change the lots that a trade touched, or their changes.
 use Rattle.std.proofs.Common.{◌≡◌, ℕ, ◌==◌, List, [], ◌∷◌, ◌++◌, Bool, true, false, not, cond, refl, sym, ap, ◌∙◌, map, filter, arith, find, take}
 use Rattle.std.specs.Prelude.{◌&&◌, ◌||◌, decimal, flat_map, nat_le, nat_lt}
 use Rattle.std.specs.Fmt.{signed_decimal}

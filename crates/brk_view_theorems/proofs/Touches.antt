@@ -1,4 +1,4 @@
--- The changes of lots: who made them, when, and that no two of one lot came at one moment.
+-- The trades and the stamps of lot changes; no two changes of one lot have the same stamp.
 use Rattle.std.proofs.Common.{◌≡◌, ℕ, ◌==◌, List, [], ◌∷◌, Bool, true, false, not, cond, Option, Some, None, refl, sym, ap, subst, ◌∙◌, filter, find, arith}
 use Rattle.std.specs.Prelude.{◌&&◌, ◌||◌, nat_lt, is_some, option_map, flat_map}
 use Rattle.std.specs.List.{AllByRecursion}

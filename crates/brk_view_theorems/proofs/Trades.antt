@@ -1,4 +1,5 @@
--- The trades of a base stand in its tables as a store reads them, and their statuses rise.
+-- The trades of a base are in the order of the sorted tables, and the statuses of each have
+-- ascending stamps.
 use Rattle.std.proofs.Common.{◌≡◌, ℕ, ◌==◌, List, [], ◌∷◌, Bool, true, false, cond, refl, sym, subst, map, filter, arith, take, zero, suc}
 use Rattle.std.specs.Prelude.{◌&&◌, nat_lt}
 use Rattle.std.specs.List.{AllByRecursion}

@@ -1,4 +1,4 @@
--- What brokers have to trade is the same in the tables of a base and as a store reads them.
+-- Sorting the tables by key does not change the volumes of brokers' pending requests.
 use Rattle.std.proofs.Common.{◌≡◌, ℕ, ◌==◌, ◌≤◌, List, [], ◌∷◌, Bool, true, false, not, cond, refl, sym, subst, ap, ◌∙◌, map, filter, arith, length}
 use Rattle.std.specs.Prelude.{◌&&◌, ◌||◌, ◌*◌, bytes_eq, decimal, flat_map, nat_lt, sum_by}
 use Rattle.std.specs.List.{AllByRecursion, list_any}

@@ -1,5 +1,5 @@
--- What the accounts of customers are worth is the same in the tables of a base and as a store reads
--- them.
+-- Sorting the tables by key changes neither the balances nor the market values of customers'
+-- accounts.
 use Rattle.std.proofs.Common.{◌≡◌, ℕ, ◌==◌, ℤ, pos, List, [], ◌∷◌, Bool, true, false, not, sym, ap, ◌∙◌, map, filter, arith}
 use Rattle.std.specs.Prelude.{◌&&◌, ◌||◌, ◌*ℤ◌, nat_lt, int_lt, bytes_eq, decimal}
 use Rattle.std.specs.List.{AllByRecursion, list_any}

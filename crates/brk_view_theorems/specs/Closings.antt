@@ -7,7 +7,7 @@ use Rattle.brk_model.specs.Derived.{deal_of_trade}
 use Rattle.brk_model.specs.Shares.{buy_value, closed_share_count_of_deal, realised_gain, sell_value, signed_by_side}
 use Rattle.brk_model.specs.Sheets.{sheets}
 use Rattle.brk_model.specs.Tables.{trade_row}
-use Rattle.brk_model_explain.specs.Trades.{Closing, ResultDetails, buy_value_of_closings, realised_gain_of_closings, opened_quantity}
+use Rattle.brk_model_explain.specs.Trades.{Closing, ResultDetails, buy_value_of_closings, gain_of_closings, opened_quantity}
 use Rattle.brk_model_explain.specs.Trades.{result_details_of_trade, sell_value_of_closings, total_closed_shares}
 use Rattle.brk_view_theorems.specs.Before.{shares_before_trade}
 
@@ -36,7 +36,7 @@ pub record PrintedClosingsMatchDeal (base : Base) (t : Trade) : Type 0 where
       ≡ buy_value (deal_of_trade t) (shares_before_trade base t)
   pub sold : sell_value_of_closings (side_of_trade_type t.kind) (completion_price t) (result_details_in_base base t).closings
       ≡ sell_value (deal_of_trade t) (shares_before_trade base t)
-  pub gained : realised_gain_of_closings (side_of_trade_type t.kind) (completion_price t) (result_details_in_base base t).closings
+  pub gained : gain_of_closings (side_of_trade_type t.kind) (completion_price t) (result_details_in_base base t).closings
       ≡ realised_gain (deal_of_trade t) (shares_before_trade base t)
   -- Shares closed is the number of shares that the deal closes.
   pub taken : total_closed_shares (result_details_in_base base t).closings ≡ closed_share_count_of_deal (deal_of_trade t) (shares_before_trade base t)

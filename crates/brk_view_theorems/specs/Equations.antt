@@ -7,7 +7,7 @@ use Rattle.brk_model.specs.Derived.{settlement_amount, deal_of_trade, due_day}
 use Rattle.brk_model.specs.Orders.{commission_by_band, tax_on_deal}
 use Rattle.brk_model.specs.Sheets.{sheets}
 use Rattle.brk_model.specs.Tables.{trade_row}
-use Rattle.brk_model_explain.specs.Trades.{OrderDetails, balance_change_of_trade, commission_in_current_band, days_to_settle_trade, order_details_of_trade}
+use Rattle.brk_model_explain.specs.Trades.{OrderDetails, balance_change_of_trade, current_commission, days_to_settle_trade, order_details_of_trade}
 use Rattle.brk_model_explain.specs.Trades.{tax_at_current_rates, signed_trade_value, withheld_tax_of_trade}
 use Rattle.brk_view_theorems.specs.Before.{shares_before_trade}
 use Rattle.brk_view_theorems.specs.Closings.{result_details_in_base}
@@ -39,5 +39,5 @@ pub record PrintedSettlementMatchesBase (base : Base) (t : Trade) : Type 0 where
   pub tax : tax_at_current_rates (order_details_in_base base t) (result_details_in_base base t)
       ≡ tax_on_deal base t.account (deal_of_trade t) (shares_before_trade base t)
   -- Commission now is the commission in the bands of the base.
-  pub commission : commission_in_current_band (order_details_in_base base t) (result_details_in_base base t)
+  pub commission : current_commission (order_details_in_base base t) (result_details_in_base base t)
       ≡ commission_by_band base t.account t.kind t.symbol t.qty (completion_price t)

@@ -10,7 +10,7 @@ use Rattle.brk_model.specs.Shares.{signed_by_side}
 use Rattle.brk_model.specs.Sheets.{sheets}
 use Rattle.brk_model.specs.Tables.{Tables}
 use Rattle.brk_lots.specs.Books.{realised_gain_sum, cost_basis_of_lots}
-use Rattle.brk_model_explain.specs.Holdings.{remaining_cost_of_lots, completed_trades_in_symbol, realised_gain_in_symbol, remaining_quantity_of_lot}
+use Rattle.brk_model_explain.specs.Holdings.{remaining_cost_of_lots, completed_trades_in_symbol, realised_gain_in_symbol, remaining_quantity}
 use Rattle.brk_model_explain.specs.Holdings.{lots_opened_in_symbol, total_purchase_value, negated_total_sale_value, signed_quantity_of_trade}
 use Rattle.brk_model_explain.specs.Running.{running_totals}
 use Rattle.brk_trade_books.specs.TradeReads.{lots_of_position}
@@ -38,7 +38,7 @@ pub record PrintedHoldingMatchesDeals (base : Base) (account : ℕ) (symbol : Te
   -- quantity of the holding.
   pub shares : last_number_or_default (pos 0) (running_totals signed_quantity_of_trade (pos 0) (completed_trades_in_symbol (sheets base) account symbol))
       ≡ holding_summary_quantity (completed_trades base) account symbol
-  pub left : total_by remaining_quantity_of_lot (lots_opened_in_symbol (sheets base) account symbol)
+  pub left : total_by remaining_quantity (lots_opened_in_symbol (sheets base) account symbol)
       ≡ holding_summary_quantity (completed_trades base) account symbol
 
 -- The changes that the trade `t` made to the quantities of lots sum to its quantity, negative for a

@@ -7,9 +7,8 @@ ghost use Rattle.brk_model.specs.Tables.{BrokerRow};
 ghost use Rattle.brk_trade_books.specs.Books.{BooksInvariant};
 ghost use Rattle.brk_view_theorems.specs.Brokers.{PrintedBrokerMatchesTotals};
 
-/// Proves that the last running sum of commissions that the explanation of a broker prints, or 0 if
-/// it prints none, is the broker's commission total, and that the number of printed trades is the
-/// broker's trade count, if the base satisfies the books invariant.
+/// Proves that a broker's printed commissions sum to its commission total, and that its printed
+/// trades are as many as its trade count.
 pub fn printed_commissions_match_broker_totals()
     ensures { (base : Base) (id : ℕ) (b : BrokerRow) → BooksInvariant base → find (λ r. r.id == id) (sheets base).brokers ≡ Some b
         → PrintedBrokerMatchesTotals base b }

@@ -6,11 +6,8 @@ ghost use Rattle.brk_model.specs.Records.{Trade};
 ghost use Rattle.brk_trade_books.specs.Books.{BooksInvariant};
 ghost use Rattle.brk_view_theorems.specs.Closings.{PrintedClosingsMatchDeal};
 
-/// Proves, for a base that satisfies the books invariant: the closings that the explanation of a
-/// completed trade prints match the deal of the trade in the buy value, the sell value, the gain
-/// and the number of closed shares. The printed lot that the trade opened has the shares that the
-/// deal opens. All closed lots but the last, in the order of closing, are closed completely, and
-/// the closed and the opened shares sum to the trade's quantity.
+/// Proves that the printed closings and the opened lot of a completed trade have the values, the
+/// gain and the shares of its deal.
 pub fn printed_closings_match_the_deal()
     ensures { (base : Base) (t : Trade) → BooksInvariant base → trade_with_id base t.id ≡ Some t → is_completed t ≡ true → PrintedClosingsMatchDeal base t }
 {}

@@ -10,12 +10,8 @@ ghost use Rattle.brk_model_explain.specs.Holdings.{summary_quantity_in_symbol};
 ghost use Rattle.brk_trade_books.specs.Books.{BooksInvariant};
 ghost use Rattle.brk_view_theorems.specs.Gains.{PrintedHoldingMatchesDeals, LotChangesSumToQuantity};
 
-/// Proves, for a base that satisfies the books invariant: the realised gain that the explanation of
-/// a holding prints equals the sum of the gains of its deals. The printed cost basis equals the
-/// cost basis of its lots, and equals realised gain + purchases + sales, where sales count below 0.
-/// The printed numbers of shares equal the quantity of the holding, as does its HOLDING_SUMMARY
-/// quantity, or 0 without a row, if the account and the security exist. The lot changes of a
-/// completed trade sum to its quantity, negated for a sale.
+/// Proves that a holding's printed gain, cost basis and shares follow from its deals, and that a
+/// trade's lot changes sum to its signed quantity.
 pub fn printed_gains_match_the_deals()
     ensures holding { (base : Base) (account : ℕ) (symbol : Text) → BooksInvariant base → PrintedHoldingMatchesDeals base account symbol }
     ensures trade { (base : Base) (t : Trade) → BooksInvariant base → trade_with_id base t.id ≡ Some t → is_completed t ≡ true

@@ -1,6 +1,5 @@
-//! Theorems about views and explanations: a view over the tables of a base, sorted by key as a store
-//! reads them, equals the specified view of the base; the totals that explanations print follow from
-//! the lines above them, and equal the numbers in the tables. Proof-only: there is no code to call.
+//! Theorems for a base that satisfies the books invariant: sorting its tables by key, as a store
+//! reads them, changes no view, and explanations print the numbers of its tables. No code to call.
 #![tactic(auto)]
 
 pub mod balances;

@@ -10,28 +10,23 @@ ghost use Rattle.brk_model.specs.Tables.{TradeRow, tables_of_base};
 ghost use Rattle.brk_audit_theorems.specs.Sound.{AuditInvariant};
 ghost use Rattle.brk_trade_books.specs.Books.{BooksInvariant};
 
-/// Proves that the view of the 20 oldest trades that pass a test, each with its settlement, cash
-/// row and status changes, over the sorted tables of a base, equals that view over its unsorted
-/// tables, if the base satisfies the books invariant and the audit invariant.
+/// Proves that sorting the tables by key does not change the view of the 20 oldest trades that pass
+/// a test.
 #[tactic(auto, using(crate::proofs::LookupRows::same_lookup))]
 pub fn sorting_tables_preserves_lookup_view()
     ensures { (base : Base) (test : TradeRow → Bool) → BooksInvariant base → AuditInvariant base
         → trade_lookup_view (sheets base) test ≡ trade_lookup_view (tables_of_base base) test }
 {}
 
-/// Proves that the view of the oldest trade of an account with a stamp of at least `first`, and of
-/// the first 20 changes, by the stamp of the changing trade, then by lot, both ascending, of the
-/// lots that this trade touched, over the sorted tables of a base, equals that view over its
-/// unsorted tables, if the base satisfies the books invariant and the audit invariant.
+/// Proves that sorting the tables by key does not change the view of the lots that an account's
+/// oldest trade from a stamp on touched.
 #[tactic(auto, using(crate::proofs::TouchRows::same_lots))]
 pub fn sorting_tables_preserves_lots_view()
     ensures { (base : Base) (account first : ℕ) → BooksInvariant base → AuditInvariant base
         → touched_lots_of_oldest_trade (sheets base) account first ≡ touched_lots_of_oldest_trade (tables_of_base base) account first }
 {}
 
-/// Proves that at most one row of the sorted tables has a given key, for settlements by trade, cash
-/// rows by trade, accounts by id and customers by id, if the base satisfies the books invariant and
-/// the audit invariant.
+/// Proves that settlements and cash rows are unique by trade, and accounts and customers by id.
 #[tactic(auto, using(crate::proofs::FoundRows::rows_alone))]
 pub fn rows_with_a_key_are_unique()
     ensures settlements { (base : Base) (trade : ℕ) → BooksInvariant base → AuditInvariant base
@@ -44,9 +39,8 @@ pub fn rows_with_a_key_are_unique()
         → option_to_list (find (λ c. c.id == id) (sheets base).customers) ≡ filter (λ c. c.id == id) (sheets base).customers }
 {}
 
-/// Proves that the trades that are looked up by each of some distinct ids, and then sorted by stamp
-/// and by id, ascending, equal all trades with these ids, sorted by stamp and by id, ascending, if
-/// the base satisfies the books invariant and the audit invariant.
+/// Proves that trades read one by one by distinct ids, and then sorted by stamp and id, are all
+/// trades with these ids.
 #[tactic(auto, using(crate::proofs::FoundRows::trades_by_id))]
 pub fn trades_read_by_ids_are_complete()
     ensures { (base : Base) (ids : List ℕ) → BooksInvariant base → AuditInvariant base → all_distinct ids ≡ true
@@ -54,9 +48,8 @@ pub fn trades_read_by_ids_are_complete()
         ≡ trade_rows_oldest_first (filter (λ t. contains_number t.id ids) (sheets base).trades) }
 {}
 
-/// Proves that the rows of HOLDING_HISTORY of the lots that a trade touched, read lot by lot, equal
-/// all rows of these lots in the order of the sorted table, if the base satisfies the books
-/// invariant and the audit invariant.
+/// Proves that the rows of HOLDING_HISTORY read lot by lot, for the lots that a trade touched, are
+/// all rows of these lots, in order.
 #[tactic(auto, using(crate::proofs::TouchRows::touched_by_lot))]
 pub fn lot_changes_read_by_lot_are_complete()
     ensures { (base : Base) (trade : ℕ) → BooksInvariant base → AuditInvariant base

@@ -9,9 +9,8 @@ ghost use Rattle.brk_model.specs.Step.{step};
 ghost use Rattle.brk_trade_books.specs.Books.{BooksInvariant};
 ghost use Rattle.brk_view_theorems.specs.ReplyFigures.{PrintsReplyFigures};
 
-/// Proves that after an accepted result, with or without a key, the explanation of its trade prints
-/// the commission, tax, settlement amount, due day, buy value, sell value and balance of the reply,
-/// if the base satisfies the books invariant.
+/// Proves that after an accepted result, with or without a key, the explanation of the trade prints
+/// the figures of the reply.
 pub fn explanations_print_reply_figures()
     ensures result { (base after : Base) (now id price stamp : ℕ) (c : Completion) → BooksInvariant base
         → step base now (CompleteTrade id price) ≡ Ok (CompletedTrade stamp c, after)

@@ -10,34 +10,30 @@ ghost use Rattle.brk_model.specs.Views.{view_of_tables};
 ghost use Rattle.brk_audit_theorems.specs.Sound.{AuditInvariant};
 ghost use Rattle.brk_trade_books.specs.Books.{BooksInvariant};
 
-/// Proves that the view of the balances and the market values of the accounts of the customers that
-/// pass a test, over the sorted tables of a base, equals that view over its unsorted tables, if the
-/// base satisfies the books invariant.
+/// Proves that sorting the tables by key does not change the view of the balances and market values
+/// of customers' accounts.
 #[tactic(auto, using(crate::proofs::Worths::same_position))]
 pub fn sorting_tables_preserves_account_value_view()
     ensures { (base : Base) (test : Customer → Bool) → BooksInvariant base
         → customer_position_view (sheets base) test ≡ customer_position_view (tables_of_base base) test }
 {}
 
-/// Proves that the view of an account's 10 most recent trades and of their status changes, over the
-/// sorted tables of a base, equals that view over its unsorted tables, if the base satisfies the
-/// books invariant and the audit invariant.
+/// Proves that sorting the tables by key does not change the view of an account's 10 most recent
+/// trades and of their status changes.
 #[tactic(auto, using(crate::proofs::RecentRows::same_recent))]
 pub fn sorting_tables_preserves_recent_view()
     ensures { (base : Base) (account : ℕ) → BooksInvariant base → AuditInvariant base
         → recent_trades_view (sheets base) account ≡ recent_trades_view (tables_of_base base) account }
 {}
 
-/// Proves that the view that has the names of an account's customer and broker, followed by the
-/// account's 50 most recent trades, over the sorted tables of a base, equals that view over its
-/// unsorted tables, if the base satisfies the books invariant.
+/// Proves that sorting the tables by key does not change the view of an account's names and of its
+/// 50 most recent trades.
 #[tactic(auto, using(crate::proofs::StatusRows::same_status_view))]
 pub fn sorting_tables_preserves_status_view()
     ensures { (base : Base) (account : ℕ) → BooksInvariant base → trade_status_view (sheets base) account ≡ trade_status_view (tables_of_base base) account }
 {}
 
-/// Proves that the view of each query over the sorted tables of a base equals that view over its
-/// unsorted tables, if the base satisfies the books invariant and the audit invariant.
+/// Proves that sorting the tables by key does not change the view of any query.
 #[tactic(auto, using(crate::proofs::AllViews::same_view_of))]
 pub fn sorting_tables_preserves_all_views()
     ensures { (base : Base) (query : Query) → BooksInvariant base → AuditInvariant base

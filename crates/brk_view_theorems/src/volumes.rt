@@ -11,19 +11,16 @@ ghost use Rattle.brk_model.specs.VolumeView.{is_before_by_volume, sector_request
 ghost use Rattle.brk_audit_theorems.specs.Sound.{AuditInvariant};
 ghost use Rattle.brk_trade_books.specs.Books.{BooksInvariant};
 
-/// Proves that the view of the brokers with given names that have pending requests in a sector,
-/// each with the value of these requests, over the sorted tables of a base, equals that view over
-/// its unsorted tables, if the base satisfies the books invariant and the audit invariant.
+/// Proves that sorting the tables by key does not change the view of the brokers with pending
+/// requests in a sector.
 #[tactic(auto, using(crate::proofs::VolumeRows::same_volumes))]
 pub fn sorting_tables_preserves_volume_view()
     ensures { (base : Base) (sector : Text) (names : List Text) → BooksInvariant base → AuditInvariant base
         → broker_volume_view (sheets base) sector names ≡ broker_volume_view (tables_of_base base) sector names }
 {}
 
-/// Proves that the brokers with pending requests in a sector, read from the sorted tables of a base
-/// by each of some distinct names, equal all brokers there with one of these names and such
-/// requests, if the base satisfies the books invariant and the audit invariant. Both lists are
-/// sorted by the value of these requests, descending, then by name and id, ascending.
+/// Proves that brokers with pending requests in a sector, read by distinct names and sorted, are
+/// all such brokers with these names.
 #[tactic(auto, using(crate::proofs::VolumeRows::brokers_by_name))]
 pub fn brokers_read_by_name_are_complete()
     ensures { (base : Base) (sector : Text) (names : List Text) → BooksInvariant base → AuditInvariant base → distinct_texts names ≡ names

@@ -116,7 +116,7 @@ def posted(trial, views, account):
     tab = trial.tab
     opening, cash = views["cash", account]
     balance, wanted = opening, [["", "", "", desk_books.amount_text(opening), "Opening", ""]]
-    rule, one_day_settlement_start = views["rule"], [
+    rule, one_day_start = views["rule"], [
         "",
         "",
         "",
@@ -125,7 +125,7 @@ def posted(trial, views, account):
     ]
     for stamp, trade, amount, name, due in cash:
         if rule and moment(stamp)[:10] >= rule:
-            wanted.append([rule, *one_day_settlement_start])
+            wanted.append([rule, *one_day_start])
             rule = None
         balance += amount
         day = desk_books.day_text(due) if due is not None else ""
@@ -140,7 +140,7 @@ def posted(trial, views, account):
             ]
         )
     if rule:
-        wanted.append([rule, *one_day_settlement_start])
+        wanted.append([rule, *one_day_start])
     shown = [[row[0], row[1], plain(row[2]), plain(row[3]), row[4], row[5]] for row in tab.table("#posted")]
     trial.tell(
         f"account {account}: opening, deposits, withdrawals, trades and the settlement day as CASH_MOVE", shown, wanted

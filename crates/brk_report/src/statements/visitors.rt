@@ -8,7 +8,7 @@ ghost use Rattle.brk_model.specs.Statement.{cash_row_line};
 ghost use Rattle.brk_report.specs.CashWalk.{opening_line_unless_written};
 ghost use Rattle.brk_report_lines.specs.Written.{WritesLines, line_with_line_feed};
 
-use crate::totals::total_plus_amount;
+use crate::totals::plus_amount;
 use brk_desk::Visitor;
 use brk_money::{Fault, Stamp, Wide};
 use brk_ref::{CashRow, HoldingRow};
@@ -21,7 +21,7 @@ pub trait Line {
     /// The text of the line, without its line feed.
     ghost line: { Self → Text };
 
-    /// Returns the line of the record with its line feed. Fails with `Memory` or `Store`.
+    /// Returns the line of the record with its line feed.
     fn line(&self, alloc: Global) -> Result<Vec<u8>, Fault>
         ensures line { IfOk result (λ l. l.items ≡ line_with_line_feed (line self.now)) }
         ensures fault { IfErr result IsCallFault };
@@ -33,7 +33,6 @@ impl Line for HoldingRow {
 
     ghost line = { λ r. lot_line (abstract_holding_row r) };
 
-    /// Returns the line of the lot with its line feed. Fails with `Memory` only.
     fn line(&self, alloc: Global) -> Result<Vec<u8>, Fault> {
         lot_line(alloc, self)
     }
@@ -45,23 +44,18 @@ impl Line for CashRow {
 
     ghost line = { λ r. cash_row_line (abstract_cash_row r) };
 
-    /// Returns the line of the cash row with its line feed. Fails with `Memory` only.
     fn line(&self, alloc: Global) -> Result<Vec<u8>, Fault> {
         cash_row_line(alloc, self)
     }
 }
 
-// Returns true if the stamp of the cash row is before `first`.
 fn is_before_stamp(item: &CashRow, first: Stamp) -> bool
     ensures { result ≡ nat_lt item.now.stamp first }
 {
     item.stamp.get() < first.get()
 }
 
-/// Writes the line of the opening amount `opening`, in cents, or nothing if `is_written` is true.
-/// Fails with `Desk(Memory)` and nothing written, or with `Write` after a prefix of the line,
-/// perhaps all of it.
-pub(crate) fn write_opening_line_unless_written<W: Write>(
+pub(crate) fn ensure_opening<W: Write>(
     alloc: Global,
     is_written: bool,
     opening: Wide,
@@ -75,10 +69,8 @@ pub(crate) fn write_opening_line_unless_written<W: Write>(
     write_line(writer, amount_line(alloc, "Opening", opening))
 }
 
-// Writes the line of the opening amount, which is the total of `moved`, unless `moved` records that
-// this line is written, and then the line of the cash row `item`. Fails with `Desk(Memory)` before
-// the first of these lines or between them, or with `Write` after a prefix of them, perhaps all.
-fn write_opening_and_row_lines<W: Write>(
+// The opening amount is the total before the row.
+fn write_cash_row<W: Write>(
     alloc: Global,
     moved: CashProgress,
     item: &CashRow,
@@ -87,7 +79,7 @@ fn write_opening_and_row_lines<W: Write>(
     ensures { WritesLines (opening_line_unless_written moved.is_opened moved.total ++ cash_row_line (abstract_cash_row item.now)
         ∷ []) (W.contents writer.old) (W.contents writer.new) result }
 {
-    write_opening_line_unless_written(alloc, moved.is_opened, moved.total, writer)?;
+    ensure_opening(alloc, moved.is_opened, moved.total, writer)?;
     write_line(writer, item.line(alloc))
 }
 
@@ -114,10 +106,9 @@ impl<R: Line, W: Write> Visitor<R, LinesFault> for LineWriter<'_, W> {
 
     ghost stops = { λ p r e q. FailsWithinLines (R.line r ∷ []) (W.contents p.writer.now) (W.contents q.writer.now) e };
 
-    /// Writes the line of the record, then counts the record. Fails with `Desk` and the fault of
-    /// formatting the line, `Memory` or `Store`, or with `Desk(Store)` if the count overflows;
-    /// nothing is then written. Fails with `Write` after a prefix of the line, perhaps all of it.
-    /// The count is unchanged after an error (no clause states this).
+    /// Writes the line of the record, and then counts the record. Fails with `Desk(Store)` and
+    /// nothing written if the count overflows. After an error the count is unchanged (no clause
+    /// states this).
     fn visit(&mut self, item: &R) -> Result<(), LinesFault> {
         let Some(count) = self.count.checked_add(1) else {
             return Err(LinesFault::Desk(Fault::Store));
@@ -155,8 +146,6 @@ pub struct CashLineWriter<'a, W> {
 }
 
 impl<W> CashLineWriter<'_, W> {
-    /// Returns the progress of the walk so far: whether the line of the opening amount is written,
-    /// the number of rows with a line, and the total, in cents.
     pub fn progress(&self) -> CashProgress
         ensures { result ≡ self.now.moved }
     {
@@ -184,15 +173,13 @@ impl<W: Write> Visitor<CashRow, LinesFault> for CashLineWriter<'_, W> {
     ghost stops = { λ p r e q. FailsWithinFirstLines (lines_of_cash_row (nat_lt r.stamp p.first) p.moved (abstract_cash_row r))
         (W.contents p.writer.now) (W.contents q.writer.now) e };
 
-    /// Adds the amount of the cash row to the total, in cents. If the stamp of the row is not
-    /// before `first`, also writes its line and counts the row; before this line it writes the line
-    /// of the opening amount, which is the total before the row, unless that line is already
-    /// written. Fails with `Desk(Store)` and nothing written if the total or the count overflows,
-    /// with `Desk(Memory)` and nothing or only the line of the opening amount written, or with
-    /// `Write` after a prefix of the lines, perhaps all. The progress (`moved`) is unchanged after
-    /// an error (no clause states this).
+    /// Adds the amount of the cash row to the total. From the stamp `first` on, also writes the
+    /// line of the row and counts the row; the line of the opening amount, the total before the
+    /// row, precedes the first of these lines. Fails with `Desk(Store)` and nothing written if the
+    /// total or the count overflows. After an error the progress (`moved`) is unchanged (no clause
+    /// states this).
     fn visit(&mut self, item: &CashRow) -> Result<(), LinesFault> {
-        let total = total_plus_amount(self.moved.total, item.amount)?;
+        let total = plus_amount(self.moved.total, item.amount)?;
         if is_before_stamp(item, self.first) {
             self.moved.total = total;
             return Ok(());
@@ -200,7 +187,7 @@ impl<W: Write> Visitor<CashRow, LinesFault> for CashLineWriter<'_, W> {
         let Some(count) = self.moved.count.checked_add(1) else {
             return Err(LinesFault::Desk(Fault::Store));
         };
-        write_opening_and_row_lines(self.alloc, self.moved, item, self.writer)?;
+        write_cash_row(self.alloc, self.moved, item, self.writer)?;
         self.moved = CashProgress {
             is_opened: true,
             count,

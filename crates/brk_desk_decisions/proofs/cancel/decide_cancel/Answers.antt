@@ -10,7 +10,7 @@ use Rattle.brk_desk_decisions.proofs.cancel.decide_cancel.Goals as goal
 pub returns-clause-read : goal.returns-clause-read
 returns-clause-read g c =
     let old = c.args.store.now in
-    let mid = c.read_trade_status.new.store in
+    let mid = c.read_status.new.store in
     let id = c.args.trade in
     let last = c.in_ok-last.last in
     let status = c.in_ok-status.status in
@@ -22,5 +22,5 @@ pub returns-in_err-status-clause-read : goal.returns-in_err-status-clause-read
 returns-in_err-status-clause-read g c =
     let old = c.args.store.now in
     let p = err_from_is_err_and c.from_residual-in_err-status.result c.from_residual-in_err-status.ensures.1 in
-    rw p.1 (failed_after g.S.Store old c.last_stamp.new.self c.read_trade_status.new.store _ p.0 _ _
+    rw p.1 (failed_after g.S.Store old c.last_stamp.new.self c.read_status.new.store _ p.0 _ _
     (single_read_changes_nothing old c.last_stamp.new.self _ _ c.in_ok-last.ensures.read) c.in_err-status.ensures.read)

@@ -10,7 +10,7 @@ use Rattle.brk_desk_decisions.proofs.estimate.compute_order_estimate.Goals as go
 pub returns-clause-read : goal.returns-clause-read
 returns-clause-read g c =
     let old = c.args.store.now in
-    let mid = c.read_estimate_facts.new.store in
+    let mid = c.estimate_facts.new.store in
     let end = c.plan_estimate_over_lots.new.lots.store.now in
     let order = c.args.order.now in
     let found = c.in_ok-found.found in

@@ -11,7 +11,7 @@ returns-clause-read g c =
     let ticks = c.args.feed.now in
     let last = c.in_ok-last.last in
     let quotes = c.in_ok-last.quotes in
-    decided g.S.Store c.args.store.now c.read_feed_facts.new.store (last, quotes)
+    decided g.S.Store c.args.store.now c.feed_facts.new.store (last, quotes)
     (λ market. QuotesAndLastStampMatch ticks ticks (states_of_quotes market.1.items) market.0)
     (DecidesCommand c.args.now (FeedTicks (abstract_ticks ticks))) c.plan_feed.result
     (rw c.ticks.ensures at c.in_ok-last.ensures.read)

@@ -13,7 +13,7 @@ use Rattle.brk_desk_decisions.proofs.order.decide_order.Goals as goal
 pub returns-clause-read : goal.returns-clause-read
 returns-clause-read g c =
     let old = c.args.store.now in
-    let mid = c.read_order_facts.new.store in
+    let mid = c.order_facts.new.store in
     let end = c.plan_order_over_lots.new.lots.store.now in
     let order = c.args.order.now in
     let last = c.in_ok-last.last in
@@ -29,5 +29,5 @@ pub returns-in_err-found-clause-read : goal.returns-in_err-found-clause-read
 returns-in_err-found-clause-read g c =
     let old = c.args.store.now in
     let p = err_from_is_err_and c.from_residual-in_err-found.result c.from_residual-in_err-found.ensures.1 in
-    rw p.1 (failed_after g.S.Store old c.last_stamp.new.self c.read_order_facts.new.store _ p.0 _ _
+    rw p.1 (failed_after g.S.Store old c.last_stamp.new.self c.order_facts.new.store _ p.0 _ _
     (single_read_changes_nothing old c.last_stamp.new.self _ _ c.in_ok-last.ensures.read) c.in_err-found.ensures.read)

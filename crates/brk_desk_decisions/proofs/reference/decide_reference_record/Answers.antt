@@ -10,7 +10,7 @@ use Rattle.brk_desk_decisions.proofs.reference.decide_reference_record.Goals as 
 pub returns-clause-read : goal.returns-clause-read
 returns-clause-read g c =
     let old = c.args.store.now in
-    let mid = c.read_new_reference_facts.new.store in
+    let mid = c.reference_facts.new.store in
     let r = c.args.reference.now in
     let last = c.in_ok-last.last in
     let found = c.in_ok-found.found in
@@ -22,5 +22,5 @@ pub returns-in_err-found-clause-read : goal.returns-in_err-found-clause-read
 returns-in_err-found-clause-read g c =
     let old = c.args.store.now in
     let p = err_from_is_err_and c.from_residual-in_err-found.result c.from_residual-in_err-found.ensures.1 in
-    rw p.1 (failed_after g.S.Store old c.last_stamp.new.self c.read_new_reference_facts.new.store _ p.0 _ _
+    rw p.1 (failed_after g.S.Store old c.last_stamp.new.self c.reference_facts.new.store _ p.0 _ _
     (single_read_changes_nothing old c.last_stamp.new.self _ _ c.in_ok-last.ensures.read) c.in_err-found.ensures.read)

@@ -17,8 +17,8 @@ returns-clause-read g c =
     let u = c.args.update.now in
     let last = c.in_ok-last.last in
     let found = c.in_ok-found.found in
-    decided g.S.Store old c.read_facts_of_update.new.store found (λ f. UpdateFactsAndLastStampMatch u f last) (DecidesCommand c.args.now (text_update_command u)) c.plan_update.result
-    (read_with_reads g.S.Store old c.last_stamp.new.self c.read_facts_of_update.new.store {H = Fault} last found found (λ last (t : Tables). last ≡ t.last)
+    decided g.S.Store old c.update_facts.new.store found (λ f. UpdateFactsAndLastStampMatch u f last) (DecidesCommand c.args.now (text_update_command u)) c.plan_update.result
+    (read_with_reads g.S.Store old c.last_stamp.new.self c.update_facts.new.store {H = Fault} last found found (λ last (t : Tables). last ≡ t.last)
     (λ f (t : Tables). UpdateFactsMatchTables t u f) (λ f. UpdateFactsAndLastStampMatch u f last)
     (λ t e f. (e, f)) c.in_ok-last.ensures.read c.in_ok-found.ensures.read)
     (update_decided u found last c.args.now c.get-moment.ensures.high c.plan_update.result c.plan_update.ensures.planned)
@@ -27,6 +27,6 @@ pub returns-in_err-found-clause-read : goal.returns-in_err-found-clause-read
 returns-in_err-found-clause-read g c =
     let old = c.args.store.now in
     let p = err_from_is_err_and c.from_residual-in_err-found.result c.from_residual-in_err-found.ensures.1 in
-    rw p.1 (none_read g.S.Store old c.read_facts_of_update.new.store p.0 _
-    (joined_reads_change_nothing old c.last_stamp.new.self c.read_facts_of_update.new.store
+    rw p.1 (none_read g.S.Store old c.update_facts.new.store p.0 _
+    (joined_reads_change_nothing old c.last_stamp.new.self c.update_facts.new.store
     (single_read_changes_nothing old c.last_stamp.new.self _ _ c.in_ok-last.ensures.read) c.in_err-found.ensures.read.unchanged))

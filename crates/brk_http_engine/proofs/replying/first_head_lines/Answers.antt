@@ -5,4 +5,4 @@ pub returns : goal.returns
 returns c =
     three_lines c.args.status.now c.args.len _ _ _ _ _ _ _ _ _ _ c.in_ok-first.ensures c.as_str-2.ensures.value c.in_ok-digits.ensures c.as_str.ensures.value
     c.in_ok-third.ensures c.as_str-3.ensures.value
-    c.new-head.ensures.bytes c.in_ok-append_head_line.ensures c.in_ok-append_head_line-2.ensures c.in_ok-append_head_line-3.ensures
+    c.new-head.ensures.bytes c.in_ok-append_line.ensures c.in_ok-append_line-2.ensures c.in_ok-append_line-3.ensures

@@ -7,5 +7,5 @@ pub returns : goal.returns
 returns c =
     whole_reply (status_text c.args.code) c.args.asks_post c.args.closes c.args.body.now _ _ _ _ _
     (c.in_ok-text.ensures ∙ ap (λ status. first_head_lines status (length c.args.body.now)) (c.as_str.ensures.value ∙ c.in_ok-status.ensures))
-    c.in_ok-append_head_line_if.ensures c.in_ok-append_head_line_if-2.ensures
-    c.in_ok-append_head_line.ensures c.in_ok-push_str.ensures.bytes
+    c.in_ok-append_wanted.ensures c.in_ok-append_wanted-2.ensures
+    c.in_ok-append_line.ensures c.in_ok-push_str.ensures.bytes

@@ -22,7 +22,7 @@ returns-in-Ok-Complete-clause-head c =
         few = few;
         method = w.1.method;
         target = w.1.path;
-        len = c.facts_from_fields-fields.ensures.len ∙ ap body_length_of_fields fields;
-        closes = c.is_either_true.ensures ∙ cc (w.1.version, c.facts_from_fields-fields.ensures.closes, fields);
+        len = c.field_facts-fields.ensures.len ∙ ap body_length_of_fields fields;
+        closes = c.is_either_true.ensures ∙ cc (w.1.version, c.field_facts-fields.ensures.closes, fields);
       },
     )

@@ -47,9 +47,9 @@ loop-left-preserved g c =
     record {
       leads = g.met.L.LotSource.transitive c.args.source.now before after i.leads c.next.ensures.leads;
       taken = (
-        touched ++ c.touch_closing_shares.result ∷ [],
+        touched ++ c.touch_closing.result ∷ [],
         c.in_ok-add.ensures.added touched i.taken.1,
-        omega (arith, i.taken.2, c.next.ensures.asked, length-append touched (c.touch_closing_shares.result ∷ [])),
+        omega (arith, i.taken.2, c.next.ensures.asked, length-append touched (c.touch_closing.result ∷ [])),
         λ told all h w.
             let was = i.taken.3 (earlier told) all h w in
             let m = (rw c.in-Some.is at c.in_ok-lot.ensures.given) told was.0 was.1 in
@@ -59,9 +59,9 @@ loop-left-preserved g c =
             let o : is_same_side (side_of_qty lot.qty) c.args.side ≡ false = search rules in
             let n : closed_share_count c.args.side left (lot ∷ ls) ≡ c.shares_to_close-shares.result + closed_share_count c.args.side (left - c.shares_to_close-shares.result) ls =
             rw s (met_more c.args.side left lot ls walk o) in
-            let t : touches_of_first_shares (closed_share_count c.args.side left (lot ∷ ls)) (lot ∷ ls) ≡ c.touch_closing_shares.result
+            let t : touches_of_first_shares (closed_share_count c.args.side left (lot ∷ ls)) (lot ∷ ls) ≡ c.touch_closing.result
             ∷ touches_of_first_shares (closed_share_count c.args.side (left - c.shares_to_close-shares.result) ls) ls =
-            rw (c.touch_closing_shares.ensures, s) (touches_more c.args.side left lot ls walk o (omega arith)) in
+            rw (c.touch_closing.ensures, s) (touches_more c.args.side left lot ls walk o (omega arith)) in
             let p : cost_of_first_shares (closed_share_count c.args.side left (lot ∷ ls)) (lot ∷ ls) ≡ c.shares_to_close-shares.result * lot.price
             + cost_of_first_shares (closed_share_count c.args.side (left - c.shares_to_close-shares.result) ls) ls = rw s (paid_more c.args.side left lot ls walk o) in
             let il : left + closed_share_count c.args.side c.args.qty all ≡ c.args.qty + closed_share_count c.args.side left (lot ∷ ls) = rw e at was.3 in
@@ -73,7 +73,7 @@ loop-left-preserved g c =
               m.2,
               walk.2,
               omega (arith, n, il),
-              append_assoc touched (c.touch_closing_shares.result ∷ [])
+              append_assoc touched (c.touch_closing.result ∷ [])
                   (touches_of_first_shares (closed_share_count c.args.side (left - c.shares_to_close-shares.result) ls) ls)
                   ∙ ap (λ (ts : List Touch). touched ++ ts) (sym t) ∙ it,
               rw v (omega (arith, ip, p)),

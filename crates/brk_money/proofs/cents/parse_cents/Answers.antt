@@ -2,9 +2,9 @@ use Rattle.std.proofs.Common.{arith, sym, ◌∙◌}
 use Rattle.brk_money.proofs.Plain.{minus_only, plain_injective}
 use Rattle.brk_money.proofs.cents.parse_cents.Goals as goal
 
-pub returns-in_default-parse_cents_without_sign-clause-none : goal.returns-in_default-parse_cents_without_sign-clause-none
-returns-in_default-parse_cents_without_sign-clause-none c = λ z h e.
-    let m = minus_only c.args.bytes.now z h e (omega arith) in c.in_default-parse_cents_without_sign.ensures.none m.0 m.1 m.3
+pub returns-in_default-parse_unsigned-clause-none : goal.returns-in_default-parse_unsigned-clause-none
+returns-in_default-parse_unsigned-clause-none c = λ z h e.
+    let m = minus_only c.args.bytes.now z h e (omega arith) in c.in_default-parse_unsigned.ensures.none m.0 m.1 m.3
 
 pub returns-then-n-eq0-clause-none : goal.returns-then-n-eq0-clause-none
 returns-then-n-eq0-clause-none c = λ z h e.

@@ -5,11 +5,12 @@ use Rattle.brk_store_transactions.proofs.auditing.audit_rows_of_schema.Goals as 
 pub returns-in-None-clause-step : goal.returns-in-None-clause-step
 returns-in-None-clause-step g c =
     let before = state g.S.Store c.args.tx.now.conn.now in
-    let after = state g.S.Store c.read_typed_rows_of_schema.new.tx.conn.now in
-    no_form c.args.schema before after (rw c.in-None.is at c.in_ok-read_typed_rows_of_schema.ensures.step)
+    let after = state g.S.Store c.read_sheets.new.tx.conn.now in
+    no_form c.args.schema before after (rw c.in-None.is at c.in_ok-read_sheets.ensures.step)
 
 pub returns-in-Some-clause-step : goal.returns-in-Some-clause-step
 returns-in-Some-clause-step g c =
     let before = state g.S.Store c.args.tx.now.conn.now in
-    let after = state g.S.Store c.read_typed_rows_of_schema.new.tx.conn.now in
-    rows_told c.args.schema before after c.in-Some.sheets c.audit_rows.result (rw c.in-Some.is at c.in_ok-read_typed_rows_of_schema.ensures.step) c.audit_rows.ensures.condition
+    let after = state g.S.Store c.read_sheets.new.tx.conn.now in
+    rows_told c.args.schema before after c.in-Some.sheets c.audit_rows.result
+    (rw c.in-Some.is at c.in_ok-read_sheets.ensures.of_schema) (rw c.in-Some.is at c.in_ok-read_sheets.ensures.step) c.audit_rows.ensures.condition

@@ -72,7 +72,7 @@ pub returns-in-AddSummary-clause-step : goal.returns-in-AddSummary-clause-step
 returns-in-AddSummary-clause-step g c = made _ _ _ _ _ c.in-AddSummary.is c.add_holding_summary.ensures.step
 
 pub returns-in-SetSummary-clause-step : goal.returns-in-SetSummary-clause-step
-returns-in-SetSummary-clause-step g c = made _ _ _ _ _ c.in-SetSummary.is c.set_holding_summary_quantity.ensures.step
+returns-in-SetSummary-clause-step g c = made _ _ _ _ _ c.in-SetSummary.is c.set_summary_quantity.ensures.step
 
 pub returns-in-RemoveSummary-clause-step : goal.returns-in-RemoveSummary-clause-step
 returns-in-RemoveSummary-clause-step g c = made _ _ _ _ _ c.in-RemoveSummary.is c.remove_holding_summary.ensures.step
@@ -84,7 +84,7 @@ pub returns-in-AddMove-clause-step : goal.returns-in-AddMove-clause-step
 returns-in-AddMove-clause-step g c = made _ _ _ _ _ c.in-AddMove.is c.add_cash_row.ensures.step
 
 pub returns-in-SetOneDaySettlementStart-clause-step : goal.returns-in-SetOneDaySettlementStart-clause-step
-returns-in-SetOneDaySettlementStart-clause-step g c = made _ _ _ _ _ c.in-SetOneDaySettlementStart.is c.set_one_day_settlement_start.ensures.step
+returns-in-SetOneDaySettlementStart-clause-step g c = made _ _ _ _ _ c.in-SetOneDaySettlementStart.is c.set_one_day_start.ensures.step
 
 pub returns-in-SetBalance-clause-step : goal.returns-in-SetBalance-clause-step
 returns-in-SetBalance-clause-step g c = made _ _ _ _ _ c.in-SetBalance.is c.set_account_balance.ensures.step

@@ -12,18 +12,18 @@ pub returns-then-has_cash_move_table-clause-step : goal.returns-then-has_cash_mo
 returns-then-has_cash_move_table-clause-step g c =
     let schema = abstract_schema c.args.schema in
     let a = state g.S.Store c.args.tx.now.conn.now in
-    let b = state g.S.Store c.add_later_tables_and_set_schema_number.new.tx.conn.now in
+    let b = state g.S.Store c.raise_schema.new.tx.conn.now in
     step_weaker a b _ (λ _ x y. AddsTablesOfLaterSchemas schema x.now y.now) (λ _ x y. UpgradesTables schema x.now y.now)
     (λ _ up. moves_not schema a.now b.now (sym c.has_cash_move_table.ensures ∙ c.if-has_cash_move_table.true) up)
-    c.in_ok-add_later_tables_and_set_schema_number.ensures.step
+    c.in_ok-raise_schema.ensures.step
 
 pub returns-clause-step : goal.returns-clause-step
 returns-clause-step g c =
     let schema = abstract_schema c.args.schema in
     let a = state g.S.Store c.args.tx.now.conn.now in
-    let b = state g.S.Store c.add_later_tables_and_set_schema_number.new.tx.conn.now in
-    let d = state g.S.Store c.move_cash_transactions_to_cash_moves.new.tx.conn.now in
-    step_then a b d tt c.move_cash_transactions_to_cash_moves.result (λ _ x y. AddsTablesOfLaterSchemas schema x.now y.now)
+    let b = state g.S.Store c.raise_schema.new.tx.conn.now in
+    let d = state g.S.Store c.move_cash_transactions.new.tx.conn.now in
+    step_then a b d tt c.move_cash_transactions.result (λ _ x y. AddsTablesOfLaterSchemas schema x.now y.now)
     (λ _ x y. ChangesTablesBy desk_tables tables_with_cash_transactions_moved x.now y.now) (λ _ x y. UpgradesTables schema x.now y.now)
     (λ _ up turns. moves_cash schema a.now b.now d.now (sym c.has_cash_move_table.ensures ∙ c.if-has_cash_move_table.false) up turns)
-    c.in_ok-add_later_tables_and_set_schema_number.ensures.step c.move_cash_transactions_to_cash_moves.ensures.step
+    c.in_ok-raise_schema.ensures.step c.move_cash_transactions.ensures.step

@@ -12,9 +12,9 @@ pub returns-clause-step : goal.returns-clause-step
 returns-clause-step g c =
     let old = state g.S.Store c.args.tx.now.conn.now in
     let new = state g.S.Store c.execute_statement.new.tx.conn.now in
-    let same = params_are (abstract_cash_row c.args.row.now) _ _ _ _ _ _ c.cash_row_id_as_parameter.ensures c.id_as_parameter.ensures
-    c.optional_id_as_parameter.ensures c.stamp_as_parameter.ensures c.cents_as_parameter.ensures
-    (c.text_as_parameter.ensures ∙ ap Words c.as_str.ensures.value) in
+    let same = params_are (abstract_cash_row c.args.row.now) _ _ _ _ _ _ c.cash_row_id_param.ensures c.id_param.ensures
+    c.optional_id_param.ensures c.stamp_param.ensures c.cents_param.ensures
+    (c.text_param.ensures ∙ ap Words c.as_str.ensures.value) in
     step_weaker old new c.execute_statement.result _ _
     (λ _ ran. adds_move old new (abstract_cash_row c.args.row.now) (subst (λ params. ExecutesStatement AddMove.statement params old new) same ran))
     c.execute_statement.ensures.step

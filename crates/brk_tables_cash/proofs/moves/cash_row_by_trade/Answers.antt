@@ -21,7 +21,7 @@ returns-clause-step g c =
     let old = state g.S.Store c.args.tx.now.conn.now in
     let new = state g.S.Store c.select_rows.new.tx.conn.now in
     look_first desk_tables move_cells move_back move_is_back abstract_cash_row MoveByTrade.statement (natural_as_value c.args.trade ∷ []) old new
-    c.in_ok-rows.rows (λ rows. rows.items) _ c.deref.ensures.value (rw (c.id_as_parameter.ensures) at c.in_ok-rows.ensures.step)
+    c.in_ok-rows.rows (λ rows. rows.items) _ c.deref.ensures.value (rw (c.id_param.ensures) at c.in_ok-rows.ensures.step)
     c.decode_first_row.result c.decode_first_row.ensures.value (λ (t : Tables). filter (is_cash_row_of_trade c.args.trade) t.moves)
     (λ (t : Tables). find (is_cash_row_of_trade c.args.trade) t.moves) (λ t. slice_get-filter (is_cash_row_of_trade c.args.trade) t.moves)
     (tells_move old new c.args.trade _)

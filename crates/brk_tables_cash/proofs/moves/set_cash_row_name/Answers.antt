@@ -8,5 +8,5 @@ returns-clause-step g c =
     let old = state g.S.Store c.args.tx.now.conn.now in
     let new = state g.S.Store c.execute_statement.new.tx.conn.now in
     step_weaker old new c.execute_statement.result _ _
-    (λ _ ran. sets_cash_name old new c.args.trade c.args.name.now (rw (c.text_as_parameter.ensures, c.id_as_parameter.ensures) at ran))
+    (λ _ ran. sets_cash_name old new c.args.trade c.args.name.now (rw (c.text_param.ensures, c.id_param.ensures) at ran))
     c.execute_statement.ensures.step

@@ -45,7 +45,7 @@ returns-clause-step g c =
     let trade = c.args.trade in
     step_weaker old new c.decode_first_row.result _ _ (λ o looks. (looks.0, looks.1, λ t tree h. rw (as_it_is o) at (looks.2 t tree h)))
     (look_first desk_tables id_cells id_back (λ n. refl) (λ (n : ℕ). n) AccountOfTrade.statement (natural_as_value trade ∷ []) old new c.in_ok-rows.rows
-    (λ rows. rows.items) _ c.deref.ensures.value (rw (c.id_as_parameter.ensures) at c.in_ok-rows.ensures.step)
+    (λ rows. rows.items) _ c.deref.ensures.value (rw (c.id_param.ensures) at c.in_ok-rows.ensures.step)
     c.decode_first_row.result c.decode_first_row.ensures.value
     (λ (t : Tables). map (λ (r : TradeRow). r.account) (filter (λ (r : TradeRow). r.id == trade) t.trades))
     (λ (t : Tables). option_map (λ (r : TradeRow). r.account) (trade_row_with_id t trade)) (λ t. first_of trade t.trades)

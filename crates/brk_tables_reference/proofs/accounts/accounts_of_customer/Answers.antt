@@ -20,5 +20,5 @@ returns-clause-step g c =
     let old = state g.S.Store c.args.tx.now.conn.now in
     let new = state g.S.Store c.select_rows.new.tx.conn.now in
     look_all desk_tables account_cells account_back account_is_back abstract_account_row AccountsOfCustomer.statement (Int (pos c.args.customer) ∷ []) old new
-    c.in_ok-rows.rows (λ rows. rows.items) _ c.deref.ensures.value (rw (c.id_as_parameter.ensures) at c.in_ok-rows.ensures.step)
+    c.in_ok-rows.rows (λ rows. rows.items) _ c.deref.ensures.value (rw (c.id_param.ensures) at c.in_ok-rows.ensures.step)
     (λ all. all.items) c.decode_rows.result c.decode_rows.ensures.value (λ t. filter (λ (r : AccountRow). r.customer == c.args.customer) t.accounts) (tells_accounts old new c.args.customer _)

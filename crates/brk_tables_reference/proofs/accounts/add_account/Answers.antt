@@ -11,11 +11,11 @@ returns-clause-step g c =
     step_weaker old new c.execute_statement.result _ _
     (λ _ ran. adds_account old new (abstract_account c.args.account.now)
     (rw (
-      c.id_as_parameter.ensures,
-      c.id_as_parameter-2.ensures,
-      c.id_as_parameter-3.ensures,
-      c.text_as_parameter.ensures,
+      c.id_param.ensures,
+      c.id_param-2.ensures,
+      c.id_param-3.ensures,
+      c.text_param.ensures,
       c.as_str.ensures,
-      c.tax_status_as_parameter.ensures,
-      c.cents_as_parameter.ensures,
+      c.tax_status_param.ensures,
+      c.cents_param.ensures,
     ) at ran)) c.execute_statement.ensures.step

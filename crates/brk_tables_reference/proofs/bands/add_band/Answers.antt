@@ -11,11 +11,11 @@ returns-clause-step g c =
     step_weaker old new c.execute_statement.result _ _
     (λ _ ran. adds_band old new (abstract_band c.args.band.now)
     (rw (
-      c.tier_as_parameter.ensures,
-      c.trade_type_as_parameter.ensures,
-      c.text_as_parameter.ensures,
+      c.tier_param.ensures,
+      c.trade_type_param.ensures,
+      c.text_param.ensures,
       c.as_str.ensures,
-      c.quantity_as_parameter.ensures,
-      c.quantity_as_parameter-2.ensures,
-      c.commission_rate_as_parameter.ensures,
+      c.qty_param.ensures,
+      c.qty_param-2.ensures,
+      c.rate_param.ensures,
     ) at ran)) c.execute_statement.ensures.step

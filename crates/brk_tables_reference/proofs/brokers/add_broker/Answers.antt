@@ -10,4 +10,4 @@ returns-clause-step g c =
     let new = state g.S.Store c.execute_statement.new.tx.conn.now in
     step_weaker old new c.execute_statement.result _ _
     (λ _ ran. adds_broker old new (abstract_broker c.args.broker.now)
-    (rw (c.id_as_parameter.ensures, c.text_as_parameter.ensures, c.as_str.ensures) at ran)) c.execute_statement.ensures.step
+    (rw (c.id_param.ensures, c.text_param.ensures, c.as_str.ensures) at ran)) c.execute_statement.ensures.step

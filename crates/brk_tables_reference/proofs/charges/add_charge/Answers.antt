@@ -10,4 +10,4 @@ returns-clause-step g c =
     let new = state g.S.Store c.execute_statement.new.tx.conn.now in
     step_weaker old new c.execute_statement.result _ _
     (λ _ ran. adds_charge old new (abstract_charge c.args.charge.now)
-    (rw (c.trade_type_as_parameter.ensures, c.tier_as_parameter.ensures, c.charge_amount_as_parameter.ensures) at ran)) c.execute_statement.ensures.step
+    (rw (c.trade_type_param.ensures, c.tier_param.ensures, c.charge_param.ensures) at ran)) c.execute_statement.ensures.step

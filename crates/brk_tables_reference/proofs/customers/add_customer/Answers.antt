@@ -11,11 +11,11 @@ returns-clause-step g c =
     step_weaker old new c.execute_statement.result _ _
     (λ _ ran. adds_customer old new (abstract_customer c.args.customer.now)
     (rw (
-      c.id_as_parameter.ensures,
-      c.tier_as_parameter.ensures,
-      c.text_as_parameter.ensures,
-      c.text_as_parameter-2.ensures,
-      c.text_as_parameter-3.ensures,
+      c.id_param.ensures,
+      c.tier_param.ensures,
+      c.text_param.ensures,
+      c.text_param-2.ensures,
+      c.text_param-3.ensures,
       c.as_str.ensures,
       c.as_str-2.ensures,
       c.as_str-3.ensures,

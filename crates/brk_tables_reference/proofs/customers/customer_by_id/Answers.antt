@@ -21,7 +21,7 @@ returns-clause-step g c =
     let old = state g.S.Store c.args.tx.now.conn.now in
     let new = state g.S.Store c.select_rows.new.tx.conn.now in
     look_first desk_tables customer_cells customer_back customer_is_back abstract_customer CustomerById.statement (Int (pos c.args.id) ∷ []) old new
-    c.in_ok-rows.rows (λ rows. rows.items) _ c.deref.ensures.value (rw (c.id_as_parameter.ensures) at c.in_ok-rows.ensures.step)
+    c.in_ok-rows.rows (λ rows. rows.items) _ c.deref.ensures.value (rw (c.id_param.ensures) at c.in_ok-rows.ensures.step)
     c.decode_first_row.result c.decode_first_row.ensures.value (λ t. filter (λ (r : Customer). r.id == c.args.id) t.customers)
     (λ t. find (λ (r : Customer). r.id == c.args.id) t.customers) (λ t. slice_get-filter (λ (r : Customer). r.id == c.args.id) t.customers)
     (tells_customer old new c.args.id _)

@@ -22,7 +22,7 @@ returns-clause-step g c =
     let old = state g.S.Store c.args.tx.now.conn.now in
     let new = state g.S.Store c.select_rows.new.tx.conn.now in
     look_first desk_tables customer_cells customer_back customer_is_back abstract_customer CustomerByTaxId.statement (Text c.args.tax_id.now ∷ []) old new
-    c.in_ok-rows.rows (λ rows. rows.items) _ c.deref.ensures.value (rw (c.text_as_parameter.ensures, c.as_str.ensures) at c.in_ok-rows.ensures.step)
+    c.in_ok-rows.rows (λ rows. rows.items) _ c.deref.ensures.value (rw (c.text_param.ensures, c.as_str.ensures) at c.in_ok-rows.ensures.step)
     c.decode_first_row.result c.decode_first_row.ensures.value (λ t. filter (λ (r : Customer). bytes_eq r.tax_id c.args.tax_id.now) t.customers)
     (λ t. find (λ (r : Customer). bytes_eq r.tax_id c.args.tax_id.now) t.customers)
     (λ t. slice_get-filter (λ (r : Customer). bytes_eq r.tax_id c.args.tax_id.now) t.customers) (tells_tax_id old new c.args.tax_id.now _)

@@ -10,5 +10,5 @@ returns-clause-step g c =
     let new = state g.S.Store c.execute_statement.new.tx.conn.now in
     step_weaker old new c.execute_statement.result _ _
     (λ _ ran. adds_last_trade old new (abstract_last_trade_row c.args.last_trade.now)
-    (rw (c.text_as_parameter.ensures, c.as_str.ensures, c.stamp_as_parameter.ensures, c.price_as_parameter.ensures, c.volume_as_parameter.ensures) at ran))
+    (rw (c.text_param.ensures, c.as_str.ensures, c.stamp_param.ensures, c.price_param.ensures, c.volume_param.ensures) at ran))
     c.execute_statement.ensures.step

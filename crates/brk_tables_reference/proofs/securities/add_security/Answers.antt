@@ -11,12 +11,12 @@ returns-clause-step g c =
     step_weaker old new c.execute_statement.result _ _
     (λ _ ran. adds_security old new (abstract_security_row c.args.security.now)
     (rw (
-      c.text_as_parameter.ensures,
+      c.text_param.ensures,
       c.as_str.ensures,
-      c.text_as_parameter-2.ensures,
+      c.text_param-2.ensures,
       c.as_str-2.ensures,
-      c.text_as_parameter-3.ensures,
+      c.text_param-3.ensures,
       c.as_str-3.ensures,
-      c.text_as_parameter-4.ensures,
+      c.text_param-4.ensures,
       c.as_str-4.ensures,
     ) at ran)) c.execute_statement.ensures.step

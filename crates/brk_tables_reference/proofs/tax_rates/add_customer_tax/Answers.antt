@@ -9,5 +9,5 @@ returns-clause-step g c =
     let old = state g.S.Store c.args.tx.now.conn.now in
     let new = state g.S.Store c.execute_statement.new.tx.conn.now in
     step_weaker old new c.execute_statement.result _ _
-    (λ _ ran. adds_customer_tax old new (abstract_customer_tax c.args.pays.now) (rw (c.id_as_parameter.ensures, c.id_as_parameter-2.ensures) at ran))
+    (λ _ ran. adds_customer_tax old new (abstract_customer_tax c.args.pays.now) (rw (c.id_param.ensures, c.id_param-2.ensures) at ran))
     c.execute_statement.ensures.step

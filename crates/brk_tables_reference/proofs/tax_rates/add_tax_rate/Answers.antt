@@ -10,5 +10,5 @@ returns-clause-step g c =
     let new = state g.S.Store c.execute_statement.new.tx.conn.now in
     step_weaker old new c.execute_statement.result _ _
     (λ _ ran. adds_tax_rate old new (abstract_tax_rate c.args.tax.now)
-    (rw (c.id_as_parameter.ensures, c.text_as_parameter.ensures, c.as_str.ensures, c.tax_rate_as_parameter.ensures) at ran))
+    (rw (c.id_param.ensures, c.text_param.ensures, c.as_str.ensures, c.tax_rate_param.ensures) at ran))
     c.execute_statement.ensures.step

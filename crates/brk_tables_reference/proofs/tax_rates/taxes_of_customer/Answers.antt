@@ -21,6 +21,6 @@ returns-clause-step g c =
     let new = state g.S.Store c.select_rows.new.tx.conn.now in
     look_all desk_tables customer_tax_cells customer_tax_back customer_tax_is_back abstract_customer_tax CustomerTaxesOf.statement
     (Int (pos c.args.customer) ∷ []) old new c.in_ok-rows.rows (λ rows. rows.items) _ c.deref.ensures.value
-    (rw (c.id_as_parameter.ensures) at c.in_ok-rows.ensures.step)
+    (rw (c.id_param.ensures) at c.in_ok-rows.ensures.step)
     (λ all. all.items) c.decode_rows.result c.decode_rows.ensures.value (λ t. filter (λ (r : CustomerTax). r.customer == c.args.customer) t.customer_taxes)
     (tells_customer_taxes old new c.args.customer _)

@@ -8,4 +8,4 @@ returns-clause-step g c =
     let old = state g.S.Store c.args.tx.now.conn.now in
     let new = state g.S.Store c.execute_statement.new.tx.conn.now in
     step_weaker old new c.execute_statement.result _ _
-    (λ _ ran. sets_last old new c.args.stamp (rw (c.stamp_as_parameter.ensures, c.integer_as_parameter.ensures) at ran)) c.execute_statement.ensures.step
+    (λ _ ran. sets_last old new c.args.stamp (rw (c.stamp_param.ensures, c.integer_param.ensures) at ran)) c.execute_statement.ensures.step

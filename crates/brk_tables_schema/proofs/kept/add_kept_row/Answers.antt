@@ -11,11 +11,11 @@ returns-clause-step g c =
     step_weaker old new c.execute_statement.result _ _
     (λ _ ran. adds_kept old new (abstract_kept_row c.args.kept.now)
     (rw (
-      c.text_as_parameter.ensures,
+      c.text_param.ensures,
       c.as_str.ensures,
-      c.row_number_as_parameter.ensures,
-      c.text_as_parameter-2.ensures,
+      c.row_number_param.ensures,
+      c.text_param-2.ensures,
       c.as_str-2.ensures.value,
-      c.text_as_parameter-3.ensures,
+      c.text_param-3.ensures,
       c.as_str-3.ensures.value,
     ) at ran)) c.execute_statement.ensures.step

@@ -23,7 +23,7 @@ returns-clause-step g c =
     let new = state g.S.Store c.select_rows.new.tx.conn.now in
     look_first desk_tables kept_cells kept_back kept_is_back abstract_kept_row KeptByKey.statement
     (Text c.args.key.now.batch ∷ Int (pos c.args.key.now.n) ∷ []) old new c.in_ok-rows.rows (λ rows. rows.items) _ c.deref.ensures.value
-    (rw (c.text_as_parameter.ensures, c.as_str.ensures, c.row_number_as_parameter.ensures) at c.in_ok-rows.ensures.step)
+    (rw (c.text_param.ensures, c.as_str.ensures, c.row_number_param.ensures) at c.in_ok-rows.ensures.step)
     c.decode_first_row.result c.decode_first_row.ensures.value
     (λ t. filter (λ (k : Kept). bytes_eq k.key.batch c.args.key.now.batch && (k.key.n == c.args.key.now.n)) t.kept)
     (λ t. find (λ (k : Kept). bytes_eq k.key.batch c.args.key.now.batch && (k.key.n == c.args.key.now.n)) t.kept)

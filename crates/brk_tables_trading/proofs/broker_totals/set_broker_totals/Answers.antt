@@ -11,5 +11,5 @@ returns-clause-step g c =
     let new = state g.S.Store c.execute_statement.new.tx.conn.now in
     step_weaker old new c.execute_statement.result _ _
     (λ _ ran. sets_broker_numbers old new c.args.broker c.args.trades c.args.commissions
-    (rw (c.integer_as_parameter.ensures, to_z-of_z w64 c.args.trades (search rules), c.amount_as_parameter.ensures, c.id_as_parameter.ensures) at ran))
+    (rw (c.integer_param.ensures, to_z-of_z w64 c.args.trades (search rules), c.amount_param.ensures, c.id_param.ensures) at ran))
     c.execute_statement.ensures.step

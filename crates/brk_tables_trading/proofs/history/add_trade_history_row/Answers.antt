@@ -10,4 +10,4 @@ returns-clause-step g c =
     let new = state g.S.Store c.execute_statement.new.tx.conn.now in
     step_weaker old new c.execute_statement.result _ _
     (λ _ ran. adds_history old new (abstract_history_row c.args.mark.now)
-    (rw (c.id_as_parameter.ensures, c.status_as_parameter.ensures, c.stamp_as_parameter.ensures) at ran)) c.execute_statement.ensures.step
+    (rw (c.id_param.ensures, c.status_param.ensures, c.stamp_param.ensures) at ran)) c.execute_statement.ensures.step

@@ -21,7 +21,7 @@ returns-clause-step g c =
     let old = state g.S.Store c.args.tx.now.conn.now in
     let new = state g.S.Store c.select_rows.new.tx.conn.now in
     look_first desk_tables holding_cells holding_back holding_is_back abstract_holding_row LotByTrade.statement (Int (pos c.args.trade) ∷ []) old new c.in_ok-rows.rows
-    (λ rows. rows.items) _ c.deref.ensures.value (rw (c.id_as_parameter.ensures) at c.in_ok-rows.ensures.step)
+    (λ rows. rows.items) _ c.deref.ensures.value (rw (c.id_param.ensures) at c.in_ok-rows.ensures.step)
     c.decode_first_row.result c.decode_first_row.ensures.value (λ t. filter (λ (r : HoldingRow). r.trade == c.args.trade) t.holdings)
     (λ t. find (λ (r : HoldingRow). r.trade == c.args.trade) t.holdings) (λ t. slice_get-filter (λ (r : HoldingRow). r.trade == c.args.trade) t.holdings)
     (tells_lot old new c.args.trade _)

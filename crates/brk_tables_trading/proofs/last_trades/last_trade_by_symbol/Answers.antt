@@ -22,7 +22,7 @@ returns-clause-step g c =
     let old = state g.S.Store c.args.tx.now.conn.now in
     let new = state g.S.Store c.select_rows.new.tx.conn.now in
     look_first desk_tables last_trade_cells last_trade_back last_trade_is_back abstract_last_trade_row LastTradeBySymbol.statement (Text c.args.symbol.now ∷ [])
-    old new c.in_ok-rows.rows (λ rows. rows.items) _ c.deref.ensures.value (rw (c.text_as_parameter.ensures, c.as_str.ensures) at c.in_ok-rows.ensures.step)
+    old new c.in_ok-rows.rows (λ rows. rows.items) _ c.deref.ensures.value (rw (c.text_param.ensures, c.as_str.ensures) at c.in_ok-rows.ensures.step)
     c.decode_first_row.result c.decode_first_row.ensures.value (λ t. filter (λ (r : LastTradeRow). bytes_eq r.symbol c.args.symbol.now) t.last_trades)
     (λ t. find (λ (r : LastTradeRow). bytes_eq r.symbol c.args.symbol.now) t.last_trades)
     (λ t. slice_get-filter (λ (r : LastTradeRow). bytes_eq r.symbol c.args.symbol.now) t.last_trades) (tells_last_trade old new c.args.symbol.now _)

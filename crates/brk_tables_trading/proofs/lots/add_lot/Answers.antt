@@ -13,12 +13,12 @@ returns-clause-step g c =
     step_weaker old new c.execute_statement.result _ _
     (λ _ ran. adds_lot old new (abstract_holding_row c.args.lot.now)
     (rw (
-      c.id_as_parameter.ensures,
-      c.id_as_parameter-2.ensures,
-      c.text_as_parameter.ensures,
+      c.id_param.ensures,
+      c.id_param-2.ensures,
+      c.text_param.ensures,
       c.as_str.ensures,
-      c.stamp_as_parameter.ensures,
-      c.price_as_parameter.ensures,
-      c.integer_as_parameter.ensures,
+      c.stamp_param.ensures,
+      c.price_param.ensures,
+      c.integer_param.ensures,
       to_z-of_z w64 c.args.lot.now.qty (search rules),
     ) at ran)) c.execute_statement.ensures.step

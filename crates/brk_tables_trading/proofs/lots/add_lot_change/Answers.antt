@@ -13,10 +13,10 @@ returns-clause-step g c =
     step_weaker old new c.execute_statement.result _ _
     (λ _ ran. adds_lot_change old new (abstract_lot_change_row c.args.change.now)
     (rw (
-      c.id_as_parameter.ensures,
-      c.id_as_parameter-2.ensures,
-      c.integer_as_parameter.ensures,
-      c.integer_as_parameter-2.ensures,
+      c.id_param.ensures,
+      c.id_param-2.ensures,
+      c.integer_param.ensures,
+      c.integer_param-2.ensures,
       to_z-of_z w64
           c.args.change.now.before (search rules),
       to_z-of_z w64 c.args.change.now.after (search rules),

@@ -11,4 +11,4 @@ returns-clause-step g c =
     let new = state g.S.Store c.execute_statement.new.tx.conn.now in
     step_weaker old new c.execute_statement.result _ _
     (λ _ ran. sets_lot old new c.args.trade c.args.qty
-    (rw (c.integer_as_parameter.ensures, to_z-of_z w64 c.args.qty (search rules), c.id_as_parameter.ensures) at ran)) c.execute_statement.ensures.step
+    (rw (c.integer_param.ensures, to_z-of_z w64 c.args.qty (search rules), c.id_param.ensures) at ran)) c.execute_statement.ensures.step

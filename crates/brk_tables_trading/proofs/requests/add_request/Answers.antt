@@ -11,11 +11,11 @@ returns-clause-step g c =
     step_weaker old new c.execute_statement.result _ _
     (λ _ ran. adds_request old new (abstract_request_row c.args.request.now)
     (rw (
-      c.id_as_parameter.ensures,
-      c.trade_type_as_parameter.ensures,
-      c.text_as_parameter.ensures,
+      c.id_param.ensures,
+      c.trade_type_param.ensures,
+      c.text_param.ensures,
       c.as_str.ensures,
-      c.quantity_as_parameter.ensures,
-      c.price_as_parameter.ensures,
-      c.id_as_parameter-2.ensures,
+      c.qty_param.ensures,
+      c.price_param.ensures,
+      c.id_param-2.ensures,
     ) at ran)) c.execute_statement.ensures.step

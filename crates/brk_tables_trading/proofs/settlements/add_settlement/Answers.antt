@@ -10,5 +10,5 @@ returns-clause-step g c =
     let new = state g.S.Store c.execute_statement.new.tx.conn.now in
     step_weaker old new c.execute_statement.result _ _
     (λ _ ran. adds_settlement old new (abstract_settlement_row c.args.settlement.now)
-    (rw (c.id_as_parameter.ensures, c.cash_type_as_parameter.ensures, c.day_as_parameter.ensures, c.cents_as_parameter.ensures) at ran))
+    (rw (c.id_param.ensures, c.cash_type_param.ensures, c.day_param.ensures, c.cents_param.ensures) at ran))
     c.execute_statement.ensures.step

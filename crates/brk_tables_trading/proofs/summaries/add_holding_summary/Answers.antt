@@ -13,10 +13,10 @@ returns-clause-step g c =
     step_weaker old new c.execute_statement.result _ _
     (λ _ ran. adds_summary old new (abstract_summary_row c.args.summary.now)
     (rw (
-      c.id_as_parameter.ensures,
-      c.text_as_parameter.ensures,
+      c.id_param.ensures,
+      c.text_param.ensures,
       c.as_str.ensures,
-      c.integer_as_parameter.ensures,
+      c.integer_param.ensures,
       to_z-of_z w64 c.args.summary.now.qty
           (search rules),
     ) at ran)) c.execute_statement.ensures.step

@@ -9,4 +9,4 @@ returns-clause-step g c =
     let new = state g.S.Store c.execute_statement.new.tx.conn.now in
     step_weaker old new c.execute_statement.result _ _
     (λ _ ran. removes_summary old new c.args.account c.args.symbol.now
-    (rw (c.id_as_parameter.ensures, c.text_as_parameter.ensures, c.as_str.ensures) at ran)) c.execute_statement.ensures.step
+    (rw (c.id_param.ensures, c.text_param.ensures, c.as_str.ensures) at ran)) c.execute_statement.ensures.step

@@ -13,11 +13,11 @@ pub returns-clause-step : goal.returns-clause-step
 returns-clause-step g c =
     let old = state g.S.Store c.args.tx.now.conn.now in
     let new = state g.S.Store c.execute_statement.new.tx.conn.now in
-    let same = params_are (abstract_trade_row c.args.trade.now) _ _ _ _ _ _ _ _ _ _ _ _ _ _ _ c.id_as_parameter.ensures c.stamp_as_parameter.ensures
-    c.status_as_parameter.ensures c.trade_type_as_parameter.ensures c.flag_as_parameter.ensures (c.text_as_parameter.ensures ∙ ap Words c.as_str.ensures)
-    c.quantity_as_parameter.ensures c.price_as_parameter.ensures c.id_as_parameter-2.ensures
-    (c.text_as_parameter-2.ensures ∙ ap Words c.as_str-2.ensures.value) c.optional_price_as_parameter.ensures c.charge_amount_as_parameter.ensures
-    c.amount_as_parameter.ensures c.amount_as_parameter-2.ensures c.flag_as_parameter-2.ensures in
+    let same = params_are (abstract_trade_row c.args.trade.now) _ _ _ _ _ _ _ _ _ _ _ _ _ _ _ c.id_param.ensures c.stamp_param.ensures
+    c.status_param.ensures c.trade_type_param.ensures c.flag_param.ensures (c.text_param.ensures ∙ ap Words c.as_str.ensures)
+    c.qty_param.ensures c.price_param.ensures c.id_param-2.ensures
+    (c.text_param-2.ensures ∙ ap Words c.as_str-2.ensures.value) c.optional_price_param.ensures c.charge_param.ensures
+    c.amount_param.ensures c.amount_param-2.ensures c.flag_param-2.ensures in
     step_weaker old new c.execute_statement.result _ _
     (λ _ ran. adds_trade old new (abstract_trade_row c.args.trade.now) (subst (λ params. ExecutesStatement AddTrade.statement params old new) same ran))
     c.execute_statement.ensures.step

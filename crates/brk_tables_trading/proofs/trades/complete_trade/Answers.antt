@@ -10,10 +10,10 @@ returns-clause-step g c =
     step_weaker old new c.execute_statement.result _ _
     (λ _ ran. completes_trade old new c.args.trade c.args.stamp c.args.price c.args.commission c.args.tax
     (rw (
-      c.status_as_parameter.ensures,
-      c.stamp_as_parameter.ensures,
-      c.price_as_parameter.ensures,
-      c.amount_as_parameter.ensures,
-      c.amount_as_parameter-2.ensures,
-      c.id_as_parameter.ensures,
+      c.status_param.ensures,
+      c.stamp_param.ensures,
+      c.price_param.ensures,
+      c.amount_param.ensures,
+      c.amount_param-2.ensures,
+      c.id_param.ensures,
     ) at ran)) c.execute_statement.ensures.step

@@ -9,4 +9,4 @@ returns-clause-step g c =
     let new = state g.S.Store c.execute_statement.new.tx.conn.now in
     step_weaker old new c.execute_statement.result _ _
     (λ _ ran. sets_status old new c.args.id c.args.status c.args.stamp
-    (rw (c.status_as_parameter.ensures, c.stamp_as_parameter.ensures, c.id_as_parameter.ensures) at ran)) c.execute_statement.ensures.step
+    (rw (c.status_param.ensures, c.stamp_param.ensures, c.id_param.ensures) at ran)) c.execute_statement.ensures.step

@@ -22,5 +22,5 @@ returns-clause-step g c =
     let old = state g.S.Store c.args.tx.now.conn.now in
     let new = state g.S.Store c.select_rows.new.tx.conn.now in
     look_all desk_tables trade_cells trade_back trade_is_back abstract_trade_row SubmittedTrades.statement (Text (trade_status_code Submitted) ∷ []) old new
-    c.in_ok-rows.rows (λ rows. rows.items) _ c.deref.ensures.value (rw (c.status_as_parameter.ensures) at c.in_ok-rows.ensures.step)
+    c.in_ok-rows.rows (λ rows. rows.items) _ c.deref.ensures.value (rw (c.status_param.ensures) at c.in_ok-rows.ensures.step)
     (λ all. all.items) c.decode_rows.result c.decode_rows.ensures.value (λ t. filter (λ (r : TradeRow). is_same_trade_status r.status Submitted) t.trades) (tells_submitted old new _)

@@ -10,4 +10,4 @@ returns-clause-step g c =
     let new = state g.S.Store c.execute_statement.new.tx.conn.now in
     step_weaker old new c.execute_statement.result _ _
     (λ _ ran. sets_cash_type old new c.args.trade (cash_type_text c.args.cash_type)
-    (rw (c.cash_type_as_parameter.ensures, c.id_as_parameter.ensures) at ran)) c.execute_statement.ensures.step
+    (rw (c.cash_type_param.ensures, c.id_param.ensures) at ran)) c.execute_statement.ensures.step

@@ -20,7 +20,7 @@ returns-clause-step g c =
     let new = state g.S.Store c.select_rows.new.tx.conn.now in
     step_weaker old new c.decode_rows.result _ _ (λ all looks. (looks.0, looks.1, λ t tree h. as_they_are all.items ∙ looks.2 t tree h))
     (look_all desk_tables id_cells id_back id_is_back (λ (n : ℕ). n) AccountsOfBroker.statement (natural_as_value c.args.broker ∷ []) old new c.in_ok-rows.rows
-    (λ rows. rows.items) _ c.deref.ensures.value (rw c.id_as_parameter.ensures at c.in_ok-rows.ensures.step)
+    (λ rows. rows.items) _ c.deref.ensures.value (rw c.id_param.ensures at c.in_ok-rows.ensures.step)
     (λ all. all.items) c.decode_rows.result c.decode_rows.ensures.value
     (λ t. map (λ (r : AccountRow). r.id) (filter (λ (r : AccountRow). r.broker == c.args.broker) t.accounts))
     (tells_accounts_of_broker old new c.args.broker _))

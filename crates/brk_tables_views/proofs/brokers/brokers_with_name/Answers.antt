@@ -21,5 +21,5 @@ returns-clause-step g c =
     let old = state g.S.Store c.args.tx.now.conn.now in
     let new = state g.S.Store c.select_rows.new.tx.conn.now in
     look_all desk_tables broker_cells broker_back broker_is_back abstract_broker_row BrokersNamed.statement (Words c.args.name.now ∷ []) old new
-    c.in_ok-rows.rows (λ rows. rows.items) _ c.deref.ensures.value (rw (c.text_as_parameter.ensures, c.as_str.ensures) at c.in_ok-rows.ensures.step)
+    c.in_ok-rows.rows (λ rows. rows.items) _ c.deref.ensures.value (rw (c.text_param.ensures, c.as_str.ensures) at c.in_ok-rows.ensures.step)
     (λ all. all.items) c.decode_rows.result c.decode_rows.ensures.value (λ t. filter (λ (r : BrokerRow). bytes_eq r.name c.args.name.now) t.brokers) (tells_brokers_named old new c.args.name.now _)

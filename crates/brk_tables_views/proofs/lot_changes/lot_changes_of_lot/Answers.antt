@@ -20,5 +20,5 @@ returns-clause-step g c =
     let new = state g.S.Store c.select_rows.new.tx.conn.now in
     look_all desk_tables holding_history_cells holding_history_back holding_history_is_back abstract_lot_change_row ChangesOf.statement
     (natural_as_value c.args.lot ∷ []) old new c.in_ok-rows.rows (λ rows. rows.items) _ c.deref.ensures.value
-    (rw (c.id_as_parameter.ensures) at c.in_ok-rows.ensures.step)
+    (rw (c.id_param.ensures) at c.in_ok-rows.ensures.step)
     (λ all. all.items) c.decode_rows.result c.decode_rows.ensures.value (λ t. filter (λ (r : HoldingHistoryRow). r.lot == c.args.lot) t.holding_history) (tells_changes_of old new c.args.lot _)

@@ -20,5 +20,5 @@ returns-clause-walked g c =
     g.V.Visitor.stops _ _ _ LotsBySymbol.statement (natural_as_value c.args.account ∷ [])
     (tells_lots_by_symbol (state g.S.Store old) (state g.S.Store old) c.args.account) (λ rows up begins. lots_start (state g.S.Store old) c.args.account rows up begins)
     c.walk_query_rows.ensures.crash (c.is_autocommit-is_autocommit.ensures.settled (search rules))
-    (rw c.id_as_parameter.ensures at c.walk_query_rows.ensures.all) (rw c.id_as_parameter.ensures at c.walk_query_rows.ensures.early)
+    (rw c.id_param.ensures at c.walk_query_rows.ensures.all) (rw c.id_param.ensures at c.walk_query_rows.ensures.early)
     c.walk_query_rows.ensures.changes_at_most_by_rollback c.walk_query_rows.ensures.fault

@@ -23,5 +23,5 @@ returns-clause-walked g c =
     CompletedByAge.statement (Words (trade_status_code Completed) ∷ [])
     (tells_completed_by_age (state g.S.Store old) (state g.S.Store old)) (λ rows up begins. completed_start (state g.S.Store old) rows up begins)
     c.walk_query_rows.ensures.crash (c.is_autocommit-is_autocommit.ensures.settled (search rules))
-    (rw c.status_as_parameter.ensures at c.walk_query_rows.ensures.all) (rw c.status_as_parameter.ensures at c.walk_query_rows.ensures.early)
+    (rw c.status_param.ensures at c.walk_query_rows.ensures.all) (rw c.status_param.ensures at c.walk_query_rows.ensures.early)
     c.walk_query_rows.ensures.changes_at_most_by_rollback c.walk_query_rows.ensures.fault

@@ -22,4 +22,4 @@ returns-in_err-write_line-clause-stops g c =
     on_err (FailsWithinLines (cash_posting_line (abstract_cash_row c.args.item.now) (c.args.self.now.balance +ℤ c.args.item.now.amount) ∷ []) _ _) _ _ c.from_residual-in_err-write_line.ensures.1
     (subst (λ (z : ℤ). FailsWithinLines (cash_posting_line (abstract_cash_row c.args.item.now) z ∷ []) (g.W.Write.contents c.args.self.now.writer.now)
     (g.W.Write.contents c.write_line.new.writer) c.in_err-write_line.field-0.0) c.in_ok-balance.ensures.sum
-    (c.in_err-write_line.ensures.written (cash_posting_line (abstract_cash_row c.args.item.now) c.in_ok-balance.balance) c.cash_posting_text.ensures.line (wants _ c.cash_posting_text.ensures.fault)))
+    (c.in_err-write_line.ensures.written (cash_posting_line (abstract_cash_row c.args.item.now) c.in_ok-balance.balance) c.posting_text.ensures.line (wants _ c.posting_text.ensures.fault)))

@@ -7,6 +7,6 @@ use Rattle.brk_http.proofs.at_desk.DeskServiceService.reply_fields.Goals as goal
 
 pub returns-in-Ok : goal.returns-in-Ok
 returns-in-Ok g c =
-    IfOk-weaker c.fields_between_commas.result _ _
+    IfOk-weaker c.comma_fields.result _ _
     (λ fields h. h ∙ ap (split_at_byte 44) (c.as_str.ensures.value ∙ c.in-Ok.ensures.line) ∙ fields_cut (abstract_reply c.args.reply.now))
-    c.fields_between_commas.ensures
+    c.comma_fields.ensures

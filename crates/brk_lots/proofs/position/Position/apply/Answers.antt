@@ -31,11 +31,11 @@ listed d ls ms closing p h e =
     let b = booked_lots d ls p h.fresh h.later in
     rw (e ∙ booked d ls closing p h) (sym (lots_walk (lots_after d ls) (walk_of (lots_after d ls) b.0)) ∙ ap lots_of_shares b.1)
 
-pub apply_touches_to_lots-self-inside-requires-clause-walk : goal.apply_touches_to_lots-self-inside-requires-clause-walk
-apply_touches_to_lots-self-inside-requires-clause-walk c = rw c.reserve.ensures.items (walk_of (drop c.self.inside.first c.self.inside.lots.items) c.self.invariant.1)
+pub apply_touches-self-inside-requires-clause-walk : goal.apply_touches-self-inside-requires-clause-walk
+apply_touches-self-inside-requires-clause-walk c = rw c.reserve.ensures.items (walk_of (drop c.self.inside.first c.self.inside.lots.items) c.self.invariant.1)
 
-pub apply_touches_to_lots-self-inside-requires-clause-rows : goal.apply_touches_to_lots-self-inside-requires-clause-rows
-apply_touches_to_lots-self-inside-requires-clause-rows c =
+pub apply_touches-self-inside-requires-clause-rows : goal.apply_touches-self-inside-requires-clause-rows
+apply_touches-self-inside-requires-clause-rows c =
     let d = c.requires.0 in
     let h = c.requires.1 in
     let p : IsPosition c.args.self.now = rw (← c.self.view_is) c.self.invariant.1 in
@@ -56,24 +56,24 @@ cut first all now ls left rows touched e r n v = e ∙ ap (λ (ts : List Touch).
     ∙ ap (λ (ms : List Lot). lots_after_touches touched (drop first ms)) n ∙ ap (lots_after_touches touched) v
 
 -- where a lot is opened
-pushed : (c : goal.In_ok-push) → IsBooked c.args.self.now c.args.closing.now (drop c.apply_touches_to_lots-self-inside.result c.push.new.self.items)
+pushed : (c : goal.In_ok-push) → IsBooked c.args.self.now c.args.closing.now (drop c.apply_touches-self-inside.result c.push.new.self.items)
 pushed c =
-    let first = c.apply_touches_to_lots-self-inside.result in
-    let left = c.apply_touches_to_lots-self-inside.new.lots.items in
+    let first = c.apply_touches-self-inside.result in
+    let left = c.apply_touches-self-inside.new.lots.items in
     let lot = c.in-Some.lot in
-    let begins : first ≤ length left = omega (arith, c.apply_touches_to_lots-self-inside.ensures.begins) in
+    let begins : first ≤ length left = omega (arith, c.apply_touches-self-inside.ensures.begins) in
     let e = cut c.self.inside.first c.self.inside.lots.items c.reserve.new.self.items c.args.self.now (drop first left) c.deref.result.now
-    c.args.closing.now.touched.items c.apply_touches_to_lots-self-inside.ensures.left c.deref.ensures.value c.reserve.ensures.items c.self.view_is in
+    c.args.closing.now.touched.items c.apply_touches-self-inside.ensures.left c.deref.ensures.value c.reserve.ensures.items c.self.view_is in
     ap (drop first) c.in_ok-push.ensures.items ∙ drop-append-le first left (lot ∷ []) begins ∙ ap (λ (ls : List Lot). ls ++ lot ∷ []) e
     ∙ ap (λ (o : Option Lot). lots_after_touches c.args.closing.now.touched.items c.args.self.now ++ option_to_list o) (sym c.in-Some.is)
 
 -- where none is opened
-alone : (c : goal.In_default) → IsBooked c.args.self.now c.args.closing.now (drop c.apply_touches_to_lots-self-inside.result c.apply_touches_to_lots-self-inside.new.lots.items)
+alone : (c : goal.In_default) → IsBooked c.args.self.now c.args.closing.now (drop c.apply_touches-self-inside.result c.apply_touches-self-inside.new.lots.items)
 alone c =
-    let first = c.apply_touches_to_lots-self-inside.result in
-    let left = c.apply_touches_to_lots-self-inside.new.lots.items in
+    let first = c.apply_touches-self-inside.result in
+    let left = c.apply_touches-self-inside.new.lots.items in
     let e = cut c.self.inside.first c.self.inside.lots.items c.reserve.new.self.items c.args.self.now (drop first left) c.deref.result.now
-    c.args.closing.now.touched.items c.apply_touches_to_lots-self-inside.ensures.left c.deref.ensures.value c.reserve.ensures.items c.self.view_is in
+    c.args.closing.now.touched.items c.apply_touches-self-inside.ensures.left c.deref.ensures.value c.reserve.ensures.items c.self.view_is in
     e ∙ sym (append-nil (lots_after_touches c.args.closing.now.touched.items c.args.self.now))
     ∙ ap (λ (o : Option Lot). lots_after_touches c.args.closing.now.touched.items c.args.self.now ++ option_to_list o) (sym c.in_default.is)
 
@@ -81,12 +81,12 @@ pub invariant_of-self-in-Continue-branch-2 : goal.invariant_of-self-in-Continue-
 invariant_of-self-in-Continue-branch-2 c =
     let p : IsPosition c.args.self.now = rw (← c.self.view_is) c.self.invariant.1 in
     let n = c.in_ok-push.ensures.items in
-    let begins : c.apply_touches_to_lots-self-inside.result ≤ length c.push.new.self.items =
+    let begins : c.apply_touches-self-inside.result ≤ length c.push.new.self.items =
     omega (
       arith,
-      c.apply_touches_to_lots-self-inside.ensures.begins,
+      c.apply_touches-self-inside.ensures.begins,
       ap length n,
-      length-append c.apply_touches_to_lots-self-inside.new.lots.items
+      length-append c.apply_touches-self-inside.new.lots.items
           (c.in-Some.lot ∷ []),
     ) in
     (begins, lawful c.requires.0 c.args.self.now _ c.args.closing.now p c.requires.1 (pushed c))
@@ -94,7 +94,7 @@ invariant_of-self-in-Continue-branch-2 c =
 pub invariant_of-self-in_default : goal.invariant_of-self-in_default
 invariant_of-self-in_default c =
     let p : IsPosition c.args.self.now = rw (← c.self.view_is) c.self.invariant.1 in
-    let begins : c.apply_touches_to_lots-self-inside.result ≤ length c.apply_touches_to_lots-self-inside.new.lots.items = omega (arith, c.apply_touches_to_lots-self-inside.ensures.begins) in
+    let begins : c.apply_touches-self-inside.result ≤ length c.apply_touches-self-inside.new.lots.items = omega (arith, c.apply_touches-self-inside.ensures.begins) in
     (begins, lawful c.requires.0 c.args.self.now _ c.args.closing.now p c.requires.1 (alone c))
 
 pub returns-in_ok-push-clause-shares : goal.returns-in_ok-push-clause-shares

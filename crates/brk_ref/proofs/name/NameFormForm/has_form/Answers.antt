@@ -6,4 +6,4 @@ use Rattle.brk_ref.proofs.name.NameFormForm.has_form.Goals as goal
 pub returns : goal.returns
 returns c =
     let some = eqb-false (length c.args.text.now) 0 (sym c.is_empty.ensures ∙ c.if-is_empty.false) in
-    name_is c.args.text.now c.has_no_control_character.result c.utf8.text (omega (arith, some)) (omega arith) c.has_no_control_character.ensures
+    name_is c.args.text.now c.has_no_controls.result c.utf8.text (omega (arith, some)) (omega arith) c.has_no_controls.ensures

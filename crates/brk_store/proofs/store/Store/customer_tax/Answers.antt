@@ -5,11 +5,11 @@ use Rattle.brk_store.proofs.store.Store.customer_tax.Goals as goal
 
 pub returns-clause-read : goal.returns-clause-read
 returns-clause-read g c =
-    read_is_over g.S.Store c.args.self.now c.self.inside.conn c.begin_transaction-tx.result.conn.now c.customer_tax_by_customer_and_tax.new.tx.conn.now
+    read_is_over g.S.Store c.args.self.now c.self.inside.conn c.begin_transaction-tx.result.conn.now c.paid_tax.new.tx.conn.now
     c.drop-tx.new.self.0 _ c.self.view_is (search rules)
-    c.begin_transaction-tx.ensures.begun c.begin_transaction-tx.ensures.is_committed c.customer_tax_by_customer_and_tax.ensures.step c.drop-tx.ensures.survives c.drop-tx.ensures.undone
+    c.begin_transaction-tx.ensures.begun c.begin_transaction-tx.ensures.is_committed c.paid_tax.ensures.step c.drop-tx.ensures.survives c.drop-tx.ensures.undone
 
 pub invariant_of-self : goal.invariant_of-self
 invariant_of-self g c =
-    read_keeps_index g.S.Store c.self.inside.conn c.begin_transaction-tx.result.conn.now c.customer_tax_by_customer_and_tax.new.tx.conn.now c.drop-tx.new.self.0 c.self.inside.known c.self.inside.index
-    c.begin_transaction-tx.ensures.begun c.begin_transaction-tx.ensures.is_committed c.customer_tax_by_customer_and_tax.ensures.step c.drop-tx.ensures.survives c.drop-tx.ensures.undone c.drop-tx.ensures.ended c.self.invariant.1
+    read_keeps_index g.S.Store c.self.inside.conn c.begin_transaction-tx.result.conn.now c.paid_tax.new.tx.conn.now c.drop-tx.new.self.0 c.self.inside.known c.self.inside.index
+    c.begin_transaction-tx.ensures.begun c.begin_transaction-tx.ensures.is_committed c.paid_tax.ensures.step c.drop-tx.ensures.survives c.drop-tx.ensures.undone c.drop-tx.ensures.ended c.self.invariant.1

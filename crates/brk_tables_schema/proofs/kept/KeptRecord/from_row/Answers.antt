@@ -9,30 +9,30 @@ returns-in_err-check_column_count-clause-form c =
     (c.check_column_count.ensures.form
     (handed_on c.check_column_count.result c.from_residual.result _ c.from_residual.ensures.1 c.in_err-check_column_count.was h))
 
-pub returns-in_err-well_formed_text_in_column-clause-form : goal.returns-in_err-well_formed_text_in_column-clause-form
-returns-in_err-well_formed_text_in_column-clause-form c =
+pub returns-in_err-formed_cell-clause-form : goal.returns-in_err-formed_cell-clause-form
+returns-in_err-formed_cell-clause-form c =
     λ h. no_form_at kept_column_cell_checks c.args.row.now 0 _ refl
-    (c.well_formed_text_in_column.ensures.form
-    (handed_on c.well_formed_text_in_column.result c.from_residual-in_err-well_formed_text_in_column.result _
-    c.from_residual-in_err-well_formed_text_in_column.ensures.1 c.in_err-well_formed_text_in_column.was h))
+    (c.formed_cell.ensures.form
+    (handed_on c.formed_cell.result c.from_residual-in_err-formed_cell.result _
+    c.from_residual-in_err-formed_cell.ensures.1 c.in_err-formed_cell.was h))
 
-pub returns-in_err-row_number_in_column-clause-form : goal.returns-in_err-row_number_in_column-clause-form
-returns-in_err-row_number_in_column-clause-form c =
+pub returns-in_err-row_number_cell-clause-form : goal.returns-in_err-row_number_cell-clause-form
+returns-in_err-row_number_cell-clause-form c =
     λ h. no_form_at kept_column_cell_checks c.args.row.now 1 _ refl
-    (c.row_number_in_column.ensures.form
-    (handed_on c.row_number_in_column.result c.from_residual-in_err-row_number_in_column.result _ c.from_residual-in_err-row_number_in_column.ensures.1
-    c.in_err-row_number_in_column.was h))
+    (c.row_number_cell.ensures.form
+    (handed_on c.row_number_cell.result c.from_residual-in_err-row_number_cell.result _ c.from_residual-in_err-row_number_cell.ensures.1
+    c.in_err-row_number_cell.was h))
 
-pub returns-in_err-text_in_column-clause-form : goal.returns-in_err-text_in_column-clause-form
-returns-in_err-text_in_column-clause-form c =
+pub returns-in_err-text_cell-clause-form : goal.returns-in_err-text_cell-clause-form
+returns-in_err-text_cell-clause-form c =
     λ h. no_form_at kept_column_cell_checks c.args.row.now 2 _ refl
-    (c.text_in_column.ensures.form
-    (handed_on c.text_in_column.result c.from_residual-in_err-text_in_column.result _ c.from_residual-in_err-text_in_column.ensures.1
-    c.in_err-text_in_column.was h))
+    (c.text_cell.ensures.form
+    (handed_on c.text_cell.result c.from_residual-in_err-text_cell.result _ c.from_residual-in_err-text_cell.ensures.1
+    c.in_err-text_cell.was h))
 
-pub returns-in_err-text_in_column-2-clause-form : goal.returns-in_err-text_in_column-2-clause-form
-returns-in_err-text_in_column-2-clause-form c =
+pub returns-in_err-text_cell-2-clause-form : goal.returns-in_err-text_cell-2-clause-form
+returns-in_err-text_cell-2-clause-form c =
     λ h. no_form_at kept_column_cell_checks c.args.row.now 3 _ refl
-    (c.text_in_column-2.ensures.form
-    (handed_on c.text_in_column-2.result c.from_residual-in_err-text_in_column-2.result _ c.from_residual-in_err-text_in_column-2.ensures.1
-    c.in_err-text_in_column-2.was h))
+    (c.text_cell-2.ensures.form
+    (handed_on c.text_cell-2.result c.from_residual-in_err-text_cell-2.result _ c.from_residual-in_err-text_cell-2.ensures.1
+    c.in_err-text_cell-2.was h))

@@ -12,13 +12,13 @@ six_columns _ h = absurd (omega (arith, h))
 pub returns-clause-value : goal.returns-clause-value
 returns-clause-value c =
     rw (
-      sym c.in_ok-tier_in_column.ensures.value,
-      sym c.in_ok-trade_type_in_column.ensures.value,
-      sym c.in_ok-well_formed_text_in_column.ensures.value,
+      sym c.in_ok-tier_cell.ensures.value,
+      sym c.in_ok-trade_type_cell.ensures.value,
+      sym c.in_ok-formed_cell.ensures.value,
       sym
-          c.in_ok-quantity_in_column.ensures.value,
-      sym c.in_ok-quantity_in_column-2.ensures.value,
-      sym c.in_ok-commission_rate_in_column.ensures.value,
+          c.in_ok-qty_cell.ensures.value,
+      sym c.in_ok-qty_cell-2.ensures.value,
+      sym c.in_ok-rate_cell.ensures.value,
     )
     (six_columns c.args.row.now c.in_ok-check_column_count.ensures.columns)
 
@@ -28,44 +28,44 @@ returns-in_err-check_column_count-clause-form c =
     (c.check_column_count.ensures.form
     (handed_on c.check_column_count.result c.from_residual.result _ c.from_residual.ensures.1 c.in_err-check_column_count.was h))
 
-pub returns-in_err-tier_in_column-clause-form : goal.returns-in_err-tier_in_column-clause-form
-returns-in_err-tier_in_column-clause-form c =
+pub returns-in_err-tier_cell-clause-form : goal.returns-in_err-tier_cell-clause-form
+returns-in_err-tier_cell-clause-form c =
     λ h. no_form_at band_column_cell_checks c.args.row.now 0 _ refl
-    (c.tier_in_column.ensures.form
-    (handed_on c.tier_in_column.result c.from_residual-in_err-tier_in_column.result _ c.from_residual-in_err-tier_in_column.ensures.1
-    c.in_err-tier_in_column.was h))
+    (c.tier_cell.ensures.form
+    (handed_on c.tier_cell.result c.from_residual-in_err-tier_cell.result _ c.from_residual-in_err-tier_cell.ensures.1
+    c.in_err-tier_cell.was h))
 
-pub returns-in_err-trade_type_in_column-clause-form : goal.returns-in_err-trade_type_in_column-clause-form
-returns-in_err-trade_type_in_column-clause-form c =
+pub returns-in_err-trade_type_cell-clause-form : goal.returns-in_err-trade_type_cell-clause-form
+returns-in_err-trade_type_cell-clause-form c =
     λ h. no_form_at band_column_cell_checks c.args.row.now 1 _ refl
-    (c.trade_type_in_column.ensures.form
-    (handed_on c.trade_type_in_column.result c.from_residual-in_err-trade_type_in_column.result _ c.from_residual-in_err-trade_type_in_column.ensures.1
-    c.in_err-trade_type_in_column.was h))
+    (c.trade_type_cell.ensures.form
+    (handed_on c.trade_type_cell.result c.from_residual-in_err-trade_type_cell.result _ c.from_residual-in_err-trade_type_cell.ensures.1
+    c.in_err-trade_type_cell.was h))
 
-pub returns-in_err-well_formed_text_in_column-clause-form : goal.returns-in_err-well_formed_text_in_column-clause-form
-returns-in_err-well_formed_text_in_column-clause-form c =
+pub returns-in_err-formed_cell-clause-form : goal.returns-in_err-formed_cell-clause-form
+returns-in_err-formed_cell-clause-form c =
     λ h. no_form_at band_column_cell_checks c.args.row.now 2 _ refl
-    (c.well_formed_text_in_column.ensures.form
-    (handed_on c.well_formed_text_in_column.result c.from_residual-in_err-well_formed_text_in_column.result _
-    c.from_residual-in_err-well_formed_text_in_column.ensures.1 c.in_err-well_formed_text_in_column.was h))
+    (c.formed_cell.ensures.form
+    (handed_on c.formed_cell.result c.from_residual-in_err-formed_cell.result _
+    c.from_residual-in_err-formed_cell.ensures.1 c.in_err-formed_cell.was h))
 
-pub returns-in_err-quantity_in_column-clause-form : goal.returns-in_err-quantity_in_column-clause-form
-returns-in_err-quantity_in_column-clause-form c =
+pub returns-in_err-qty_cell-clause-form : goal.returns-in_err-qty_cell-clause-form
+returns-in_err-qty_cell-clause-form c =
     λ h. no_form_at band_column_cell_checks c.args.row.now 3 _ refl
-    (c.quantity_in_column.ensures.form
-    (handed_on c.quantity_in_column.result c.from_residual-in_err-quantity_in_column.result _ c.from_residual-in_err-quantity_in_column.ensures.1
-    c.in_err-quantity_in_column.was h))
+    (c.qty_cell.ensures.form
+    (handed_on c.qty_cell.result c.from_residual-in_err-qty_cell.result _ c.from_residual-in_err-qty_cell.ensures.1
+    c.in_err-qty_cell.was h))
 
-pub returns-in_err-quantity_in_column-2-clause-form : goal.returns-in_err-quantity_in_column-2-clause-form
-returns-in_err-quantity_in_column-2-clause-form c =
+pub returns-in_err-qty_cell-2-clause-form : goal.returns-in_err-qty_cell-2-clause-form
+returns-in_err-qty_cell-2-clause-form c =
     λ h. no_form_at band_column_cell_checks c.args.row.now 4 _ refl
-    (c.quantity_in_column-2.ensures.form
-    (handed_on c.quantity_in_column-2.result c.from_residual-in_err-quantity_in_column-2.result _ c.from_residual-in_err-quantity_in_column-2.ensures.1
-    c.in_err-quantity_in_column-2.was h))
+    (c.qty_cell-2.ensures.form
+    (handed_on c.qty_cell-2.result c.from_residual-in_err-qty_cell-2.result _ c.from_residual-in_err-qty_cell-2.ensures.1
+    c.in_err-qty_cell-2.was h))
 
-pub returns-in_err-commission_rate_in_column-clause-form : goal.returns-in_err-commission_rate_in_column-clause-form
-returns-in_err-commission_rate_in_column-clause-form c =
+pub returns-in_err-rate_cell-clause-form : goal.returns-in_err-rate_cell-clause-form
+returns-in_err-rate_cell-clause-form c =
     λ h. no_form_at band_column_cell_checks c.args.row.now 5 _ refl
-    (c.commission_rate_in_column.ensures.form
-    (handed_on c.commission_rate_in_column.result c.from_residual-in_err-commission_rate_in_column.result _
-    c.from_residual-in_err-commission_rate_in_column.ensures.1 c.in_err-commission_rate_in_column.was h))
+    (c.rate_cell.ensures.form
+    (handed_on c.rate_cell.result c.from_residual-in_err-rate_cell.result _
+    c.from_residual-in_err-rate_cell.ensures.1 c.in_err-rate_cell.was h))

@@ -9,23 +9,23 @@ returns-in_err-check_column_count-clause-form c =
     (c.check_column_count.ensures.form
     (handed_on c.check_column_count.result c.from_residual.result _ c.from_residual.ensures.1 c.in_err-check_column_count.was h))
 
-pub returns-in_err-trade_type_in_column-clause-form : goal.returns-in_err-trade_type_in_column-clause-form
-returns-in_err-trade_type_in_column-clause-form c =
+pub returns-in_err-trade_type_cell-clause-form : goal.returns-in_err-trade_type_cell-clause-form
+returns-in_err-trade_type_cell-clause-form c =
     λ h. no_form_at charge_column_cell_checks c.args.row.now 0 _ refl
-    (c.trade_type_in_column.ensures.form
-    (handed_on c.trade_type_in_column.result c.from_residual-in_err-trade_type_in_column.result _ c.from_residual-in_err-trade_type_in_column.ensures.1
-    c.in_err-trade_type_in_column.was h))
+    (c.trade_type_cell.ensures.form
+    (handed_on c.trade_type_cell.result c.from_residual-in_err-trade_type_cell.result _ c.from_residual-in_err-trade_type_cell.ensures.1
+    c.in_err-trade_type_cell.was h))
 
-pub returns-in_err-tier_in_column-clause-form : goal.returns-in_err-tier_in_column-clause-form
-returns-in_err-tier_in_column-clause-form c =
+pub returns-in_err-tier_cell-clause-form : goal.returns-in_err-tier_cell-clause-form
+returns-in_err-tier_cell-clause-form c =
     λ h. no_form_at charge_column_cell_checks c.args.row.now 1 _ refl
-    (c.tier_in_column.ensures.form
-    (handed_on c.tier_in_column.result c.from_residual-in_err-tier_in_column.result _ c.from_residual-in_err-tier_in_column.ensures.1
-    c.in_err-tier_in_column.was h))
+    (c.tier_cell.ensures.form
+    (handed_on c.tier_cell.result c.from_residual-in_err-tier_cell.result _ c.from_residual-in_err-tier_cell.ensures.1
+    c.in_err-tier_cell.was h))
 
-pub returns-in_err-charge_amount_in_column-clause-form : goal.returns-in_err-charge_amount_in_column-clause-form
-returns-in_err-charge_amount_in_column-clause-form c =
+pub returns-in_err-charge_cell-clause-form : goal.returns-in_err-charge_cell-clause-form
+returns-in_err-charge_cell-clause-form c =
     λ h. no_form_at charge_column_cell_checks c.args.row.now 2 _ refl
-    (c.charge_amount_in_column.ensures.form
-    (handed_on c.charge_amount_in_column.result c.from_residual-in_err-charge_amount_in_column.result _ c.from_residual-in_err-charge_amount_in_column.ensures.1
-    c.in_err-charge_amount_in_column.was h))
+    (c.charge_cell.ensures.form
+    (handed_on c.charge_cell.result c.from_residual-in_err-charge_cell.result _ c.from_residual-in_err-charge_cell.ensures.1
+    c.in_err-charge_cell.was h))

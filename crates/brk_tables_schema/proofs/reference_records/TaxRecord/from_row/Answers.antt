@@ -9,22 +9,22 @@ returns-in_err-check_column_count-clause-form c =
     (c.check_column_count.ensures.form
     (handed_on c.check_column_count.result c.from_residual.result _ c.from_residual.ensures.1 c.in_err-check_column_count.was h))
 
-pub returns-in_err-id_in_column-clause-form : goal.returns-in_err-id_in_column-clause-form
-returns-in_err-id_in_column-clause-form c =
+pub returns-in_err-id_cell-clause-form : goal.returns-in_err-id_cell-clause-form
+returns-in_err-id_cell-clause-form c =
     λ h. no_form_at tax_rate_column_cell_checks c.args.row.now 0 _ refl
-    (c.id_in_column.ensures.form
-    (handed_on c.id_in_column.result c.from_residual-in_err-id_in_column.result _ c.from_residual-in_err-id_in_column.ensures.1 c.in_err-id_in_column.was h))
+    (c.id_cell.ensures.form
+    (handed_on c.id_cell.result c.from_residual-in_err-id_cell.result _ c.from_residual-in_err-id_cell.ensures.1 c.in_err-id_cell.was h))
 
-pub returns-in_err-well_formed_text_in_column-clause-form : goal.returns-in_err-well_formed_text_in_column-clause-form
-returns-in_err-well_formed_text_in_column-clause-form c =
+pub returns-in_err-formed_cell-clause-form : goal.returns-in_err-formed_cell-clause-form
+returns-in_err-formed_cell-clause-form c =
     λ h. no_form_at tax_rate_column_cell_checks c.args.row.now 1 _ refl
-    (c.well_formed_text_in_column.ensures.form
-    (handed_on c.well_formed_text_in_column.result c.from_residual-in_err-well_formed_text_in_column.result _
-    c.from_residual-in_err-well_formed_text_in_column.ensures.1 c.in_err-well_formed_text_in_column.was h))
+    (c.formed_cell.ensures.form
+    (handed_on c.formed_cell.result c.from_residual-in_err-formed_cell.result _
+    c.from_residual-in_err-formed_cell.ensures.1 c.in_err-formed_cell.was h))
 
-pub returns-in_err-tax_rate_in_column-clause-form : goal.returns-in_err-tax_rate_in_column-clause-form
-returns-in_err-tax_rate_in_column-clause-form c =
+pub returns-in_err-tax_rate_cell-clause-form : goal.returns-in_err-tax_rate_cell-clause-form
+returns-in_err-tax_rate_cell-clause-form c =
     λ h. no_form_at tax_rate_column_cell_checks c.args.row.now 2 _ refl
-    (c.tax_rate_in_column.ensures.form
-    (handed_on c.tax_rate_in_column.result c.from_residual-in_err-tax_rate_in_column.result _ c.from_residual-in_err-tax_rate_in_column.ensures.1
-    c.in_err-tax_rate_in_column.was h))
+    (c.tax_rate_cell.ensures.form
+    (handed_on c.tax_rate_cell.result c.from_residual-in_err-tax_rate_cell.result _ c.from_residual-in_err-tax_rate_cell.ensures.1
+    c.in_err-tax_rate_cell.was h))

@@ -9,29 +9,29 @@ returns-in_err-check_column_count-clause-form c =
     (c.check_column_count.ensures.form
     (handed_on c.check_column_count.result c.from_residual.result _ c.from_residual.ensures.1 c.in_err-check_column_count.was h))
 
-pub returns-in_err-id_in_column-clause-form : goal.returns-in_err-id_in_column-clause-form
-returns-in_err-id_in_column-clause-form c =
+pub returns-in_err-id_cell-clause-form : goal.returns-in_err-id_cell-clause-form
+returns-in_err-id_cell-clause-form c =
     λ h. no_form_at holding_history_column_cell_checks c.args.row.now 0 _ refl
-    (c.id_in_column.ensures.form
-    (handed_on c.id_in_column.result c.from_residual-in_err-id_in_column.result _ c.from_residual-in_err-id_in_column.ensures.1 c.in_err-id_in_column.was h))
+    (c.id_cell.ensures.form
+    (handed_on c.id_cell.result c.from_residual-in_err-id_cell.result _ c.from_residual-in_err-id_cell.ensures.1 c.in_err-id_cell.was h))
 
-pub returns-in_err-id_in_column-2-clause-form : goal.returns-in_err-id_in_column-2-clause-form
-returns-in_err-id_in_column-2-clause-form c =
+pub returns-in_err-id_cell-2-clause-form : goal.returns-in_err-id_cell-2-clause-form
+returns-in_err-id_cell-2-clause-form c =
     λ h. no_form_at holding_history_column_cell_checks c.args.row.now 1 _ refl
-    (c.id_in_column-2.ensures.form
-    (handed_on c.id_in_column-2.result c.from_residual-in_err-id_in_column-2.result _ c.from_residual-in_err-id_in_column-2.ensures.1
-    c.in_err-id_in_column-2.was h))
+    (c.id_cell-2.ensures.form
+    (handed_on c.id_cell-2.result c.from_residual-in_err-id_cell-2.result _ c.from_residual-in_err-id_cell-2.ensures.1
+    c.in_err-id_cell-2.was h))
 
-pub returns-in_err-integer_in_column-clause-form : goal.returns-in_err-integer_in_column-clause-form
-returns-in_err-integer_in_column-clause-form c =
+pub returns-in_err-integer_cell-clause-form : goal.returns-in_err-integer_cell-clause-form
+returns-in_err-integer_cell-clause-form c =
     λ h. no_form_at holding_history_column_cell_checks c.args.row.now 2 _ refl
-    (c.integer_in_column.ensures.form
-    (handed_on c.integer_in_column.result c.from_residual-in_err-integer_in_column.result _ c.from_residual-in_err-integer_in_column.ensures.1
-    c.in_err-integer_in_column.was h))
+    (c.integer_cell.ensures.form
+    (handed_on c.integer_cell.result c.from_residual-in_err-integer_cell.result _ c.from_residual-in_err-integer_cell.ensures.1
+    c.in_err-integer_cell.was h))
 
-pub returns-in_err-integer_in_column-2-clause-form : goal.returns-in_err-integer_in_column-2-clause-form
-returns-in_err-integer_in_column-2-clause-form c =
+pub returns-in_err-integer_cell-2-clause-form : goal.returns-in_err-integer_cell-2-clause-form
+returns-in_err-integer_cell-2-clause-form c =
     λ h. no_form_at holding_history_column_cell_checks c.args.row.now 3 _ refl
-    (c.integer_in_column-2.ensures.form
-    (handed_on c.integer_in_column-2.result c.from_residual-in_err-integer_in_column-2.result _ c.from_residual-in_err-integer_in_column-2.ensures.1
-    c.in_err-integer_in_column-2.was h))
+    (c.integer_cell-2.ensures.form
+    (handed_on c.integer_cell-2.result c.from_residual-in_err-integer_cell-2.result _ c.from_residual-in_err-integer_cell-2.ensures.1
+    c.in_err-integer_cell-2.was h))

@@ -9,29 +9,29 @@ returns-in_err-check_column_count-clause-form c =
     (c.check_column_count.ensures.form
     (handed_on c.check_column_count.result c.from_residual.result _ c.from_residual.ensures.1 c.in_err-check_column_count.was h))
 
-pub returns-in_err-id_in_column-clause-form : goal.returns-in_err-id_in_column-clause-form
-returns-in_err-id_in_column-clause-form c =
+pub returns-in_err-id_cell-clause-form : goal.returns-in_err-id_cell-clause-form
+returns-in_err-id_cell-clause-form c =
     λ h. no_form_at settlement_column_cell_checks c.args.row.now 0 _ refl
-    (c.id_in_column.ensures.form
-    (handed_on c.id_in_column.result c.from_residual-in_err-id_in_column.result _ c.from_residual-in_err-id_in_column.ensures.1 c.in_err-id_in_column.was h))
+    (c.id_cell.ensures.form
+    (handed_on c.id_cell.result c.from_residual-in_err-id_cell.result _ c.from_residual-in_err-id_cell.ensures.1 c.in_err-id_cell.was h))
 
-pub returns-in_err-cash_type_in_column-clause-form : goal.returns-in_err-cash_type_in_column-clause-form
-returns-in_err-cash_type_in_column-clause-form c =
+pub returns-in_err-cash_type_cell-clause-form : goal.returns-in_err-cash_type_cell-clause-form
+returns-in_err-cash_type_cell-clause-form c =
     λ h. no_form_at settlement_column_cell_checks c.args.row.now 1 _ refl
-    (c.cash_type_in_column.ensures.form
-    (handed_on c.cash_type_in_column.result c.from_residual-in_err-cash_type_in_column.result _ c.from_residual-in_err-cash_type_in_column.ensures.1
-    c.in_err-cash_type_in_column.was h))
+    (c.cash_type_cell.ensures.form
+    (handed_on c.cash_type_cell.result c.from_residual-in_err-cash_type_cell.result _ c.from_residual-in_err-cash_type_cell.ensures.1
+    c.in_err-cash_type_cell.was h))
 
-pub returns-in_err-day_in_column-clause-form : goal.returns-in_err-day_in_column-clause-form
-returns-in_err-day_in_column-clause-form c =
+pub returns-in_err-day_cell-clause-form : goal.returns-in_err-day_cell-clause-form
+returns-in_err-day_cell-clause-form c =
     λ h. no_form_at settlement_column_cell_checks c.args.row.now 2 _ refl
-    (c.day_in_column.ensures.form
-    (handed_on c.day_in_column.result c.from_residual-in_err-day_in_column.result _ c.from_residual-in_err-day_in_column.ensures.1 c.in_err-day_in_column.was
+    (c.day_cell.ensures.form
+    (handed_on c.day_cell.result c.from_residual-in_err-day_cell.result _ c.from_residual-in_err-day_cell.ensures.1 c.in_err-day_cell.was
     h))
 
-pub returns-in_err-cents_in_column-clause-form : goal.returns-in_err-cents_in_column-clause-form
-returns-in_err-cents_in_column-clause-form c =
+pub returns-in_err-cents_cell-clause-form : goal.returns-in_err-cents_cell-clause-form
+returns-in_err-cents_cell-clause-form c =
     λ h. no_form_at settlement_column_cell_checks c.args.row.now 3 _ refl
-    (c.cents_in_column.ensures.form
-    (handed_on c.cents_in_column.result c.from_residual-in_err-cents_in_column.result _ c.from_residual-in_err-cents_in_column.ensures.1
-    c.in_err-cents_in_column.was h))
+    (c.cents_cell.ensures.form
+    (handed_on c.cents_cell.result c.from_residual-in_err-cents_cell.result _ c.from_residual-in_err-cents_cell.ensures.1
+    c.in_err-cents_cell.was h))

@@ -30,13 +30,13 @@ returns-then-is_before_stamp-clause-takes g c =
 pub returns-in_default-clause-stops : goal.returns-in_default-clause-stops
 returns-in_default-clause-stops g c = none_first _ _ _ refl
 
-pub returns-in_err-write_opening_and_row_lines-clause-stops : goal.returns-in_err-write_opening_and_row_lines-clause-stops
-returns-in_err-write_opening_and_row_lines-clause-stops g c =
+pub returns-in_err-write_cash_row-clause-stops : goal.returns-in_err-write_cash_row-clause-stops
+returns-in_err-write_cash_row-clause-stops g c =
     let self = c.args.self.now in
     let item = c.args.item.now in
     let late : nat_lt item.stamp self.first ≡ false = sym c.is_before_stamp.ensures ∙ c.if-is_before_stamp.false in
-    on_err (FailsWithinFirstLines (lines_of_cash_row (nat_lt item.stamp self.first) self.moved (abstract_cash_row item)) _ _) _ _ c.from_residual-in_err-write_opening_and_row_lines.ensures.1
-    (rw late (weaker _ _ _ _ c.in_err-write_opening_and_row_lines.ensures))
+    on_err (FailsWithinFirstLines (lines_of_cash_row (nat_lt item.stamp self.first) self.moved (abstract_cash_row item)) _ _) _ _ c.from_residual-in_err-write_cash_row.ensures.1
+    (rw late (weaker _ _ _ _ c.in_err-write_cash_row.ensures))
 
 pub returns-clause-takes : goal.returns-clause-takes
 returns-clause-takes g c =
@@ -44,4 +44,4 @@ returns-clause-takes g c =
     let item = c.args.item.now in
     let late : nat_lt item.stamp self.first ≡ false = sym c.is_before_stamp.ensures ∙ c.if-is_before_stamp.false in
     let counted : c.in-Some.count ≡ self.moved.count + 1 = search rules in
-    rw late (refl, (λ i. record { is_opened = true; count = counted i; total = c.in_ok-total.ensures.sum i }), c.in_ok-write_opening_and_row_lines.ensures)
+    rw late (refl, (λ i. record { is_opened = true; count = counted i; total = c.in_ok-total.ensures.sum i }), c.in_ok-write_cash_row.ensures)

@@ -1,9 +1,0 @@
-use Rattle.std.proofs.Common.{◌≡◌, true, take}
-use Rattle.std.specs.List.{list_all}
-use Rattle.brk_model.specs.Form.{is_well_formed_cash_move_row}
-use Rattle.brk_ref.specs.Rows.{abstract_cash_row}
-use Rattle.brk_trade_rows.specs.Sheets.{abstract_sheets}
-use Rattle.brk_audit_form.proofs.cash_names.are_cash_move_rows_well_formed.Given as goal
-
-abbrev pub invariant-loop-row : goal.invariant-loop-row
-invariant-loop-row l = list_all (λ r. is_well_formed_cash_move_row (abstract_sheets l.sheets) (abstract_cash_row r)) (take l.row-index l.row-items) ≡ true

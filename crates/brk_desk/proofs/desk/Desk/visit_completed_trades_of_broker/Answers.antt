@@ -1,4 +1,0 @@
-use Rattle.brk_desk.proofs.desk.Desk.visit_completed_trades_of_broker.Goals as goal
-
-pub returns-clause-walked : goal.returns-clause-walked
-returns-clause-walked g c = rw c.self.view_is at c.visit_completed_trades_of_broker.ensures.walked

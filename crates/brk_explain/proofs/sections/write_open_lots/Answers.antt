@@ -1,0 +1,33 @@
+use Rattle.std.proofs.Common.{[], ◌∷◌, map, refl, rules, sym, subst}
+use Rattle.std.specs.Io.KnownBytes.{Appends}
+use Rattle.brk_ref.specs.Rows.{abstract_holding_row}
+use Rattle.brk_model.specs.Statement.{text_of_lines, holding_rows_of_account}
+use Rattle.brk_model_explain.specs.AccountLines.{open_lot_line}
+use Rattle.brk_report_lines.specs.Written.{FailsWithinFirstLines}
+use Rattle.brk_report.proofs.Section.{in_broken, known_end, written_all, written_first}
+use Rattle.brk_explain.specs.declared.visitors.OpenLotWriter.{OpenLotWriter}
+use Rattle.brk_explain.proofs.sections.write_open_lots.Goals as goal
+
+pub returns-in-Ok-clause-written : goal.returns-in-Ok-clause-written
+returns-in-Ok-clause-written g c = λ clean t holds.
+    let w = written_all g.S.Store _ _ abstract_holding_row (λ t. holding_rows_of_account t c.args.account) _ _ _ _ t clean holds c.visit_lots.result
+    c.visit_lots.ensures.walked open_lot_line (λ (v : OpenLotWriter g.row.W.Denot). g.W.Write.contents v.writer.now) (λ v. v.count)
+    (λ p x q h. (h.1, h.0)) (λ p x e q h. h) c.in-Ok.field-0 c.in-Ok.is refl in
+    (subst (λ w. Appends (g.W.Write.contents c.args.writer.now) (g.W.Write.contents w) (text_of_lines (map open_lot_line (holding_rows_of_account t c.args.account)))) (search rules) w.0, w.1)
+
+pub returns-in-Err-clause-written : goal.returns-in-Err-clause-written
+returns-in-Err-clause-written g c = λ clean t holds.
+    let w = written_first g.S.Store _ _ abstract_holding_row (λ t. holding_rows_of_account t c.args.account) _ _ _ _ t clean holds c.visit_lots.result
+    c.visit_lots.ensures.walked open_lot_line (λ (v : OpenLotWriter g.row.W.Denot). g.W.Write.contents v.writer.now) (λ v. v.count)
+    (λ p x q h. (h.1, h.0)) (λ p x e q h. h) c.in-Err.stop c.in-Err.is in
+    subst (λ w. FailsWithinFirstLines (map open_lot_line (holding_rows_of_account t c.args.account)) (g.W.Write.contents c.args.writer.now)
+    (g.W.Write.contents w) c.fault_from_walk_error.result) (search rules)
+    (subst (λ e. FailsWithinFirstLines (map open_lot_line (holding_rows_of_account t c.args.account)) (g.W.Write.contents c.args.writer.now)
+    (g.W.Write.contents c.visit_lots.new.visitor.writer.now) e) (sym c.fault_from_walk_error.ensures) w)
+
+pub returns-in-Err-clause-fault : goal.returns-in-Err-clause-fault
+returns-in-Err-clause-fault g c =
+    known_end g.S.Store _ _ abstract_holding_row (λ t. holding_rows_of_account t c.args.account) _ _ _ _ c.visit_lots.result c.visit_lots.ensures.walked
+    (λ (p : OpenLotWriter g.row.W.Denot) x e (q : OpenLotWriter g.row.W.Denot) h. in_broken (open_lot_line (abstract_holding_row x) ∷ [])
+    (g.W.Write.contents p.writer.now) (g.W.Write.contents q.writer.now) e h)
+    c.in-Err.stop c.in-Err.is c.fault_from_walk_error.result c.fault_from_walk_error.ensures

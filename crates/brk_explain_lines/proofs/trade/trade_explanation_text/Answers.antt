@@ -1,9 +1,0 @@
-use Rattle.std.proofs.Common.{rules}
-use Rattle.std.proofs.lemmas.Grind.{flat_map-append}
-use Rattle.std.proofs.lemmas.List.{append_assoc}
-use Rattle.brk_model_explain.specs.TradeLines.{trade_explanation_lines}
-use Rattle.brk_explain_lines.proofs.trade.trade_explanation_text.Goals as goal
-
-pub returns-clause-text : goal.returns-clause-text
-unfolding trade_explanation_lines
-returns-clause-text c = search (rules, append_assoc, flat_map-append)

@@ -1,8 +1,0 @@
-use Rattle.std.proofs.Common.{rules}
-use Rattle.std.proofs.lemmas.List.{append_assoc, length-map}
-use Rattle.brk_model_explain.specs.TradeLines.{uncompleted_trade_lines}
-use Rattle.brk_explain_lines.proofs.waiting_lines.put_uncompleted_trade_lines.Goals as goal
-
-pub returns-clause-ok : goal.returns-clause-ok
-unfolding uncompleted_trade_lines
-returns-clause-ok c = search (rules, append_assoc, length-map)

@@ -1,0 +1,21 @@
+use Rattle.std.proofs.Common.{◌∙◌, ◌==◌, ◌++◌, ◌∷◌, [], ap, filter, map, not}
+use Rattle.std.proofs.lemmas.List.{take_all}
+use Rattle.brk_ref.specs.Rows.{abstract_lot_change_row}
+use Rattle.brk_model.specs.Tables.{HoldingHistoryRow}
+use Rattle.brk_explain_reads.proofs.Each.{last_more}
+use Rattle.brk_explain_reads.proofs.lot_changes.later_changes.Goals as goal
+
+pub loop-change-init : goal.loop-change-init
+loop-change-init c = ap (map abstract_lot_change_row) c.new-later.ensures.items
+
+pub loop-change-preserved : goal.loop-change-preserved
+loop-change-preserved c =
+    let later = λ (h : HoldingHistoryRow). not (h.trade == c.args.lot) in
+    let change = c.change-item.result in
+    c.in_ok-push_later.ensures.added ∙ ap (λ hs. hs ++ filter later (abstract_lot_change_row change ∷ [])) c.loop-change.invariant
+    ∙ last_more abstract_lot_change_row later c.args.changes.now c.loop-change.change-index change c.loop-change-test.true c.change-item.is
+
+pub returns-clause-later : goal.returns-clause-later
+returns-clause-later c =
+    c.loop-change.invariant
+    ∙ ap (λ hs. filter (λ (h : HoldingHistoryRow). not (h.trade == c.args.lot)) (map abstract_lot_change_row hs)) (take_all c.loop-change.change-index c.args.changes.now c.loop-change-test.false)

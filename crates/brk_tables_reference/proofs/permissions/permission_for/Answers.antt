@@ -1,0 +1,31 @@
+use Rattle.std.proofs.Common.{pos, [], ◌∷◌, ◌==◌, ◌&&◌, find, filter}
+use Rattle.std.specs.Prelude.{bytes_eq}
+use Rattle.sqlite_value.specs.declared.value.Value.TheVariants.{Int, Text}
+use Rattle.sqlite_keyed.proofs.ListLemmas.{slice_get-filter}
+use Rattle.sqlite.specs.Held.{state}
+use Rattle.brk_ref.specs.Records.{abstract_permission}
+use Rattle.brk_model.specs.Records.{Permission}
+use Rattle.brk_tables_sql.proofs.Answer.{look_first}
+use Rattle.brk_tables_schema.specs.Cells.{permission_cells}
+use Rattle.brk_tables_schema.specs.Desk.{desk_tables}
+use Rattle.brk_tables_schema.proofs.Back.{permission_back, permission_is_back}
+use Rattle.brk_tables_reference.proofs.PermissionByKey
+use Rattle.brk_tables_reference.proofs.PermissionByKey.{plain}
+use Rattle.brk_tables_reference.proofs.ReferenceReads.{tells_permission}
+use Rattle.brk_tables_reference.proofs.permissions.permission_for.Goals as goal
+
+pub select_rows-requires : goal.select_rows-requires
+select_rows-requires g c = record { no_returning_clause = plain }
+
+pub returns-clause-step : goal.returns-clause-step
+returns-clause-step g c =
+    let old = state g.S.Store c.args.tx.now.conn.now in
+    let new = state g.S.Store c.select_rows.new.tx.conn.now in
+    look_first desk_tables permission_cells permission_back permission_is_back abstract_permission PermissionByKey.statement
+    (Int (pos c.args.account) ∷ Text c.args.tax_id.now ∷ []) old new c.in_ok-rows.rows (λ rows. rows.items) _ c.deref.ensures.value
+    (rw (c.id_param.ensures, c.text_param.ensures, c.as_str.ensures) at c.in_ok-rows.ensures.step)
+    c.decode_first_row.result c.decode_first_row.ensures.value
+    (λ t. filter (λ (r : Permission). (r.account == c.args.account) && bytes_eq r.tax_id c.args.tax_id.now) t.permissions)
+    (λ t. find (λ (r : Permission). (r.account == c.args.account) && bytes_eq r.tax_id c.args.tax_id.now) t.permissions)
+    (λ t. slice_get-filter (λ (r : Permission). (r.account == c.args.account) && bytes_eq r.tax_id c.args.tax_id.now) t.permissions)
+    (tells_permission old new c.args.account c.args.tax_id.now _)

@@ -1,7 +1,0 @@
-use Rattle.brk_trade.proofs.Results.{three_added}
-use Rattle.brk_trade.proofs.completion.append_summary_broker_settlement_changes.Goals as goal
-
-pub returns-clause-changes : goal.returns-clause-changes
-returns-clause-changes c =
-    three_added _ _ _ _ _ _ _ _ _ _ c.in_ok-push.ensures.items c.in_ok-push-2.ensures.items c.in_ok-push-3.ensures.items
-    c.in_ok-summary.ensures.change c.create_broker_totals_change.ensures c.create_settlement_change.ensures

@@ -1,7 +1,0 @@
-use Rattle.std.proofs.Common.{◌≡◌, map, take}
-use Rattle.brk_trade_rows.specs.Changes.{tables_after_change}
-use Rattle.brk_trade_plans.specs.Update.{tables_with_toggled_cash_type}
-use Rattle.brk_trade_plans.proofs.update.create_cash_type_changes.Given as goal
-
-abbrev pub invariant-loop-one : goal.invariant-loop-one
-invariant-loop-one l = map tables_after_change l.changes.items ≡ map tables_with_toggled_cash_type (take l.one-index l.settled)
