@@ -134,11 +134,6 @@ static long ended(long result, enum what now) {
     return result;
 }
 
-static long answer(long result) {
-    if (result >= 0 || result < -4095) return result;
-    return failed((int)-result);
-}
-
 __attribute__((destructor)) static void end(void) {
     char text[32];
     if (!count_path) return;
@@ -152,7 +147,7 @@ static int opened(const char *path, int flags, mode_t mode) {
     char kind = kind_of_path(path);
     enum what now = kind ? disturbance('o') : NOTHING;
     if (now == FAIL) return (int)failed(error_number);
-    int fd = (int)answer(syscall(SYS_openat, AT_FDCWD, path, flags, mode));
+    int fd = (int)syscall(SYS_openat, AT_FDCWD, path, flags, mode);
     if (fd >= 0 && fd < MAX_FD) {
         kinds[fd] = kind;
         if (kind && kind != 'f' && (flags & O_CREAT)) record('o', kind, 0, 0, NULL);
@@ -175,7 +170,7 @@ int close(int fd) {
     char kind = kind_of(fd);
     if (fd == record_fd) return 0;
     if (kind) kinds[fd] = 0;
-    return (int)answer(syscall(SYS_close, fd));
+    return (int)syscall(SYS_close, fd);
 }
 
 static int64_t size_of(int fd) {
@@ -195,7 +190,7 @@ static size_t fitting(int fd, size_t bytes, int64_t at) {
 
 ssize_t pwrite(int fd, const void *data, size_t bytes, off_t at) {
     char kind = kind_of(fd);
-    if (!kind) return answer(syscall(SYS_pwrite64, fd, data, bytes, at));
+    if (!kind) return syscall(SYS_pwrite64, fd, data, bytes, at);
     enum what now = disturbance('w');
     if (now == FAIL) return failed(error_number);
     if (now == IGNORE) return (ssize_t)bytes;
@@ -203,18 +198,18 @@ ssize_t pwrite(int fd, const void *data, size_t bytes, off_t at) {
     if (now == TORN && (size_t)torn_bytes < bytes) bytes = torn_bytes;
     size_t fit = fitting(fd, bytes, at);
     if (bytes && !fit) return failed(ENOSPC);
-    ssize_t put = answer(syscall(SYS_pwrite64, fd, data, fit, at));
+    ssize_t put = syscall(SYS_pwrite64, fd, data, fit, at);
     if (put > 0) record('w', kind, at, put, data);
     return ended(put, now);
 }
 
 static int synced(int fd, long call) {
     char kind = kind_of(fd);
-    if (!kind) return (int)answer(syscall(call, fd));
+    if (!kind) return (int)syscall(call, fd);
     enum what now = disturbance('s');
     if (now == FAIL) return (int)failed(error_number);
     if (now == IGNORE) return 0;
-    int result = (int)answer(syscall(call, fd));
+    int result = (int)syscall(call, fd);
     if (!result) record('s', kind, 0, 0, NULL);
     return (int)ended(result, now);
 }
@@ -225,12 +220,12 @@ int fdatasync(int fd) { return synced(fd, SYS_fdatasync); }
 
 int ftruncate(int fd, off_t length) {
     char kind = kind_of(fd);
-    if (!kind) return (int)answer(syscall(SYS_ftruncate, fd, length));
+    if (!kind) return (int)syscall(SYS_ftruncate, fd, length);
     enum what now = disturbance('t');
     if (now == FAIL) return (int)failed(error_number);
     if (now == IGNORE) return 0;
     int64_t before = size_of(fd);
-    int result = (int)answer(syscall(SYS_ftruncate, fd, length));
+    int result = (int)syscall(SYS_ftruncate, fd, length);
     if (!result) record('t', kind, length, 0, NULL);
     if (!result && room >= 0 && length < before) room += before - length;
     return (int)ended(result, now);
@@ -240,7 +235,7 @@ ssize_t pread(int fd, void *data, size_t bytes, off_t at) {
     enum what now = kind_of(fd) ? disturbance('r') : NOTHING;
     if (now == FAIL) return failed(error_number);
     if (now == SHORT && bytes > 1) bytes /= 2;
-    return ended(answer(syscall(SYS_pread64, fd, data, bytes, at)), now);
+    return ended(syscall(SYS_pread64, fd, data, bytes, at), now);
 }
 
 ssize_t write(int fd, const void *data, size_t bytes) {
@@ -248,7 +243,7 @@ ssize_t write(int fd, const void *data, size_t bytes) {
     enum what now = fd == 1 ? disturbance('1') : NOTHING;
     if (now == FAIL) return failed(error_number);
     if (now == SHORT && bytes > 1) bytes /= 2;
-    ssize_t put = answer(syscall(SYS_write, fd, data, bytes));
+    ssize_t put = syscall(SYS_write, fd, data, bytes);
     if (put > 0 && fd == 1) record('1', '1', 0, put, data);
     return ended(put, now);
 }
@@ -258,7 +253,7 @@ ssize_t read(int fd, void *data, size_t bytes) {
     enum what now = fd == 0 ? disturbance('0') : NOTHING;
     if (now == FAIL) return failed(error_number);
     if (now == SHORT && bytes > 1) bytes /= 2;
-    return ended(answer(syscall(SYS_read, fd, data, bytes)), now);
+    return ended(syscall(SYS_read, fd, data, bytes), now);
 }
 
 // the names of programs that are compiled with 64-bit offsets
