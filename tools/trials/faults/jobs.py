@@ -90,3 +90,13 @@ def recorded(program, job, letters, **faults):
     if ended.how != WELL:
         sys.exit(f"{job.name}: recorded: {ended.how}")
     return states.recorded(path + ".record")
+
+
+def around_checkpoint(calls):
+    """The places of recorded calls around the first writes to the file itself between two lines."""
+    lines = [at for at, call in enumerate(calls) if call.letter == "1"]
+    first = next((at for at in range(lines[0], lines[-2]) if calls[at].kind == "d"), None)
+    if first is None:
+        sys.exit("the long day has no checkpoint before its last row")
+    after = next(at for at in lines if at > first)
+    return range(first - 60, min(after + 60, len(calls)))
