@@ -8,10 +8,11 @@ import subprocess
 import time
 
 import states
-from sendings import CLOCK, SECONDS, Wrong, as_first, expect, placed
+from sendings import CLOCK, Wrong, as_first, expect, placed
 
 CALLS = "wsto"
 STREAMS = 400
+SECONDS = 120
 PATIENCE = 6
 
 
@@ -44,9 +45,12 @@ class Server:
         raise Wrong("the server neither listens nor ends")
 
     def ended(self):
-        """How it ended by itself."""
-        self.process.wait(SECONDS)
-        return self.process.returncode, pathlib.Path(self.errors).read_text()
+        """How it ended by itself, after a stream without a whole reply."""
+        try:
+            status = self.process.wait(SECONDS)
+        except subprocess.TimeoutExpired:
+            raise Wrong("a stream without a whole reply, and the server goes on") from None
+        return status, pathlib.Path(self.errors).read_text()
 
     def kill(self):
         self.process.send_signal(signal.SIGKILL)
