@@ -11,7 +11,7 @@ from days import REFUSED, SETTING, day_of
 from sendings import TOP, WELL, Audit, Program, Sending, found, placed
 
 OLDER = TOP / "tools" / "trials" / "older"
-DAY_ROWS, LONG_ROWS = 40, 260
+DAY_ROWS, LONG_ROWS = 40, 150
 
 
 def arguments(doc, **numbers):

@@ -127,33 +127,32 @@ def calls_of(program, job):
 
 
 class Client:
-    """Sends all rows, each until it is answered; starts a server that has ended again, as a service manager does."""
+    """Sends all rows, each until it is answered, as docs/formats/http.md says: it starts a server again that has ended, and ends one
+    that replies 503 again and again."""
 
-    def __init__(self, program, job, path, goes_on, **faults):
-        self.program, self.job, self.path, self.goes_on = program, job, path, goes_on
+    def __init__(self, program, job, path, **faults):
+        self.program, self.job, self.path = program, job, path
         self.server = Server(program, path, **faults)
-        self.faults = self.starts = 0
+        self.came = set()
 
-    def start_again(self):
+    def start_again(self, came):
         self.server = Server(self.program, self.path)
-        self.starts += 1
+        self.came.add(came)
 
     def answer(self, number, row):
-        """The reply to a row. A fault that goes on is ended by the kill of the server after some streams; any other may not last so long."""
-        for turn in range(2 * PATIENCE):
+        for turn in range(1, 2 * PATIENCE):
             reply = self.server.reply(self.job.name, number, row)
             if reply is None:
                 how = self.server.ended()
                 expect(how == (3, "brk: fault: store\n"), f"row {number}: the server ended: {how}")
-                self.start_again()
+                self.start_again("ended by the fault")
             elif reply[0] != 503:
                 return reply
-            elif turn == PATIENCE and self.goes_on:
+            elif turn == PATIENCE:
                 self.server.kill()
-                self.start_again()
+                self.start_again("ended after 503 again and again")
             else:
-                self.faults += 1
-                expect(turn < PATIENCE, f"row {number}: no reply but 503 in {PATIENCE} streams")
+                self.came.add("with a reply of 503")
         raise Wrong(f"row {number}: no reply in {2 * PATIENCE} streams")
 
     def send_all(self):
@@ -164,19 +163,16 @@ class Client:
 
 
 def try_faults(sweep, job, cases):
-    """Lets calls of a server fail: it answers again, or ends and is started again, and no row is lost or booked twice."""
+    """Lets calls of a server fail: no row is lost or booked twice."""
 
     def one(case, path):
         placed(path, job.before)
-        client = Client(sweep.program, job, path, case.goes_on, **case.faults())
+        client = Client(sweep.program, job, path, **case.faults())
         try:
             client.send_all()
         finally:
             client.server.kill()
         job.settled(path, len(job.rows))
-        came = ["tried"]
-        came += ["with a reply of 503"] if client.faults else []
-        came += ["started again"] if client.starts else []
-        return came
+        return ["tried", *client.came]
 
     sweep.sweep("brk serve", cases, one)

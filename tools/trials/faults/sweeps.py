@@ -56,10 +56,11 @@ class Sweep:
 
     def control(self, title, cases, one):
         """Tries cases of which some have to be wrong: the checks of the trial find losses."""
-        counts, wrongs = self.tally(cases, one, sys.maxsize)
+        cases = list(cases)
+        _, wrongs = self.tally(cases, one, sys.maxsize)
         if not wrongs:
             self.wrong += 1
-        print(f"{'ok   ' if wrongs else 'WRONG'} control, {title}: {len(wrongs)} wrong, as it has to be, {counts['tried']} not noticed", flush=True)
+        print(f"{'ok   ' if wrongs else 'WRONG'} control, {title}: {len(wrongs)} of {len(cases)} found wrong, as they have to be", flush=True)
 
     def end(self, what):
         print(f"{self.tried} {what}, {self.wrong} wrong")
