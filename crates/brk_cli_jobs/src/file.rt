@@ -8,6 +8,7 @@ ghost use Rattle.brk_cli_jobs.specs.Files.{HasLastCommitInFile, IsNewConnectionT
 ghost use Rattle.brk_cli_jobs.specs.Opened.{RepresentsRowsOfFile};
 ghost use Rattle.brk_cli_jobs.specs.Opening.{IsAdoptionResult, OpenOrCreatePost, OpenPost};
 
+use crate::examining::may_open_or_create;
 use brk_money::{Condition, Fault};
 use brk_store::Store;
 use sqlite::{Alter, Connection, File, FileStore};
@@ -42,11 +43,15 @@ pub fn close_desk_file(store: FileDesk) -> Result<(), Fault>
     close_connection(store.into_conn())
 }
 
-// A missing file becomes a new database.
+// A missing file becomes a new database. A file that may not be opened, or over which none may be
+// made, is left as it is, with its log.
 fn open_connection(rt: &HostRuntime, path: &str) -> Result<Connection<FileStore<File>>, Fault>
     ensures opened { IfOk result IsNewConnectionToFile }
     ensures fault { OnErr result (result ≡ Err fault.Store) }
 {
+    if !may_open_or_create(rt, path) {
+        return Err(Fault::Store);
+    }
     match Connection::open(rt, path) {
         Ok(conn) => Ok(conn),
         Err(_) => Err(Fault::Store),
