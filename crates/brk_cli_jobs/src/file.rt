@@ -85,7 +85,9 @@ fn adopt_file(rt: &HostRuntime, conn: Connection<FileStore<File>>) -> Result<Fil
 /// Opens the desk in the file at `path`, and upgrades a file of an older schema. Creates a desk if
 /// the file is missing or empty or has no table of a desk. Fails with `Damaged` and the first
 /// condition that fails if the file has a table of a desk and does not pass the audit, or with
-/// `Memory` or `Store`; a new desk may then have been created.
+/// `Memory` or `Store`; a new desk may then have been created. Fails with `Store`, and changes
+/// nothing, if the file is missing or empty and its log has a commit, or if the file is neither a
+/// database nor what a creation that was stopped leaves.
 ///
 /// A new desk is closed and opened again, so that its tables are in the file itself, and a file
 /// that then loses its log is never treated as a new one.
@@ -118,7 +120,9 @@ fn is_missing_or_empty(rt: &HostRuntime, path: &str) -> bool {
 
 /// Opens the desk in the file at `path`, and upgrades a file of an older schema. Creates no desk.
 /// Fails with `Damaged(Schema)` if the file is missing or empty, with `Damaged` and the first
-/// condition that fails if it does not pass the audit, or with `Memory` or `Store`.
+/// condition that fails if it does not pass the audit, or with `Memory` or `Store`. Fails with
+/// `Store`, and changes nothing, if the file is neither a database nor what a creation that was
+/// stopped leaves.
 pub fn open_desk_file(rt: &HostRuntime, path: &str) -> Result<FileDesk, Fault>
     ensures opened { OpenPost result }
     ensures represented { IfOk result (λ store. RepresentsRowsOfFile over_files store) }
