@@ -1,4 +1,5 @@
--- Files that a database may be opened or made over, by the bytes of the file and of its log.
+-- Files that a database may be opened or made over: `file` has the bytes of the file, at most the
+-- first 4,097, and `log` those of its log.
 use Rattle.std.specs.Prelude.{◌≡◌, ◌≢◌, ◌⊎◌, ℕ, List, [], ◌∷◌, ◌++◌, ◌+◌, ◌*◌, ◌≤◌, codes, length, slice_index, take}
 use Rattle.sqlite_wal.specs.Format.{be32}
 
@@ -28,7 +29,8 @@ HasCommit log = IsLog log × ((i : ℕ) × (frame_start log (i + 1) ≤ length l
 abbrev pub HasDatabaseHeader : List ℕ → Type 0
 HasDatabaseHeader file = take 16 file ≡ codes "SQLite format 3" ++ 0 ∷ []
 
--- No database was made yet: the file is empty, or it is what a creation that was stopped left.
+-- No database was made yet: the file is empty, or it is what a creation that was stopped left, one
+-- byte 0, or a part of the first page that begins with a byte 0, beside the log of this creation.
 abbrev pub IsUnfinished : List ℕ → List ℕ → Type 0
 IsUnfinished file log =
     (length file ≡ 0) ⊎ ((slice_index file 0 ≡ 0) × (length file ≤ 4096) × ((length file ≡ 1) ⊎ BeginsDatabase log))
