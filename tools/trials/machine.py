@@ -16,7 +16,7 @@ import time
 
 TOP = pathlib.Path(__file__).resolve().parents[2]
 PAGE = TOP / "docs/PACKAGE.md"
-RUN_HERE = "<!-- not run: tools/trials/try_package runs it"
+RUN_HERE = "<!-- not run: tools/trials/try_package -->"
 # the day and the packages that the page names
 DAY, PACKAGE = "2026-11-29", re.compile(r"brk_[\d.]+-(\d+)_amd64\.deb")
 PORT = 8123
@@ -57,8 +57,8 @@ def page_blocks(packages):
     for section in PAGE.read_text(encoding="utf-8").split("\n## ")[1:]:
         title, _, text = section.partition("\n")
         for part in text.split(RUN_HERE)[1:]:
-            _, _, after = part.partition("-->\n\n")
-            lines = [line[4:] for line in after.partition("\n\n")[0].split("\n") if line.startswith("    ")]
+            block = part.lstrip("\n").partition("\n\n")[0].split("\n")
+            lines = [line[4:] for line in block if line.startswith("    ")]
             found.setdefault(title, []).append([of_today(line, packages) for line in lines])
     return found
 
