@@ -22,7 +22,7 @@ TOP = HERE.parents[2]
 CLOCK = "1709251200000"
 WELL = (0, "")
 SCHEMA = (1, "brk: damaged: schema\n")
-SECONDS = 600
+SECONDS = 120
 
 
 class Wrong(Exception):
@@ -117,7 +117,10 @@ class Program:
         if faults:
             env = self.environment(path, faults)
         words = [self.brk, words[0], "--db", path, *words[1:]]
-        done = subprocess.run(words, input=rows, capture_output=True, env=env, timeout=SECONDS)
+        try:
+            done = subprocess.run(words, input=rows, capture_output=True, env=env, timeout=SECONDS)
+        except subprocess.TimeoutExpired:
+            raise Wrong(f"no end within {SECONDS} s") from None
         calls = 0
         if counting:
             calls = int(pathlib.Path(path + ".count").read_text())
