@@ -8,8 +8,8 @@ use Rattle.brk_store.proofs.Retelling.{retold}
 use Rattle.brk_desk_decisions.proofs.OrderFinds.{find-filter}
 use Rattle.brk_desk_decisions.proofs.amounts.account_amounts.Goals as goal
 
-pub returns-in-Some-clause-read : goal.returns-in-Some-clause-read
-returns-in-Some-clause-read g c =
+pub returns-in-Some : goal.returns-in-Some
+returns-in-Some g c = record { read =
     let account = c.args.account.now in
     let symbol = c.args.symbol.now in
     let held = c.in_ok-held.held in
@@ -23,4 +23,4 @@ returns-in-Some-clause-read g c =
           ∙ ap (λ rows. option_map (λ (r : SummaryRow). r.qty) (find (λ (r : SummaryRow). bytes_eq r.symbol symbol) rows)) (ap (map abstract_summary_row) c.deref.ensures.value ∙ p.rows)
           ∙ ap (option_map (λ (r : SummaryRow). r.qty)) (find-filter (λ (r : SummaryRow). r.account == account.account.id) (λ (r : SummaryRow). bytes_eq r.symbol symbol) t.summaries);
     })
-    c.in_ok-held.ensures.read
+    c.in_ok-held.ensures.read }

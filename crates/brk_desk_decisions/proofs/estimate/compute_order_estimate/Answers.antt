@@ -7,8 +7,8 @@ use Rattle.brk_store.proofs.ReadResults.{decided_on, read_at}
 use Rattle.brk_desk_decisions.proofs.Ordering.{estimate_decided}
 use Rattle.brk_desk_decisions.proofs.estimate.compute_order_estimate.Goals as goal
 
-pub returns-clause-read : goal.returns-clause-read
-returns-clause-read g c =
+pub returns : goal.returns
+returns g c = record { read =
     let old = c.args.store.now in
     let mid = c.estimate_facts.new.store in
     let end = c.plan_estimate_over_lots.new.lots.store.now in
@@ -19,4 +19,4 @@ returns-clause-read g c =
     c.in_ok-found.ensures.read
     (rw c.lot_pages-lots.ensures.same at c.plan_estimate_over_lots.ensures.store_unchanged)
     (λ clean. estimate_decided order found _ (HoldsRows g.S.Store mid) (λ t h. (clean, c.lot_pages-lots.ensures.remaining t h)) c.plan_estimate_over_lots.result
-    c.plan_estimate_over_lots.ensures.planned))
+    c.plan_estimate_over_lots.ensures.planned)) }

@@ -13,5 +13,4 @@ returns g c = record {
       (λ t e. c.len.ensures ∙ c.in_ok-accounts_of_customer.field-0.ok.0
       ∙ are_counted abstract_account_row c.in_ok-accounts_of_customer.field-0.items (filter (λ r. r.customer == c.args.customer) t.accounts) e)
       c.in_ok-accounts_of_customer.ensures.read;
-  fault = tt;
 }

@@ -12,5 +12,4 @@ returns g c = record {
       (λ o (t : Tables). option_map abstract_account_row o ≡ find (λ r. r.id == c.args.id) t.accounts) (λ there (t : Tables). there ≡ has_account t c.args.id)
       (λ t e. c.is_some.ensures ∙ is_there abstract_account_row c.in_ok-account.field-0 (find (λ r. r.id == c.args.id) t.accounts) e)
       c.in_ok-account.ensures.read;
-  fault = tt;
 }

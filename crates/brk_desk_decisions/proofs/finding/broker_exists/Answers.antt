@@ -12,5 +12,4 @@ returns g c = record {
       (λ o (t : Tables). option_map abstract_broker_row o ≡ find (λ r. r.id == c.args.id) t.brokers) (λ there (t : Tables). there ≡ has_broker t c.args.id)
       (λ t e. c.is_some.ensures ∙ is_there abstract_broker_row c.in_ok-broker.field-0 (find (λ r. r.id == c.args.id) t.brokers) e)
       c.in_ok-broker.ensures.read;
-  fault = tt;
 }

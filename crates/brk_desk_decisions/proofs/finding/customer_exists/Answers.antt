@@ -12,5 +12,4 @@ returns g c = record {
       (λ o (t : Tables). option_map abstract_customer o ≡ find (λ r. r.id == c.args.id) t.customers) (λ there (t : Tables). there ≡ has_customer t c.args.id)
       (λ t e. c.is_some.ensures ∙ is_there abstract_customer c.in_ok-customer.field-0 (find (λ r. r.id == c.args.id) t.customers) e)
       c.in_ok-customer.ensures.read;
-  fault = tt;
 }

@@ -13,5 +13,4 @@ returns g c = record {
       (λ o (t : Tables). option_map abstract_customer o ≡ find (λ r. bytes_eq r.tax_id c.args.tax_id.now) t.customers) (λ there (t : Tables). there ≡ contains_customer_with_tax_id t c.args.tax_id.now)
       (λ t e. c.is_some.ensures ∙ is_there abstract_customer c.in_ok-customer_by_tax_id.field-0 (find (λ r. bytes_eq r.tax_id c.args.tax_id.now) t.customers) e)
       c.in_ok-customer_by_tax_id.ensures.read;
-  fault = tt;
 }

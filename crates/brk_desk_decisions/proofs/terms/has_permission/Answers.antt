@@ -14,5 +14,4 @@ returns g c = record {
       (λ there (t : Tables). there ≡ contains_permission t c.args.account c.args.tax_id.now)
       (λ t e. c.is_some.ensures ∙ is_there abstract_permission c.in_ok-permission.field-0 (find (λ r. (r.account == c.args.account) && bytes_eq r.tax_id c.args.tax_id.now) t.permissions) e)
       c.in_ok-permission.ensures.read;
-  fault = tt;
 }

@@ -16,5 +16,4 @@ returns g c = record {
       (λ t e. subst (λ n. SomeIff c.tax_sum.result (n ≤ greatest_tax_rate) n)
       (ap (sum_by (λ tax. tax.rate)) c.deref.ensures.value ∙ taxes_found t c.args.customer c.in_ok-taxes.taxes.items e) c.tax_sum.ensures)
       c.in_ok-taxes.ensures.read;
-  fault = tt;
 }

@@ -14,5 +14,4 @@ returns g c = record {
       (λ there (t : Tables). there ≡ contains_customer_tax t c.args.customer c.args.tax)
       (λ t e. c.is_some.ensures ∙ is_there abstract_customer_tax c.in_ok-customer_tax.field-0 (find (λ r. (r.customer == c.args.customer) && (r.tax == c.args.tax)) t.customer_taxes) e)
       c.in_ok-customer_tax.ensures.read;
-  fault = tt;
 }

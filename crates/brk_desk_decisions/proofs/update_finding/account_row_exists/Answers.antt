@@ -13,5 +13,4 @@ returns g c = record {
       (λ o (t : Tables). option_map abstract_account_row o ≡ find (λ r. r.id == c.args.account) t.accounts) (λ there (t : Tables). there ≡ is_some (account_row_with_id t c.args.account))
       (λ t e. c.is_some.ensures ∙ is_there abstract_account_row c.in_ok-account.field-0 (find (λ r. r.id == c.args.account) t.accounts) e)
       c.in_ok-account.ensures.read;
-  fault = tt;
 }

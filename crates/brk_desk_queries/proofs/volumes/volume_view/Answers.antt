@@ -9,8 +9,8 @@ use Rattle.brk_desk_queries.specs.Volumes.{brokers_of_name_in_sector}
 use Rattle.brk_desk_queries.proofs.VolumeViews.{volume_seen}
 use Rattle.brk_desk_queries.proofs.volumes.volume_view.Goals as goal
 
-pub returns-clause-read : goal.returns-clause-read
-returns-clause-read g c =
+pub returns : goal.returns
+returns g c = record { read =
     let sector = c.args.sector.now in
     let names = c.args.names.now in
     let found = c.in_ok-found.found in
@@ -20,4 +20,4 @@ returns-clause-read g c =
     (AnswersQueryAsModel (VolumeOf sector names))
     (λ t e. volume_seen sector names found.items c.in_ok-view.ensures.value.0 view (rw c.names-names.ensures.names at c.names-names.ensures.distinct)
     c.in_ok-view.ensures.value.1 c.in_ok-view.ensures.view t e)
-    (rw c.names-names.ensures.names at c.in_ok-found.ensures.read)
+    (rw c.names-names.ensures.names at c.in_ok-found.ensures.read) }

@@ -8,8 +8,8 @@ use Rattle.brk_explain_rows.specs.Details.{abstract_priced_holding}
 use Rattle.brk_explain_rows.specs.declared.account_details.PricedHolding.{PricedHolding}
 use Rattle.brk_explain_reads.proofs.accounts.price_holding.Goals as goal
 
-pub returns-clause-read : goal.returns-clause-read
-returns-clause-read g c =
+pub returns : goal.returns
+returns g c = record { read =
     let summary = c.args.summary in
     let price = c.in_ok-price.price in
     let held : PricedHolding = record { summary = summary; price = price } in
@@ -17,4 +17,4 @@ returns-clause-read g c =
     (λ price (t : Tables). price ≡ last_price_in_tables t summary.symbol)
     (λ held (t : Tables). abstract_priced_holding held ≡ priced_holding t (abstract_summary_row summary))
     (λ t e i. record { summary = abstract_summary_row summary; price = e i })
-    c.in_ok-price.ensures.read
+    c.in_ok-price.ensures.read }
