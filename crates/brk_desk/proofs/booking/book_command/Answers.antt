@@ -6,20 +6,34 @@ use Rattle.brk_ref.specs.Records.{abstract_kept_row}
 use Rattle.brk_desk_commands.specs.Commands.{abstract_command}
 use Rattle.brk_desk.specs.Keys.{optional_model_key}
 use Rattle.brk_audit_theorems.specs.InForm.{MeetsAuditFormats, IsWellFormedKey}
-use Rattle.brk_desk.proofs.Calling.{DecidesCommandOfNewKey, books_it, books_none, fails, known, refuses, repeats_or_fails, same_fault}
+use Rattle.brk_desk.proofs.Calling.{DecidesCommandOfNewKey, books_it, books_none, fails, known, refuses, repeats, same_fault}
 use Rattle.brk_desk.proofs.Seen.{sought_some}
 use Rattle.brk_desk.proofs.booking.book_command.Goals as goal
 
-pub returns-in-Some : goal.returns-in-Some
-returns-in-Some g c =
+pub returns-in_ok-answer_retry-in-Some : goal.returns-in_ok-answer_retry-in-Some
+returns-in_ok-answer_retry-in-Some g c =
     let old = c.args.store.now in
     let key = optional_model_key (option_copied c.args.key) in
     let formed : MeetsAuditFormats (abstract_command c.args.command.now)
     × IfSome key IsWellFormedKey = (c.prove_formats.ensures.command, c.prove_formats.ensures.key) in
     let sought = rw c.in-Some.is at c.in_ok-kept.ensures.read in
     record {
-      called = repeats_or_fails g.S.Store old c.read_kept.new.store c.args.now (abstract_command c.args.command.now) key formed (abstract_kept_row c.in-Some.kept) c.answer_retry.result
-          c.answer_retry.ensures.answer c.answer_retry.ensures.fault (sought_some g.S.Store old c.read_kept.new.store key c.in-Some.kept sought);
+      called = repeats g.S.Store old c.read_kept.new.store c.args.now (abstract_command c.args.command.now) key formed (abstract_kept_row c.in-Some.kept)
+          c.in_ok-answer_retry-in-Some.field-0 c.in_ok-answer_retry-in-Some.ensures.answer (sought_some g.S.Store old c.read_kept.new.store key c.in-Some.kept sought);
+    }
+
+pub returns-in_err-answer_retry-in-Some : goal.returns-in_err-answer_retry-in-Some
+returns-in_err-answer_retry-in-Some g c =
+    let old = c.args.store.now in
+    let key = optional_model_key (option_copied c.args.key) in
+    let formed : MeetsAuditFormats (abstract_command c.args.command.now)
+    × IfSome key IsWellFormedKey = (c.prove_formats.ensures.command, c.prove_formats.ensures.key) in
+    let sought = rw c.in-Some.is at c.in_ok-kept.ensures.read in
+    let p = err_from_is_err_and c.from_residual-in_err-answer_retry-in-Some.result c.from_residual-in_err-answer_retry-in-Some.ensures.1 in
+    record {
+      called = rw (p.1, p.2)
+          (fails g.S.Store old c.read_kept.new.store c.args.now (abstract_command c.args.command.now) key formed _
+          (sought_some g.S.Store old c.read_kept.new.store key c.in-Some.kept sought) _ (inl refl));
     }
 
 pub returns-in_err-plan-in-Ok : goal.returns-in_err-plan-in-Ok
@@ -38,7 +52,7 @@ returns-in_err-plan-in-Ok g c =
     record {
       called = rw (p.1, p.2)
           (fails g.S.Store old mid c.args.now command key formed (DecidesCommandOfNewKey c.args.now command key planned) seen _
-          (inl (same_fault _ _ _ refl c.in_err-plan-in-Ok.ensures.fault)));
+          (inl refl));
     }
 
 pub returns-in_err-apply-in-Ok : goal.returns-in_err-apply-in-Ok
