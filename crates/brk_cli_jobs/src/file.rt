@@ -1,14 +1,13 @@
 //! A desk's database in a file.
 
-ghost use Rattle.std.specs.Prelude.{◌≡◌, Err, IfOk, MatchResult, Ok, OnErr, OnOk};
-ghost use Rattle.brk_money.specs.declared.fault.Fault.TheVariants as fault;
+ghost use Rattle.std.specs.Prelude.{◌≡◌, Err, IfOk, MatchResult, Ok, OnOk};
 ghost use Rattle.sqlite.specs.Files.{over_files};
 ghost use Rattle.brk_store_transactions.specs.Audited.{AdoptPost};
 ghost use Rattle.brk_cli_jobs.specs.Files.{HasLastCommitInFile, IsNewConnectionToFile};
 ghost use Rattle.brk_cli_jobs.specs.Opened.{RepresentsRowsOfFile};
 ghost use Rattle.brk_cli_jobs.specs.Opening.{IsAdoptionResult, OpenOrCreatePost, OpenPost};
 
-use brk_money::{Condition, Fault};
+use brk_money::{Condition, Fault, StoreFailed};
 use brk_store::Store;
 use sqlite::{Alter, Connection, File, FileStore};
 use std::alloc::Global;
@@ -18,15 +17,14 @@ use std::io::ErrorKind;
 /// A desk's store in a file, which its connection locks for this program only.
 pub type FileDesk = Store<FileStore<File>>;
 
-fn close_connection(conn: Connection<FileStore<File>>) -> Result<(), Fault>
+fn close_connection(conn: Connection<FileStore<File>>) -> Result<(), StoreFailed>
     ensures closed { OnOk result (HasLastCommitInFile conn) }
-    ensures fault { OnErr result (result ≡ Err fault.Store) }
 {
     match conn.close_files() {
         Ok(_) => Ok(()),
         Err((_, store)) => {
             drop(store.close());
-            Err(Fault::Store)
+            Err(StoreFailed)
         }
     }
 }
@@ -35,21 +33,19 @@ fn close_connection(conn: Connection<FileStore<File>>) -> Result<(), Fault>
 /// last commit even without its log, and a crash exposes only this commit. At `Store` the file
 /// handle is dropped, and a part of the committed data may still be only in the log beside the
 /// file.
-pub fn close_desk_file(store: FileDesk) -> Result<(), Fault>
+pub fn close_desk_file(store: FileDesk) -> Result<(), StoreFailed>
     ensures closed { OnOk result (HasLastCommitInFile store) }
-    ensures fault { OnErr result (result ≡ Err fault.Store) }
 {
     close_connection(store.into_conn())
 }
 
 // A missing file becomes a new database.
-fn open_connection(rt: &HostRuntime, path: &str) -> Result<Connection<FileStore<File>>, Fault>
+fn open_connection(rt: &HostRuntime, path: &str) -> Result<Connection<FileStore<File>>, StoreFailed>
     ensures opened { IfOk result IsNewConnectionToFile }
-    ensures fault { OnErr result (result ≡ Err fault.Store) }
 {
     match Connection::open(rt, path) {
         Ok(conn) => Ok(conn),
-        Err(_) => Err(Fault::Store),
+        Err(_) => Err(StoreFailed),
     }
 }
 

@@ -27,7 +27,7 @@ carried_rows : {S : Type 0} (g : Ghosts S) (old : Held S) (query : Query) (seen 
 carried_rows g old query (Ok view) told = λ base keeps. (told (sheets base) keeps.rows).1 base keeps.books keeps.sound refl
 carried_rows g old query (Err refusal) told = tt
 
-is_call_fault : (fault : CallFault) → IsCallFault (fault_of_call fault)
+pub is_call_fault : (fault : CallFault) → IsCallFault (fault_of_call fault)
 is_call_fault call.Memory = inl refl
 is_call_fault call.Store = inr refl
 

@@ -201,7 +201,11 @@ impl<S: Alter> Desk<S> {
     /// completed. `Store` may also mean that this trade, or one that opened a lot of which it
     /// closed shares, has no price, or that the number or the sum of the account's cash rows before
     /// it overflows.
-    pub fn trade_details(&mut self, alloc: Global, trade: Id) -> Result<Option<TradeDetails>, CallFault>
+    pub fn trade_details(
+        &mut self,
+        alloc: Global,
+        trade: Id,
+    ) -> Result<Option<TradeDetails>, CallFault>
         ensures read { ReadPost S.Store self.old self.new result (AreDetailsOfTrade trade) }
     {
         gather_trade(alloc, &mut self.store, trade)

@@ -36,7 +36,11 @@ pub(crate) fn read_kept<S: Alter>(
     }
 }
 
-pub(crate) fn answer_retry(alloc: Global, command: &Command, kept: Kept) -> Result<Answer, AllocError>
+pub(crate) fn answer_retry(
+    alloc: Global,
+    command: &Command,
+    kept: Kept,
+) -> Result<Answer, AllocError>
     ensures answer { IfOk result (λ answer. (base : Base)
         → answer_and_base_of_retry base (abstract_command command.now) (abstract_kept_row kept) ≡ (model_answer answer, base)) }
 {

@@ -19,7 +19,11 @@ use brk_view_rows::{Query, View};
 use sqlite::Alter;
 use std::alloc::Global;
 
-fn estimate_view<S: Alter>(alloc: Global, store: &mut Store<S>, order: &Order) -> Planned<View, CallFault>
+fn estimate_view<S: Alter>(
+    alloc: Global,
+    store: &mut Store<S>,
+    order: &Order,
+) -> Planned<View, CallFault>
     ensures read { ReadPost S.Store store.old store.new result (AnswersQueryAsModel (EstimateOf (abstract_order order.now))) }
 {
     match compute_order_estimate(alloc, store, order)? {

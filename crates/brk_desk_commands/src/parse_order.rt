@@ -50,7 +50,11 @@ fn result_command(fields: &[&[u8]]) -> Result<Command, Refusal>
     }
 }
 
-pub(crate) fn trade_of_kind(alloc: Global, kind: &[u8], fields: &[&[u8]]) -> Planned<Command, AllocError>
+pub(crate) fn trade_of_kind(
+    alloc: Global,
+    kind: &[u8],
+    fields: &[&[u8]],
+) -> Planned<Command, AllocError>
     ensures { IfOk result (λ read. ParsesAs abstract_command read
         (parse_by_first_field (order_feed_and_cancel_parsers ++ result_row_parsers ++ update_row_parsers
         ++ movement_and_one_day_settlement_row_parsers) (kind.now

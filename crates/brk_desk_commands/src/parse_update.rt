@@ -43,7 +43,11 @@ fn name_command(alloc: Global, fields: &[&[u8]]) -> Planned<Command, AllocError>
     }
 }
 
-pub(crate) fn update_of_kind(alloc: Global, kind: &[u8], fields: &[&[u8]]) -> Planned<Command, AllocError>
+pub(crate) fn update_of_kind(
+    alloc: Global,
+    kind: &[u8],
+    fields: &[&[u8]],
+) -> Planned<Command, AllocError>
     ensures { IfOk result (λ read. ParsesAs abstract_command read
         (parse_by_first_field (update_row_parsers ++ movement_and_one_day_settlement_row_parsers) (kind.now ∷ texts_of_fields fields.now))) }
 {

@@ -61,7 +61,10 @@ fn account_count<S: Alter>(
     Ok(store.accounts_of_customer(alloc, customer)?.len())
 }
 
-fn broker_facts<S: Alter>(store: &mut Store<S>, broker: &Broker) -> Result<ReferenceFacts, CallFault>
+fn broker_facts<S: Alter>(
+    store: &mut Store<S>,
+    broker: &Broker,
+) -> Result<ReferenceFacts, CallFault>
     ensures read { ReadPost S.Store store.old store.new result (λ found t. found.same_id ≡ has_broker t broker.now.id) }
 {
     let same_id = broker_exists(store, broker.id)?;
@@ -108,7 +111,10 @@ fn account_facts<S: Alter>(
     })
 }
 
-fn security_facts<S: Alter>(store: &mut Store<S>, symbol: &Symbol) -> Result<ReferenceFacts, CallFault>
+fn security_facts<S: Alter>(
+    store: &mut Store<S>,
+    symbol: &Symbol,
+) -> Result<ReferenceFacts, CallFault>
     ensures read { ReadPost S.Store store.old store.new result (λ found t. found.same_id ≡ has_security t symbol.now) }
 {
     let same_id = store.security(symbol)?.is_some();

@@ -32,7 +32,10 @@ pub struct OrderCheckFacts {
     pub rate: Option<Rate>,
 }
 
-fn read_last_price<S: Alter>(store: &mut Store<S>, symbol: &Symbol) -> Result<Option<Price>, CallFault>
+fn read_last_price<S: Alter>(
+    store: &mut Store<S>,
+    symbol: &Symbol,
+) -> Result<Option<Price>, CallFault>
     ensures read { ReadPost S.Store store.old store.new result (λ price t. price ≡ last_price_of_symbol t symbol.now) }
 {
     match store.last_trade(symbol)? {

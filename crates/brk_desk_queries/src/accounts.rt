@@ -52,7 +52,11 @@ fn read_worths<S: Alter>(
 /// Returns the view of the balances and the market values of a customer's accounts, in cents,
 /// sorted by market value, then by id, ascending. Refuses an unknown customer with `NoCustomer`.
 /// Fails with `Store` also if a held symbol has no last price or a sum overflows.
-pub fn values_view<S: Alter>(alloc: Global, store: &mut Store<S>, customer: Id) -> Planned<View, CallFault>
+pub fn values_view<S: Alter>(
+    alloc: Global,
+    store: &mut Store<S>,
+    customer: Id,
+) -> Planned<View, CallFault>
     ensures read { ReadPost S.Store store.old store.new result (AnswersQueryAsModel (PositionOf customer)) }
 {
     let Some(found) = store.customer(customer)? else {
@@ -65,7 +69,11 @@ pub fn values_view<S: Alter>(alloc: Global, store: &mut Store<S>, customer: Id) 
 
 /// Returns the view of `values_view` for the customer with a tax id, and refuses and
 /// fails as it does.
-pub fn tax_id_view<S: Alter>(alloc: Global, store: &mut Store<S>, tax_id: &TaxId) -> Planned<View, CallFault>
+pub fn tax_id_view<S: Alter>(
+    alloc: Global,
+    store: &mut Store<S>,
+    tax_id: &TaxId,
+) -> Planned<View, CallFault>
     ensures read { ReadPost S.Store store.old store.new result (AnswersQueryAsModel (PositionOfTaxId tax_id.now)) }
 {
     let Some(found) = store.customer_by_tax_id(tax_id)? else {

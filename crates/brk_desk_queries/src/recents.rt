@@ -15,10 +15,7 @@ use brk_view_rows::{View, recent};
 use sqlite::Alter;
 use std::alloc::{AllocError, Global};
 
-fn append_history_rows(
-    history: &mut Vec<HistoryRow>,
-    rows: &[HistoryRow],
-) -> Result<(), AllocError>
+fn append_history_rows(history: &mut Vec<HistoryRow>, rows: &[HistoryRow]) -> Result<(), AllocError>
     ensures added { OnOk result (history.new.items ≡ history.old.items ++ rows.now) }
 {
     for row in rows {
@@ -48,7 +45,11 @@ fn recent_trades<S: Alter>(
 /// Returns the view of an account's last ten trades, sorted by the stamp of the last status, then
 /// by id, descending, and of their status changes, sorted by stamp, then by trade id, descending.
 /// Refuses an unknown account with `NoAccount`.
-pub fn recent_view<S: Alter>(alloc: Global, store: &mut Store<S>, account: Id) -> Planned<View, CallFault>
+pub fn recent_view<S: Alter>(
+    alloc: Global,
+    store: &mut Store<S>,
+    account: Id,
+) -> Planned<View, CallFault>
     ensures read { ReadPost S.Store store.old store.new result (AnswersQueryAsModel (RecentOf account)) }
 {
     let Some(found) = store.account(account)? else {

@@ -17,7 +17,10 @@ use sqlite::Alter;
 use std::alloc::{AllocError, Global};
 
 // Fails with `Store` also if the security does not exist.
-fn trade_status_of<S: Alter>(store: &mut Store<S>, trade: TradeRow) -> Result<TradeStatus, CallFault>
+fn trade_status_of<S: Alter>(
+    store: &mut Store<S>,
+    trade: TradeRow,
+) -> Result<TradeStatus, CallFault>
     ensures read { ReadPost S.Store store.old store.new result (λ status t. rows_of_trade_status status
         ≡ trade_row_with_security t (abstract_trade_row trade)) }
 {
@@ -33,7 +36,10 @@ fn is_trade_of_symbol(status: &TradeStatus, symbol: &Symbol) -> bool
     status.trade.symbol.as_str() == symbol.as_str()
 }
 
-fn security_of_symbol(statuses: &[TradeStatus], symbol: &Symbol) -> Result<Option<Security>, AllocError>
+fn security_of_symbol(
+    statuses: &[TradeStatus],
+    symbol: &Symbol,
+) -> Result<Option<Security>, AllocError>
     ensures security { IfOk result (λ security. security
         ≡ option_map (λ s. s.security) (find (λ s. bytes_eq s.trade.symbol symbol.now) statuses.now)) }
 {
@@ -74,7 +80,11 @@ fn trade_statuses<S: Alter>(
 /// with their securities, sorted by the stamp of the last status, then by id, descending. Refuses
 /// an unknown account with `NoAccount`. Fails with `Store` also if the customer, the broker or one
 /// of the securities does not exist.
-pub fn status_view<S: Alter>(alloc: Global, store: &mut Store<S>, account: Id) -> Planned<View, CallFault>
+pub fn status_view<S: Alter>(
+    alloc: Global,
+    store: &mut Store<S>,
+    account: Id,
+) -> Planned<View, CallFault>
     ensures read { ReadPost S.Store store.old store.new result (AnswersQueryAsModel (StatusOf account)) }
 {
     let Some(row) = store.account(account)? else {

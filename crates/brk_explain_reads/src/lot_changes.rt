@@ -56,7 +56,11 @@ fn push_later(later: &mut Vec<LotChange>, change: &LotChange, lot: Id) -> Result
     Ok(())
 }
 
-fn later_changes(alloc: Global, changes: &[LotChange], lot: Id) -> Result<Vec<LotChange>, AllocError>
+fn later_changes(
+    alloc: Global,
+    changes: &[LotChange],
+    lot: Id,
+) -> Result<Vec<LotChange>, AllocError>
     ensures later { IfOk result (λ later. map abstract_lot_change_row later.items
         ≡ filter (λ h. not (h.trade == lot)) (map abstract_lot_change_row changes.now)) }
 {
@@ -79,7 +83,10 @@ fn with_price(change: &LotChange, stamp: Stamp, price: Price) -> PricedLotChange
     }
 }
 
-fn read_priced<S: Alter>(store: &mut Store<S>, change: &LotChange) -> Result<PricedLotChange, CallFault>
+fn read_priced<S: Alter>(
+    store: &mut Store<S>,
+    change: &LotChange,
+) -> Result<PricedLotChange, CallFault>
     ensures read { ReadPost S.Store store.old store.new result (λ priced_change t. abstract_priced_lot_change priced_change
         ≡ model.recorded_lot_change t (abstract_lot_change_row change.now)) }
 {

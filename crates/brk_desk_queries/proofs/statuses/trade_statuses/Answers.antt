@@ -63,13 +63,15 @@ loop-trade-preserved g c =
     c.loop-trade.invariant c.in_ok-status.ensures.read)
 
 pub returns : goal.returns
-returns g c = record { read =
-    let rest = c.loop-trade.rest in
-    let statuses = c.loop-trade.statuses.items in
-    retold g.S.Store c.args.store.now c.loop-trade.store tt c.reverse.new.self
-    (λ _. AreStatusesReadSoFar c.args.account rest.items statuses)
-    (λ statuses (t : Tables). map rows_of_trade_status statuses.items ≡ map (trade_row_with_security t) (take 50 (trade_rows_recent_first (trade_rows_of_account t c.args.account))))
-    (λ t p. ap (map rows_of_trade_status) c.reverse.ensures.items
-    ∙ all_made (λ r. trade_row_with_security t (abstract_trade_row r)) rows_of_trade_status rest.items statuses _
-    (sym rest.ok.0 ∙ c.in_default.ensures.cases.0) p.0)
-    c.loop-trade.invariant }
+returns g c = record {
+  read =
+      let rest = c.loop-trade.rest in
+      let statuses = c.loop-trade.statuses.items in
+      retold g.S.Store c.args.store.now c.loop-trade.store tt c.reverse.new.self
+      (λ _. AreStatusesReadSoFar c.args.account rest.items statuses)
+      (λ statuses (t : Tables). map rows_of_trade_status statuses.items ≡ map (trade_row_with_security t) (take 50 (trade_rows_recent_first (trade_rows_of_account t c.args.account))))
+      (λ t p. ap (map rows_of_trade_status) c.reverse.ensures.items
+      ∙ all_made (λ r. trade_row_with_security t (abstract_trade_row r)) rows_of_trade_status rest.items statuses _
+      (sym rest.ok.0 ∙ c.in_default.ensures.cases.0) p.0)
+      c.loop-trade.invariant;
+}

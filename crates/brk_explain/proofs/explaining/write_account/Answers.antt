@@ -31,7 +31,7 @@ returns-in_err-write_account_lines g c =
             (tells_fault (explanation t (AccountOf c.args.account)) (all_account_lines t c.args.account c.in-Ok-Some.details)
             (account_told t c.args.account c.in-Ok-Some.details are_details) _ _ _
             (c.in_err-write_account_lines.ensures.written clean t (first.same_rows t holds)));
-        fault = reported_fault _ _ fails c.in_err-write_account_lines.ensures.fault;
+        fault = reported_fault _ _ fails;
         keeps = keeps_then g.S.Store c.args.desk.now c.account_details.new.self c.write_account_lines.new.desk first c.in_err-write_account_lines.ensures.keeps;
         unwritten = λ refusal is. absurd (no_refusal _ _ refusal fails is);
       };

@@ -31,7 +31,7 @@ returns-in_err-write_broker_lines g c =
             (tells_fault (explanation t (BrokerOf c.args.broker)) (all_broker_lines t c.args.broker c.in-Ok-Some.details)
             (broker_told t c.args.broker c.in-Ok-Some.details are_details) _ _ _
             (c.in_err-write_broker_lines.ensures.written clean t (first.same_rows t holds)));
-        fault = reported_fault _ _ fails c.in_err-write_broker_lines.ensures.fault;
+        fault = reported_fault _ _ fails;
         keeps = keeps_then g.S.Store c.args.desk.now c.broker_details.new.self c.write_broker_lines.new.desk first c.in_err-write_broker_lines.ensures.keeps;
         unwritten = λ refusal is. absurd (no_refusal _ _ refusal fails is);
       };

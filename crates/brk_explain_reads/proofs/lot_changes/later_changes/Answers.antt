@@ -16,6 +16,8 @@ loop-change-preserved c =
     ∙ last_more abstract_lot_change_row later c.args.changes.now c.loop-change.change-index change c.loop-change-test.true c.change-item.is
 
 pub returns : goal.returns
-returns c = record { later =
-    c.loop-change.invariant
-    ∙ ap (λ hs. filter (λ (h : HoldingHistoryRow). not (h.trade == c.args.lot)) (map abstract_lot_change_row hs)) (take_all c.loop-change.change-index c.args.changes.now c.loop-change-test.false) }
+returns c = record {
+  later =
+      c.loop-change.invariant
+      ∙ ap (λ hs. filter (λ (h : HoldingHistoryRow). not (h.trade == c.args.lot)) (map abstract_lot_change_row hs)) (take_all c.loop-change.change-index c.args.changes.now c.loop-change-test.false);
+}
