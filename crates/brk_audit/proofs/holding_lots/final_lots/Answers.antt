@@ -59,9 +59,11 @@ loop-begin-preserved c =
           (c.loop-begin.invariant.left (holding_rows_left_by_trades (seen x) run ++ more) next);
     }
 
-pub returns-clause-left : goal.returns-clause-left
-returns-clause-left c =
-    let done = c.args.done.now in
-    let held : List HoldingRow = map abstract_holding_row c.loop-begin.held.items in
-    let none : map seen (drop c.loop-begin.begin done) ≡ [] = ap (map seen) (drop_all c.loop-begin.begin done c.loop-begin-test.false) in
-    subst (AreLotsLeftByTrades (map seen done)) (append-nil held) (c.loop-begin.invariant.left [] (subst (λ (rs : List TradeRow). AreLotsLeftByTrades rs []) (sym none) nothing))
+pub returns : goal.returns
+returns c = record {
+  left =
+      let done = c.args.done.now in
+      let held : List HoldingRow = map abstract_holding_row c.loop-begin.held.items in
+      let none : map seen (drop c.loop-begin.begin done) ≡ [] = ap (map seen) (drop_all c.loop-begin.begin done c.loop-begin-test.false) in
+      subst (AreLotsLeftByTrades (map seen done)) (append-nil held) (c.loop-begin.invariant.left [] (subst (λ (rs : List TradeRow). AreLotsLeftByTrades rs []) (sym none) nothing));
+}
