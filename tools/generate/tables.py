@@ -1052,7 +1052,6 @@ ROW_READS = {'desk_row': 'desk_rows', 'band': 'commission_rate_rows', 'history':
 WHICHES = ', '.join(d[2] for d in DATA)
 CELLS = ', '.join(d[0] + '_cells' for d in DATA)
 SAME_REFERENCE = 'ensures same_reference { tx.new.conn.ghost_name ≡ tx.old.conn.ghost_name }'
-STORE_FAULT = 'ensures fault { OnErr result (result ≡ Err Store) }'
 
 def groups():
     """Each group with its tables"""
@@ -1116,10 +1115,9 @@ def read_whole(d):
     columns, keys = ', '.join(c[0] for c in d[7]), ', '.join(key_columns(d))
     kind = 'fn' if d[0] in LATER else 'pub fn'
     return f"""
-{kind} {rows_name(d)}<S: Alter>(tx: &mut Transaction<'_, S>) -> Result<Vec<Row>, Fault>
+{kind} {rows_name(d)}<S: Alter>(tx: &mut Transaction<'_, S>) -> Result<Vec<Row>, StoreFailed>
     {SAME_REFERENCE}
     ensures step {{ ReadsAllRows S.Store tx.old tx.new result {d[2]} }}
-    {STORE_FAULT}
 {{
     select_rows(
         tx,
@@ -1137,10 +1135,9 @@ pub fn {rows_name(d)}_in_schema<S: Alter>(
     tx: &mut Transaction<'_, S>,
     alloc: Global,
     schema: Schema,
-) -> Result<Vec<Row>, Fault>
+) -> Result<Vec<Row>, StoreFailed>
     {SAME_REFERENCE}
     ensures step {{ ReadsRowsIfInSchema S.Store tx.old tx.new result (abstract_schema schema) {d[2]} }}
-    {STORE_FAULT}
 {{
     if !schema.{LATER[d[0]]}() {{
         return Ok(Vec::new(alloc));
@@ -1155,14 +1152,13 @@ def rows_code():
 //! returned rows are specified only if the table is defined as a desk defines it, and their order
 //! only if they encode records with distinct keys (`AreTableRows`).
 
-ghost use Rattle.std.specs.Prelude.{{◌≡◌, Err, OnErr}};
-ghost use Rattle.brk_money.specs.declared.fault.Fault.TheVariants.{{Store}};
+ghost use Rattle.std.specs.Prelude.{{◌≡◌}};
 ghost use Rattle.brk_tables_schema.specs.Desk.{{{WHICHES}}};
 ghost use Rattle.brk_trade_rows.specs.Schemas.{{abstract_schema}};
 ghost use Rattle.brk_tables_scan.specs.Whole.{{ReadsRowsIfInSchema, ReadsAllRows}};
 
 use brk_trade_rows::Schema;
-use brk_money::Fault;
+use brk_money::StoreFailed;
 use brk_tables_schema::calls::select_rows;
 use sqlite::{{Alter, Row, Transaction}};
 use std::alloc::Global;
@@ -1190,7 +1186,7 @@ def read_group(word, field, tables):
     of_decoded = '(abstract_schema schema) ' if word == 'Owner' else ''
     schema = lambda wanted: '    schema: Schema,\n' if word == wanted else ''
     shows = 'ReadsOwnerTables decoder.old.are_well_formed decoder.new.are_well_formed raw' if word == 'Owner' else f'Shows{word}Tables {of_read}raw'
-    fault = 'ensures fault { IfErr result IsCallFault }' if word == 'Owner' else STORE_FAULT
+    error = 'CallFault' if word == 'Owner' else 'StoreFailed'
     more = {'Owner': '    alloc: Global,\n    decoder: &mut Decoder,\n', 'Later': '    alloc: Global,\n    schema: Schema,\n'}.get(word, '')
     raws = ''.join(f'    {raw_field(d)}: Vec<{"Key" if d[0] == "kept" else "Row"}>,\n' for d in tables)
     types = ''.join(f'    {sheet_field(d)}: {VALUES[d[0]][0] if d[0] in VALUES else f"Vec<{sheet_type(d)}>"},\n' for d in tables)
@@ -1207,10 +1203,9 @@ pub struct {word}Rows {{
 
 fn {group_function('read', word)}<S: Alter>(
     tx: &mut Transaction<'_, S>,
-{more}) -> Result<{word}Rows, Fault>
+{more}) -> Result<{word}Rows, {error}>
     {SAME_REFERENCE}
     ensures step {{ IsConnectionStep S.Store tx.old tx.new result (λ raw. {shows}) }}
-    {fault}
 {{
 {reads}    Ok({word}Rows {{
 {raw_fields}    }})
@@ -1225,10 +1220,9 @@ fn {group_function('decode', word)}(
     alloc: Global,
 {schema('Owner')}    raw: {word}Rows,
     decoder: &mut Decoder,
-) -> Result<{word}Sheets, Fault>
+) -> Result<{word}Sheets, AllocError>
     ensures decoded {{ IfOk result (λ sheets. ContinuesDecoding decoder.old.are_well_formed decoder.new.are_well_formed
         (are_{words_of(word)}_rows_well_formed {of_decoded}raw) (Decodes{word}Tables {of_decoded}sheets raw)) }}
-    ensures fault {{ OnErr result (result ≡ Err Memory) }}
 {{
 {decodes}    Ok({word}Sheets {{
 {fields}    }})
@@ -1246,9 +1240,7 @@ def all_tables_code():
 //! exactly one row with the number of the schema, or SETTLE_RULE two rows or more,
 //! `are_well_formed` of the decoder is false, and there are no typed rows of this table.
 
-ghost use Rattle.std.specs.Prelude.{{◌≡◌, Err, IfErr, IfOk, OnErr}};
-ghost use Rattle.brk_money.specs.declared.fault.Fault.TheVariants.{{Memory, Store}};
-ghost use Rattle.brk_model.specs.Run.{{IsCallFault}};
+ghost use Rattle.std.specs.Prelude.{{◌≡◌, IfOk}};
 ghost use Rattle.brk_trade_rows.specs.Schemas.{{abstract_schema}};
 ghost use Rattle.brk_tables_sql.specs.Model.{{IsConnectionStep}};
 ghost use Rattle.brk_tables_scan.specs.Raw.{{{', '.join(f'Shows{group[0]}Tables' for group in GROUPS[1:])}}};
@@ -1258,11 +1250,11 @@ ghost use Rattle.brk_tables_scan.specs.Decoded.{{ContinuesDecoding, ReadsOwnerTa
 
 use crate::decoder::Decoder;
 use crate::rows::{{{', '.join(reads)}}};
-use brk_money::{{Day, Fault, Stamp}};
+use brk_money::{{CallFault, Day, Stamp, StoreFailed}};
 use brk_ref::{{{types}}};
 use brk_trade_rows::{{Schema, Sheets}};
 use sqlite::{{Alter, Row, Transaction}};
-use std::alloc::Global;
+use std::alloc::{{AllocError, Global}};
 """
     out += ''.join(read_group(word, field, tables) for word, field, _, tables in groups())
     more = lambda word: {'Owner': ', alloc, decoder', 'Later': ', alloc, schema'}.get(word, '')
@@ -1278,11 +1270,10 @@ fn read_raw_sheets<S: Alter>(
     alloc: Global,
     schema: Schema,
     decoder: &mut Decoder,
-) -> Result<RawSheets, Fault>
+) -> Result<RawSheets, CallFault>
     {SAME_REFERENCE}
     ensures step {{ IsConnectionStep S.Store tx.old tx.new result
         (λ raw. ReadsRawSheets (abstract_schema schema) decoder.old.are_well_formed decoder.new.are_well_formed raw) }}
-    ensures fault {{ IfErr result IsCallFault }}
 {{
 {''.join(f'    let {field} = {group_function("read", word)}(tx{more(word)})?;{chr(10)}' for word, field, _ in GROUPS)}    Ok(RawSheets {{
 {''.join(f'        {field},{chr(10)}' for _, field, _ in GROUPS)}    }})
@@ -1293,11 +1284,10 @@ fn decode_raw_sheets(
     schema: Schema,
     raw: RawSheets,
     decoder: &mut Decoder,
-) -> Result<Sheets, Fault>
+) -> Result<Sheets, AllocError>
     ensures decoded {{ IfOk result (λ sheets. ContinuesDecoding decoder.old.are_well_formed decoder.new.are_well_formed
         (are_raw_rows_well_formed (abstract_schema schema) raw) (DecodesRows (abstract_schema schema) sheets raw)) }}
     ensures of_schema {{ IfOk result (λ sheets. sheets.schema ≡ schema) }}
-    ensures fault {{ OnErr result (result ≡ Err Memory) }}
 {{
 {''.join(f'    let {field} = {group_function("decode", word)}(alloc, {owner(word)}raw.{field}, decoder)?;{chr(10)}' for word, field, _ in GROUPS)}    Ok(Sheets {{
         schema,
@@ -1310,12 +1300,11 @@ pub(crate) fn read_all_tables<S: Alter>(
     alloc: Global,
     schema: Schema,
     decoder: &mut Decoder,
-) -> Result<Sheets, Fault>
+) -> Result<Sheets, CallFault>
     {SAME_REFERENCE}
     ensures step {{ IsConnectionStep S.Store tx.old tx.new result
         (λ sheets. ReadsAndDecodesDeskTables (abstract_schema schema) decoder.old.are_well_formed decoder.new.are_well_formed sheets) }}
     ensures of_schema {{ IfOk result (λ sheets. sheets.schema ≡ schema) }}
-    ensures fault {{ IfErr result IsCallFault }}
 {{
     let raw = read_raw_sheets(tx, alloc, schema, decoder)?;
     let sheets = decode_raw_sheets(alloc, schema, raw, decoder)?;

@@ -7,6 +7,7 @@ use Rattle.std.specs.Prelude.{◌≡◌, ℕ, List, ◌++◌, filter, Result, Ok
 use Rattle.sqlite_trees.specs.declared.store.Store.{Ghosts}
 use Rattle.sqlite.specs.Held.{Held, state}
 use Rattle.sqlite.specs.State.{HasCleanDisk, Survives}
+use Rattle.brk_money.specs.Kinds.{fault_of_call}
 use Rattle.brk_money.specs.declared.fault.Fault.{Fault}
 use Rattle.brk_model.specs.Limits.{is_in_range}
 use Rattle.brk_model.specs.Lists.{sort_by_key}
@@ -57,8 +58,7 @@ pub record WalkPost {S X M V E : Type 0} (g : Ghosts S) (old new : Held S) (of :
   -- At a fault the visitor has taken a prefix of the records. At an error of the visitor it has
   -- taken the records before the one for which it returned the error.
   pub early : HasCleanDisk (state g new) → IfErr result (TableWalkEndsEarly (IsPrefixOfStoredList g old list) of takes stops before after)
-  -- The error is `Memory` or `Store`, or that of the visitor, whether or not the disk assumption
-  -- holds.
+  -- An error of the visitor is one at which it stopped, whether or not the disk assumption holds.
   pub fault : IfErr result (IsWalkError stops after)
   -- `Ok` is returned only if the store was open before the call.
   pub was_open : HasCleanDisk (state g new) → OnOk result (IsTrue (state g old).is_open)
@@ -75,7 +75,7 @@ pub record WalkPost {S X M V E : Type 0} (g : Ghosts S) (old new : Held S) (of :
 abbrev pub MatchesWalkResult : {E : Type 0} → (Fault → E → Type 0) → Result (Unit {0}) (WalkError E) → Result (Unit {0}) E → Type 0
 MatchesWalkResult {E} gives (Ok u) result = result ≡ Ok tt
 MatchesWalkResult {E} gives (Err (Cause e)) result = result ≡ Err e
-MatchesWalkResult {E} gives (Err (Failed fault)) result = (e : E) × (result ≡ Err e) × gives fault e
+MatchesWalkResult {E} gives (Err (Failed fault)) result = (e : E) × (result ≡ Err e) × gives (fault_of_call fault) e
 
 -- The closure `call` was called with the records that `list` selects, in order and one at a time,
 -- until it returned an error or the walk failed. The result is `Ok` after the last record,

@@ -3,10 +3,12 @@ use Rattle.brk_store_transactions.proofs.Ending.{read_is_over}
 use Rattle.brk_store.proofs.KeptIndex.{read_keeps_index}
 use Rattle.brk_store.proofs.store.Store.last_stamp.Goals as goal
 
-pub returns-clause-read : goal.returns-clause-read
-returns-clause-read g c =
-    read_is_over g.S.Store c.args.self.now c.self.inside.conn c.begin_transaction-tx.result.conn.now c.last_stamp.new.tx.conn.now c.drop-tx.new.self.0 _ c.self.view_is (search rules)
-    c.begin_transaction-tx.ensures.begun c.begin_transaction-tx.ensures.is_committed c.last_stamp.ensures.step c.drop-tx.ensures.survives c.drop-tx.ensures.undone
+pub returns : goal.returns
+returns g c =
+    record {
+      read = read_is_over g.S.Store c.args.self.now c.self.inside.conn c.begin_transaction-tx.result.conn.now c.last_stamp.new.tx.conn.now c.drop-tx.new.self.0 _ c.self.view_is (search rules)
+          c.begin_transaction-tx.ensures.begun c.begin_transaction-tx.ensures.is_committed c.last_stamp.ensures.step c.drop-tx.ensures.survives c.drop-tx.ensures.undone;
+    }
 
 pub invariant_of-self : goal.invariant_of-self
 invariant_of-self g c =
