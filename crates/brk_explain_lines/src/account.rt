@@ -14,7 +14,7 @@ use brk_explain_columns::{
     put_text, put_text_fact, put_text_line, put_title_line, shares_value,
 };
 use brk_explain_rows::PricedHolding;
-use brk_money::{CallFault, Cents, Id, Price, Wide};
+use brk_money::{CallFault, Cents, Id, Price, StoreFailed, Wide};
 use brk_ref::{AccountRow, CashRow, HoldingRow};
 use brk_report_lines::{append_left, lot_line};
 use std::alloc::{AllocError, Global};
@@ -119,13 +119,13 @@ pub fn open_lot_text(alloc: Global, row: &HoldingRow) -> Result<Vec<u8>, AllocEr
 }
 
 // Returns cents, below 0 for shares that were sold short.
-fn market_value_of_holding(held: &PricedHolding) -> Result<Wide, CallFault>
+fn market_value_of_holding(held: &PricedHolding) -> Result<Wide, StoreFailed>
     ensures worth { IfOk result (λ worth. worth ≡ lines.market_value_of_holding (abstract_priced_holding held.now)) }
 {
     shares_value(held.summary.qty, held.price)
 }
 
-fn market_value_of_holdings(all: &[PricedHolding]) -> Result<Wide, CallFault>
+fn market_value_of_holdings(all: &[PricedHolding]) -> Result<Wide, StoreFailed>
     ensures total { IfOk result (λ total. total ≡ lines.market_value_of_holdings (map abstract_priced_holding all.now)) }
 {
     let mut total = Wide::new(0);

@@ -9,7 +9,7 @@ ghost use Rattle.brk_ref.specs.Records.{abstract_tax_rate};
 
 use brk_explain_columns::{cents_of_wide, subtract_amounts, wide_of_cents};
 use brk_explain_rows::{Closing, OrderDetails, ResultDetails};
-use brk_money::{Amount, CallFault, Price, Qty, Side, TaxRate, TaxStatus, Wide, commission, tax};
+use brk_money::{Amount, Price, Qty, Side, StoreFailed, TaxRate, TaxStatus, Wide, commission, tax};
 use brk_ref::{Tax, is_taxable_status, tax_sum};
 
 pub(crate) fn shares_of_closing(closing: &Closing) -> u64
@@ -38,13 +38,13 @@ pub(crate) fn sell_value_of_closing(side: Side, price: Price, closing: &Closing)
     }
 }
 
-pub(crate) fn total_closed_shares(closings: &[Closing]) -> Result<u64, CallFault>
+pub(crate) fn total_closed_shares(closings: &[Closing]) -> Result<u64, StoreFailed>
     ensures total { IfOk result (λ total. total ≡ trades.total_closed_shares (map abstract_closing closings.now)) }
 {
     let mut total: u64 = 0;
     for closing in closings {
         let Some(sum) = total.checked_add(shares_of_closing(closing)) else {
-            return Err(CallFault::Store);
+            return Err(StoreFailed);
         };
         total = sum;
     }
@@ -55,13 +55,13 @@ pub(crate) fn buy_value_of_closings(
     side: Side,
     price: Price,
     closings: &[Closing],
-) -> Result<Wide, CallFault>
+) -> Result<Wide, StoreFailed>
     ensures total { IfOk result (λ total. total ≡ pos (trades.buy_value_of_closings side price (map abstract_closing closings.now))) }
 {
     let mut total: u128 = 0;
     for closing in closings {
         let Some(sum) = total.checked_add(buy_value_of_closing(side, price, closing)) else {
-            return Err(CallFault::Store);
+            return Err(StoreFailed);
         };
         total = sum;
     }
@@ -72,13 +72,13 @@ pub(crate) fn sell_value_of_closings(
     side: Side,
     price: Price,
     closings: &[Closing],
-) -> Result<Wide, CallFault>
+) -> Result<Wide, StoreFailed>
     ensures total { IfOk result (λ total. total ≡ pos (trades.sell_value_of_closings side price (map abstract_closing closings.now))) }
 {
     let mut total: u128 = 0;
     for closing in closings {
         let Some(sum) = total.checked_add(sell_value_of_closing(side, price, closing)) else {
-            return Err(CallFault::Store);
+            return Err(StoreFailed);
         };
         total = sum;
     }
@@ -90,7 +90,7 @@ pub(crate) fn gain_of_closings(
     side: Side,
     price: Price,
     closings: &[Closing],
-) -> Result<Wide, CallFault>
+) -> Result<Wide, StoreFailed>
     ensures gain { IfOk result (λ gain. gain ≡ trades.gain_of_closings side price (map abstract_closing closings.now)) }
 {
     let bought = buy_value_of_closings(side, price, closings)?;
@@ -99,19 +99,19 @@ pub(crate) fn gain_of_closings(
 }
 
 /// Returns hundred-thousandths. Fails with `Store` above the greatest tax rate.
-pub(crate) fn sum_of_tax_rates(rates: &[Tax]) -> Result<TaxRate, CallFault>
+pub(crate) fn sum_of_tax_rates(rates: &[Tax]) -> Result<TaxRate, StoreFailed>
     ensures total { IfOk result (λ total. total ≡ trades.sum_of_tax_rates (map abstract_tax_rate rates.now)) }
 {
     match tax_sum(rates) {
         Some(total) => Ok(total),
-        None => Err(CallFault::Store),
+        None => Err(StoreFailed),
     }
 }
 
 // Rounds half up to whole cents, and returns 0 for a loss, or if the status is not taxable. Fails
 // with `Store` if the status is taxable and the absolute value of the gain is above
 // `Cents::GREATEST`.
-fn tax_on_gain(status: TaxStatus, gain: Wide, rates: TaxRate) -> Result<Wide, CallFault>
+fn tax_on_gain(status: TaxStatus, gain: Wide, rates: TaxRate) -> Result<Wide, StoreFailed>
     ensures tax { IfOk result (λ tax. tax ≡ pos (if base.is_taxable_status status then amounts.tax gain rates else 0)) }
 {
     if !is_taxable_status(status) {
@@ -125,7 +125,7 @@ fn tax_on_gain(status: TaxStatus, gain: Wide, rates: TaxRate) -> Result<Wide, Ca
 pub(crate) fn tax_at_current_rates(
     order: &OrderDetails,
     details: &ResultDetails,
-) -> Result<Wide, CallFault>
+) -> Result<Wide, StoreFailed>
     ensures tax { IfOk result (λ tax. tax ≡ pos (trades.tax_at_current_rates (abstract_order_details order.now) (abstract_result_details details.now))) }
 {
     let gain = gain_of_closings(order.trade.kind.side(), details.price, &details.closings)?;

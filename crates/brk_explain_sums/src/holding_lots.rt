@@ -11,7 +11,7 @@ ghost use Rattle.brk_model.specs.Lists.{is_zero, total_by};
 use crate::trades::completed_price;
 use brk_explain_columns::{add_amounts, shares_value};
 use brk_explain_rows::{LotDetails, PricedLotChange};
-use brk_money::{CallFault, Price, Wide};
+use brk_money::{Price, StoreFailed, Wide};
 
 /// Returns a number below 0 if shares of a long lot were closed.
 pub(crate) fn qty_increase(change: &PricedLotChange) -> i128
@@ -36,12 +36,12 @@ fn price_increase(price: Price, change: &PricedLotChange) -> i128
 pub(crate) fn realised_gain_of_change(
     price: Price,
     change: &PricedLotChange,
-) -> Result<Wide, CallFault>
+) -> Result<Wide, StoreFailed>
     ensures gain { IfOk result (λ gain. gain ≡ holdings.realised_gain_of_change price (abstract_priced_lot_change change.now)) }
 {
     match qty_decrease(change).checked_mul(price_increase(price, change)) {
         Some(gain) => Ok(Wide::new(gain)),
-        None => Err(CallFault::Store),
+        None => Err(StoreFailed),
     }
 }
 
@@ -64,14 +64,14 @@ pub(crate) fn remaining_quantity(lot: &LotDetails) -> i64
 
 /// Returns the cost at the price at which the lot was opened, below 0 if shares that were sold
 /// short remain.
-pub(crate) fn remaining_cost_of_lot(lot: &LotDetails) -> Result<Wide, CallFault>
+pub(crate) fn remaining_cost_of_lot(lot: &LotDetails) -> Result<Wide, StoreFailed>
     ensures cost { IfOk result (λ cost. cost ≡ holdings.remaining_cost_of_lot (abstract_lot_details lot.now)) }
 {
     let price = completed_price(&lot.trade)?;
     shares_value(remaining_quantity(lot), price)
 }
 
-fn gain_of_changes(price: Price, changes: &[PricedLotChange]) -> Result<Wide, CallFault>
+fn gain_of_changes(price: Price, changes: &[PricedLotChange]) -> Result<Wide, StoreFailed>
     ensures total { IfOk result (λ total. total ≡ total_by (holdings.realised_gain_of_change price) (map abstract_priced_lot_change changes.now)) }
 {
     let mut total = Wide::new(0);
@@ -82,14 +82,14 @@ fn gain_of_changes(price: Price, changes: &[PricedLotChange]) -> Result<Wide, Ca
     Ok(total)
 }
 
-fn realised_gain_of_lot(lot: &LotDetails) -> Result<Wide, CallFault>
+fn realised_gain_of_lot(lot: &LotDetails) -> Result<Wide, StoreFailed>
     ensures gain { IfOk result (λ gain. gain ≡ holdings.realised_gain_of_lot (abstract_lot_details lot.now)) }
 {
     let price = completed_price(&lot.trade)?;
     gain_of_changes(price, &lot.changes)
 }
 
-pub(crate) fn realised_gain_of_lots(lots: &[LotDetails]) -> Result<Wide, CallFault>
+pub(crate) fn realised_gain_of_lots(lots: &[LotDetails]) -> Result<Wide, StoreFailed>
     ensures total { IfOk result (λ total. total ≡ holdings.realised_gain_of_lots (map abstract_lot_details lots.now)) }
 {
     let mut total = Wide::new(0);
@@ -100,7 +100,7 @@ pub(crate) fn realised_gain_of_lots(lots: &[LotDetails]) -> Result<Wide, CallFau
     Ok(total)
 }
 
-pub(crate) fn remaining_cost_of_lots(lots: &[LotDetails]) -> Result<Wide, CallFault>
+pub(crate) fn remaining_cost_of_lots(lots: &[LotDetails]) -> Result<Wide, StoreFailed>
     ensures total { IfOk result (λ total. total ≡ holdings.remaining_cost_of_lots (map abstract_lot_details lots.now)) }
 {
     let mut total = Wide::new(0);
@@ -117,17 +117,17 @@ fn open_lot_count(left: i64) -> u64
     if left == 0 { 0 } else { 1 }
 }
 
-fn add_counts(one: u64, other: u64) -> Result<u64, CallFault>
+fn add_counts(one: u64, other: u64) -> Result<u64, StoreFailed>
     ensures sum { IfOk result (λ sum. sum ≡ one + other) }
 {
     match one.checked_add(other) {
         Some(sum) => Ok(sum),
-        None => Err(CallFault::Store),
+        None => Err(StoreFailed),
     }
 }
 
 /// A lot is open if its remaining quantity is not 0.
-pub(crate) fn count_open_lots(lots: &[LotDetails]) -> Result<u64, CallFault>
+pub(crate) fn count_open_lots(lots: &[LotDetails]) -> Result<u64, StoreFailed>
     ensures count { IfOk result (λ count. count ≡ length (holdings.lots_not_fully_closed (map abstract_lot_details lots.now))) }
 {
     let mut count: u64 = 0;
@@ -144,7 +144,7 @@ fn change_count(changes: &[PricedLotChange]) -> u64
 }
 
 /// The openings of the lots are not counted.
-pub(crate) fn count_of_lot_changes(lots: &[LotDetails]) -> Result<u64, CallFault>
+pub(crate) fn count_of_lot_changes(lots: &[LotDetails]) -> Result<u64, StoreFailed>
     ensures count { IfOk result (λ count. count ≡ holdings.count_of_lot_changes (map abstract_lot_details lots.now)) }
 {
     let mut count: u64 = 0;
