@@ -18,7 +18,7 @@ use std::io::ErrorKind;
 pub type FileDesk = Store<FileStore<File>>;
 
 fn close_connection(conn: Connection<FileStore<File>>) -> Result<(), StoreFailed>
-    ensures closed { OnOk result (HasLastCommitInFile conn) }
+    ensures { OnOk result (HasLastCommitInFile conn) }
 {
     match conn.close_files() {
         Ok(_) => Ok(()),
@@ -34,14 +34,14 @@ fn close_connection(conn: Connection<FileStore<File>>) -> Result<(), StoreFailed
 /// handle is dropped, and a part of the committed data may still be only in the log beside the
 /// file.
 pub fn close_desk_file(store: FileDesk) -> Result<(), StoreFailed>
-    ensures closed { OnOk result (HasLastCommitInFile store) }
+    ensures { OnOk result (HasLastCommitInFile store) }
 {
     close_connection(store.into_conn())
 }
 
 // A missing file becomes a new database.
 fn open_connection(rt: &HostRuntime, path: &str) -> Result<Connection<FileStore<File>>, StoreFailed>
-    ensures opened { IfOk result IsNewConnectionToFile }
+    ensures { IfOk result IsNewConnectionToFile }
 {
     match Connection::open(rt, path) {
         Ok(conn) => Ok(conn),

@@ -22,7 +22,7 @@ pub(crate) fn decide<S: Alter>(
     now: Stamp,
     command: &Command,
 ) -> Planned<Plan, CallFault>
-    ensures read { ReadPost S.Store store.old store.new result (DecidesCommand now (abstract_command command.now)) }
+    ensures { ReadPost S.Store store.old store.new result (DecidesCommand now (abstract_command command.now)) }
 {
     match command {
         Command::Add(reference) => decide_reference_record(alloc, store, now, reference),

@@ -206,7 +206,7 @@ impl<S: Alter> Desk<S> {
         alloc: Global,
         trade: Id,
     ) -> Result<Option<TradeDetails>, CallFault>
-        ensures read { ReadPost S.Store self.old self.new result (AreDetailsOfTrade trade) }
+        ensures { ReadPost S.Store self.old self.new result (AreDetailsOfTrade trade) }
     {
         gather_trade(alloc, &mut self.store, trade)
     }
@@ -219,7 +219,7 @@ impl<S: Alter> Desk<S> {
         alloc: Global,
         account: Id,
     ) -> Result<Option<AccountDetails>, CallFault>
-        ensures read { ReadPost S.Store self.old self.new result (AreDetailsOfAccount account) }
+        ensures { ReadPost S.Store self.old self.new result (AreDetailsOfAccount account) }
     {
         gather_account(alloc, &mut self.store, account)
     }
@@ -236,7 +236,7 @@ impl<S: Alter> Desk<S> {
         account: Id,
         symbol: &Symbol,
     ) -> Planned<HoldingDetails, CallFault>
-        ensures read { ReadPost S.Store self.old self.new result (AreDetailsOfHolding account symbol.now) }
+        ensures { ReadPost S.Store self.old self.new result (AreDetailsOfHolding account symbol.now) }
     {
         gather_holding(alloc, &mut self.store, account, symbol)
     }
@@ -248,7 +248,7 @@ impl<S: Alter> Desk<S> {
         alloc: Global,
         broker: Id,
     ) -> Result<Option<BrokerDetails>, CallFault>
-        ensures read { ReadPost S.Store self.old self.new result (AreDetailsOfBroker broker) }
+        ensures { ReadPost S.Store self.old self.new result (AreDetailsOfBroker broker) }
     {
         gather_broker(alloc, &mut self.store, broker)
     }

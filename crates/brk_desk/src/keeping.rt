@@ -28,7 +28,7 @@ pub(crate) fn read_kept<S: Alter>(
     store: &mut Store<S>,
     key: Option<&Key>,
 ) -> Result<Option<Kept>, StoreFailed>
-    ensures read { ReadStoredReplyPost S.Store store.old store.new (optional_model_key (option_copied key.entry)) result }
+    ensures { ReadStoredReplyPost S.Store store.old store.new (optional_model_key (option_copied key.entry)) result }
 {
     match key {
         Some(key) => store.stored_reply_by_key(key),
@@ -41,7 +41,7 @@ pub(crate) fn answer_retry(
     command: &Command,
     kept: Kept,
 ) -> Result<Answer, AllocError>
-    ensures answer { IfOk result (λ answer. (base : Base)
+    ensures { IfOk result (λ answer. (base : Base)
         → answer_and_base_of_retry base (abstract_command command.now) (abstract_kept_row kept) ≡ (model_answer answer, base)) }
 {
     let row = row_of_command(alloc, command)?;

@@ -24,7 +24,7 @@ fn estimate_view<S: Alter>(
     store: &mut Store<S>,
     order: &Order,
 ) -> Planned<View, CallFault>
-    ensures read { ReadPost S.Store store.old store.new result (AnswersQueryAsModel (EstimateOf (abstract_order order.now))) }
+    ensures { ReadPost S.Store store.old store.new result (AnswersQueryAsModel (EstimateOf (abstract_order order.now))) }
 {
     match compute_order_estimate(alloc, store, order)? {
         Ok(estimate) => Ok(Ok(View::Estimate(estimate))),
@@ -37,7 +37,7 @@ pub(crate) fn view_of_query<S: Alter>(
     store: &mut Store<S>,
     query: &Query,
 ) -> Planned<View, CallFault>
-    ensures read { ReadPost S.Store store.old store.new result (AnswersQueryAsModel (abstract_query query.now)) }
+    ensures { ReadPost S.Store store.old store.new result (AnswersQueryAsModel (abstract_query query.now)) }
 {
     match query {
         Query::Position(customer) => values_view(alloc, store, *customer),

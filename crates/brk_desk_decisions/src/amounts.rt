@@ -34,7 +34,7 @@ pub(crate) fn tax_rate_sum<S: Alter>(
     store: &mut Store<S>,
     customer: Id,
 ) -> Result<TaxRate, CallFault>
-    ensures read { ReadPost S.Store store.old store.new result (λ rates t. rates ≡ customer_tax_rate_sum t customer) }
+    ensures { ReadPost S.Store store.old store.new result (λ rates t. rates ≡ customer_tax_rate_sum t customer) }
 {
     match limited_tax_sum(alloc, store, customer)? {
         Some(rates) => Ok(rates),
@@ -60,7 +60,7 @@ fn account_amounts<S: Alter>(
     account: &AccountRow,
     symbol: &Symbol,
 ) -> Result<(Wide, Option<i64>), CallFault>
-    ensures read { ReadPost S.Store store.old store.new result (λ amounts t. AreAssetsAndSharesOfAccount t account.now symbol.now amounts.0 amounts.1) }
+    ensures { ReadPost S.Store store.old store.new result (λ amounts t. AreAssetsAndSharesOfAccount t account.now symbol.now amounts.0 amounts.1) }
 {
     let held = read_valued_summaries(alloc, store, account.account.id)?;
     let shares = symbol_shares(&held.rows, symbol);
@@ -77,7 +77,7 @@ pub(crate) fn order_amounts<S: Alter>(
     account: &AccountRow,
     order: &Order,
 ) -> Result<Amounts, CallFault>
-    ensures read { ReadPost S.Store store.old store.new result (λ amounts t. EstimateAmountsMatchTables t account.now order.now amounts) }
+    ensures { ReadPost S.Store store.old store.new result (λ amounts t. EstimateAmountsMatchTables t account.now order.now amounts) }
 {
     let rates = tax_rate_sum(alloc, store, account.account.customer)?;
     let (assets, summary) = account_amounts(alloc, store, account, &order.symbol)?;

@@ -13,7 +13,7 @@ use sqlite::Alter;
 use std::alloc::Global;
 
 fn read_status<S: Alter>(store: &mut Store<S>, trade: Id) -> Result<Option<Status>, CallFault>
-    ensures read { ReadPost S.Store store.old store.new result (λ status t. status ≡ option_map (λ r. r.status) (trade_row_with_id t trade)) }
+    ensures { ReadPost S.Store store.old store.new result (λ status t. status ≡ option_map (λ r. r.status) (trade_row_with_id t trade)) }
 {
     match store.trade(trade)? {
         Some(row) => Ok(Some(row.status)),
@@ -28,7 +28,7 @@ pub fn decide_cancel<S: Alter>(
     now: Stamp,
     trade: Id,
 ) -> Planned<Plan, CallFault>
-    ensures read { ReadPost S.Store store.old store.new result (DecidesCommand now (CancelTrade trade)) }
+    ensures { ReadPost S.Store store.old store.new result (DecidesCommand now (CancelTrade trade)) }
 {
     // The value is not needed: the call shows that the stamp is at most the greatest stamp.
     let _moment = now.get();

@@ -75,7 +75,7 @@ pub fn compute_order_estimate<S: Alter>(
     store: &mut Store<S>,
     order: &Order,
 ) -> Planned<Estimate, CallFault>
-    ensures read { ReadPost S.Store store.old store.new result (IsEstimateOfModel (abstract_order order.now)) }
+    ensures { ReadPost S.Store store.old store.new result (IsEstimateOfModel (abstract_order order.now)) }
 {
     let found = estimate_facts(alloc, store, order)?;
     let mut lots = store.lot_pages(alloc, order.account, &order.symbol, order.is_lifo);

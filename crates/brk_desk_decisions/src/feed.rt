@@ -27,7 +27,7 @@ fn read_tick_quote<S: Alter>(
     tick: &Tick,
     ticks: &[Tick],
 ) -> Result<Option<Quote>, CallFault>
-    ensures read { ReadPost S.Store store.old store.new result (λ quote t.
+    ensures { ReadPost S.Store store.old store.new result (λ quote t.
         (option_map (λ q. abstract_last_trade_row q.last) quote ≡ last_trade_row_of_symbol t tick.now.symbol)
         × IfSome quote (λ q. IsQuoteOfTick t tick.now ticks.now (state_of_quote q))) }
 {
@@ -49,7 +49,7 @@ fn feed_facts<S: Alter>(
     store: &mut Store<S>,
     ticks: &[Tick],
 ) -> Result<(Option<Stamp>, Vec<Quote>), CallFault>
-    ensures read { ReadPost S.Store store.old store.new result (λ market t. (market.0 ≡ t.last)
+    ensures { ReadPost S.Store store.old store.new result (λ market t. (market.0 ≡ t.last)
         × AreQuotesOfTicks t ticks.now ticks.now (states_of_quotes market.1.items)) }
 {
     let last = store.last_stamp()?;
@@ -72,7 +72,7 @@ pub fn decide_feed<S: Alter>(
     now: Stamp,
     feed: &Feed,
 ) -> Planned<Plan, CallFault>
-    ensures read { ReadPost S.Store store.old store.new result (DecidesCommand now (FeedTicks (abstract_ticks feed.now))) }
+    ensures { ReadPost S.Store store.old store.new result (DecidesCommand now (FeedTicks (abstract_ticks feed.now))) }
 {
     // The value is not needed: the call shows that the stamp is at most the greatest stamp.
     let _moment = now.get();

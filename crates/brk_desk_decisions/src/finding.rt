@@ -28,25 +28,25 @@ pub(crate) const NO_REFERENCE_FACTS: ReferenceFacts = ReferenceFacts {
 };
 
 fn broker_exists<S: Alter>(store: &mut Store<S>, id: Id) -> Result<bool, CallFault>
-    ensures read { ReadPost S.Store store.old store.new result (λ there t. there ≡ has_broker t id) }
+    ensures { ReadPost S.Store store.old store.new result (λ there t. there ≡ has_broker t id) }
 {
     Ok(store.broker(id)?.is_some())
 }
 
 pub(crate) fn customer_exists<S: Alter>(store: &mut Store<S>, id: Id) -> Result<bool, CallFault>
-    ensures read { ReadPost S.Store store.old store.new result (λ there t. there ≡ has_customer t id) }
+    ensures { ReadPost S.Store store.old store.new result (λ there t. there ≡ has_customer t id) }
 {
     Ok(store.customer(id)?.is_some())
 }
 
 fn tax_id_exists<S: Alter>(store: &mut Store<S>, tax_id: &TaxId) -> Result<bool, CallFault>
-    ensures read { ReadPost S.Store store.old store.new result (λ there t. there ≡ contains_customer_with_tax_id t tax_id.now) }
+    ensures { ReadPost S.Store store.old store.new result (λ there t. there ≡ contains_customer_with_tax_id t tax_id.now) }
 {
     Ok(store.customer_by_tax_id(tax_id)?.is_some())
 }
 
 pub(crate) fn account_exists<S: Alter>(store: &mut Store<S>, id: Id) -> Result<bool, CallFault>
-    ensures read { ReadPost S.Store store.old store.new result (λ there t. there ≡ has_account t id) }
+    ensures { ReadPost S.Store store.old store.new result (λ there t. there ≡ has_account t id) }
 {
     Ok(store.account(id)?.is_some())
 }
@@ -56,7 +56,7 @@ fn account_count<S: Alter>(
     store: &mut Store<S>,
     customer: Id,
 ) -> Result<usize, CallFault>
-    ensures read { ReadPost S.Store store.old store.new result (λ count t. count ≡ account_count_of_customer t customer) }
+    ensures { ReadPost S.Store store.old store.new result (λ count t. count ≡ account_count_of_customer t customer) }
 {
     Ok(store.accounts_of_customer(alloc, customer)?.len())
 }
@@ -65,7 +65,7 @@ fn broker_facts<S: Alter>(
     store: &mut Store<S>,
     broker: &Broker,
 ) -> Result<ReferenceFacts, CallFault>
-    ensures read { ReadPost S.Store store.old store.new result (λ found t. found.same_id ≡ has_broker t broker.now.id) }
+    ensures { ReadPost S.Store store.old store.new result (λ found t. found.same_id ≡ has_broker t broker.now.id) }
 {
     let same_id = broker_exists(store, broker.id)?;
     Ok(ReferenceFacts {
@@ -78,7 +78,7 @@ fn customer_facts<S: Alter>(
     store: &mut Store<S>,
     customer: &Customer,
 ) -> Result<ReferenceFacts, CallFault>
-    ensures read { ReadPost S.Store store.old store.new result (λ found t. (found.same_id ≡ has_customer t customer.now.id)
+    ensures { ReadPost S.Store store.old store.new result (λ found t. (found.same_id ≡ has_customer t customer.now.id)
         × (found.same_tax_id ≡ contains_customer_with_tax_id t customer.now.tax_id)) }
 {
     let same_id = customer_exists(store, customer.id)?;
@@ -95,7 +95,7 @@ fn account_facts<S: Alter>(
     store: &mut Store<S>,
     account: &Account,
 ) -> Result<ReferenceFacts, CallFault>
-    ensures read { ReadPost S.Store store.old store.new result
+    ensures { ReadPost S.Store store.old store.new result
         (λ found t. AccountFactsMatchTables t account.now.id account.now.customer account.now.broker found) }
 {
     let same_id = account_exists(store, account.id)?;
@@ -115,7 +115,7 @@ fn security_facts<S: Alter>(
     store: &mut Store<S>,
     symbol: &Symbol,
 ) -> Result<ReferenceFacts, CallFault>
-    ensures read { ReadPost S.Store store.old store.new result (λ found t. found.same_id ≡ has_security t symbol.now) }
+    ensures { ReadPost S.Store store.old store.new result (λ found t. found.same_id ≡ has_security t symbol.now) }
 {
     let same_id = store.security(symbol)?.is_some();
     Ok(ReferenceFacts {
@@ -125,7 +125,7 @@ fn security_facts<S: Alter>(
 }
 
 fn tax_facts<S: Alter>(store: &mut Store<S>, id: Id) -> Result<ReferenceFacts, CallFault>
-    ensures read { ReadPost S.Store store.old store.new result (λ found t. found.same_id ≡ contains_tax_rate t id) }
+    ensures { ReadPost S.Store store.old store.new result (λ found t. found.same_id ≡ contains_tax_rate t id) }
 {
     let same_id = store.tax_with_id(id)?.is_some();
     Ok(ReferenceFacts {
@@ -142,7 +142,7 @@ pub(crate) fn reference_facts<S: Alter>(
     store: &mut Store<S>,
     reference: &Reference,
 ) -> Result<ReferenceFacts, CallFault>
-    ensures read { ReadPost S.Store store.old store.new result (λ found t. ReferenceFactsMatchTables t reference.now found) }
+    ensures { ReadPost S.Store store.old store.new result (λ found t. ReferenceFactsMatchTables t reference.now found) }
 {
     match reference {
         Reference::Broker(broker) => broker_facts(store, broker),

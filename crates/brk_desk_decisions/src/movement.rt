@@ -20,7 +20,7 @@ pub fn decide_movement<S: Alter>(
     now: Stamp,
     movement: &Movement,
 ) -> Planned<Plan, CallFault>
-    ensures read { ReadPost S.Store store.old store.new result (DecidesCommand now (movement_command movement.now)) }
+    ensures { ReadPost S.Store store.old store.new result (DecidesCommand now (movement_command movement.now)) }
 {
     // The value is not needed: the call shows that the stamp is at most the greatest stamp.
     let _moment = now.get();

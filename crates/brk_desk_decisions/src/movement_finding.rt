@@ -14,7 +14,7 @@ pub(crate) fn movement_facts<S: Alter>(
     store: &mut Store<S>,
     movement: &Movement,
 ) -> Result<MovementPlanFacts, CallFault>
-    ensures read { ReadPost S.Store store.old store.new result (λ found t. MovementFactsMatchTables t movement.now found) }
+    ensures { ReadPost S.Store store.old store.new result (λ found t. MovementFactsMatchTables t movement.now found) }
 {
     let balance = store.read_balance(movement.account)?;
     let (next, has_all_movements) = store.next_movement_number()?;

@@ -18,7 +18,7 @@ pub fn decide_oneday<S: Alter>(
     now: Stamp,
     day: Day,
 ) -> Planned<Plan, CallFault>
-    ensures read { ReadPost S.Store store.old store.new result (DecidesCommand now (SetOneDay day)) }
+    ensures { ReadPost S.Store store.old store.new result (DecidesCommand now (SetOneDay day)) }
 {
     // The value is not needed: the call shows that the stamp is at most the greatest stamp.
     let _moment = now.get();

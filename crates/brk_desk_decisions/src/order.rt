@@ -65,7 +65,7 @@ pub fn decide_order<S: Alter>(
     now: Stamp,
     order: &Order,
 ) -> Planned<Plan, CallFault>
-    ensures read { ReadPost S.Store store.old store.new result (DecidesCommand now (PlaceOrder (abstract_order order.now))) }
+    ensures { ReadPost S.Store store.old store.new result (DecidesCommand now (PlaceOrder (abstract_order order.now))) }
 {
     // The value is not needed: the call shows that the stamp is at most the greatest stamp.
     let _moment = now.get();

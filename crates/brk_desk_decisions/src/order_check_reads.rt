@@ -36,7 +36,7 @@ fn read_last_price<S: Alter>(
     store: &mut Store<S>,
     symbol: &Symbol,
 ) -> Result<Option<Price>, CallFault>
-    ensures read { ReadPost S.Store store.old store.new result (λ price t. price ≡ last_price_of_symbol t symbol.now) }
+    ensures { ReadPost S.Store store.old store.new result (λ price t. price ≡ last_price_of_symbol t symbol.now) }
 {
     match store.last_trade(symbol)? {
         Some(last) => Ok(Some(last.price)),
@@ -51,7 +51,7 @@ fn may_execute<S: Alter>(
     customer: &Customer,
     executor: &Executor,
 ) -> Result<bool, CallFault>
-    ensures read { ReadPost S.Store store.old store.new result (λ is_permitted t.
+    ensures { ReadPost S.Store store.old store.new result (λ is_permitted t.
         is_permitted
         ≡ is_customer_or_has_permission (abstract_customer customer.now) (permission_list_for_tax_id t account executor.now.tax_id)
         (abstract_executor executor.now)) }
@@ -65,7 +65,7 @@ fn charge_of_tier<S: Alter>(
     kind: TradeType,
     tier: Tier,
 ) -> Result<Option<ChargeAmount>, CallFault>
-    ensures read { ReadPost S.Store store.old store.new result (λ charge t. charge ≡ charge_of_type_and_tier t kind tier) }
+    ensures { ReadPost S.Store store.old store.new result (λ charge t. charge ≡ charge_of_type_and_tier t kind tier) }
 {
     match store.charge(kind, tier)? {
         Some(charge) => Ok(Some(charge.amount)),
@@ -83,7 +83,7 @@ pub(crate) fn read_band_rate<S: Alter>(
     exchange: &Exchange,
     qty: Qty,
 ) -> Result<Option<Rate>, CallFault>
-    ensures read { ReadPost S.Store store.old store.new result (λ rate t. rate
+    ensures { ReadPost S.Store store.old store.new result (λ rate t. rate
         ≡ option_map (λ b. b.rate) (commission_band_of_quantity t tier kind exchange.now qty)) }
 {
     let bands = store.commission_bands(alloc, tier, kind, exchange)?;
@@ -97,7 +97,7 @@ fn read_order_rate<S: Alter>(
     order: &Order,
     tier: Tier,
 ) -> Result<Option<Rate>, CallFault>
-    ensures read { ReadPost S.Store store.old store.new result (λ rate t.
+    ensures { ReadPost S.Store store.old store.new result (λ rate t.
         IfSome (security_row_with_symbol t order.now.symbol) (λ s. rate
         ≡ option_map (λ b. b.rate) (commission_band_of_quantity t tier (trade_type_of_order_type order.now.order_type) s.exchange order.now.qty))) }
 {
@@ -123,7 +123,7 @@ pub(crate) fn check_facts<S: Alter>(
     order: &Order,
     customer: &Customer,
 ) -> Result<OrderCheckFacts, CallFault>
-    ensures read { ReadPost S.Store store.old store.new result (λ tested t. CustomerOrderFactsMatchTables t order.now customer.now tested) }
+    ensures { ReadPost S.Store store.old store.new result (λ tested t. CustomerOrderFactsMatchTables t order.now customer.now tested) }
 {
     let tier = customer.tier;
     let last_price = read_last_price(store, &order.symbol)?;

@@ -62,7 +62,7 @@ fn facts_for<S: Alter>(
     order: &Order,
     account: &AccountRow,
 ) -> Result<OrderPlanFacts, CallFault>
-    ensures read { ReadPost S.Store store.old store.new result (λ found t. EstimateFactsMatchIfAccountOfOrder t order.now account.now found) }
+    ensures { ReadPost S.Store store.old store.new result (λ found t. EstimateFactsMatchIfAccountOfOrder t order.now account.now found) }
 {
     let customer = require_customer(store, account.account.customer)?;
     let tested = check_facts(alloc, store, order, &customer)?;
@@ -76,7 +76,7 @@ pub(crate) fn estimate_facts<S: Alter>(
     store: &mut Store<S>,
     order: &Order,
 ) -> Result<OrderPlanFacts, CallFault>
-    ensures read { ReadPost S.Store store.old store.new result (λ found t. EstimateFactsMatchTables t order.now found) }
+    ensures { ReadPost S.Store store.old store.new result (λ found t. EstimateFactsMatchTables t order.now found) }
 {
     match store.account(order.account)? {
         Some(account) => {
@@ -92,7 +92,7 @@ pub(crate) fn order_facts<S: Alter>(
     store: &mut Store<S>,
     order: &Order,
 ) -> Result<OrderPlanFacts, CallFault>
-    ensures read { ReadPost S.Store store.old store.new result (λ found t. OrderFactsMatchTables t order.now found) }
+    ensures { ReadPost S.Store store.old store.new result (λ found t. OrderFactsMatchTables t order.now found) }
 {
     let found = estimate_facts(alloc, store, order)?;
     let last_trade = store.greatest_trade_id()?;

@@ -22,7 +22,7 @@ fn parties_of_row<S: Alter>(
     store: &mut Store<S>,
     row: AccountRow,
 ) -> Result<TradeParties, CallFault>
-    ensures read { ReadPost S.Store store.old store.new result (λ parties t. PartyFactsMatchTables t (abstract_account_row row) parties) }
+    ensures { ReadPost S.Store store.old store.new result (λ parties t. PartyFactsMatchTables t (abstract_account_row row) parties) }
 {
     let account = &row.account;
     let customer = require_customer(store, account.customer)?;
@@ -42,7 +42,7 @@ pub(crate) fn party_facts<S: Alter>(
     store: &mut Store<S>,
     account: Id,
 ) -> Result<TradeParties, CallFault>
-    ensures read { ReadPost S.Store store.old store.new result (λ parties t. IfSome (account_row_with_id t account) (λ a. PartyFactsMatchTables t a parties)) }
+    ensures { ReadPost S.Store store.old store.new result (λ parties t. IfSome (account_row_with_id t account) (λ a. PartyFactsMatchTables t a parties)) }
 {
     let row = require_account(store, account)?;
     let parties = parties_of_row(alloc, store, row)?;

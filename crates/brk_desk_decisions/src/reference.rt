@@ -20,7 +20,7 @@ pub fn decide_reference_record<S: Alter>(
     now: Stamp,
     reference: &Reference,
 ) -> Planned<Plan, CallFault>
-    ensures read { ReadPost S.Store store.old store.new result (DecidesCommand now (command_adding_record reference.now)) }
+    ensures { ReadPost S.Store store.old store.new result (DecidesCommand now (command_adding_record reference.now)) }
 {
     // The value is not needed: the call shows that the stamp is at most the greatest stamp.
     let _moment = now.get();

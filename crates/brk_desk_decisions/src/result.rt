@@ -94,7 +94,7 @@ pub fn decide_result<S: Alter>(
     now: Stamp,
     completion: &Completion,
 ) -> Planned<Plan, CallFault>
-    ensures read { ReadPost S.Store store.old store.new result (DecidesCommand now (CompleteTrade completion.now.trade completion.now.price)) }
+    ensures { ReadPost S.Store store.old store.new result (DecidesCommand now (CompleteTrade completion.now.trade completion.now.price)) }
 {
     // The value is not needed: the call shows that the stamp is at most the greatest stamp.
     let _moment = now.get();

@@ -22,7 +22,7 @@ fn traded_security<S: Alter>(
     trade: &TradeRow,
     tier: Tier,
 ) -> Result<TradedSecurity, CallFault>
-    ensures read { ReadPost S.Store store.old store.new result
+    ensures { ReadPost S.Store store.old store.new result
         (λ listed t. IfSome (security_row_with_symbol t trade.now.symbol) (λ s. SecurityFactsMatchTables t trade.now tier s listed)) }
 {
     let security = require_security(store, &trade.symbol)?;
@@ -39,7 +39,7 @@ fn traded_security<S: Alter>(
 
 // Fails with `Store` also if no number is left for a cash row.
 fn posting_facts<S: Alter>(store: &mut Store<S>) -> Result<Posting, CallFault>
-    ensures read { ReadPost S.Store store.old store.new result (λ posting t. PostingFactsMatchTables t posting) }
+    ensures { ReadPost S.Store store.old store.new result (λ posting t. PostingFactsMatchTables t posting) }
 {
     let rule = store.one_day_start()?;
     let next = store.next_cash_row_number()?;

@@ -23,14 +23,14 @@ fn has_permission<S: Alter>(
     account: Id,
     tax_id: &TaxId,
 ) -> Result<bool, CallFault>
-    ensures read { ReadPost S.Store store.old store.new result (λ there t. there ≡ contains_permission t account tax_id.now) }
+    ensures { ReadPost S.Store store.old store.new result (λ there t. there ≡ contains_permission t account tax_id.now) }
 {
     Ok(store.permission(account, tax_id)?.is_some())
 }
 
 // The rate is in hundred-thousandths.
 fn stored_rate<S: Alter>(store: &mut Store<S>, tax: Id) -> Result<Option<TaxRate>, CallFault>
-    ensures read { ReadPost S.Store store.old store.new result (λ rate t. rate ≡ rate_of_tax_rate_with_id t tax) }
+    ensures { ReadPost S.Store store.old store.new result (λ rate t. rate ≡ rate_of_tax_rate_with_id t tax) }
 {
     match store.tax_with_id(tax)? {
         Some(tax) => Ok(Some(tax.rate)),
@@ -39,7 +39,7 @@ fn stored_rate<S: Alter>(store: &mut Store<S>, tax: Id) -> Result<Option<TaxRate
 }
 
 fn pays_tax<S: Alter>(store: &mut Store<S>, customer: Id, tax: Id) -> Result<bool, CallFault>
-    ensures read { ReadPost S.Store store.old store.new result (λ there t. there ≡ contains_customer_tax t customer tax) }
+    ensures { ReadPost S.Store store.old store.new result (λ there t. there ≡ contains_customer_tax t customer tax) }
 {
     Ok(store.customer_tax(customer, tax)?.is_some())
 }
@@ -50,7 +50,7 @@ fn read_taxes<S: Alter>(
     store: &mut Store<S>,
     customer: Id,
 ) -> Result<Vec<Tax>, CallFault>
-    ensures read { ReadPost S.Store store.old store.new result (λ taxes t.
+    ensures { ReadPost S.Store store.old store.new result (λ taxes t.
         map (λ tax. Some (abstract_tax_rate tax)) taxes.items ≡ map (λ r. tax_rate_with_id t r.tax) (filter (λ r. r.customer == customer) t.customer_taxes)) }
 {
     let mut taxes = Vec::new(alloc);
@@ -71,7 +71,7 @@ pub(crate) fn limited_tax_sum<S: Alter>(
     store: &mut Store<S>,
     customer: Id,
 ) -> Result<Option<TaxRate>, CallFault>
-    ensures read { ReadPost S.Store store.old store.new result (λ rates t. SomeIff rates (customer_tax_rate_sum t customer
+    ensures { ReadPost S.Store store.old store.new result (λ rates t. SomeIff rates (customer_tax_rate_sum t customer
         ≤ greatest_tax_rate) (customer_tax_rate_sum t customer)) }
 {
     let taxes = read_taxes(alloc, store, customer)?;
@@ -82,7 +82,7 @@ pub(crate) fn permission_facts<S: Alter>(
     store: &mut Store<S>,
     permission: &Permission,
 ) -> Result<ReferenceFacts, CallFault>
-    ensures read { ReadPost S.Store store.old store.new result (λ found t.
+    ensures { ReadPost S.Store store.old store.new result (λ found t.
         (found.account ≡ has_account t permission.now.account) × (found.same_id ≡ contains_permission t permission.now.account permission.now.tax_id)) }
 {
     let account = account_exists(store, permission.account)?;
@@ -98,7 +98,7 @@ pub(crate) fn charge_facts<S: Alter>(
     store: &mut Store<S>,
     charge: &Charge,
 ) -> Result<ReferenceFacts, CallFault>
-    ensures read { ReadPost S.Store store.old store.new result (λ found t. found.same_id ≡ contains_charge t charge.now.kind charge.now.tier) }
+    ensures { ReadPost S.Store store.old store.new result (λ found t. found.same_id ≡ contains_charge t charge.now.kind charge.now.tier) }
 {
     let same_id = store.charge(charge.kind, charge.tier)?.is_some();
     Ok(ReferenceFacts {
@@ -112,7 +112,7 @@ pub(crate) fn band_facts<S: Alter>(
     store: &mut Store<S>,
     band: &Band,
 ) -> Result<ReferenceFacts, CallFault>
-    ensures read { ReadPost S.Store store.old store.new result (λ found t. found.overlaps ≡ overlaps_some_band t (abstract_band band.now)) }
+    ensures { ReadPost S.Store store.old store.new result (λ found t. found.overlaps ≡ overlaps_some_band t (abstract_band band.now)) }
 {
     let bands = store.commission_bands(alloc, band.tier, band.kind, &band.exchange)?;
     let overlapping = overlaps(&bands, band);
@@ -128,7 +128,7 @@ pub(crate) fn taxpayer_facts<S: Alter>(
     store: &mut Store<S>,
     pays: &CustomerTax,
 ) -> Result<ReferenceFacts, CallFault>
-    ensures read { ReadPost S.Store store.old store.new result (λ found t. CustomerTaxFactsMatchTables t pays.now.customer pays.now.tax found) }
+    ensures { ReadPost S.Store store.old store.new result (λ found t. CustomerTaxFactsMatchTables t pays.now.customer pays.now.tax found) }
 {
     let customer = customer_exists(store, pays.customer)?;
     let rate = stored_rate(store, pays.tax)?;

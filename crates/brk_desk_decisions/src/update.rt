@@ -20,7 +20,7 @@ fn update_facts<S: Alter>(
     store: &mut Store<S>,
     update: &Update,
 ) -> Result<Option<TextUpdate>, CallFault>
-    ensures read { ReadSequencePost S.Store store.old store.new result (λ found t. UpdateFactsMatchTables t update.now found) }
+    ensures { ReadSequencePost S.Store store.old store.new result (λ found t. UpdateFactsMatchTables t update.now found) }
 {
     match update {
         Update::Executors(trades) => executor_facts(alloc, store, trades),
@@ -38,7 +38,7 @@ pub fn decide_update<S: Alter>(
     now: Stamp,
     update: &Update,
 ) -> Planned<Plan, CallFault>
-    ensures read { ReadPost S.Store store.old store.new result (DecidesCommand now (text_update_command update.now)) }
+    ensures { ReadPost S.Store store.old store.new result (DecidesCommand now (text_update_command update.now)) }
 {
     // The value is not needed: the call shows that the stamp is at most the greatest stamp.
     let _moment = now.get();

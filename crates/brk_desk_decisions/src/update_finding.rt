@@ -24,7 +24,7 @@ fn read_cash_types<S: Alter>(
     account: Id,
     span: Span,
 ) -> Result<Vec<SettlementText>, CallFault>
-    ensures read { ReadPost S.Store store.old store.new result
+    ensures { ReadPost S.Store store.old store.new result
         (λ settled t. SettlementTextsMatchTables t (chosen.first_twenty_completed_trade_rows_of_account account span.first span.last t) settled.items) }
 {
     let trades = store.completed_trades_of_account(alloc, account, span)?;
@@ -47,7 +47,7 @@ fn read_cash_names<S: Alter>(
     symbol: &Symbol,
     span: Span,
 ) -> Result<Vec<CashText>, CallFault>
-    ensures read { ReadPost S.Store store.old store.new result
+    ensures { ReadPost S.Store store.old store.new result
         (λ paid t. CashTextsMatchTables t (chosen.first_twenty_completed_cash_trade_rows_of_symbol symbol.now span.first span.last t) paid.items) }
 {
     let trades = store.completed_cash_trades_of_symbol(alloc, symbol, span)?;
@@ -69,7 +69,7 @@ pub(crate) fn executor_facts<S: Alter>(
     store: &mut Store<S>,
     trades: &TradeIds,
 ) -> Result<Option<TextUpdate>, CallFault>
-    ensures read { ReadSequencePost S.Store store.old store.new result (λ found t. UpdateFactsMatchTables t (update.Executors trades.now) found) }
+    ensures { ReadSequencePost S.Store store.old store.new result (λ found t. UpdateFactsMatchTables t (update.Executors trades.now) found) }
 {
     match read_trades_by_ids(alloc, store, trades.ids())? {
         Some(trades) => Ok(Some(TextUpdate::Executors(trades))),
@@ -79,7 +79,7 @@ pub(crate) fn executor_facts<S: Alter>(
 
 // The same read as `finding::account_exists`, with the clause that updates need.
 fn account_row_exists<S: Alter>(store: &mut Store<S>, account: Id) -> Result<bool, CallFault>
-    ensures read { ReadPost S.Store store.old store.new result (λ there t. there ≡ is_some (account_row_with_id t account)) }
+    ensures { ReadPost S.Store store.old store.new result (λ there t. there ≡ is_some (account_row_with_id t account)) }
 {
     Ok(store.account(account)?.is_some())
 }
@@ -90,7 +90,7 @@ pub(crate) fn cash_type_facts<S: Alter>(
     account: Id,
     span: Span,
 ) -> Result<Option<TextUpdate>, CallFault>
-    ensures read { ReadPost S.Store store.old store.new result (λ found t. UpdateFactsMatchTables t (update.CashTypes account span) found) }
+    ensures { ReadPost S.Store store.old store.new result (λ found t. UpdateFactsMatchTables t (update.CashTypes account span) found) }
 {
     if !account_row_exists(store, account)? {
         return Ok(None);
@@ -100,7 +100,7 @@ pub(crate) fn cash_type_facts<S: Alter>(
 }
 
 fn symbol_name<S: Alter>(store: &mut Store<S>, symbol: &Symbol) -> Result<Option<Name>, CallFault>
-    ensures read { ReadPost S.Store store.old store.new result (λ name t. MatchOption name (is_none (security_row_with_symbol t symbol.now)
+    ensures { ReadPost S.Store store.old store.new result (λ name t. MatchOption name (is_none (security_row_with_symbol t symbol.now)
         ≡ true) (SecurityHasName t symbol.now)) }
 {
     match store.security(symbol)? {
@@ -115,7 +115,7 @@ pub(crate) fn cash_name_facts<S: Alter>(
     symbol: &Symbol,
     span: Span,
 ) -> Result<Option<TextUpdate>, CallFault>
-    ensures read { ReadPost S.Store store.old store.new result (λ found t. UpdateFactsMatchTables t (update.CashNames symbol.now span) found) }
+    ensures { ReadPost S.Store store.old store.new result (λ found t. UpdateFactsMatchTables t (update.CashNames symbol.now span) found) }
 {
     let Some(name) = symbol_name(store, symbol)? else {
         return Ok(None);

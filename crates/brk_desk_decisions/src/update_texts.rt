@@ -13,7 +13,7 @@ use sqlite::Alter;
 
 // Reads SE_CASH_TYPE.
 pub(crate) fn cash_type_of<S: Alter>(store: &mut Store<S>, trade: Id) -> Result<CashType, CallFault>
-    ensures read { ReadPost S.Store store.old store.new result (λ cash_type t. Some (cash_type_text cash_type)
+    ensures { ReadPost S.Store store.old store.new result (λ cash_type t. Some (cash_type_text cash_type)
         ≡ option_map (λ s. s.cash_type) (settlement_row_of_trade t trade)) }
 {
     match store.settlement(trade)? {
@@ -24,7 +24,7 @@ pub(crate) fn cash_type_of<S: Alter>(store: &mut Store<S>, trade: Id) -> Result<
 
 // Reads CM_NAME.
 pub(crate) fn cash_name_of<S: Alter>(store: &mut Store<S>, trade: Id) -> Result<String, CallFault>
-    ensures read { ReadPost S.Store store.old store.new result (λ name t. Some (string_bytes name) ≡ option_map (λ c. c.name) (cash_row_of_trade t trade)) }
+    ensures { ReadPost S.Store store.old store.new result (λ name t. Some (string_bytes name) ≡ option_map (λ c. c.name) (cash_row_of_trade t trade)) }
 {
     match store.cash_row(trade)? {
         Some(cash) => Ok(cash.name),

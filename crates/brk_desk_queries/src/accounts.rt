@@ -22,7 +22,7 @@ fn read_worth<S: Alter>(
     store: &mut Store<S>,
     row: &AccountRow,
 ) -> Result<AccountWorth, CallFault>
-    ensures read { ReadPost S.Store store.old store.new result (λ worth t. worth ≡ worth_of_account t (abstract_account_row row.now)) }
+    ensures { ReadPost S.Store store.old store.new result (λ worth t. worth ≡ worth_of_account t (abstract_account_row row.now)) }
 {
     let assets = read_holdings_value(alloc, store, row.account.id)?;
     Ok(AccountWorth {
@@ -37,7 +37,7 @@ fn read_worths<S: Alter>(
     store: &mut Store<S>,
     customer: Id,
 ) -> Result<Vec<AccountWorth>, CallFault>
-    ensures read { ReadPost S.Store store.old store.new result (λ worths t. worths.items
+    ensures { ReadPost S.Store store.old store.new result (λ worths t. worths.items
         ≡ map (worth_of_account t) (filter (λ a. a.customer == customer) t.accounts)) }
 {
     let mut worths = Vec::new(alloc);
@@ -57,7 +57,7 @@ pub fn values_view<S: Alter>(
     store: &mut Store<S>,
     customer: Id,
 ) -> Planned<View, CallFault>
-    ensures read { ReadPost S.Store store.old store.new result (AnswersQueryAsModel (PositionOf customer)) }
+    ensures { ReadPost S.Store store.old store.new result (AnswersQueryAsModel (PositionOf customer)) }
 {
     let Some(found) = store.customer(customer)? else {
         return Ok(Err(Refusal::NoCustomer));
@@ -74,7 +74,7 @@ pub fn tax_id_view<S: Alter>(
     store: &mut Store<S>,
     tax_id: &TaxId,
 ) -> Planned<View, CallFault>
-    ensures read { ReadPost S.Store store.old store.new result (AnswersQueryAsModel (PositionOfTaxId tax_id.now)) }
+    ensures { ReadPost S.Store store.old store.new result (AnswersQueryAsModel (PositionOfTaxId tax_id.now)) }
 {
     let Some(found) = store.customer_by_tax_id(tax_id)? else {
         return Ok(Err(Refusal::NoCustomer));

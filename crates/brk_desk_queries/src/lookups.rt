@@ -25,7 +25,7 @@ fn look_up_trade<S: Alter>(
     store: &mut Store<S>,
     trade: TradeRow,
 ) -> Result<LookedUp, CallFault>
-    ensures read { ReadPost S.Store store.old store.new result (HasAllRowsOfTrade (abstract_trade_row trade)) }
+    ensures { ReadPost S.Store store.old store.new result (HasAllRowsOfTrade (abstract_trade_row trade)) }
 {
     let settlement = store.settlement(trade.id)?;
     let cash = store.cash_row(trade.id)?;
@@ -38,7 +38,7 @@ fn look_up_trades<S: Alter>(
     store: &mut Store<S>,
     trades: Vec<TradeRow>,
 ) -> Result<Vec<LookedUp>, CallFault>
-    ensures read { ReadSequencePost S.Store store.old store.new result (λ found. HaveAllRowsOfTrades (map abstract_trade_row trades.items) found.items) }
+    ensures { ReadSequencePost S.Store store.old store.new result (λ found. HaveAllRowsOfTrades (map abstract_trade_row trades.items) found.items) }
 {
     let mut rest = trades;
     let mut found = Vec::new(alloc);
@@ -58,7 +58,7 @@ pub fn view_by_ids<S: Alter>(
     store: &mut Store<S>,
     trades: &NamedTrades,
 ) -> Planned<View, CallFault>
-    ensures read { ReadPost S.Store store.old store.new result (AnswersQueryAsModel (TradesWith trades.now.trades)) }
+    ensures { ReadPost S.Store store.old store.new result (AnswersQueryAsModel (TradesWith trades.now.trades)) }
 {
     // The value is not needed: the read succeeds only if the store is open.
     let _last = store.last_stamp()?;
@@ -79,7 +79,7 @@ pub fn view_by_account<S: Alter>(
     account: Id,
     span: Span,
 ) -> Planned<View, CallFault>
-    ensures read { ReadPost S.Store store.old store.new result (AnswersQueryAsModel (TradesOfAccount account span.first span.last)) }
+    ensures { ReadPost S.Store store.old store.new result (AnswersQueryAsModel (TradesOfAccount account span.first span.last)) }
 {
     let Some(_row) = store.account(account)? else {
         return Ok(Err(Refusal::NoAccount));
@@ -98,7 +98,7 @@ pub fn view_by_symbol<S: Alter>(
     symbol: &Symbol,
     span: Span,
 ) -> Planned<View, CallFault>
-    ensures read { ReadPost S.Store store.old store.new result (AnswersQueryAsModel (TradesOfSymbol symbol.now span.first span.last)) }
+    ensures { ReadPost S.Store store.old store.new result (AnswersQueryAsModel (TradesOfSymbol symbol.now span.first span.last)) }
 {
     let Some(_row) = store.security(symbol)? else {
         return Ok(Err(Refusal::NoSecurity));

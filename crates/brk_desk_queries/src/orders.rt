@@ -12,7 +12,7 @@ use std::alloc::Global;
 
 /// Returns the view of all submitted trades, sorted by id, ascending. Never refuses.
 pub fn submitted_view<S: Alter>(alloc: Global, store: &mut Store<S>) -> Planned<View, CallFault>
-    ensures read { ReadPost S.Store store.old store.new result (AnswersQueryAsModel SubmittedTrades) }
+    ensures { ReadPost S.Store store.old store.new result (AnswersQueryAsModel SubmittedTrades) }
 {
     let rows = store.submitted_trades(alloc)?;
     let view = submitted(alloc, &rows)?;

@@ -15,7 +15,7 @@ use brk_view_rows::{AccountStatus, TradeStatus};
 use sqlite::Alter;
 
 fn require_name<S: Alter>(store: &mut Store<S>, id: Id) -> Result<Name, CallFault>
-    ensures read { ReadPost S.Store store.old store.new result (λ name t. name ≡ broker_name_with_id t id) }
+    ensures { ReadPost S.Store store.old store.new result (λ name t. name ≡ broker_name_with_id t id) }
 {
     match store.broker(id)? {
         Some(row) => Ok(row.broker.name),
@@ -28,7 +28,7 @@ pub(crate) fn account_status<S: Alter>(
     row: &AccountRow,
     trades: Vec<TradeStatus>,
 ) -> Result<AccountStatus, CallFault>
-    ensures read { ReadPost S.Store store.old store.new result (IsAccountStatusWithTrades (abstract_account_row row.now) trades) }
+    ensures { ReadPost S.Store store.old store.new result (IsAccountStatusWithTrades (abstract_account_row row.now) trades) }
 {
     let customer = require_customer(store, row.account.customer)?;
     let broker = require_name(store, row.account.broker)?;

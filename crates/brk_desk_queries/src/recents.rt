@@ -16,7 +16,7 @@ use sqlite::Alter;
 use std::alloc::{AllocError, Global};
 
 fn append_history_rows(history: &mut Vec<HistoryRow>, rows: &[HistoryRow]) -> Result<(), AllocError>
-    ensures added { OnOk result (history.new.items ≡ history.old.items ++ rows.now) }
+    ensures { OnOk result (history.new.items ≡ history.old.items ++ rows.now) }
 {
     for row in rows {
         history.push(*row)?;
@@ -29,7 +29,7 @@ fn recent_trades<S: Alter>(
     store: &mut Store<S>,
     account: Id,
 ) -> Result<(Vec<TradeRow>, Vec<HistoryRow>), CallFault>
-    ensures read { ReadPost S.Store store.old store.new result (λ found t.
+    ensures { ReadPost S.Store store.old store.new result (λ found t.
         (map abstract_trade_row found.0.items ≡ last_ten_trade_rows t account)
         × (map abstract_history_row found.1.items ≡ flat_map (λ row. history_rows_with_trade_id t row.id) (last_ten_trade_rows t account))) }
 {
@@ -50,7 +50,7 @@ pub fn recent_view<S: Alter>(
     store: &mut Store<S>,
     account: Id,
 ) -> Planned<View, CallFault>
-    ensures read { ReadPost S.Store store.old store.new result (AnswersQueryAsModel (RecentOf account)) }
+    ensures { ReadPost S.Store store.old store.new result (AnswersQueryAsModel (RecentOf account)) }
 {
     let Some(found) = store.account(account)? else {
         return Ok(Err(Refusal::NoAccount));

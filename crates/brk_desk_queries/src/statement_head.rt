@@ -29,7 +29,7 @@ pub fn account_head<S: Alter>(
     store: &mut Store<S>,
     account: Id,
 ) -> Result<Option<Head>, CallFault>
-    ensures read { ReadPost S.Store store.old store.new result (IsStatementHeadOfAccount account) }
+    ensures { ReadPost S.Store store.old store.new result (IsStatementHeadOfAccount account) }
 {
     let Some(row) = store.account(account)? else {
         return Ok(None);

@@ -21,7 +21,7 @@ fn trade_status_of<S: Alter>(
     store: &mut Store<S>,
     trade: TradeRow,
 ) -> Result<TradeStatus, CallFault>
-    ensures read { ReadPost S.Store store.old store.new result (λ status t. rows_of_trade_status status
+    ensures { ReadPost S.Store store.old store.new result (λ status t. rows_of_trade_status status
         ≡ trade_row_with_security t (abstract_trade_row trade)) }
 {
     match store.security(&trade.symbol)? {
@@ -40,7 +40,7 @@ fn security_of_symbol(
     statuses: &[TradeStatus],
     symbol: &Symbol,
 ) -> Result<Option<Security>, AllocError>
-    ensures security { IfOk result (λ security. security
+    ensures { IfOk result (λ security. security
         ≡ option_map (λ s. s.security) (find (λ s. bytes_eq s.trade.symbol symbol.now) statuses.now)) }
 {
     let Some(status) = statuses
@@ -59,7 +59,7 @@ fn trade_statuses<S: Alter>(
     store: &mut Store<S>,
     account: Id,
 ) -> Result<Vec<TradeStatus>, CallFault>
-    ensures read { ReadPost S.Store store.old store.new result (λ statuses t. map rows_of_trade_status statuses.items
+    ensures { ReadPost S.Store store.old store.new result (λ statuses t. map rows_of_trade_status statuses.items
         ≡ map (trade_row_with_security t) (take 50 (trade_rows_recent_first (trade_rows_of_account t account)))) }
 {
     let mut rest = store.last_fifty_trades(alloc, account)?;
@@ -85,7 +85,7 @@ pub fn status_view<S: Alter>(
     store: &mut Store<S>,
     account: Id,
 ) -> Planned<View, CallFault>
-    ensures read { ReadPost S.Store store.old store.new result (AnswersQueryAsModel (StatusOf account)) }
+    ensures { ReadPost S.Store store.old store.new result (AnswersQueryAsModel (StatusOf account)) }
 {
     let Some(row) = store.account(account)? else {
         return Ok(Err(Refusal::NoAccount));

@@ -15,7 +15,7 @@ use std::alloc::Global;
 
 // Fails with `Store` also if the trade does not exist.
 fn require_stamp<S: Alter>(store: &mut Store<S>, trade: Id) -> Result<Stamp, CallFault>
-    ensures read { ReadPost S.Store store.old store.new result (λ stamp t. stamp ≡ last_status_stamp t trade) }
+    ensures { ReadPost S.Store store.old store.new result (λ stamp t. stamp ≡ last_status_stamp t trade) }
 {
     match store.trade(trade)? {
         Some(row) => Ok(row.stamp),
@@ -29,7 +29,7 @@ fn lot_touches<S: Alter>(
     store: &mut Store<S>,
     lot: Id,
 ) -> Result<Vec<LotTouch>, CallFault>
-    ensures read { ReadPost S.Store store.old store.new result (λ touches t. touches.items
+    ensures { ReadPost S.Store store.old store.new result (λ touches t. touches.items
         ≡ map (stamped_lot_change t) (filter (λ r. r.lot == lot) t.holding_history)) }
 {
     let rows = store.lot_changes_of_lot(alloc, lot)?;
@@ -50,7 +50,7 @@ fn lots_touched<S: Alter>(
     store: &mut Store<S>,
     trade: Id,
 ) -> Result<TouchedLots, CallFault>
-    ensures read { ReadPost S.Store store.old store.new result (AreTouchedLotsOfTrade trade) }
+    ensures { ReadPost S.Store store.old store.new result (AreTouchedLotsOfTrade trade) }
 {
     let mut rest = store.lot_changes_by_trade(alloc, trade)?;
     let mut kept = Vec::new(alloc);
@@ -75,7 +75,7 @@ pub fn touched_view<S: Alter>(
     account: Id,
     first: Stamp,
 ) -> Planned<View, CallFault>
-    ensures read { ReadPost S.Store store.old store.new result (AnswersQueryAsModel (LotsTouched account first)) }
+    ensures { ReadPost S.Store store.old store.new result (AnswersQueryAsModel (LotsTouched account first)) }
 {
     let Some(_row) = store.account(account)? else {
         return Ok(Err(Refusal::NoAccount));

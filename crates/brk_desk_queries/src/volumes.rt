@@ -23,7 +23,7 @@ fn is_in_sector<S: Alter>(
     symbol: &Symbol,
     sector: &Name,
 ) -> Result<bool, CallFault>
-    ensures read { ReadPost S.Store store.old store.new result (λ is t. is ≡ is_symbol_in_sector t sector.now symbol.now) }
+    ensures { ReadPost S.Store store.old store.new result (λ is t. is ≡ is_symbol_in_sector t sector.now symbol.now) }
 {
     match store.security(symbol)? {
         Some(security) => Ok(security.sector.as_str() == sector.as_str()),
@@ -38,7 +38,7 @@ fn append_request<S: Alter>(
     row: &RequestRow,
     found: &mut Vec<RequestRow>,
 ) -> Result<(), CallFault>
-    ensures read { ReadSequencePost S.Store store.old store.new result (λ _ t. found.new.items
+    ensures { ReadSequencePost S.Store store.old store.new result (λ _ t. found.new.items
         ≡ requests_with_row_if_of_broker_in_sector t sector.now broker row.now found.old.items) }
 {
     if row.broker != broker {
@@ -66,7 +66,7 @@ fn sector_requests<S: Alter>(
     requests: &[RequestRow],
     broker: Id,
 ) -> Result<Vec<RequestRow>, CallFault>
-    ensures read { ReadSequencePost S.Store store.old store.new result (λ found t. map abstract_request_row found.items
+    ensures { ReadSequencePost S.Store store.old store.new result (λ found t. map abstract_request_row found.items
         ≡ filter (is_sector_request_of_broker t sector.now broker) (map abstract_request_row requests.now)) }
 {
     let mut found = Vec::new(alloc);
@@ -86,7 +86,7 @@ fn append_volume<S: Alter>(
     row: &BrokerRow,
     found: &mut Vec<BrokerVolume>,
 ) -> Result<(), CallFault>
-    ensures read { ReadSequencePost S.Store store.old store.new result (λ _ t. map abstract_request_row requests.now ≡ t.requests → found.new.items
+    ensures { ReadSequencePost S.Store store.old store.new result (λ _ t. map abstract_request_row requests.now ≡ t.requests → found.new.items
         ≡ found.old.items ++ volumes_of_brokers_in_sector t sector.now (abstract_broker_row row.now ∷ [])) }
 {
     let mine = sector_requests(alloc, store, sector, requests, row.broker.id)?;
@@ -111,7 +111,7 @@ fn append_volumes<S: Alter>(
     name: &Name,
     found: &mut Vec<BrokerVolume>,
 ) -> Result<(), CallFault>
-    ensures read { ReadPost S.Store store.old store.new result (λ _ t. map abstract_request_row requests.now ≡ t.requests → found.new.items
+    ensures { ReadPost S.Store store.old store.new result (λ _ t. map abstract_request_row requests.now ≡ t.requests → found.new.items
         ≡ found.old.items ++ volumes_of_brokers_in_sector t sector.now (filter (λ b. bytes_eq b.name name.now) t.brokers)) }
 {
     let rows = store.brokers_named(alloc, name)?;
@@ -128,7 +128,7 @@ fn named_volumes<S: Alter>(
     sector: &Name,
     names: &[Name],
 ) -> Result<Vec<BrokerVolume>, CallFault>
-    ensures read { ReadPost S.Store store.old store.new result (λ found t. found.items
+    ensures { ReadPost S.Store store.old store.new result (λ found t. found.items
         ≡ map (volume.volume_of_broker_in_sector t sector.now) (flat_map (brokers_of_name_in_sector t sector.now) names.now)) }
 {
     let requests = store.all_trade_requests(alloc)?;
@@ -148,7 +148,7 @@ pub fn volume_view<S: Alter>(
     sector: &Name,
     names: &BrokerNames,
 ) -> Planned<View, CallFault>
-    ensures read { ReadPost S.Store store.old store.new result (AnswersQueryAsModel (VolumeOf sector.now names.now)) }
+    ensures { ReadPost S.Store store.old store.new result (AnswersQueryAsModel (VolumeOf sector.now names.now)) }
 {
     let names = names.names();
     let found = named_volumes(alloc, store, sector, names)?;

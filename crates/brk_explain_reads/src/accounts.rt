@@ -18,7 +18,7 @@ fn price_holding<S: Alter>(
     store: &mut Store<S>,
     summary: SummaryRow,
 ) -> Result<PricedHolding, CallFault>
-    ensures read { ReadPost S.Store store.old store.new result (λ held t. abstract_priced_holding held ≡ priced_holding t (abstract_summary_row summary)) }
+    ensures { ReadPost S.Store store.old store.new result (λ held t. abstract_priced_holding held ≡ priced_holding t (abstract_summary_row summary)) }
 {
     let price = require_last_price(store, &summary.symbol)?;
     Ok(PricedHolding { summary, price })
@@ -29,7 +29,7 @@ fn price_holdings<S: Alter>(
     store: &mut Store<S>,
     account: Id,
 ) -> Result<Vec<PricedHolding>, CallFault>
-    ensures read { ReadPost S.Store store.old store.new result (λ held t. map abstract_priced_holding held.items ≡ priced_holdings_of_account t account) }
+    ensures { ReadPost S.Store store.old store.new result (λ held t. map abstract_priced_holding held.items ≡ priced_holdings_of_account t account) }
 {
     let mut rest = store.read_summaries(alloc, account)?;
     let mut held = Vec::new(alloc);
@@ -49,7 +49,7 @@ pub fn gather_account<S: Alter>(
     store: &mut Store<S>,
     account: Id,
 ) -> Result<Option<AccountDetails>, CallFault>
-    ensures read { ReadPost S.Store store.old store.new result (AreDetailsOfAccount account) }
+    ensures { ReadPost S.Store store.old store.new result (AreDetailsOfAccount account) }
 {
     let Some(row) = store.account(account)? else {
         return Ok(None);

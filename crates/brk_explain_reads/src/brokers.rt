@@ -22,7 +22,7 @@ pub fn gather_broker<S: Alter>(
     store: &mut Store<S>,
     broker: Id,
 ) -> Result<Option<BrokerDetails>, CallFault>
-    ensures read { ReadPost S.Store store.old store.new result (AreDetailsOfBroker broker) }
+    ensures { ReadPost S.Store store.old store.new result (AreDetailsOfBroker broker) }
 {
     let Some(row) = store.broker(broker)? else {
         return Ok(None);

@@ -17,7 +17,7 @@ pub struct CashSum {
 }
 
 fn sum_with_row(sum: &CashSum, amount: Cents) -> Result<CashSum, StoreFailed>
-    ensures sum { IfOk result (λ more. (more.rows ≡ sum.now.rows + 1) × (more.total ≡ sum.now.total +ℤ amount)) }
+    ensures { IfOk result (λ more. (more.rows ≡ sum.now.rows + 1) × (more.total ≡ sum.now.total +ℤ amount)) }
 {
     let Some(rows) = sum.rows.checked_add(1) else {
         return Err(StoreFailed);
@@ -76,7 +76,7 @@ pub(crate) fn cash_sum_before<S: Alter>(
     account: Id,
     until: Stamp,
 ) -> Result<CashSum, CallFault>
-    ensures read { ReadPost S.Store store.old store.new result (λ sum t. IsCashSumBeforeStamp t account until sum) }
+    ensures { ReadPost S.Store store.old store.new result (λ sum t. IsCashSumBeforeStamp t account until sum) }
 {
     let mut earlier = EarlierCashSum {
         until,

@@ -46,7 +46,7 @@ fn lot_of_trade<S: Alter>(
     store: &mut Store<S>,
     trade: Id,
 ) -> Result<Option<LotDetails>, CallFault>
-    ensures read { ReadPost S.Store store.old store.new result (λ lot t. option_map abstract_lot_details lot ≡ lot_opened_by_trade t trade) }
+    ensures { ReadPost S.Store store.old store.new result (λ lot t. option_map abstract_lot_details lot ≡ lot_opened_by_trade t trade) }
 {
     let all = read_changes(alloc, store, trade)?;
     let OpeningAndLaterChanges {
@@ -65,7 +65,7 @@ fn held_trade<S: Alter>(
     store: &mut Store<S>,
     trade: Id,
 ) -> Result<TradeAndLot, CallFault>
-    ensures read { ReadPost S.Store store.old store.new result (λ one t. IsTradeWithLot t trade one) }
+    ensures { ReadPost S.Store store.old store.new result (λ one t. IsTradeWithLot t trade one) }
 {
     let row = require_trade(store, trade)?;
     let lot = lot_of_trade(alloc, store, trade)?;
@@ -73,7 +73,7 @@ fn held_trade<S: Alter>(
 }
 
 fn push_opened_lot(lots: &mut Vec<LotDetails>, lot: Option<LotDetails>) -> Result<(), AllocError>
-    ensures added { OnOk result (map abstract_lot_details lots.new.items
+    ensures { OnOk result (map abstract_lot_details lots.new.items
         ≡ map abstract_lot_details lots.old.items ++ option_to_list (option_map abstract_lot_details lot)) }
 {
     if let Some(lot) = lot {
@@ -100,7 +100,7 @@ pub(crate) fn held_trades<S: Alter>(
     account: Id,
     symbol: &Symbol,
 ) -> Result<TradesAndLots, CallFault>
-    ensures read { ReadPost S.Store store.old store.new result (λ held t. AreTradesAndLotsOfHolding t account symbol.now held) }
+    ensures { ReadPost S.Store store.old store.new result (λ held t. AreTradesAndLotsOfHolding t account symbol.now held) }
 {
     let ids = store.completed_trade_ids(alloc, account, symbol)?;
     let mut held = TradesAndLots {

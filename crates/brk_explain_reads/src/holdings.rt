@@ -44,7 +44,7 @@ fn quantity_now<S: Alter>(
     account: Id,
     symbol: &Symbol,
 ) -> Result<QuantityAndPrice, CallFault>
-    ensures read { ReadPost S.Store store.old store.new result (λ held t. AreQuantityAndPrice t account symbol.now held) }
+    ensures { ReadPost S.Store store.old store.new result (λ held t. AreQuantityAndPrice t account symbol.now held) }
 {
     let summary = store.read_summary(account, symbol)?;
     let price = require_last_price(store, symbol)?;
@@ -79,7 +79,7 @@ pub fn gather_holding<S: Alter>(
     account: Id,
     symbol: &Symbol,
 ) -> Planned<HoldingDetails, CallFault>
-    ensures read { ReadPost S.Store store.old store.new result (AreDetailsOfHolding account symbol.now) }
+    ensures { ReadPost S.Store store.old store.new result (AreDetailsOfHolding account symbol.now) }
 {
     let Some(row) = store.account(account)? else {
         return Ok(Err(Refusal::NoAccount));

@@ -46,7 +46,7 @@ fn opening_of_lot(changes: &[LotChange], lot: Id) -> Option<LotChange>
 }
 
 fn push_later(later: &mut Vec<LotChange>, change: &LotChange, lot: Id) -> Result<(), AllocError>
-    ensures added { OnOk result (map abstract_lot_change_row later.new.items
+    ensures { OnOk result (map abstract_lot_change_row later.new.items
         ≡ map abstract_lot_change_row later.old.items ++ filter (λ h. not (h.trade == lot)) (abstract_lot_change_row change.now ∷ [])) }
 {
     if is_opening(change, lot) {
@@ -61,7 +61,7 @@ fn later_changes(
     changes: &[LotChange],
     lot: Id,
 ) -> Result<Vec<LotChange>, AllocError>
-    ensures later { IfOk result (λ later. map abstract_lot_change_row later.items
+    ensures { IfOk result (λ later. map abstract_lot_change_row later.items
         ≡ filter (λ h. not (h.trade == lot)) (map abstract_lot_change_row changes.now)) }
 {
     let mut later = Vec::new(alloc);
@@ -87,7 +87,7 @@ fn read_priced<S: Alter>(
     store: &mut Store<S>,
     change: &LotChange,
 ) -> Result<PricedLotChange, CallFault>
-    ensures read { ReadPost S.Store store.old store.new result (λ priced_change t. abstract_priced_lot_change priced_change
+    ensures { ReadPost S.Store store.old store.new result (λ priced_change t. abstract_priced_lot_change priced_change
         ≡ model.recorded_lot_change t (abstract_lot_change_row change.now)) }
 {
     let trade = require_trade(store, change.trade)?;
@@ -102,7 +102,7 @@ fn read_unsorted<S: Alter>(
     store: &mut Store<S>,
     lot: Id,
 ) -> Result<OpeningAndLaterChanges, CallFault>
-    ensures read { ReadPost S.Store store.old store.new result (λ all t. AreLotChangesByTradeId t lot all) }
+    ensures { ReadPost S.Store store.old store.new result (λ all t. AreLotChangesByTradeId t lot all) }
 {
     let changes = store.lot_changes_of_lot(alloc, lot)?;
     let opening = opening_of_lot(&changes, lot);
@@ -122,7 +122,7 @@ fn sort_changes(
     alloc: Global,
     changes_by_others: Vec<PricedLotChange>,
 ) -> Result<Vec<PricedLotChange>, AllocError>
-    ensures order { IfOk result (λ all. map abstract_priced_lot_change all.items
+    ensures { IfOk result (λ all. map abstract_priced_lot_change all.items
         ≡ sort_by_key (λ c. c.stamp) (map abstract_priced_lot_change changes_by_others.items)) }
 {
     let sorted = sort_by_age(alloc, changes_by_others)?;
@@ -134,7 +134,7 @@ pub(crate) fn read_changes<S: Alter>(
     store: &mut Store<S>,
     lot: Id,
 ) -> Result<OpeningAndLaterChanges, CallFault>
-    ensures read { ReadPost S.Store store.old store.new result (λ all t. AreLotChangesByCompletion t lot all) }
+    ensures { ReadPost S.Store store.old store.new result (λ all t. AreLotChangesByCompletion t lot all) }
 {
     let all = read_unsorted(alloc, store, lot)?;
     let changes_by_others = sort_changes(alloc, all.changes_by_others)?;

@@ -21,7 +21,7 @@ fn read_statuses<S: Alter>(
     store: &mut Store<S>,
     trade: Id,
 ) -> Result<Vec<HistoryRow>, CallFault>
-    ensures read { ReadPost S.Store store.old store.new result (λ statuses t. map abstract_history_row statuses.items ≡ sorted_statuses_of_trade t trade) }
+    ensures { ReadPost S.Store store.old store.new result (λ statuses t. map abstract_history_row statuses.items ≡ sorted_statuses_of_trade t trade) }
 {
     let history = store.history_of_trade(alloc, trade)?;
     let statuses = sort_by_age(alloc, history)?;
@@ -33,7 +33,7 @@ pub(crate) fn order_of_trade<S: Alter>(
     store: &mut Store<S>,
     trade: TradeRow,
 ) -> Result<OrderDetails, CallFault>
-    ensures read { ReadPost S.Store store.old store.new result (λ order t. IsOrderOfTrade trade order t) }
+    ensures { ReadPost S.Store store.old store.new result (λ order t. IsOrderOfTrade trade order t) }
 {
     let account = require_account(store, trade.account)?;
     let security = require_security(store, &trade.symbol)?;

@@ -19,7 +19,7 @@ pub(crate) fn result_of_trade<S: Alter>(
     store: &mut Store<S>,
     order: &OrderDetails,
 ) -> Result<ResultDetails, CallFault>
-    ensures read { ReadPost S.Store store.old store.new result (λ details t. IsResultOfOrder order.now details t) }
+    ensures { ReadPost S.Store store.old store.new result (λ details t. IsResultOfOrder order.now details t) }
 {
     let lots = read_trade_lots(alloc, store, &order.trade)?;
     let Some(price) = order.trade.price else {

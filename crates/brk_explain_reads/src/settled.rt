@@ -23,7 +23,7 @@ pub(crate) fn read_settlement<S: Alter>(
     store: &mut Store<S>,
     trade: Id,
 ) -> Result<SettlementAndCash, CallFault>
-    ensures read { ReadPost S.Store store.old store.new result (λ settled t. IsSettlementAndCashOfTrade t trade settled) }
+    ensures { ReadPost S.Store store.old store.new result (λ settled t. IsSettlementAndCashOfTrade t trade settled) }
 {
     let settlement = require_settlement(store, trade)?;
     let cash = store.cash_row(trade)?;

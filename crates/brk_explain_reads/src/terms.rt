@@ -27,7 +27,7 @@ fn customer_rates<S: Alter>(
     store: &mut Store<S>,
     customer: Id,
 ) -> Result<Vec<Tax>, CallFault>
-    ensures read { ReadPost S.Store store.old store.new result (λ rates t. map abstract_tax_rate rates.items ≡ tax_rates_of_customer t customer) }
+    ensures { ReadPost S.Store store.old store.new result (λ rates t. map abstract_tax_rate rates.items ≡ tax_rates_of_customer t customer) }
 {
     let rows = store.taxes_of_customer(alloc, customer)?;
     let mut rates = Vec::new(alloc);
@@ -68,7 +68,7 @@ fn band_for_tier<S: Alter>(
     order: &OrderDetails,
     tier: Tier,
 ) -> Result<Option<Band>, CallFault>
-    ensures read { ReadPost S.Store store.old store.new result (λ band t. option_map abstract_band band
+    ensures { ReadPost S.Store store.old store.new result (λ band t. option_map abstract_band band
         ≡ band_for_tier_and_exchange t (abstract_trade_row order.now.trade) tier order.now.security.exchange) }
 {
     let bands = store.commission_bands(alloc, tier, order.trade.kind, &order.security.exchange)?;
@@ -80,7 +80,7 @@ pub(crate) fn read_terms<S: Alter>(
     store: &mut Store<S>,
     order: &OrderDetails,
 ) -> Result<TaxRatesAndBand, CallFault>
-    ensures read { ReadPost S.Store store.old store.new result (λ terms t. AreTaxRatesAndBand t order.now terms) }
+    ensures { ReadPost S.Store store.old store.new result (λ terms t. AreTaxRatesAndBand t order.now terms) }
 {
     let id = order.account.account.customer;
     let customer = require_customer(store, id)?;

@@ -30,7 +30,7 @@ pub fn gather_trade<S: Alter>(
     store: &mut Store<S>,
     trade: Id,
 ) -> Result<Option<TradeDetails>, CallFault>
-    ensures read { ReadPost S.Store store.old store.new result (AreDetailsOfTrade trade) }
+    ensures { ReadPost S.Store store.old store.new result (AreDetailsOfTrade trade) }
 {
     let Some(row) = store.trade(trade)? else {
         return Ok(None);

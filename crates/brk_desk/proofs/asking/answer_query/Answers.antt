@@ -6,7 +6,7 @@ use Rattle.brk_desk.proofs.asking.answer_query.Goals as goal
 pub returns : goal.returns
 returns g c = record {
   asked =
-      is_asked g.S.Store c.args.store.now c.view_of_query.new.store (abstract_query c.args.query.now) c.in_ok-view_of_query.field-0 c.in_ok-view_of_query.ensures.read;
+      is_asked g.S.Store c.args.store.now c.view_of_query.new.store (abstract_query c.args.query.now) c.in_ok-view_of_query.field-0 c.in_ok-view_of_query.ensures;
 }
 
 pub returns-in_err-view_of_query : goal.returns-in_err-view_of_query
@@ -14,5 +14,5 @@ returns-in_err-view_of_query g c =
     let p = err_from_is_err_and c.from_residual-in_err-view_of_query.result c.from_residual-in_err-view_of_query.ensures.1 in
     record {
       asked = rw (p.1, p.2)
-          (is_failed g.S.Store c.args.store.now c.view_of_query.new.store (abstract_query c.args.query.now) c.in_err-view_of_query.field-0 _ c.in_err-view_of_query.ensures.read);
+          (is_failed g.S.Store c.args.store.now c.view_of_query.new.store (abstract_query c.args.query.now) c.in_err-view_of_query.field-0 _ c.in_err-view_of_query.ensures);
     }

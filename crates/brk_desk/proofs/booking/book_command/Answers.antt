@@ -16,10 +16,10 @@ returns-in_ok-answer_retry-in-Some g c =
     let key = optional_model_key (option_copied c.args.key) in
     let formed : MeetsAuditFormats (abstract_command c.args.command.now)
     × IfSome key IsWellFormedKey = (c.prove_formats.ensures.command, c.prove_formats.ensures.key) in
-    let sought = rw c.in-Some.is at c.in_ok-kept.ensures.read in
+    let sought = rw c.in-Some.is at c.in_ok-kept.ensures in
     record {
       called = repeats g.S.Store old c.read_kept.new.store c.args.now (abstract_command c.args.command.now) key formed (abstract_kept_row c.in-Some.kept)
-          c.in_ok-answer_retry-in-Some.field-0 c.in_ok-answer_retry-in-Some.ensures.answer (sought_some g.S.Store old c.read_kept.new.store key c.in-Some.kept sought);
+          c.in_ok-answer_retry-in-Some.field-0 c.in_ok-answer_retry-in-Some.ensures (sought_some g.S.Store old c.read_kept.new.store key c.in-Some.kept sought);
     }
 
 pub returns-in_err-answer_retry-in-Some : goal.returns-in_err-answer_retry-in-Some
@@ -28,7 +28,7 @@ returns-in_err-answer_retry-in-Some g c =
     let key = optional_model_key (option_copied c.args.key) in
     let formed : MeetsAuditFormats (abstract_command c.args.command.now)
     × IfSome key IsWellFormedKey = (c.prove_formats.ensures.command, c.prove_formats.ensures.key) in
-    let sought = rw c.in-Some.is at c.in_ok-kept.ensures.read in
+    let sought = rw c.in-Some.is at c.in_ok-kept.ensures in
     let p = err_from_is_err_and c.from_residual-in_err-answer_retry-in-Some.result c.from_residual-in_err-answer_retry-in-Some.ensures.1 in
     record {
       called = rw (p.1, p.2)
@@ -45,8 +45,8 @@ returns-in_err-plan-in-Ok g c =
     × IfSome key IsWellFormedKey = (c.prove_formats.ensures.command, c.prove_formats.ensures.key) in
     let command = abstract_command c.args.command.now in
     let planned = Ok c.in-Ok.plan in
-    let sought = rw c.in_default.is at c.in_ok-kept.ensures.read in
-    let decided = rw c.in-Ok.is at c.in_ok-plan.ensures.read in
+    let sought = rw c.in_default.is at c.in_ok-kept.ensures in
+    let decided = rw c.in-Ok.is at c.in_ok-plan.ensures in
     let seen = known g.S.Store old c.read_kept.new.store mid c.args.now command key planned sought decided in
     let p = err_from_is_err_and c.from_residual-in_err-plan-in-Ok.result c.from_residual-in_err-plan-in-Ok.ensures.1 in
     record {
@@ -63,8 +63,8 @@ returns-in_err-apply-in-Ok g c =
     let formed : MeetsAuditFormats (abstract_command c.args.command.now)
     × IfSome key IsWellFormedKey = (c.prove_formats.ensures.command, c.prove_formats.ensures.key) in
     let command = abstract_command c.args.command.now in
-    let sought = rw c.in_default.is at c.in_ok-kept.ensures.read in
-    let decided = rw c.in-Ok.is at c.in_ok-plan.ensures.read in
+    let sought = rw c.in_default.is at c.in_ok-kept.ensures in
+    let decided = rw c.in-Ok.is at c.in_ok-plan.ensures in
     let seen = known g.S.Store old c.read_kept.new.store mid c.args.now command key (Ok c.in-Ok.plan) sought decided in
     let p = err_from_is_err_and c.from_residual-in_err-apply-in-Ok.result c.from_residual-in_err-apply-in-Ok.ensures.1 in
     let applied = rw c.deref.ensures.value at c.in_err-apply-in-Ok.ensures.applied in
@@ -82,8 +82,8 @@ returns-in_ok-apply-in-Ok g c =
     let formed : MeetsAuditFormats (abstract_command c.args.command.now)
     × IfSome key IsWellFormedKey = (c.prove_formats.ensures.command, c.prove_formats.ensures.key) in
     let command = abstract_command c.args.command.now in
-    let sought = rw c.in_default.is at c.in_ok-kept.ensures.read in
-    let decided = rw c.in-Ok.is at c.in_ok-plan.ensures.read in
+    let sought = rw c.in_default.is at c.in_ok-kept.ensures in
+    let decided = rw c.in-Ok.is at c.in_ok-plan.ensures in
     let seen = known g.S.Store old c.read_kept.new.store mid c.args.now command key (Ok c.in-Ok.plan) sought decided in
     let applied = rw c.deref.ensures.value at c.in_ok-apply-in-Ok.ensures.applied in
     record {
@@ -99,7 +99,7 @@ returns-in-Err g c =
     let formed : MeetsAuditFormats (abstract_command c.args.command.now)
     × IfSome key IsWellFormedKey = (c.prove_formats.ensures.command, c.prove_formats.ensures.key) in
     let command = abstract_command c.args.command.now in
-    let sought = rw c.in_default.is at c.in_ok-kept.ensures.read in
-    let decided = rw c.in-Err.is at c.in_ok-plan.ensures.read in
+    let sought = rw c.in_default.is at c.in_ok-kept.ensures in
+    let decided = rw c.in-Err.is at c.in_ok-plan.ensures in
     let seen = known g.S.Store old c.read_kept.new.store mid c.args.now command key (Err c.in-Err.refusal) sought decided in
     record { called = refuses g.S.Store old mid c.args.now command key formed c.in-Err.refusal seen }

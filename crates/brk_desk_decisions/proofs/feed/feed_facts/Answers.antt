@@ -45,14 +45,14 @@ loop-tick-preserved g c =
           (λ _. QuotesAndLastStampMatch ticks (take i ticks) (states_of_quotes before) last) (IsQuoteOfTickOrNone ticks tick)
           (λ _. QuotesAndLastStampMatch ticks (take i ticks ++ tick ∷ []) (states_of_quotes (before ++ w.in-Some.quote ∷ [])) last)
           (one_read ticks (take i ticks) tick before last w.in-Some.quote (i, c.loop-tick-test.true, sym c.tick-item.is) (lacks ∙ w.if-has_no_quote_of_symbol.true))
-          c.loop-tick.invariant (rw w.in-Some.is at w.in_ok-quote.ensures.read))
+          c.loop-tick.invariant (rw w.in-Some.is at w.in_ok-quote.ensures))
       | then-has_no_quote_of_symbol+in_ok-quote+in_default w ↦
           rw (w.store-is, w.quotes-is)
           (read_with g.S.Store c.args.store.now c.loop-tick.store w.read_tick_quote.new.store {W = Option Quote} {X = Unit {0}} {H = CallFault} tt None tt
           (λ _. QuotesAndLastStampMatch ticks (take i ticks) (states_of_quotes before) last) (IsQuoteOfTickOrNone ticks tick)
           (λ _. QuotesAndLastStampMatch ticks (take i ticks ++ tick ∷ []) (states_of_quotes before) last)
           (one_not_listed ticks (take i ticks) tick before last)
-          c.loop-tick.invariant (rw w.in_default.is at w.in_ok-quote.ensures.read))
+          c.loop-tick.invariant (rw w.in_default.is at w.in_ok-quote.ensures))
       | else-has_no_quote_of_symbol w ↦
           rw (w.store-is, w.quotes-is)
           (retold g.S.Store c.args.store.now c.loop-tick.store {X = Unit {0}} {H = CallFault} tt tt
@@ -65,35 +65,29 @@ loop-tick-preserved g c =
     (one_more ticks i tick c.loop-tick-test.true c.tick-item.is) after
 
 pub returns : goal.returns
-returns g c = record {
-  read =
-      let ticks = c.args.ticks.now in
-      let i = c.loop-tick.tick-index in
-      let last = c.in_ok-last.last in
-      let quotes = c.loop-tick.quotes in
-      retold g.S.Store c.args.store.now c.loop-tick.store tt (last, quotes)
-      (λ _. QuotesAndLastStampMatch ticks (take i ticks) (states_of_quotes quotes.items) last) (λ market. QuotesAndLastStampMatch ticks ticks (states_of_quotes market.1.items) market.0)
-      (λ t k. subst (λ us. QuotesAndLastStampMatch ticks us (states_of_quotes quotes.items) last t) (take_all i ticks c.loop-tick-test.false) k)
-      c.loop-tick.invariant;
-}
+returns g c =
+    let ticks = c.args.ticks.now in
+    let i = c.loop-tick.tick-index in
+    let last = c.in_ok-last.last in
+    let quotes = c.loop-tick.quotes in
+    retold g.S.Store c.args.store.now c.loop-tick.store tt (last, quotes)
+    (λ _. QuotesAndLastStampMatch ticks (take i ticks) (states_of_quotes quotes.items) last) (λ market. QuotesAndLastStampMatch ticks ticks (states_of_quotes market.1.items) market.0)
+    (λ t k. subst (λ us. QuotesAndLastStampMatch ticks us (states_of_quotes quotes.items) last t) (take_all i ticks c.loop-tick-test.false) k)
+    c.loop-tick.invariant
 
 pub returns-in_err-push : goal.returns-in_err-push
-returns-in_err-push g c = record {
-  read =
-      let ticks = c.args.ticks.now in
-      let tick = c.tick-item.result in
-      let old = c.args.store.now in
-      let p = err_from_is_err_and c.from_residual-in_err-push.result c.from_residual-in_err-push.ensures.1 in
-      rw (p.1)
-      (failed_after g.S.Store old c.loop-tick.store c.read_tick_quote.new.store (Ok c.in_ok-quote.field-0) p.0 (IsQuoteOfTickOrNone ticks tick) _
-      (single_read_changes_nothing old c.loop-tick.store _ _ c.loop-tick.invariant) c.in_ok-quote.ensures.read);
-}
+returns-in_err-push g c =
+    let ticks = c.args.ticks.now in
+    let tick = c.tick-item.result in
+    let old = c.args.store.now in
+    let p = err_from_is_err_and c.from_residual-in_err-push.result c.from_residual-in_err-push.ensures.1 in
+    rw (p.1)
+    (failed_after g.S.Store old c.loop-tick.store c.read_tick_quote.new.store (Ok c.in_ok-quote.field-0) p.0 (IsQuoteOfTickOrNone ticks tick) _
+    (single_read_changes_nothing old c.loop-tick.store _ _ c.loop-tick.invariant) c.in_ok-quote.ensures)
 
 pub returns-in_err-quote : goal.returns-in_err-quote
-returns-in_err-quote g c = record {
-  read =
-      let old = c.args.store.now in
-      let p = err_from_is_err_and c.from_residual-in_err-quote.result c.from_residual-in_err-quote.ensures.1 in
-      rw p.1 (failed_after g.S.Store old c.loop-tick.store c.read_tick_quote.new.store _ p.0 _ _
-      (single_read_changes_nothing old c.loop-tick.store _ _ c.loop-tick.invariant) c.in_err-quote.ensures.read);
-}
+returns-in_err-quote g c =
+    let old = c.args.store.now in
+    let p = err_from_is_err_and c.from_residual-in_err-quote.result c.from_residual-in_err-quote.ensures.1 in
+    rw p.1 (failed_after g.S.Store old c.loop-tick.store c.read_tick_quote.new.store _ p.0 _ _
+    (single_read_changes_nothing old c.loop-tick.store _ _ c.loop-tick.invariant) c.in_err-quote.ensures)

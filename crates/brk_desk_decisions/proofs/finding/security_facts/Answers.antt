@@ -9,11 +9,9 @@ use Rattle.brk_store.proofs.Retelling.{retold}
 use Rattle.brk_desk_decisions.proofs.finding.security_facts.Goals as goal
 
 pub returns : goal.returns
-returns g c = record {
-  read =
-      retold g.S.Store c.args.store.now c.security.new.self c.in_ok-security.field-0 _
-      (λ o (t : Tables). option_map abstract_security_row o ≡ find (λ r. bytes_eq r.symbol c.args.symbol.now) t.securities)
-      (λ (found : ReferenceFacts) (t : Tables). found.same_id ≡ has_security t c.args.symbol.now)
-      (λ t e. c.is_some-same_id.ensures ∙ is_there abstract_security_row c.in_ok-security.field-0 (find (λ r. bytes_eq r.symbol c.args.symbol.now) t.securities) e)
-      c.in_ok-security.ensures.read;
-}
+returns g c =
+    retold g.S.Store c.args.store.now c.security.new.self c.in_ok-security.field-0 _
+    (λ o (t : Tables). option_map abstract_security_row o ≡ find (λ r. bytes_eq r.symbol c.args.symbol.now) t.securities)
+    (λ (found : ReferenceFacts) (t : Tables). found.same_id ≡ has_security t c.args.symbol.now)
+    (λ t e. c.is_some-same_id.ensures ∙ is_there abstract_security_row c.in_ok-security.field-0 (find (λ r. bytes_eq r.symbol c.args.symbol.now) t.securities) e)
+    c.in_ok-security.ensures.read

@@ -9,24 +9,20 @@ use Rattle.brk_store.proofs.Sequences.{failed_after}
 use Rattle.brk_desk_decisions.proofs.movement.decide_movement.Goals as goal
 
 pub returns : goal.returns
-returns g c = record {
-  read =
-      let old = c.args.store.now in
-      let mid = c.movement_facts.new.store in
-      let m = c.args.movement.now in
-      let last = c.in_ok-last.last in
-      let found = c.in_ok-found.found in
-      decided g.S.Store old mid found (λ f. MovementFactsAndLastStampMatch m f last) (DecidesCommand c.args.now (movement_command m)) c.map_err.result
-      (last_and_found g.S.Store old c.last_stamp.new.self mid m found last c.in_ok-last.ensures.read c.in_ok-found.ensures.read)
-      (same_value c.plan_move.result c.map_err.result _ _ c.map_err.ensures.cases
-      (move_decided m found last c.args.now c.get-moment.ensures.high c.plan_move.result c.plan_move.ensures.planned));
-}
+returns g c =
+    let old = c.args.store.now in
+    let mid = c.movement_facts.new.store in
+    let m = c.args.movement.now in
+    let last = c.in_ok-last.last in
+    let found = c.in_ok-found.found in
+    decided g.S.Store old mid found (λ f. MovementFactsAndLastStampMatch m f last) (DecidesCommand c.args.now (movement_command m)) c.map_err.result
+    (last_and_found g.S.Store old c.last_stamp.new.self mid m found last c.in_ok-last.ensures.read c.in_ok-found.ensures)
+    (same_value c.plan_move.result c.map_err.result _ _ c.map_err.ensures.cases
+    (move_decided m found last c.args.now c.get-moment.ensures.high c.plan_move.result c.plan_move.ensures.planned))
 
 pub returns-in_err-found : goal.returns-in_err-found
-returns-in_err-found g c = record {
-  read =
-      let old = c.args.store.now in
-      let p = err_from_is_err_and c.from_residual-in_err-found.result c.from_residual-in_err-found.ensures.1 in
-      rw p.1 (failed_after g.S.Store old c.last_stamp.new.self c.movement_facts.new.store _ p.0 _ _
-      (single_read_changes_nothing old c.last_stamp.new.self _ _ c.in_ok-last.ensures.read) c.in_err-found.ensures.read);
-}
+returns-in_err-found g c =
+    let old = c.args.store.now in
+    let p = err_from_is_err_and c.from_residual-in_err-found.result c.from_residual-in_err-found.ensures.1 in
+    rw p.1 (failed_after g.S.Store old c.last_stamp.new.self c.movement_facts.new.store _ p.0 _ _
+    (single_read_changes_nothing old c.last_stamp.new.self _ _ c.in_ok-last.ensures.read) c.in_err-found.ensures)

@@ -9,27 +9,23 @@ use Rattle.brk_store.proofs.Sequences.{failed_after}
 use Rattle.brk_desk_decisions.proofs.result.decide_result.Goals as goal
 
 pub returns : goal.returns
-returns g c = record {
-  read =
-      let old = c.args.store.now in
-      let mid = c.facts_of_result.new.store in
-      let end = c.result_of_facts.new.store in
-      let id = c.args.completion.now.trade in
-      let price = c.args.completion.now.price in
-      let last = c.in_ok-last.last in
-      let found = c.in_ok-found.found in
-      decided_on g.S.Store old mid end found (ResultFactsAndLastStampMatch id last) (DecidesCommand c.args.now (CompleteTrade id price)) c.result_of_facts.result
-      (last_and_found g.S.Store old c.last_stamp.new.self mid id last found c.in_ok-last.ensures.read c.in_ok-found.ensures.read)
-      c.result_of_facts.ensures.store_unchanged
-      (λ clean. result_decided id price last c.args.now c.get-moment.ensures.high found c.in_ok-found.ensures.some_shares (HoldsRows g.S.Store mid)
-      c.result_of_facts.result (c.result_of_facts.ensures.planned clean));
-}
+returns g c =
+    let old = c.args.store.now in
+    let mid = c.facts_of_result.new.store in
+    let end = c.result_of_facts.new.store in
+    let id = c.args.completion.now.trade in
+    let price = c.args.completion.now.price in
+    let last = c.in_ok-last.last in
+    let found = c.in_ok-found.found in
+    decided_on g.S.Store old mid end found (ResultFactsAndLastStampMatch id last) (DecidesCommand c.args.now (CompleteTrade id price)) c.result_of_facts.result
+    (last_and_found g.S.Store old c.last_stamp.new.self mid id last found c.in_ok-last.ensures.read c.in_ok-found.ensures.read)
+    c.result_of_facts.ensures.store_unchanged
+    (λ clean. result_decided id price last c.args.now c.get-moment.ensures.high found c.in_ok-found.ensures.some_shares (HoldsRows g.S.Store mid)
+    c.result_of_facts.result (c.result_of_facts.ensures.planned clean))
 
 pub returns-in_err-found : goal.returns-in_err-found
-returns-in_err-found g c = record {
-  read =
-      let old = c.args.store.now in
-      let p = err_from_is_err_and c.from_residual-in_err-found.result c.from_residual-in_err-found.ensures.1 in
-      rw p.1 (failed_after g.S.Store old c.last_stamp.new.self c.facts_of_result.new.store _ p.0 _ _
-      (single_read_changes_nothing old c.last_stamp.new.self _ _ c.in_ok-last.ensures.read) c.in_err-found.ensures.read);
-}
+returns-in_err-found g c =
+    let old = c.args.store.now in
+    let p = err_from_is_err_and c.from_residual-in_err-found.result c.from_residual-in_err-found.ensures.1 in
+    rw p.1 (failed_after g.S.Store old c.last_stamp.new.self c.facts_of_result.new.store _ p.0 _ _
+    (single_read_changes_nothing old c.last_stamp.new.self _ _ c.in_ok-last.ensures.read) c.in_err-found.ensures.read)

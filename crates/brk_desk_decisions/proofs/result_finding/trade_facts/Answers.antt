@@ -33,16 +33,16 @@ returns-clause-read g c =
     (read_with g.S.Store old c.party_facts.new.store c.traded_security.new.store {H = CallFault} parties listed listed
     (λ parties (t : Tables). PartyFactsMatchIfAccountExists t trade parties listed summary) (λ listed (t : Tables). SecurityFactsMatchIfSecurityExists t trade parties listed summary)
     (λ listed (t : Tables). PartyFactsMatchIfAccountExists t trade parties listed summary × SecurityFactsMatchIfSecurityExists t trade parties listed summary)
-    (λ t o s. (o, s)) c.in_ok-parties.ensures.read c.in_ok-listed.ensures.read)
+    (λ t o s. (o, s)) c.in_ok-parties.ensures c.in_ok-listed.ensures)
     c.in_ok-summary.ensures.read)
-    c.in_ok-posting.ensures.read
+    c.in_ok-posting.ensures
 
 pub returns-in_err-listed-clause-read : goal.returns-in_err-listed-clause-read
 returns-in_err-listed-clause-read g c =
     let old = c.args.store.now in
     let p = err_from_is_err_and c.from_residual-in_err-listed.result c.from_residual-in_err-listed.ensures.1 in
     rw p.1 (failed_after g.S.Store old c.party_facts.new.store c.traded_security.new.store _ p.0 _ _
-    (single_read_changes_nothing old c.party_facts.new.store _ _ c.in_ok-parties.ensures.read) c.in_err-listed.ensures.read)
+    (single_read_changes_nothing old c.party_facts.new.store _ _ c.in_ok-parties.ensures) c.in_err-listed.ensures)
 
 pub returns-in_err-summary-clause-read : goal.returns-in_err-summary-clause-read
 returns-in_err-summary-clause-read g c =
@@ -50,7 +50,7 @@ returns-in_err-summary-clause-read g c =
     let p = err_from_is_err_and c.from_residual-in_err-summary.result c.from_residual-in_err-summary.ensures.1 in
     rw p.1 (failed_after g.S.Store old c.traded_security.new.store c.read_summary.new.self _ p.0 _ _
     (unchanged_after g.S.Store old c.party_facts.new.store c.traded_security.new.store _ _
-    (single_read_changes_nothing old c.party_facts.new.store _ _ c.in_ok-parties.ensures.read) c.in_ok-listed.ensures.read)
+    (single_read_changes_nothing old c.party_facts.new.store _ _ c.in_ok-parties.ensures) c.in_ok-listed.ensures)
     c.in_err-summary.ensures.read)
 
 pub returns-in_err-posting-clause-read : goal.returns-in_err-posting-clause-read
@@ -60,5 +60,5 @@ returns-in_err-posting-clause-read g c =
     rw p.1 (failed_after g.S.Store old c.read_summary.new.self c.posting_facts.new.store _ p.0 _ _
     (unchanged_after g.S.Store old c.traded_security.new.store c.read_summary.new.self _ _
     (unchanged_after g.S.Store old c.party_facts.new.store c.traded_security.new.store _ _
-    (single_read_changes_nothing old c.party_facts.new.store _ _ c.in_ok-parties.ensures.read) c.in_ok-listed.ensures.read)
-    c.in_ok-summary.ensures.read) c.in_err-posting.ensures.read)
+    (single_read_changes_nothing old c.party_facts.new.store _ _ c.in_ok-parties.ensures) c.in_ok-listed.ensures)
+    c.in_ok-summary.ensures.read) c.in_err-posting.ensures)

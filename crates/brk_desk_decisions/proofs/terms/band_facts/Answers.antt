@@ -12,12 +12,10 @@ use Rattle.brk_store.proofs.Retelling.{retold}
 use Rattle.brk_desk_decisions.proofs.terms.band_facts.Goals as goal
 
 pub returns : goal.returns
-returns g c = record {
-  read =
-      let b = abstract_band c.args.band.now in
-      retold g.S.Store c.args.store.now c.commission_bands.new.self c.in_ok-bands.bands _
-      (λ all (t : Tables). map abstract_band all.items ≡ filter (λ (r : Band). (r.tier == b.tier) && is_same_trade_type r.kind b.kind && bytes_eq r.exchange b.exchange) t.bands)
-      (λ (found : ReferenceFacts) (t : Tables). found.overlaps ≡ overlaps_some_band t b)
-      (λ t e. c.overlaps-overlapping.ensures ∙ ap (λ bands. list_any (bands_overlap b) (map abstract_band bands)) c.deref.ensures.value ∙ ap (list_any (bands_overlap b)) e)
-      c.in_ok-bands.ensures.read;
-}
+returns g c =
+    let b = abstract_band c.args.band.now in
+    retold g.S.Store c.args.store.now c.commission_bands.new.self c.in_ok-bands.bands _
+    (λ all (t : Tables). map abstract_band all.items ≡ filter (λ (r : Band). (r.tier == b.tier) && is_same_trade_type r.kind b.kind && bytes_eq r.exchange b.exchange) t.bands)
+    (λ (found : ReferenceFacts) (t : Tables). found.overlaps ≡ overlaps_some_band t b)
+    (λ t e. c.overlaps-overlapping.ensures ∙ ap (λ bands. list_any (bands_overlap b) (map abstract_band bands)) c.deref.ensures.value ∙ ap (list_any (bands_overlap b)) e)
+    c.in_ok-bands.ensures.read

@@ -10,13 +10,11 @@ use Rattle.brk_store.proofs.Retelling.{retold}
 use Rattle.brk_desk_decisions.proofs.terms.charge_facts.Goals as goal
 
 pub returns : goal.returns
-returns g c = record {
-  read =
-      retold g.S.Store c.args.store.now c.charge.new.self c.in_ok-charge.field-0 _
-      (λ o (t : Tables). option_map abstract_charge o ≡ find (λ r. is_same_trade_type r.kind c.args.charge.now.kind && (r.tier == c.args.charge.now.tier))
-      t.charges) (λ (found : ReferenceFacts) (t : Tables). found.same_id ≡ contains_charge t c.args.charge.now.kind c.args.charge.now.tier)
-      (λ t e. c.is_some-same_id.ensures
-      ∙ is_there abstract_charge c.in_ok-charge.field-0
-      (find (λ r. is_same_trade_type r.kind c.args.charge.now.kind && (r.tier == c.args.charge.now.tier)) t.charges) e)
-      c.in_ok-charge.ensures.read;
-}
+returns g c =
+    retold g.S.Store c.args.store.now c.charge.new.self c.in_ok-charge.field-0 _
+    (λ o (t : Tables). option_map abstract_charge o ≡ find (λ r. is_same_trade_type r.kind c.args.charge.now.kind && (r.tier == c.args.charge.now.tier))
+    t.charges) (λ (found : ReferenceFacts) (t : Tables). found.same_id ≡ contains_charge t c.args.charge.now.kind c.args.charge.now.tier)
+    (λ t e. c.is_some-same_id.ensures
+    ∙ is_there abstract_charge c.in_ok-charge.field-0
+    (find (λ r. is_same_trade_type r.kind c.args.charge.now.kind && (r.tier == c.args.charge.now.tier)) t.charges) e)
+    c.in_ok-charge.ensures.read

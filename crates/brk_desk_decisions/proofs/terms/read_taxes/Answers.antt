@@ -54,42 +54,34 @@ loop-row-preserved g c =
     c.loop-row.invariant (rw c.in-Some.is at c.in_ok-tax.ensures.read)
 
 pub returns : goal.returns
-returns g c = record {
-  read =
-      let rows = c.deref-row-items.result.now in
-      let i = c.loop-row.row-index in
-      retold g.S.Store c.args.store.now c.loop-row.store tt c.loop-row.taxes
-      (λ _. FirstTaxes c.args.customer rows c.loop-row.taxes.items i)
-      (λ taxes (t : Tables). map (λ tax. Some (abstract_tax_rate tax)) taxes.items
-      ≡ map (λ (r : CustomerTax). tax_rate_with_id t r.tax) (filter (λ (r : CustomerTax). r.customer == c.args.customer) t.customer_taxes))
-      (λ t p. p.1 ∙ ap (map (λ r. tax_rate_with_id t r.tax)) (take_all i rows c.loop-row-test.false)
-      ∙ twice abstract_customer_tax (λ (r : CustomerTax). tax_rate_with_id t r.tax) rows ∙ ap (map (λ (r : CustomerTax). tax_rate_with_id t r.tax)) p.0)
-      c.loop-row.invariant;
-}
+returns g c =
+    let rows = c.deref-row-items.result.now in
+    let i = c.loop-row.row-index in
+    retold g.S.Store c.args.store.now c.loop-row.store tt c.loop-row.taxes
+    (λ _. FirstTaxes c.args.customer rows c.loop-row.taxes.items i)
+    (λ taxes (t : Tables). map (λ tax. Some (abstract_tax_rate tax)) taxes.items
+    ≡ map (λ (r : CustomerTax). tax_rate_with_id t r.tax) (filter (λ (r : CustomerTax). r.customer == c.args.customer) t.customer_taxes))
+    (λ t p. p.1 ∙ ap (map (λ r. tax_rate_with_id t r.tax)) (take_all i rows c.loop-row-test.false)
+    ∙ twice abstract_customer_tax (λ (r : CustomerTax). tax_rate_with_id t r.tax) rows ∙ ap (map (λ (r : CustomerTax). tax_rate_with_id t r.tax)) p.0)
+    c.loop-row.invariant
 
 pub returns-in_err-tax : goal.returns-in_err-tax
-returns-in_err-tax g c = record {
-  read =
-      let old = c.args.store.now in
-      let p = err_from_is_err_and c.from_residual-in_err-tax.result c.from_residual-in_err-tax.ensures.1 in
-      rw p.1 (failed_after g.S.Store old c.loop-row.store c.tax_with_id.new.self _ p.0 _ _ (single_read_changes_nothing old c.loop-row.store _ _ c.loop-row.invariant) c.in_err-tax.ensures.read);
-}
+returns-in_err-tax g c =
+    let old = c.args.store.now in
+    let p = err_from_is_err_and c.from_residual-in_err-tax.result c.from_residual-in_err-tax.ensures.1 in
+    rw p.1 (failed_after g.S.Store old c.loop-row.store c.tax_with_id.new.self _ p.0 _ _ (single_read_changes_nothing old c.loop-row.store _ _ c.loop-row.invariant) c.in_err-tax.ensures.read)
 
 pub returns-in_err-push : goal.returns-in_err-push
-returns-in_err-push g c = record {
-  read =
-      let old = c.args.store.now in
-      let p = err_from_is_err_and c.from_residual-in_err-push.result c.from_residual-in_err-push.ensures.1 in
-      rw p.1 (none_read g.S.Store old c.tax_with_id.new.self p.0 _
-      (unchanged_after g.S.Store old c.loop-row.store c.tax_with_id.new.self _ _ (single_read_changes_nothing old c.loop-row.store _ _ c.loop-row.invariant)
-      c.in_ok-tax.ensures.read));
-}
+returns-in_err-push g c =
+    let old = c.args.store.now in
+    let p = err_from_is_err_and c.from_residual-in_err-push.result c.from_residual-in_err-push.ensures.1 in
+    rw p.1 (none_read g.S.Store old c.tax_with_id.new.self p.0 _
+    (unchanged_after g.S.Store old c.loop-row.store c.tax_with_id.new.self _ _ (single_read_changes_nothing old c.loop-row.store _ _ c.loop-row.invariant)
+    c.in_ok-tax.ensures.read))
 
 pub returns-in_default : goal.returns-in_default
-returns-in_default g c = record {
-  read =
-      let old = c.args.store.now in
-      none_read g.S.Store old c.tax_with_id.new.self _ _
-      (unchanged_after g.S.Store old c.loop-row.store c.tax_with_id.new.self _ _ (single_read_changes_nothing old c.loop-row.store _ _ c.loop-row.invariant)
-      c.in_ok-tax.ensures.read);
-}
+returns-in_default g c =
+    let old = c.args.store.now in
+    none_read g.S.Store old c.tax_with_id.new.self _ _
+    (unchanged_after g.S.Store old c.loop-row.store c.tax_with_id.new.self _ _ (single_read_changes_nothing old c.loop-row.store _ _ c.loop-row.invariant)
+    c.in_ok-tax.ensures.read)

@@ -48,37 +48,31 @@ loop-trade-preserved g c =
           ∙ one_more cash_text_row_of_typed_row (λ r. cash_text_row_in_tables t (abstract_trade_row r)) c.loop-trade.paid.items rows i _ trade
           c.loop-trade-test.true c.trade-item.is (λ k. (trade.id, trade.kind, trade.qty, e k)) p.1,
     ))
-    c.loop-trade.invariant c.in_ok-name.ensures.read
+    c.loop-trade.invariant c.in_ok-name.ensures
 
 pub returns : goal.returns
-returns g c = record {
-  read =
-      let span = c.args.span in
-      let rows = c.deref-trade-items.result.now in
-      let i = c.loop-trade.trade-index in
-      retold g.S.Store c.args.store.now c.loop-trade.store tt c.loop-trade.paid
-      (λ _. FirstPaid c.args.symbol.now span.first span.last rows c.loop-trade.paid.items i)
-      (λ paid (t : Tables). CashTextsMatchTables t (first_twenty_completed_cash_trade_rows_of_symbol c.args.symbol.now span.first span.last t) paid.items)
-      (λ t p. p.1 ∙ ap (map (λ r. cash_text_row_in_tables t (abstract_trade_row r))) (take_all i rows c.loop-trade-test.false)
-      ∙ twice abstract_trade_row (cash_text_row_in_tables t) rows ∙ ap (map (cash_text_row_in_tables t)) p.0)
-      c.loop-trade.invariant;
-}
+returns g c =
+    let span = c.args.span in
+    let rows = c.deref-trade-items.result.now in
+    let i = c.loop-trade.trade-index in
+    retold g.S.Store c.args.store.now c.loop-trade.store tt c.loop-trade.paid
+    (λ _. FirstPaid c.args.symbol.now span.first span.last rows c.loop-trade.paid.items i)
+    (λ paid (t : Tables). CashTextsMatchTables t (first_twenty_completed_cash_trade_rows_of_symbol c.args.symbol.now span.first span.last t) paid.items)
+    (λ t p. p.1 ∙ ap (map (λ r. cash_text_row_in_tables t (abstract_trade_row r))) (take_all i rows c.loop-trade-test.false)
+    ∙ twice abstract_trade_row (cash_text_row_in_tables t) rows ∙ ap (map (cash_text_row_in_tables t)) p.0)
+    c.loop-trade.invariant
 
 pub returns-in_err-name : goal.returns-in_err-name
-returns-in_err-name g c = record {
-  read =
-      let old = c.args.store.now in
-      let p = err_from_is_err_and c.from_residual-in_err-name.result c.from_residual-in_err-name.ensures.1 in
-      rw p.1 (failed_after g.S.Store old c.loop-trade.store c.cash_name_of.new.store _ p.0 _ _
-      (single_read_changes_nothing old c.loop-trade.store _ _ c.loop-trade.invariant) c.in_err-name.ensures.read);
-}
+returns-in_err-name g c =
+    let old = c.args.store.now in
+    let p = err_from_is_err_and c.from_residual-in_err-name.result c.from_residual-in_err-name.ensures.1 in
+    rw p.1 (failed_after g.S.Store old c.loop-trade.store c.cash_name_of.new.store _ p.0 _ _
+    (single_read_changes_nothing old c.loop-trade.store _ _ c.loop-trade.invariant) c.in_err-name.ensures)
 
 pub returns-in_err-push : goal.returns-in_err-push
-returns-in_err-push g c = record {
-  read =
-      let old = c.args.store.now in
-      let p = err_from_is_err_and c.from_residual-in_err-push.result c.from_residual-in_err-push.ensures.1 in
-      rw p.1 (none_read g.S.Store old c.cash_name_of.new.store p.0 _
-      (unchanged_after g.S.Store old c.loop-trade.store c.cash_name_of.new.store _ _
-      (single_read_changes_nothing old c.loop-trade.store _ _ c.loop-trade.invariant) c.in_ok-name.ensures.read));
-}
+returns-in_err-push g c =
+    let old = c.args.store.now in
+    let p = err_from_is_err_and c.from_residual-in_err-push.result c.from_residual-in_err-push.ensures.1 in
+    rw p.1 (none_read g.S.Store old c.cash_name_of.new.store p.0 _
+    (unchanged_after g.S.Store old c.loop-trade.store c.cash_name_of.new.store _ _
+    (single_read_changes_nothing old c.loop-trade.store _ _ c.loop-trade.invariant) c.in_ok-name.ensures))

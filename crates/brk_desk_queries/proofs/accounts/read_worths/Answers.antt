@@ -41,36 +41,30 @@ loop-row-preserved g c =
     (λ worth (t : Tables). worth ≡ worth_of_account t (abstract_account_row row))
     (λ _. FirstWorths c.args.customer rows (before ++ worth ∷ []) (i + 1))
     (λ t p e. (p.0, list_more (λ r. worth_of_account t (abstract_account_row r)) rows i row before worth c.loop-row-test.true c.row-item.is p.1 e))
-    c.loop-row.invariant c.in_ok-worth.ensures.read)
+    c.loop-row.invariant c.in_ok-worth.ensures)
 
 pub returns : goal.returns
-returns g c = record {
-  read =
-      let rows = c.deref-row-items.result.now in
-      let i = c.loop-row.row-index in
-      retold g.S.Store c.args.store.now c.loop-row.store tt c.loop-row.worths
-      (λ _. FirstWorths c.args.customer rows c.loop-row.worths.items i)
-      (λ worths (t : Tables). worths.items ≡ map (worth_of_account t) (filter (λ (a : tables.AccountRow). a.customer == c.args.customer) t.accounts))
-      (λ t p. p.1 ∙ ap (map (λ r. worth_of_account t (abstract_account_row r))) (take_all i rows c.loop-row-test.false)
-      ∙ sym (map_map (worth_of_account t) abstract_account_row rows) ∙ ap (map (worth_of_account t)) p.0)
-      c.loop-row.invariant;
-}
+returns g c =
+    let rows = c.deref-row-items.result.now in
+    let i = c.loop-row.row-index in
+    retold g.S.Store c.args.store.now c.loop-row.store tt c.loop-row.worths
+    (λ _. FirstWorths c.args.customer rows c.loop-row.worths.items i)
+    (λ worths (t : Tables). worths.items ≡ map (worth_of_account t) (filter (λ (a : tables.AccountRow). a.customer == c.args.customer) t.accounts))
+    (λ t p. p.1 ∙ ap (map (λ r. worth_of_account t (abstract_account_row r))) (take_all i rows c.loop-row-test.false)
+    ∙ sym (map_map (worth_of_account t) abstract_account_row rows) ∙ ap (map (worth_of_account t)) p.0)
+    c.loop-row.invariant
 
 pub returns-in_err-worth : goal.returns-in_err-worth
-returns-in_err-worth g c = record {
-  read =
-      let old = c.args.store.now in
-      let p = err_from_is_err_and c.from_residual-in_err-worth.result c.from_residual-in_err-worth.ensures.1 in
-      rw p.1 (failed_after g.S.Store old c.loop-row.store c.read_worth.new.store _ p.0 _ _
-      (single_read_changes_nothing old c.loop-row.store _ _ c.loop-row.invariant) c.in_err-worth.ensures.read);
-}
+returns-in_err-worth g c =
+    let old = c.args.store.now in
+    let p = err_from_is_err_and c.from_residual-in_err-worth.result c.from_residual-in_err-worth.ensures.1 in
+    rw p.1 (failed_after g.S.Store old c.loop-row.store c.read_worth.new.store _ p.0 _ _
+    (single_read_changes_nothing old c.loop-row.store _ _ c.loop-row.invariant) c.in_err-worth.ensures)
 
 pub returns-in_err-push : goal.returns-in_err-push
-returns-in_err-push g c = record {
-  read =
-      let old = c.args.store.now in
-      let p = err_from_is_err_and c.from_residual-in_err-push.result c.from_residual-in_err-push.ensures.1 in
-      rw p.1 (none_read g.S.Store old c.read_worth.new.store p.0 _
-      (unchanged_after g.S.Store old c.loop-row.store c.read_worth.new.store _ _
-      (single_read_changes_nothing old c.loop-row.store _ _ c.loop-row.invariant) c.in_ok-worth.ensures.read));
-}
+returns-in_err-push g c =
+    let old = c.args.store.now in
+    let p = err_from_is_err_and c.from_residual-in_err-push.result c.from_residual-in_err-push.ensures.1 in
+    rw p.1 (none_read g.S.Store old c.read_worth.new.store p.0 _
+    (unchanged_after g.S.Store old c.loop-row.store c.read_worth.new.store _ _
+    (single_read_changes_nothing old c.loop-row.store _ _ c.loop-row.invariant) c.in_ok-worth.ensures))

@@ -17,44 +17,36 @@ use Rattle.brk_store.proofs.Sequences.{failed_after, none_read, read_with, uncha
 use Rattle.brk_desk_queries.proofs.accounts.values_view.Goals as goal
 
 pub returns-in_default : goal.returns-in_default
-returns-in_default g c = record {
-  read =
-      let id = c.args.customer in
-      retold g.S.Store c.args.store.now c.customer.new.self {V = Option Customer} {X = Result View Refusal} None (Err NoCustomer)
-      (λ o (t : Tables). option_map abstract_customer o ≡ find (λ r. r.id == id) t.customers) (AnswersQueryAsModel (PositionOf id)) (no_customer id)
-      (rw c.in_default.is at c.in_ok-found.ensures.read);
-}
+returns-in_default g c =
+    let id = c.args.customer in
+    retold g.S.Store c.args.store.now c.customer.new.self {V = Option Customer} {X = Result View Refusal} None (Err NoCustomer)
+    (λ o (t : Tables). option_map abstract_customer o ≡ find (λ r. r.id == id) t.customers) (AnswersQueryAsModel (PositionOf id)) (no_customer id)
+    (rw c.in_default.is at c.in_ok-found.ensures.read)
 
 pub returns : goal.returns
-returns g c = record {
-  read =
-      let id = c.args.customer in
-      let x = c.in-Some.found in
-      let worths = c.in_ok-worths.worths in
-      let view = c.in_ok-view.view in
-      read_with g.S.Store c.args.store.now c.customer.new.self c.read_worths.new.store {X = Result View Refusal} {H = CallFault} (Some x) worths (Ok view)
-      (λ o (t : Tables). option_map abstract_customer o ≡ find (λ r. r.id == id) t.customers)
-      (λ all (t : Tables). AreAccountWorthsOfCustomer x.id all.items t)
-      (AnswersQueryAsModel (PositionOf id))
-      (λ t e w. position_seen id (abstract_customer x) worths.items c.in_ok-view.ensures.value.0 view c.in_ok-view.ensures.view c.in_ok-view.ensures.value.1 t e w)
-      (rw c.in-Some.is at c.in_ok-found.ensures.read) c.in_ok-worths.ensures.read;
-}
+returns g c =
+    let id = c.args.customer in
+    let x = c.in-Some.found in
+    let worths = c.in_ok-worths.worths in
+    let view = c.in_ok-view.view in
+    read_with g.S.Store c.args.store.now c.customer.new.self c.read_worths.new.store {X = Result View Refusal} {H = CallFault} (Some x) worths (Ok view)
+    (λ o (t : Tables). option_map abstract_customer o ≡ find (λ r. r.id == id) t.customers)
+    (λ all (t : Tables). AreAccountWorthsOfCustomer x.id all.items t)
+    (AnswersQueryAsModel (PositionOf id))
+    (λ t e w. position_seen id (abstract_customer x) worths.items c.in_ok-view.ensures.value.0 view c.in_ok-view.ensures.view c.in_ok-view.ensures.value.1 t e w)
+    (rw c.in-Some.is at c.in_ok-found.ensures.read) c.in_ok-worths.ensures
 
 pub returns-in_err-worths : goal.returns-in_err-worths
-returns-in_err-worths g c = record {
-  read =
-      let old = c.args.store.now in
-      let p = err_from_is_err_and c.from_residual-in_err-worths.result c.from_residual-in_err-worths.ensures.1 in
-      rw p.1 (failed_after g.S.Store old c.customer.new.self c.read_worths.new.store _ p.0 _ _
-      (single_read_changes_nothing old c.customer.new.self _ _ c.in_ok-found.ensures.read) c.in_err-worths.ensures.read);
-}
+returns-in_err-worths g c =
+    let old = c.args.store.now in
+    let p = err_from_is_err_and c.from_residual-in_err-worths.result c.from_residual-in_err-worths.ensures.1 in
+    rw p.1 (failed_after g.S.Store old c.customer.new.self c.read_worths.new.store _ p.0 _ _
+    (single_read_changes_nothing old c.customer.new.self _ _ c.in_ok-found.ensures.read) c.in_err-worths.ensures)
 
 pub returns-in_err-view : goal.returns-in_err-view
-returns-in_err-view g c = record {
-  read =
-      let old = c.args.store.now in
-      let p = err_from_is_err_and c.from_residual-in_err-view.result c.from_residual-in_err-view.ensures.1 in
-      rw p.1 (none_read g.S.Store old c.read_worths.new.store p.0 _
-      (unchanged_after g.S.Store old c.customer.new.self c.read_worths.new.store _ _
-      (single_read_changes_nothing old c.customer.new.self _ _ c.in_ok-found.ensures.read) c.in_ok-worths.ensures.read));
-}
+returns-in_err-view g c =
+    let old = c.args.store.now in
+    let p = err_from_is_err_and c.from_residual-in_err-view.result c.from_residual-in_err-view.ensures.1 in
+    rw p.1 (none_read g.S.Store old c.read_worths.new.store p.0 _
+    (unchanged_after g.S.Store old c.customer.new.self c.read_worths.new.store _ _
+    (single_read_changes_nothing old c.customer.new.self _ _ c.in_ok-found.ensures.read) c.in_ok-worths.ensures))

@@ -45,37 +45,31 @@ loop-trade-preserved g c =
     c.in-Some.ensures.items (p base books sound s) (e base books sound s))
     c.loop-trade.invariant
     (one_read g.S.Store c.loop-trade.store c.look_up_trade.new.store (Ok one) (HasAllRowsOfTrade (abstract_trade_row trade))
-    c.in_ok-one.ensures.read))
+    c.in_ok-one.ensures))
 
 pub returns : goal.returns
-returns g c = record {
-  read =
-      let trades = c.args.trades.items in
-      let rest = c.loop-trade.rest in
-      let found = c.loop-trade.found.items in
-      reads_retold g.S.Store c.args.store.now c.loop-trade.store tt c.reverse.new.self
-      (λ _. AreAll trades rest.items found)
-      (λ found. HaveAllRowsOfTrades (map abstract_trade_row trades) found.items)
-      (λ t p base books sound s. ap (map rows_of_looked_up_trade) c.reverse.ensures.items
-      ∙ all_made (λ r. table_rows_of_trade t (abstract_trade_row r)) rows_of_looked_up_trade rest.items found _ (sym rest.ok.0 ∙ c.in_default.ensures.cases.0) (p base books sound s)
-      ∙ sym (map_map (table_rows_of_trade t) abstract_trade_row trades))
-      c.loop-trade.invariant;
-}
+returns g c =
+    let trades = c.args.trades.items in
+    let rest = c.loop-trade.rest in
+    let found = c.loop-trade.found.items in
+    reads_retold g.S.Store c.args.store.now c.loop-trade.store tt c.reverse.new.self
+    (λ _. AreAll trades rest.items found)
+    (λ found. HaveAllRowsOfTrades (map abstract_trade_row trades) found.items)
+    (λ t p base books sound s. ap (map rows_of_looked_up_trade) c.reverse.ensures.items
+    ∙ all_made (λ r. table_rows_of_trade t (abstract_trade_row r)) rows_of_looked_up_trade rest.items found _ (sym rest.ok.0 ∙ c.in_default.ensures.cases.0) (p base books sound s)
+    ∙ sym (map_map (table_rows_of_trade t) abstract_trade_row trades))
+    c.loop-trade.invariant
 
 pub returns-in_err-one : goal.returns-in_err-one
-returns-in_err-one g c = record {
-  read =
-      let old = c.args.store.now in
-      let p = err_from_is_err_and c.from_residual.result c.from_residual.ensures.1 in
-      rw p.1 (reads_failed g.S.Store old c.look_up_trade.new.store p.0 _
-      (unchanged_after g.S.Store old c.loop-trade.store c.look_up_trade.new.store _ _ (c.loop-trade.invariant.unchanged) c.in_err-one.ensures.read));
-}
+returns-in_err-one g c =
+    let old = c.args.store.now in
+    let p = err_from_is_err_and c.from_residual.result c.from_residual.ensures.1 in
+    rw p.1 (reads_failed g.S.Store old c.look_up_trade.new.store p.0 _
+    (unchanged_after g.S.Store old c.loop-trade.store c.look_up_trade.new.store _ _ (c.loop-trade.invariant.unchanged) c.in_err-one.ensures))
 
 pub returns-in_err-push : goal.returns-in_err-push
-returns-in_err-push g c = record {
-  read =
-      let old = c.args.store.now in
-      let p = err_from_is_err_and c.from_residual-in_err-push.result c.from_residual-in_err-push.ensures.1 in
-      rw p.1 (reads_failed g.S.Store old c.look_up_trade.new.store p.0 _
-      (unchanged_after g.S.Store old c.loop-trade.store c.look_up_trade.new.store _ _ (c.loop-trade.invariant.unchanged) c.in_ok-one.ensures.read));
-}
+returns-in_err-push g c =
+    let old = c.args.store.now in
+    let p = err_from_is_err_and c.from_residual-in_err-push.result c.from_residual-in_err-push.ensures.1 in
+    rw p.1 (reads_failed g.S.Store old c.look_up_trade.new.store p.0 _
+    (unchanged_after g.S.Store old c.loop-trade.store c.look_up_trade.new.store _ _ (c.loop-trade.invariant.unchanged) c.in_ok-one.ensures))

@@ -36,7 +36,7 @@ loop-trade-preserved g c =
     let trade = c.trade-item.result in
     let rows = c.in_ok-rows.rows in
     let before = c.loop-trade.history.items in
-    rw (c.in_ok-append_history_rows.ensures.added, c.deref.ensures.value)
+    rw (c.in_ok-append_history_rows.ensures, c.deref.ensures.value)
     (read_with g.S.Store c.args.store.now c.loop-trade.store c.history_of_trade.new.self {H = CallFault} tt rows tt
     (λ _. FirstHistory c.args.account trades before i)
     (λ all (t : Tables). map abstract_history_row all.items ≡ filter (λ (r : tables.HistoryRow). r.trade == trade.id) t.history)
@@ -45,38 +45,32 @@ loop-trade-preserved g c =
     c.loop-trade.invariant c.in_ok-rows.ensures.read)
 
 pub returns : goal.returns
-returns g c = record {
-  read =
-      let trades = c.deref-trade-items.result.now in
-      let i = c.loop-trade.trade-index in
-      retold g.S.Store c.args.store.now c.loop-trade.store tt (c.in_ok-trades.trades, c.loop-trade.history)
-      (λ _. FirstHistory c.args.account trades c.loop-trade.history.items i)
-      (λ found (t : Tables). (map abstract_trade_row found.0.items ≡ last_ten_trade_rows t c.args.account)
-      × (map abstract_history_row found.1.items ≡ flat_map (λ row. history_rows_with_trade_id t row.id) (last_ten_trade_rows t c.args.account)))
-      (λ t p. (
-        ap (map abstract_trade_row) (sym c.deref-trade-items.ensures.value) ∙ p.0,
-        p.1 ∙ ap (flat_map (λ r. history_rows_with_trade_id t (abstract_trade_row r).id)) (take_all i trades c.loop-trade-test.false)
-            ∙ sym (flat_map_map (λ row. history_rows_with_trade_id t row.id) abstract_trade_row trades)
-            ∙ ap (flat_map (λ (row : tables.TradeRow). history_rows_with_trade_id t row.id)) p.0,
-      ))
-      c.loop-trade.invariant;
-}
+returns g c =
+    let trades = c.deref-trade-items.result.now in
+    let i = c.loop-trade.trade-index in
+    retold g.S.Store c.args.store.now c.loop-trade.store tt (c.in_ok-trades.trades, c.loop-trade.history)
+    (λ _. FirstHistory c.args.account trades c.loop-trade.history.items i)
+    (λ found (t : Tables). (map abstract_trade_row found.0.items ≡ last_ten_trade_rows t c.args.account)
+    × (map abstract_history_row found.1.items ≡ flat_map (λ row. history_rows_with_trade_id t row.id) (last_ten_trade_rows t c.args.account)))
+    (λ t p. (
+      ap (map abstract_trade_row) (sym c.deref-trade-items.ensures.value) ∙ p.0,
+      p.1 ∙ ap (flat_map (λ r. history_rows_with_trade_id t (abstract_trade_row r).id)) (take_all i trades c.loop-trade-test.false)
+          ∙ sym (flat_map_map (λ row. history_rows_with_trade_id t row.id) abstract_trade_row trades)
+          ∙ ap (flat_map (λ (row : tables.TradeRow). history_rows_with_trade_id t row.id)) p.0,
+    ))
+    c.loop-trade.invariant
 
 pub returns-in_err-rows : goal.returns-in_err-rows
-returns-in_err-rows g c = record {
-  read =
-      let old = c.args.store.now in
-      let p = err_from_is_err_and c.from_residual-in_err-rows.result c.from_residual-in_err-rows.ensures.1 in
-      rw p.1 (failed_after g.S.Store old c.loop-trade.store c.history_of_trade.new.self _ p.0 _ _
-      (single_read_changes_nothing old c.loop-trade.store _ _ c.loop-trade.invariant) c.in_err-rows.ensures.read);
-}
+returns-in_err-rows g c =
+    let old = c.args.store.now in
+    let p = err_from_is_err_and c.from_residual-in_err-rows.result c.from_residual-in_err-rows.ensures.1 in
+    rw p.1 (failed_after g.S.Store old c.loop-trade.store c.history_of_trade.new.self _ p.0 _ _
+    (single_read_changes_nothing old c.loop-trade.store _ _ c.loop-trade.invariant) c.in_err-rows.ensures.read)
 
 pub returns-in_err-append_history_rows : goal.returns-in_err-append_history_rows
-returns-in_err-append_history_rows g c = record {
-  read =
-      let old = c.args.store.now in
-      let p = err_from_is_err_and c.from_residual-in_err-append_history_rows.result c.from_residual-in_err-append_history_rows.ensures.1 in
-      rw p.1 (none_read g.S.Store old c.history_of_trade.new.self p.0 _
-      (unchanged_after g.S.Store old c.loop-trade.store c.history_of_trade.new.self _ _
-      (single_read_changes_nothing old c.loop-trade.store _ _ c.loop-trade.invariant) c.in_ok-rows.ensures.read));
-}
+returns-in_err-append_history_rows g c =
+    let old = c.args.store.now in
+    let p = err_from_is_err_and c.from_residual-in_err-append_history_rows.result c.from_residual-in_err-append_history_rows.ensures.1 in
+    rw p.1 (none_read g.S.Store old c.history_of_trade.new.self p.0 _
+    (unchanged_after g.S.Store old c.loop-trade.store c.history_of_trade.new.self _ _
+    (single_read_changes_nothing old c.loop-trade.store _ _ c.loop-trade.invariant) c.in_ok-rows.ensures.read))

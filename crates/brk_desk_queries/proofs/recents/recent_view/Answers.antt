@@ -17,45 +17,37 @@ use Rattle.brk_store.proofs.Sequences.{failed_after, none_read, read_with, uncha
 use Rattle.brk_desk_queries.proofs.recents.recent_view.Goals as goal
 
 pub returns-in_default : goal.returns-in_default
-returns-in_default g c = record {
-  read =
-      let id = c.args.account in
-      retold g.S.Store c.args.store.now c.account.new.self {V = Option AccountRow} {X = Result View Refusal} None (Err NoAccount)
-      (λ o (t : Tables). option_map abstract_account_row o ≡ find (λ r. r.id == id) t.accounts) (AnswersQueryAsModel (RecentOf id)) (no_account id)
-      (rw c.in_default.is at c.in_ok-found.ensures.read);
-}
+returns-in_default g c =
+    let id = c.args.account in
+    retold g.S.Store c.args.store.now c.account.new.self {V = Option AccountRow} {X = Result View Refusal} None (Err NoAccount)
+    (λ o (t : Tables). option_map abstract_account_row o ≡ find (λ r. r.id == id) t.accounts) (AnswersQueryAsModel (RecentOf id)) (no_account id)
+    (rw c.in_default.is at c.in_ok-found.ensures.read)
 
 pub returns : goal.returns
-returns g c = record {
-  read =
-      let id = c.args.account in
-      let a = c.in-Some.found in
-      let trades = c.in_ok-trades.trades in
-      let history = c.in_ok-trades.history in
-      let view = c.in_ok-view.view in
-      read_with g.S.Store c.args.store.now c.account.new.self c.recent_trades.new.store {X = Result View Refusal} {H = CallFault} (Some a) (trades, history) (Ok view)
-      (λ o (t : Tables). option_map abstract_account_row o ≡ find (λ r. r.id == id) t.accounts)
-      (λ found (t : Tables). AreRecentTradesWithHistory id found.0.items found.1.items t)
-      (AnswersQueryAsModel (RecentOf id))
-      (λ t e w. recent_seen id (abstract_account_row a) trades history c.in_ok-view.ensures.value.0 view c.in_ok-view.ensures.view c.in_ok-view.ensures.value.1 t e w)
-      (rw c.in-Some.is at c.in_ok-found.ensures.read) c.in_ok-trades.ensures.read;
-}
+returns g c =
+    let id = c.args.account in
+    let a = c.in-Some.found in
+    let trades = c.in_ok-trades.trades in
+    let history = c.in_ok-trades.history in
+    let view = c.in_ok-view.view in
+    read_with g.S.Store c.args.store.now c.account.new.self c.recent_trades.new.store {X = Result View Refusal} {H = CallFault} (Some a) (trades, history) (Ok view)
+    (λ o (t : Tables). option_map abstract_account_row o ≡ find (λ r. r.id == id) t.accounts)
+    (λ found (t : Tables). AreRecentTradesWithHistory id found.0.items found.1.items t)
+    (AnswersQueryAsModel (RecentOf id))
+    (λ t e w. recent_seen id (abstract_account_row a) trades history c.in_ok-view.ensures.value.0 view c.in_ok-view.ensures.view c.in_ok-view.ensures.value.1 t e w)
+    (rw c.in-Some.is at c.in_ok-found.ensures.read) c.in_ok-trades.ensures
 
 pub returns-in_err-trades : goal.returns-in_err-trades
-returns-in_err-trades g c = record {
-  read =
-      let old = c.args.store.now in
-      let p = err_from_is_err_and c.from_residual-in_err-trades.result c.from_residual-in_err-trades.ensures.1 in
-      rw p.1 (failed_after g.S.Store old c.account.new.self c.recent_trades.new.store _ p.0 _ _
-      (single_read_changes_nothing old c.account.new.self _ _ c.in_ok-found.ensures.read) c.in_err-trades.ensures.read);
-}
+returns-in_err-trades g c =
+    let old = c.args.store.now in
+    let p = err_from_is_err_and c.from_residual-in_err-trades.result c.from_residual-in_err-trades.ensures.1 in
+    rw p.1 (failed_after g.S.Store old c.account.new.self c.recent_trades.new.store _ p.0 _ _
+    (single_read_changes_nothing old c.account.new.self _ _ c.in_ok-found.ensures.read) c.in_err-trades.ensures)
 
 pub returns-in_err-view : goal.returns-in_err-view
-returns-in_err-view g c = record {
-  read =
-      let old = c.args.store.now in
-      let p = err_from_is_err_and c.from_residual-in_err-view.result c.from_residual-in_err-view.ensures.1 in
-      rw p.1 (none_read g.S.Store old c.recent_trades.new.store p.0 _
-      (unchanged_after g.S.Store old c.account.new.self c.recent_trades.new.store _ _
-      (single_read_changes_nothing old c.account.new.self _ _ c.in_ok-found.ensures.read) c.in_ok-trades.ensures.read));
-}
+returns-in_err-view g c =
+    let old = c.args.store.now in
+    let p = err_from_is_err_and c.from_residual-in_err-view.result c.from_residual-in_err-view.ensures.1 in
+    rw p.1 (none_read g.S.Store old c.recent_trades.new.store p.0 _
+    (unchanged_after g.S.Store old c.account.new.self c.recent_trades.new.store _ _
+    (single_read_changes_nothing old c.account.new.self _ _ c.in_ok-found.ensures.read) c.in_ok-trades.ensures))

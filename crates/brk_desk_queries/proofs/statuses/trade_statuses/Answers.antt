@@ -36,7 +36,7 @@ loop-trade-preserved-in-Continue-branch-4 g c =
     let security = c.in-Some-2.security in
     let status : TradeStatus = record { trade = trade; security = security } in
     let same : Some security ≡ option_map (λ (s : TradeStatus). s.security) (find (λ (s : TradeStatus). bytes_eq s.trade.symbol trade.symbol) all) =
-    sym c.in-Some-2.is ∙ c.in_ok-security.ensures.security
+    sym c.in-Some-2.is ∙ c.in_ok-security.ensures
     ∙ ap (λ ss. option_map (λ (s : TradeStatus). s.security) (find (λ (s : TradeStatus). bytes_eq s.trade.symbol trade.symbol) ss)) c.deref.ensures.value in
     rw c.in_ok-push.ensures.items
     (retold g.S.Store c.args.store.now c.loop-trade.store {X = Unit {0}} {H = CallFault} tt tt
@@ -60,18 +60,16 @@ loop-trade-preserved g c =
     (λ status (t : Tables). rows_of_trade_status status ≡ trade_row_with_security t (abstract_trade_row trade))
     (λ _. AreStatusesReadSoFar account rest (all ++ status ∷ []))
     (λ t p e. status_more account before rest trade all status t c.in-Some.ensures.items p e)
-    c.loop-trade.invariant c.in_ok-status.ensures.read)
+    c.loop-trade.invariant c.in_ok-status.ensures)
 
 pub returns : goal.returns
-returns g c = record {
-  read =
-      let rest = c.loop-trade.rest in
-      let statuses = c.loop-trade.statuses.items in
-      retold g.S.Store c.args.store.now c.loop-trade.store tt c.reverse.new.self
-      (λ _. AreStatusesReadSoFar c.args.account rest.items statuses)
-      (λ statuses (t : Tables). map rows_of_trade_status statuses.items ≡ map (trade_row_with_security t) (take 50 (trade_rows_recent_first (trade_rows_of_account t c.args.account))))
-      (λ t p. ap (map rows_of_trade_status) c.reverse.ensures.items
-      ∙ all_made (λ r. trade_row_with_security t (abstract_trade_row r)) rows_of_trade_status rest.items statuses _
-      (sym rest.ok.0 ∙ c.in_default.ensures.cases.0) p.0)
-      c.loop-trade.invariant;
-}
+returns g c =
+    let rest = c.loop-trade.rest in
+    let statuses = c.loop-trade.statuses.items in
+    retold g.S.Store c.args.store.now c.loop-trade.store tt c.reverse.new.self
+    (λ _. AreStatusesReadSoFar c.args.account rest.items statuses)
+    (λ statuses (t : Tables). map rows_of_trade_status statuses.items ≡ map (trade_row_with_security t) (take 50 (trade_rows_recent_first (trade_rows_of_account t c.args.account))))
+    (λ t p. ap (map rows_of_trade_status) c.reverse.ensures.items
+    ∙ all_made (λ r. trade_row_with_security t (abstract_trade_row r)) rows_of_trade_status rest.items statuses _
+    (sym rest.ok.0 ∙ c.in_default.ensures.cases.0) p.0)
+    c.loop-trade.invariant

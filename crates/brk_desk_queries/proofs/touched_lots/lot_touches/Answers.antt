@@ -41,35 +41,29 @@ loop-row-preserved g c =
     (λ stamp (t : Tables). stamp ≡ last_status_stamp t row.trade)
     (λ _. FirstChanges c.args.lot rows (before ++ with stamp ∷ []) (i + 1))
     (λ t p e. (p.0, list_more (λ r. stamped_lot_change t (abstract_lot_change_row r)) rows i row before (with stamp) c.loop-row-test.true c.row-item.is p.1 (ap with e)))
-    c.loop-row.invariant c.in_ok-stamp.ensures.read)
+    c.loop-row.invariant c.in_ok-stamp.ensures)
 
 pub returns : goal.returns
-returns g c = record {
-  read =
-      let rows = c.deref-row-items.result.now in
-      retold g.S.Store c.args.store.now c.loop-row.store tt c.loop-row.touches
-      (λ _. FirstChanges c.args.lot rows c.loop-row.touches.items c.loop-row.row-index)
-      (λ touches (t : Tables). touches.items ≡ stamped_changes_of_lot t c.args.lot)
-      (λ t p. p.1 ∙ ap (map (λ r. stamped_lot_change t (abstract_lot_change_row r))) (take_all c.loop-row.row-index rows c.loop-row-test.false)
-      ∙ sym (map_map (stamped_lot_change t) abstract_lot_change_row rows) ∙ ap (map (stamped_lot_change t)) p.0)
-      c.loop-row.invariant;
-}
+returns g c =
+    let rows = c.deref-row-items.result.now in
+    retold g.S.Store c.args.store.now c.loop-row.store tt c.loop-row.touches
+    (λ _. FirstChanges c.args.lot rows c.loop-row.touches.items c.loop-row.row-index)
+    (λ touches (t : Tables). touches.items ≡ stamped_changes_of_lot t c.args.lot)
+    (λ t p. p.1 ∙ ap (map (λ r. stamped_lot_change t (abstract_lot_change_row r))) (take_all c.loop-row.row-index rows c.loop-row-test.false)
+    ∙ sym (map_map (stamped_lot_change t) abstract_lot_change_row rows) ∙ ap (map (stamped_lot_change t)) p.0)
+    c.loop-row.invariant
 
 pub returns-in_err-stamp : goal.returns-in_err-stamp
-returns-in_err-stamp g c = record {
-  read =
-      let old = c.args.store.now in
-      let p = err_from_is_err_and c.from_residual-in_err-stamp.result c.from_residual-in_err-stamp.ensures.1 in
-      rw p.1 (failed_after g.S.Store old c.loop-row.store c.require_stamp.new.store _ p.0 _ _
-      (single_read_changes_nothing old c.loop-row.store _ _ c.loop-row.invariant) c.in_err-stamp.ensures.read);
-}
+returns-in_err-stamp g c =
+    let old = c.args.store.now in
+    let p = err_from_is_err_and c.from_residual-in_err-stamp.result c.from_residual-in_err-stamp.ensures.1 in
+    rw p.1 (failed_after g.S.Store old c.loop-row.store c.require_stamp.new.store _ p.0 _ _
+    (single_read_changes_nothing old c.loop-row.store _ _ c.loop-row.invariant) c.in_err-stamp.ensures)
 
 pub returns-in_err-push : goal.returns-in_err-push
-returns-in_err-push g c = record {
-  read =
-      let old = c.args.store.now in
-      let p = err_from_is_err_and c.from_residual-in_err-push.result c.from_residual-in_err-push.ensures.1 in
-      rw p.1 (none_read g.S.Store old c.require_stamp.new.store p.0 _
-      (unchanged_after g.S.Store old c.loop-row.store c.require_stamp.new.store _ _
-      (single_read_changes_nothing old c.loop-row.store _ _ c.loop-row.invariant) c.in_ok-stamp.ensures.read));
-}
+returns-in_err-push g c =
+    let old = c.args.store.now in
+    let p = err_from_is_err_and c.from_residual-in_err-push.result c.from_residual-in_err-push.ensures.1 in
+    rw p.1 (none_read g.S.Store old c.require_stamp.new.store p.0 _
+    (unchanged_after g.S.Store old c.loop-row.store c.require_stamp.new.store _ _
+    (single_read_changes_nothing old c.loop-row.store _ _ c.loop-row.invariant) c.in_ok-stamp.ensures))

@@ -43,37 +43,31 @@ loop-change-preserved g c =
     (λ _. AreKept c.args.trade rest c.merge_touches.new.kept.items)
     (λ t p e. kept_more t before rest change touches.items c.loop-change.kept.items c.merge_touches.new.kept.items _
     c.in-Some.ensures.items e c.in_ok-merge_touches.ensures.merged p)
-    c.loop-change.invariant c.in_ok-touches.ensures.read
+    c.loop-change.invariant c.in_ok-touches.ensures
 
 pub returns : goal.returns
-returns g c = record {
-  read =
-      let trade = c.args.trade in
-      let rest = c.loop-change.rest in
-      let kept = c.loop-change.kept in
-      let lots : TouchedLots = record { trade = trade; changes = kept } in
-      retold g.S.Store c.args.store.now c.loop-change.store tt lots
-      (λ _. AreKept trade rest.items kept.items)
-      (AreTouchedLotsOfTrade trade)
-      (λ t p. (refl, all_done t rest.items kept.items _ (sym rest.ok.0 ∙ c.in_default.ensures.cases.0) p))
-      c.loop-change.invariant;
-}
+returns g c =
+    let trade = c.args.trade in
+    let rest = c.loop-change.rest in
+    let kept = c.loop-change.kept in
+    let lots : TouchedLots = record { trade = trade; changes = kept } in
+    retold g.S.Store c.args.store.now c.loop-change.store tt lots
+    (λ _. AreKept trade rest.items kept.items)
+    (AreTouchedLotsOfTrade trade)
+    (λ t p. (refl, all_done t rest.items kept.items _ (sym rest.ok.0 ∙ c.in_default.ensures.cases.0) p))
+    c.loop-change.invariant
 
 pub returns-in_err-touches : goal.returns-in_err-touches
-returns-in_err-touches g c = record {
-  read =
-      let old = c.args.store.now in
-      let p = err_from_is_err_and c.from_residual-in_err-touches.result c.from_residual-in_err-touches.ensures.1 in
-      rw p.1 (failed_after g.S.Store old c.loop-change.store c.lot_touches.new.store _ p.0 _ _
-      (single_read_changes_nothing old c.loop-change.store _ _ c.loop-change.invariant) c.in_err-touches.ensures.read);
-}
+returns-in_err-touches g c =
+    let old = c.args.store.now in
+    let p = err_from_is_err_and c.from_residual-in_err-touches.result c.from_residual-in_err-touches.ensures.1 in
+    rw p.1 (failed_after g.S.Store old c.loop-change.store c.lot_touches.new.store _ p.0 _ _
+    (single_read_changes_nothing old c.loop-change.store _ _ c.loop-change.invariant) c.in_err-touches.ensures)
 
 pub returns-in_err-merge_touches : goal.returns-in_err-merge_touches
-returns-in_err-merge_touches g c = record {
-  read =
-      let old = c.args.store.now in
-      let p = err_from_is_err_and c.from_residual-in_err-merge_touches.result c.from_residual-in_err-merge_touches.ensures.1 in
-      rw p.1 (none_read g.S.Store old c.lot_touches.new.store p.0 _
-      (unchanged_after g.S.Store old c.loop-change.store c.lot_touches.new.store _ _
-      (single_read_changes_nothing old c.loop-change.store _ _ c.loop-change.invariant) c.in_ok-touches.ensures.read));
-}
+returns-in_err-merge_touches g c =
+    let old = c.args.store.now in
+    let p = err_from_is_err_and c.from_residual-in_err-merge_touches.result c.from_residual-in_err-merge_touches.ensures.1 in
+    rw p.1 (none_read g.S.Store old c.lot_touches.new.store p.0 _
+    (unchanged_after g.S.Store old c.loop-change.store c.lot_touches.new.store _ _
+    (single_read_changes_nothing old c.loop-change.store _ _ c.loop-change.invariant) c.in_ok-touches.ensures))

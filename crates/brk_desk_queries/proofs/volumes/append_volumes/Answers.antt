@@ -45,21 +45,19 @@ loop-row-preserved g c =
     (λ _ (t : Tables). map abstract_request_row c.args.requests.now ≡ t.requests → new ≡ old ++ volumes_of_brokers_in_sector t sector (abstract_broker_row row ∷ []))
     (λ _. FirstVolumes sector c.args.name.now c.args.requests.now rows before new (i + 1))
     (λ t p e. (p.0, λ whole. volume_more t sector abstract_broker_row rows i row before old new c.loop-row-test.true c.row-item.is (p.1 whole) (e whole)))
-    c.loop-row.invariant c.in_ok-append_volume.ensures.read
+    c.loop-row.invariant c.in_ok-append_volume.ensures
 
 pub returns : goal.returns
-returns g c = record {
-  read =
-      let sector = c.args.sector.now in
-      let rows = c.deref-row-items.result.now in
-      let before = c.args.found.now.items in
-      retold g.S.Store c.args.store.now c.loop-row.store tt tt
-      (λ _. FirstVolumes sector c.args.name.now c.args.requests.now rows before c.loop-row.found.items c.loop-row.row-index)
-      (λ _ (t : Tables). map abstract_request_row c.args.requests.now ≡ t.requests
-      → c.loop-row.found.items ≡ before
-      ++ volumes_of_brokers_in_sector t sector (filter (λ (b : tables.BrokerRow). bytes_eq b.name c.args.name.now) t.brokers))
-      (λ t p whole. p.1 whole
-      ∙ ap (λ rs. before ++ volumes_of_brokers_in_sector t sector (map abstract_broker_row rs)) (take_all c.loop-row.row-index rows c.loop-row-test.false)
-      ∙ ap (λ bs. before ++ volumes_of_brokers_in_sector t sector bs) p.0)
-      c.loop-row.invariant;
-}
+returns g c =
+    let sector = c.args.sector.now in
+    let rows = c.deref-row-items.result.now in
+    let before = c.args.found.now.items in
+    retold g.S.Store c.args.store.now c.loop-row.store tt tt
+    (λ _. FirstVolumes sector c.args.name.now c.args.requests.now rows before c.loop-row.found.items c.loop-row.row-index)
+    (λ _ (t : Tables). map abstract_request_row c.args.requests.now ≡ t.requests
+    → c.loop-row.found.items ≡ before
+    ++ volumes_of_brokers_in_sector t sector (filter (λ (b : tables.BrokerRow). bytes_eq b.name c.args.name.now) t.brokers))
+    (λ t p whole. p.1 whole
+    ∙ ap (λ rs. before ++ volumes_of_brokers_in_sector t sector (map abstract_broker_row rs)) (take_all c.loop-row.row-index rows c.loop-row-test.false)
+    ∙ ap (λ bs. before ++ volumes_of_brokers_in_sector t sector bs) p.0)
+    c.loop-row.invariant

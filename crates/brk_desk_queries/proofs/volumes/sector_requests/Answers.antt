@@ -33,17 +33,15 @@ loop-row-preserved g c =
     (λ _ (t : Tables). new ≡ requests_with_row_if_of_broker_in_sector t sector broker row old)
     (λ _. FirstRequests sector broker rows new (i + 1))
     (λ t p e. request_more t sector broker rows i row old new c.loop-row-test.true c.row-item.is p e)
-    c.loop-row.invariant c.in_ok-append_request.ensures.read
+    c.loop-row.invariant c.in_ok-append_request.ensures
 
 pub returns : goal.returns
-returns g c = record {
-  read =
-      let sector = c.args.sector.now in
-      let broker = c.args.broker in
-      let rows = c.args.requests.now in
-      reads_retold g.S.Store c.args.store.now c.loop-row.store tt c.loop-row.found
-      (λ _. FirstRequests sector broker rows c.loop-row.found.items c.loop-row.row-index)
-      (λ found (t : Tables). map abstract_request_row found.items ≡ filter (is_sector_request_of_broker t sector broker) (map abstract_request_row rows))
-      (λ t p. p ∙ ap (λ rs. filter (is_sector_request_of_broker t sector broker) (map abstract_request_row rs)) (take_all c.loop-row.row-index rows c.loop-row-test.false))
-      c.loop-row.invariant;
-}
+returns g c =
+    let sector = c.args.sector.now in
+    let broker = c.args.broker in
+    let rows = c.args.requests.now in
+    reads_retold g.S.Store c.args.store.now c.loop-row.store tt c.loop-row.found
+    (λ _. FirstRequests sector broker rows c.loop-row.found.items c.loop-row.row-index)
+    (λ found (t : Tables). map abstract_request_row found.items ≡ filter (is_sector_request_of_broker t sector broker) (map abstract_request_row rows))
+    (λ t p. p ∙ ap (λ rs. filter (is_sector_request_of_broker t sector broker) (map abstract_request_row rs)) (take_all c.loop-row.row-index rows c.loop-row-test.false))
+    c.loop-row.invariant

@@ -13,9 +13,9 @@ pub returns-in-Ok-Err : goal.returns-in-Ok-Err
 returns-in-Ok-Err g c = record {
   told = record {
     written = λ clean t holds.
-        no_holding t c.args.account c.args.symbol.now c.in-Ok-Err.refusal ((rw (c.in-Ok-Err.is, c.in-Ok-Err.field-0-is) at (c.holding_details.ensures.read.answered clean)) t holds);
+        no_holding t c.args.account c.args.symbol.now c.in-Ok-Err.refusal ((rw (c.in-Ok-Err.is, c.in-Ok-Err.field-0-is) at (c.holding_details.ensures.answered clean)) t holds);
     fault = tt;
-    keeps = keeps_read g.S.Store _ _ c.holding_details.result (AreDetailsOfHolding c.args.account c.args.symbol.now) c.holding_details.ensures.read;
+    keeps = keeps_read g.S.Store _ _ c.holding_details.result (AreDetailsOfHolding c.args.account c.args.symbol.now) c.holding_details.ensures;
     unwritten = λ refusal is. refl;
   };
 }
@@ -30,12 +30,12 @@ returns-in_err-write_lines g c =
     record {
       told = record {
         written = λ clean t holds.
-            let are_details = (rw (c.in-Ok-Ok.is, c.in-Ok-Ok.field-0-is) at (c.holding_details.ensures.read.answered clean)) t holds in
+            let are_details = (rw (c.in-Ok-Ok.is, c.in-Ok-Ok.field-0-is) at (c.holding_details.ensures.answered clean)) t holds in
             reported (WritesLinesOrRefuses (explanation t (HoldingOf c.args.account c.args.symbol.now)) _ _) _ _ fails
             (tells_fault (explanation t (HoldingOf c.args.account c.args.symbol.now)) lines
             (holding_told t c.args.account c.args.symbol.now details are_details) _ _ _ wrote);
         fault = reported_fault _ _ fails;
-        keeps = keeps_read g.S.Store _ _ c.holding_details.result (AreDetailsOfHolding c.args.account c.args.symbol.now) c.holding_details.ensures.read;
+        keeps = keeps_read g.S.Store _ _ c.holding_details.result (AreDetailsOfHolding c.args.account c.args.symbol.now) c.holding_details.ensures;
         unwritten = λ refusal is. absurd (no_refusal _ _ refusal fails is);
       };
     }
@@ -49,10 +49,10 @@ returns g c =
     record {
       told = record {
         written = λ clean t holds.
-            let are_details = (rw (c.in-Ok-Ok.is, c.in-Ok-Ok.field-0-is) at (c.holding_details.ensures.read.answered clean)) t holds in
+            let are_details = (rw (c.in-Ok-Ok.is, c.in-Ok-Ok.field-0-is) at (c.holding_details.ensures.answered clean)) t holds in
             tells_all (explanation t (HoldingOf c.args.account c.args.symbol.now)) lines (holding_told t c.args.account c.args.symbol.now details are_details) _ _ wrote;
         fault = tt;
-        keeps = keeps_read g.S.Store _ _ c.holding_details.result (AreDetailsOfHolding c.args.account c.args.symbol.now) c.holding_details.ensures.read;
+        keeps = keeps_read g.S.Store _ _ c.holding_details.result (AreDetailsOfHolding c.args.account c.args.symbol.now) c.holding_details.ensures;
         unwritten = λ refusal is. absurd (let same = is in cc);
       };
     }

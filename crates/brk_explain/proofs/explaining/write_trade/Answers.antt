@@ -12,9 +12,9 @@ use Rattle.brk_explain.proofs.explaining.write_trade.Goals as goal
 pub returns-in-Ok-None : goal.returns-in-Ok-None
 returns-in-Ok-None g c = record {
   told = record {
-    written = λ clean t holds. no_trade t c.args.trade ((rw (c.in-Ok-None.is, c.in-Ok-None.field-0-is) at (c.trade_details.ensures.read.answered clean)) t holds);
+    written = λ clean t holds. no_trade t c.args.trade ((rw (c.in-Ok-None.is, c.in-Ok-None.field-0-is) at (c.trade_details.ensures.answered clean)) t holds);
     fault = tt;
-    keeps = keeps_read g.S.Store _ _ c.trade_details.result (AreDetailsOfTrade c.args.trade) c.trade_details.ensures.read;
+    keeps = keeps_read g.S.Store _ _ c.trade_details.result (AreDetailsOfTrade c.args.trade) c.trade_details.ensures;
     unwritten = λ refusal is. refl;
   };
 }
@@ -30,11 +30,11 @@ returns-in_err-write_lines g c =
     record {
       told = record {
         written = λ clean t holds.
-            let are_details = (rw (c.in-Ok-Some.is, c.in-Ok-Some.field-0-is) at (c.trade_details.ensures.read.answered clean)) t holds in
+            let are_details = (rw (c.in-Ok-Some.is, c.in-Ok-Some.field-0-is) at (c.trade_details.ensures.answered clean)) t holds in
             reported (WritesLinesOrRefuses (explanation t (TradeOf c.args.trade)) _ _) _ _ fails
             (tells_fault (explanation t (TradeOf c.args.trade)) lines (trade_told t c.args.trade details are_details) _ _ _ wrote);
         fault = reported_fault _ _ fails;
-        keeps = keeps_read g.S.Store _ _ c.trade_details.result (AreDetailsOfTrade c.args.trade) c.trade_details.ensures.read;
+        keeps = keeps_read g.S.Store _ _ c.trade_details.result (AreDetailsOfTrade c.args.trade) c.trade_details.ensures;
         unwritten = λ refusal is. absurd (no_refusal _ _ refusal fails is);
       };
     }
@@ -49,10 +49,10 @@ returns g c =
     record {
       told = record {
         written = λ clean t holds.
-            let are_details = (rw (c.in-Ok-Some.is, c.in-Ok-Some.field-0-is) at (c.trade_details.ensures.read.answered clean)) t holds in
+            let are_details = (rw (c.in-Ok-Some.is, c.in-Ok-Some.field-0-is) at (c.trade_details.ensures.answered clean)) t holds in
             tells_all (explanation t (TradeOf c.args.trade)) lines (trade_told t c.args.trade details are_details) _ _ wrote;
         fault = tt;
-        keeps = keeps_read g.S.Store _ _ c.trade_details.result (AreDetailsOfTrade c.args.trade) c.trade_details.ensures.read;
+        keeps = keeps_read g.S.Store _ _ c.trade_details.result (AreDetailsOfTrade c.args.trade) c.trade_details.ensures;
         unwritten = λ refusal is. absurd (let same = is in cc);
       };
     }

@@ -9,14 +9,12 @@ use Rattle.brk_explain_rows.specs.declared.account_details.PricedHolding.{Priced
 use Rattle.brk_explain_reads.proofs.accounts.price_holding.Goals as goal
 
 pub returns : goal.returns
-returns g c = record {
-  read =
-      let summary = c.args.summary in
-      let price = c.in_ok-price.price in
-      let held : PricedHolding = record { summary = summary; price = price } in
-      retold g.S.Store c.args.store.now c.require_last_price.new.store price held
-      (λ price (t : Tables). price ≡ last_price_in_tables t summary.symbol)
-      (λ held (t : Tables). abstract_priced_holding held ≡ priced_holding t (abstract_summary_row summary))
-      (λ t e i. record { summary = abstract_summary_row summary; price = e i })
-      c.in_ok-price.ensures.read;
-}
+returns g c =
+    let summary = c.args.summary in
+    let price = c.in_ok-price.price in
+    let held : PricedHolding = record { summary = summary; price = price } in
+    retold g.S.Store c.args.store.now c.require_last_price.new.store price held
+    (λ price (t : Tables). price ≡ last_price_in_tables t summary.symbol)
+    (λ held (t : Tables). abstract_priced_holding held ≡ priced_holding t (abstract_summary_row summary))
+    (λ t e i. record { summary = abstract_summary_row summary; price = e i })
+    c.in_ok-price.ensures.read

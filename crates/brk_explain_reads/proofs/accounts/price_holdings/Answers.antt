@@ -40,39 +40,33 @@ loop-summary-preserved g c =
     (λ held (t : Tables). abstract_priced_holding held ≡ priced_holding t (abstract_summary_row summary))
     (λ _. AreHeld c.args.account rest (all ++ one ∷ []))
     (λ t p e. popped (λ r. priced_holding t (abstract_summary_row r)) abstract_priced_holding before rest summary all one _ c.in-Some.ensures.items p e)
-    c.loop-summary.invariant c.in_ok-one.ensures.read)
+    c.loop-summary.invariant c.in_ok-one.ensures)
 
 pub returns : goal.returns
-returns g c = record {
-  read =
-      let rest = c.loop-summary.rest in
-      let held = c.loop-summary.held.items in
-      retold g.S.Store c.args.store.now c.loop-summary.store tt c.reverse.new.self
-      (λ _. AreHeld c.args.account rest.items held)
-      (λ held (t : Tables). map abstract_priced_holding held.items ≡ priced_holdings_of_account t c.args.account)
-      (λ t p. ap (map abstract_priced_holding) c.reverse.ensures.items
-      ∙ all_made (λ r. priced_holding t (abstract_summary_row r)) abstract_priced_holding rest.items held _ (sym rest.ok.0 ∙ c.in_default.ensures.cases.0) p)
-      c.loop-summary.invariant;
-}
+returns g c =
+    let rest = c.loop-summary.rest in
+    let held = c.loop-summary.held.items in
+    retold g.S.Store c.args.store.now c.loop-summary.store tt c.reverse.new.self
+    (λ _. AreHeld c.args.account rest.items held)
+    (λ held (t : Tables). map abstract_priced_holding held.items ≡ priced_holdings_of_account t c.args.account)
+    (λ t p. ap (map abstract_priced_holding) c.reverse.ensures.items
+    ∙ all_made (λ r. priced_holding t (abstract_summary_row r)) abstract_priced_holding rest.items held _ (sym rest.ok.0 ∙ c.in_default.ensures.cases.0) p)
+    c.loop-summary.invariant
 
 pub returns-in_err-one : goal.returns-in_err-one
-returns-in_err-one g c = record {
-  read =
-      let old = c.args.store.now in
-      let mid = c.loop-summary.store in
-      let end = c.price_holding.new.store in
-      let left = λ (_ : Unit {0}). AreHeld c.args.account c.loop-summary.rest.items c.loop-summary.held.items in
-      let p = err_from_is_err_and c.from_residual-in_err-one.result c.from_residual-in_err-one.ensures.1 in
-      rw p.1 (none_read g.S.Store old end p.0 _ (both_change_nothing g.S.Store old mid end _ _ left _ c.loop-summary.invariant c.in_err-one.ensures.read));
-}
+returns-in_err-one g c =
+    let old = c.args.store.now in
+    let mid = c.loop-summary.store in
+    let end = c.price_holding.new.store in
+    let left = λ (_ : Unit {0}). AreHeld c.args.account c.loop-summary.rest.items c.loop-summary.held.items in
+    let p = err_from_is_err_and c.from_residual-in_err-one.result c.from_residual-in_err-one.ensures.1 in
+    rw p.1 (none_read g.S.Store old end p.0 _ (both_change_nothing g.S.Store old mid end _ _ left _ c.loop-summary.invariant c.in_err-one.ensures))
 
 pub returns-in_err-push : goal.returns-in_err-push
-returns-in_err-push g c = record {
-  read =
-      let old = c.args.store.now in
-      let mid = c.loop-summary.store in
-      let end = c.price_holding.new.store in
-      let left = λ (_ : Unit {0}). AreHeld c.args.account c.loop-summary.rest.items c.loop-summary.held.items in
-      let p = err_from_is_err_and c.from_residual-in_err-push.result c.from_residual-in_err-push.ensures.1 in
-      rw p.1 (none_read g.S.Store old end p.0 _ (both_change_nothing g.S.Store old mid end _ _ left _ c.loop-summary.invariant c.in_ok-one.ensures.read));
-}
+returns-in_err-push g c =
+    let old = c.args.store.now in
+    let mid = c.loop-summary.store in
+    let end = c.price_holding.new.store in
+    let left = λ (_ : Unit {0}). AreHeld c.args.account c.loop-summary.rest.items c.loop-summary.held.items in
+    let p = err_from_is_err_and c.from_residual-in_err-push.result c.from_residual-in_err-push.ensures.1 in
+    rw p.1 (none_read g.S.Store old end p.0 _ (both_change_nothing g.S.Store old mid end _ _ left _ c.loop-summary.invariant c.in_ok-one.ensures))

@@ -17,32 +17,26 @@ abbrev IsRowOf : ℕ → Option row.BrokerRow → Tables → Type 0
 IsRowOf id o t = option_map abstract_broker_row o ≡ find (λ (r : BrokerRow). r.id == id) t.brokers
 
 pub returns-in_default : goal.returns-in_default
-returns-in_default g c = record {
-  read =
-      retold g.S.Store c.args.store.now c.broker.new.self {V = Option row.BrokerRow} {X = Option BrokerDetails} None None
-      (IsRowOf c.args.broker) (AreDetailsOfBroker c.args.broker) (λ t e. sym e)
-      (rw c.in_default.is at c.in_ok-row.ensures.read);
-}
+returns-in_default g c =
+    retold g.S.Store c.args.store.now c.broker.new.self {V = Option row.BrokerRow} {X = Option BrokerDetails} None None
+    (IsRowOf c.args.broker) (AreDetailsOfBroker c.args.broker) (λ t e. sym e)
+    (rw c.in_default.is at c.in_ok-row.ensures.read)
 
 pub returns : goal.returns
-returns g c = record {
-  read =
-      let broker = c.args.broker in
-      let row = c.in-Some.row in
-      let accounts = c.in_ok-accounts.accounts in
-      let details : BrokerDetails = record { broker = row; accounts = c.len.result } in
-      read_with g.S.Store c.args.store.now c.broker.new.self c.broker_account_ids.new.self {H = CallFault} (Some row) accounts (Some details)
-      (IsRowOf broker) (λ all (t : Tables). all.items ≡ map (λ (r : AccountRow). r.id) (filter (λ (r : AccountRow). r.broker == broker) t.accounts)) (AreDetailsOfBroker broker)
-      (λ t e k. (sym e, c.len.ensures ∙ accounts.ok.0 ∙ ap length k ∙ length_map (λ (r : AccountRow). r.id) (filter (λ (r : AccountRow). r.broker == broker) t.accounts)))
-      (rw c.in-Some.is at c.in_ok-row.ensures.read) c.in_ok-accounts.ensures.read;
-}
+returns g c =
+    let broker = c.args.broker in
+    let row = c.in-Some.row in
+    let accounts = c.in_ok-accounts.accounts in
+    let details : BrokerDetails = record { broker = row; accounts = c.len.result } in
+    read_with g.S.Store c.args.store.now c.broker.new.self c.broker_account_ids.new.self {H = CallFault} (Some row) accounts (Some details)
+    (IsRowOf broker) (λ all (t : Tables). all.items ≡ map (λ (r : AccountRow). r.id) (filter (λ (r : AccountRow). r.broker == broker) t.accounts)) (AreDetailsOfBroker broker)
+    (λ t e k. (sym e, c.len.ensures ∙ accounts.ok.0 ∙ ap length k ∙ length_map (λ (r : AccountRow). r.id) (filter (λ (r : AccountRow). r.broker == broker) t.accounts)))
+    (rw c.in-Some.is at c.in_ok-row.ensures.read) c.in_ok-accounts.ensures.read
 
 pub returns-in_err-accounts : goal.returns-in_err-accounts
-returns-in_err-accounts g c = record {
-  read =
-      let old = c.args.store.now in
-      let mid = c.broker.new.self in
-      let end = c.broker_account_ids.new.self in
-      let p = err_from_is_err_and c.from_residual-in_err-accounts.result c.from_residual-in_err-accounts.ensures.1 in
-      rw p.1 (none_read g.S.Store old end p.0 _ (both_change_nothing g.S.Store old mid end _ _ _ _ c.in_ok-row.ensures.read c.in_err-accounts.ensures.read));
-}
+returns-in_err-accounts g c =
+    let old = c.args.store.now in
+    let mid = c.broker.new.self in
+    let end = c.broker_account_ids.new.self in
+    let p = err_from_is_err_and c.from_residual-in_err-accounts.result c.from_residual-in_err-accounts.ensures.1 in
+    rw p.1 (none_read g.S.Store old end p.0 _ (both_change_nothing g.S.Store old mid end _ _ _ _ c.in_ok-row.ensures.read c.in_err-accounts.ensures.read))

@@ -58,44 +58,38 @@ loop-id-preserved g c =
       c.in_ok-push_trade.ensures.lots ∙ (λ j. p.2 j ++ option_to_list (e.1 j)) ∙ sym (flat_one (λ id. option_to_list (lot_opened_by_trade t id)) (take i ids) id)
           ∙ ap (found_lots t) (first_more ids i id c.loop-id-test.true c.id-item.is),
     ))
-    c.loop-id.invariant c.in_ok-one.ensures.read)
+    c.loop-id.invariant c.in_ok-one.ensures)
 
 pub returns : goal.returns
-returns g c = record {
-  read =
-      let account = c.args.account in
-      let symbol = c.args.symbol.now in
-      let ids = c.deref-id-items.result.now in
-      let i = c.loop-id.id-index in
-      let held = c.loop-id.held in
-      let all = take_all i ids c.loop-id-test.false in
-      retold_of g.S.Store c.args.store.now c.loop-id.store tt held
-      (λ _. FirstTrades account symbol ids held.done.items held.lots.items i)
-      (λ held (t : Tables). AreTradesAndLotsOfHolding t account symbol held)
-      (λ t has p. (
-        one_by_one (trade_row_with_id t) ids (map abstract_trade_row held.done.items) (map_map Some abstract_trade_row held.done.items ∙ p.1 ∙ ap (map (trade_row_with_id t)) all)
-            ∙ ap (flat_map (λ id. option_to_list (trade_row_with_id t id))) p.0 ∙ done_known t (trades_climb t (state g.S.Store c.args.store.now).now has) account symbol,
-        p.2 ∙ ap (found_lots t) (all ∙ p.0) ∙ lots_known t (trades_climb t (state g.S.Store c.args.store.now).now has) account symbol,
-      ))
-      c.loop-id.invariant;
-}
+returns g c =
+    let account = c.args.account in
+    let symbol = c.args.symbol.now in
+    let ids = c.deref-id-items.result.now in
+    let i = c.loop-id.id-index in
+    let held = c.loop-id.held in
+    let all = take_all i ids c.loop-id-test.false in
+    retold_of g.S.Store c.args.store.now c.loop-id.store tt held
+    (λ _. FirstTrades account symbol ids held.done.items held.lots.items i)
+    (λ held (t : Tables). AreTradesAndLotsOfHolding t account symbol held)
+    (λ t has p. (
+      one_by_one (trade_row_with_id t) ids (map abstract_trade_row held.done.items) (map_map Some abstract_trade_row held.done.items ∙ p.1 ∙ ap (map (trade_row_with_id t)) all)
+          ∙ ap (flat_map (λ id. option_to_list (trade_row_with_id t id))) p.0 ∙ done_known t (trades_climb t (state g.S.Store c.args.store.now).now has) account symbol,
+      p.2 ∙ ap (found_lots t) (all ∙ p.0) ∙ lots_known t (trades_climb t (state g.S.Store c.args.store.now).now has) account symbol,
+    ))
+    c.loop-id.invariant
 
 pub returns-in_err-one : goal.returns-in_err-one
-returns-in_err-one g c = record {
-  read =
-      let old = c.args.store.now in
-      let mid = c.loop-id.store in
-      let end = c.held_trade.new.store in
-      let p = err_from_is_err_and c.from_residual-in_err-one.result c.from_residual-in_err-one.ensures.1 in
-      rw p.1 (none_read g.S.Store old end p.0 _ (both_change_nothing g.S.Store old mid end _ _ _ _ c.loop-id.invariant c.in_err-one.ensures.read));
-}
+returns-in_err-one g c =
+    let old = c.args.store.now in
+    let mid = c.loop-id.store in
+    let end = c.held_trade.new.store in
+    let p = err_from_is_err_and c.from_residual-in_err-one.result c.from_residual-in_err-one.ensures.1 in
+    rw p.1 (none_read g.S.Store old end p.0 _ (both_change_nothing g.S.Store old mid end _ _ _ _ c.loop-id.invariant c.in_err-one.ensures))
 
 pub returns-in_err-push_trade : goal.returns-in_err-push_trade
-returns-in_err-push_trade g c = record {
-  read =
-      let old = c.args.store.now in
-      let mid = c.loop-id.store in
-      let end = c.held_trade.new.store in
-      let p = err_from_is_err_and c.from_residual-in_err-push_trade.result c.from_residual-in_err-push_trade.ensures.1 in
-      rw p.1 (none_read g.S.Store old end p.0 _ (both_change_nothing g.S.Store old mid end _ _ _ _ c.loop-id.invariant c.in_ok-one.ensures.read));
-}
+returns-in_err-push_trade g c =
+    let old = c.args.store.now in
+    let mid = c.loop-id.store in
+    let end = c.held_trade.new.store in
+    let p = err_from_is_err_and c.from_residual-in_err-push_trade.result c.from_residual-in_err-push_trade.ensures.1 in
+    rw p.1 (none_read g.S.Store old end p.0 _ (both_change_nothing g.S.Store old mid end _ _ _ _ c.loop-id.invariant c.in_ok-one.ensures))

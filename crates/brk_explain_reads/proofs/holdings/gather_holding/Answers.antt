@@ -30,97 +30,85 @@ abbrev AreParties : ℕ → Text → row.AccountRow → security.Security → Ta
 AreParties account symbol a s t = IsRowOf account (Some a) t × IsSecurityOf symbol (Some s) t
 
 pub returns-in_default : goal.returns-in_default
-returns-in_default g c = record {
-  read =
-      retold g.S.Store c.args.store.now c.account.new.self {V = Option row.AccountRow} {X = Result HoldingDetails Refusal} None (Err NoAccount)
-      (IsRowOf c.args.account) (AreDetailsOfHolding c.args.account c.args.symbol.now) (λ t e. inl (sym e, refl))
-      (rw c.in_default.is at c.in_ok-row.ensures.read);
-}
+returns-in_default g c =
+    retold g.S.Store c.args.store.now c.account.new.self {V = Option row.AccountRow} {X = Result HoldingDetails Refusal} None (Err NoAccount)
+    (IsRowOf c.args.account) (AreDetailsOfHolding c.args.account c.args.symbol.now) (λ t e. inl (sym e, refl))
+    (rw c.in_default.is at c.in_ok-row.ensures.read)
 
 pub returns-in_default-2 : goal.returns-in_default-2
-returns-in_default-2 g c = record {
-  read =
-      let row = c.in-Some.row in
-      read_with g.S.Store c.args.store.now c.account.new.self c.security.new.self {W = Option security.Security} {X = Result HoldingDetails Refusal} {H = CallFault} (Some row) None (Err NoSecurity)
-      (IsRowOf c.args.account) (IsSecurityOf c.args.symbol.now) (AreDetailsOfHolding c.args.account c.args.symbol.now)
-      (λ t a s. inr (abstract_account_row row, sym a, sym s, refl))
-      (rw c.in-Some.is at c.in_ok-row.ensures.read) (rw c.in_default-2.is at c.in_ok-security.ensures.read);
-}
+returns-in_default-2 g c =
+    let row = c.in-Some.row in
+    read_with g.S.Store c.args.store.now c.account.new.self c.security.new.self {W = Option security.Security} {X = Result HoldingDetails Refusal} {H = CallFault} (Some row) None (Err NoSecurity)
+    (IsRowOf c.args.account) (IsSecurityOf c.args.symbol.now) (AreDetailsOfHolding c.args.account c.args.symbol.now)
+    (λ t a s. inr (abstract_account_row row, sym a, sym s, refl))
+    (rw c.in-Some.is at c.in_ok-row.ensures.read) (rw c.in_default-2.is at c.in_ok-security.ensures.read)
 
 pub returns : goal.returns
-returns g c = record {
-  read =
-      let old = c.args.store.now in
-      let account = c.args.account in
-      let symbol = c.args.symbol.now in
-      let row = c.in-Some.row in
-      let security = c.in-Some-2.security in
-      let held = c.in_ok-held.held in
-      let now = c.in_ok-now.now in
-      read_with g.S.Store old c.held_trades.new.store c.quantity_now.new.store {H = CallFault} held now (Ok c.holding_details_of.result)
-      (λ held (t : Tables). AreParties account symbol row security t × AreTradesAndLotsOfHolding t account symbol held)
-      (λ now (t : Tables). AreQuantityAndPrice t account symbol now)
-      (AreDetailsOfHolding account symbol)
-      (λ t k e. subst (λ (s : HoldingDetails). AreDetailsOfHolding account symbol (Ok s) t) (sym c.holding_details_of.ensures) (sym k.0.0, sym k.0.1, k.1.0, k.1.1, e.0, e.1))
-      (read_with g.S.Store old c.security.new.self c.held_trades.new.store {H = CallFault} (Some security) held held
-      (λ o (t : Tables). AreParties account symbol row security t) (λ held (t : Tables). AreTradesAndLotsOfHolding t account symbol held)
-      (λ held (t : Tables). AreParties account symbol row security t × AreTradesAndLotsOfHolding t account symbol held)
-      (λ t p k. (p, k))
-      (read_with g.S.Store old c.account.new.self c.security.new.self {H = CallFault} (Some row) (Some security) (Some security)
-      (IsRowOf account) (IsSecurityOf symbol) (λ o (t : Tables). AreParties account symbol row security t)
-      (λ t a s. (a, s))
-      (rw c.in-Some.is at c.in_ok-row.ensures.read) (rw c.in-Some-2.is at c.in_ok-security.ensures.read))
-      c.in_ok-held.ensures.read)
-      c.in_ok-now.ensures.read;
-}
+returns g c =
+    let old = c.args.store.now in
+    let account = c.args.account in
+    let symbol = c.args.symbol.now in
+    let row = c.in-Some.row in
+    let security = c.in-Some-2.security in
+    let held = c.in_ok-held.held in
+    let now = c.in_ok-now.now in
+    read_with g.S.Store old c.held_trades.new.store c.quantity_now.new.store {H = CallFault} held now (Ok c.holding_details_of.result)
+    (λ held (t : Tables). AreParties account symbol row security t × AreTradesAndLotsOfHolding t account symbol held)
+    (λ now (t : Tables). AreQuantityAndPrice t account symbol now)
+    (AreDetailsOfHolding account symbol)
+    (λ t k e. subst (λ (s : HoldingDetails). AreDetailsOfHolding account symbol (Ok s) t) (sym c.holding_details_of.ensures) (sym k.0.0, sym k.0.1, k.1.0, k.1.1, e.0, e.1))
+    (read_with g.S.Store old c.security.new.self c.held_trades.new.store {H = CallFault} (Some security) held held
+    (λ o (t : Tables). AreParties account symbol row security t) (λ held (t : Tables). AreTradesAndLotsOfHolding t account symbol held)
+    (λ held (t : Tables). AreParties account symbol row security t × AreTradesAndLotsOfHolding t account symbol held)
+    (λ t p k. (p, k))
+    (read_with g.S.Store old c.account.new.self c.security.new.self {H = CallFault} (Some row) (Some security) (Some security)
+    (IsRowOf account) (IsSecurityOf symbol) (λ o (t : Tables). AreParties account symbol row security t)
+    (λ t a s. (a, s))
+    (rw c.in-Some.is at c.in_ok-row.ensures.read) (rw c.in-Some-2.is at c.in_ok-security.ensures.read))
+    c.in_ok-held.ensures)
+    c.in_ok-now.ensures
 
 pub returns-in_err-now : goal.returns-in_err-now
-returns-in_err-now g c = record {
-  read =
-      let old = c.args.store.now in
-      let account = c.args.account in
-      let symbol = c.args.symbol.now in
-      let row = c.in-Some.row in
-      let security = c.in-Some-2.security in
-      let held = c.in_ok-held.held in
-      let p = err_from_is_err_and c.from_residual-in_err-now.result c.from_residual-in_err-now.ensures.1 in
-      rw p.1
-      (read_failed g.S.Store old c.held_trades.new.store c.quantity_now.new.store held _ p.0
-      (λ held (t : Tables). AreParties account symbol row security t × AreTradesAndLotsOfHolding t account symbol held)
-      (λ now (t : Tables). AreQuantityAndPrice t account symbol now)
-      (AreDetailsOfHolding account symbol)
-      (read_with g.S.Store old c.security.new.self c.held_trades.new.store {H = CallFault} (Some security) held held
-      (λ o (t : Tables). AreParties account symbol row security t) (λ held (t : Tables). AreTradesAndLotsOfHolding t account symbol held)
-      (λ held (t : Tables). AreParties account symbol row security t × AreTradesAndLotsOfHolding t account symbol held)
-      (λ t p k. (p, k))
-      (read_with g.S.Store old c.account.new.self c.security.new.self {H = CallFault} (Some row) (Some security) (Some security)
-      (IsRowOf account) (IsSecurityOf symbol) (λ o (t : Tables). AreParties account symbol row security t)
-      (λ t a s. (a, s))
-      (rw c.in-Some.is at c.in_ok-row.ensures.read) (rw c.in-Some-2.is at c.in_ok-security.ensures.read))
-      c.in_ok-held.ensures.read)
-      c.in_err-now.ensures.read);
-}
+returns-in_err-now g c =
+    let old = c.args.store.now in
+    let account = c.args.account in
+    let symbol = c.args.symbol.now in
+    let row = c.in-Some.row in
+    let security = c.in-Some-2.security in
+    let held = c.in_ok-held.held in
+    let p = err_from_is_err_and c.from_residual-in_err-now.result c.from_residual-in_err-now.ensures.1 in
+    rw p.1
+    (read_failed g.S.Store old c.held_trades.new.store c.quantity_now.new.store held _ p.0
+    (λ held (t : Tables). AreParties account symbol row security t × AreTradesAndLotsOfHolding t account symbol held)
+    (λ now (t : Tables). AreQuantityAndPrice t account symbol now)
+    (AreDetailsOfHolding account symbol)
+    (read_with g.S.Store old c.security.new.self c.held_trades.new.store {H = CallFault} (Some security) held held
+    (λ o (t : Tables). AreParties account symbol row security t) (λ held (t : Tables). AreTradesAndLotsOfHolding t account symbol held)
+    (λ held (t : Tables). AreParties account symbol row security t × AreTradesAndLotsOfHolding t account symbol held)
+    (λ t p k. (p, k))
+    (read_with g.S.Store old c.account.new.self c.security.new.self {H = CallFault} (Some row) (Some security) (Some security)
+    (IsRowOf account) (IsSecurityOf symbol) (λ o (t : Tables). AreParties account symbol row security t)
+    (λ t a s. (a, s))
+    (rw c.in-Some.is at c.in_ok-row.ensures.read) (rw c.in-Some-2.is at c.in_ok-security.ensures.read))
+    c.in_ok-held.ensures)
+    c.in_err-now.ensures)
 
 pub returns-in_err-security : goal.returns-in_err-security
-returns-in_err-security g c = record {
-  read =
-      let old = c.args.store.now in
-      let mid = c.account.new.self in
-      let end = c.security.new.self in
-      let p = err_from_is_err_and c.from_residual-in_err-security.result c.from_residual-in_err-security.ensures.1 in
-      rw p.1 (none_read g.S.Store old end p.0 _ (both_change_nothing g.S.Store old mid end _ _ _ _ c.in_ok-row.ensures.read c.in_err-security.ensures.read));
-}
+returns-in_err-security g c =
+    let old = c.args.store.now in
+    let mid = c.account.new.self in
+    let end = c.security.new.self in
+    let p = err_from_is_err_and c.from_residual-in_err-security.result c.from_residual-in_err-security.ensures.1 in
+    rw p.1 (none_read g.S.Store old end p.0 _ (both_change_nothing g.S.Store old mid end _ _ _ _ c.in_ok-row.ensures.read c.in_err-security.ensures.read))
 
 pub returns-in_err-held : goal.returns-in_err-held
-returns-in_err-held g c = record {
-  read =
-      let old = c.args.store.now in
-      let mid = c.account.new.self in
-      let late = c.security.new.self in
-      let end = c.held_trades.new.store in
-      let p = err_from_is_err_and c.from_residual-in_err-held.result c.from_residual-in_err-held.ensures.1 in
-      rw p.1
-      (none_read g.S.Store old end p.0 _
-      (joined_reads_change_nothing old late end (both_change_nothing g.S.Store old mid late _ _ _ _ c.in_ok-row.ensures.read c.in_ok-security.ensures.read)
-      (single_read_changes_nothing late end _ _ c.in_err-held.ensures.read)));
-}
+returns-in_err-held g c =
+    let old = c.args.store.now in
+    let mid = c.account.new.self in
+    let late = c.security.new.self in
+    let end = c.held_trades.new.store in
+    let p = err_from_is_err_and c.from_residual-in_err-held.result c.from_residual-in_err-held.ensures.1 in
+    rw p.1
+    (none_read g.S.Store old end p.0 _
+    (joined_reads_change_nothing old late end (both_change_nothing g.S.Store old mid late _ _ _ _ c.in_ok-row.ensures.read c.in_ok-security.ensures.read)
+    (single_read_changes_nothing late end _ _ c.in_err-held.ensures)))

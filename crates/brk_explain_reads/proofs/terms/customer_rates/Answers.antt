@@ -49,36 +49,30 @@ loop-row-preserved g c =
     c.loop-row.invariant c.in_ok-rate.ensures.read)
 
 pub returns : goal.returns
-returns g c = record {
-  read =
-      let rows = c.deref-row-items.result.now in
-      let i = c.loop-row.row-index in
-      let rates = c.loop-row.rates in
-      retold g.S.Store c.args.store.now c.loop-row.store tt rates
-      (λ _. FirstRates c.args.customer rows rates.items i)
-      (λ rates (t : Tables). map abstract_tax_rate rates.items ≡ tax_rates_of_customer t c.args.customer)
-      (λ t p. one_by_one (rate_of t) (filter (λ (r : CustomerTax). r.customer == c.args.customer) t.customer_taxes) (map abstract_tax_rate rates.items)
-      (map_map Some abstract_tax_rate rates.items ∙ p.1 ∙ ap (map (λ x. rate_of t (abstract_customer_tax x))) (take_all i rows c.loop-row-test.false)
-      ∙ sym (map_map (rate_of t) abstract_customer_tax rows) ∙ ap (map (rate_of t)) p.0))
-      c.loop-row.invariant;
-}
+returns g c =
+    let rows = c.deref-row-items.result.now in
+    let i = c.loop-row.row-index in
+    let rates = c.loop-row.rates in
+    retold g.S.Store c.args.store.now c.loop-row.store tt rates
+    (λ _. FirstRates c.args.customer rows rates.items i)
+    (λ rates (t : Tables). map abstract_tax_rate rates.items ≡ tax_rates_of_customer t c.args.customer)
+    (λ t p. one_by_one (rate_of t) (filter (λ (r : CustomerTax). r.customer == c.args.customer) t.customer_taxes) (map abstract_tax_rate rates.items)
+    (map_map Some abstract_tax_rate rates.items ∙ p.1 ∙ ap (map (λ x. rate_of t (abstract_customer_tax x))) (take_all i rows c.loop-row-test.false)
+    ∙ sym (map_map (rate_of t) abstract_customer_tax rows) ∙ ap (map (rate_of t)) p.0))
+    c.loop-row.invariant
 
 pub returns-in_err-rate : goal.returns-in_err-rate
-returns-in_err-rate g c = record {
-  read =
-      let old = c.args.store.now in
-      let mid = c.loop-row.store in
-      let end = c.require_tax.new.store in
-      let p = err_from_is_err_and c.from_residual-in_err-rate.result c.from_residual-in_err-rate.ensures.1 in
-      rw p.1 (none_read g.S.Store old end p.0 _ (both_change_nothing g.S.Store old mid end _ _ _ _ c.loop-row.invariant c.in_err-rate.ensures.read));
-}
+returns-in_err-rate g c =
+    let old = c.args.store.now in
+    let mid = c.loop-row.store in
+    let end = c.require_tax.new.store in
+    let p = err_from_is_err_and c.from_residual-in_err-rate.result c.from_residual-in_err-rate.ensures.1 in
+    rw p.1 (none_read g.S.Store old end p.0 _ (both_change_nothing g.S.Store old mid end _ _ _ _ c.loop-row.invariant c.in_err-rate.ensures.read))
 
 pub returns-in_err-push : goal.returns-in_err-push
-returns-in_err-push g c = record {
-  read =
-      let old = c.args.store.now in
-      let mid = c.loop-row.store in
-      let end = c.require_tax.new.store in
-      let p = err_from_is_err_and c.from_residual-in_err-push.result c.from_residual-in_err-push.ensures.1 in
-      rw p.1 (none_read g.S.Store old end p.0 _ (both_change_nothing g.S.Store old mid end _ _ _ _ c.loop-row.invariant c.in_ok-rate.ensures.read));
-}
+returns-in_err-push g c =
+    let old = c.args.store.now in
+    let mid = c.loop-row.store in
+    let end = c.require_tax.new.store in
+    let p = err_from_is_err_and c.from_residual-in_err-push.result c.from_residual-in_err-push.ensures.1 in
+    rw p.1 (none_read g.S.Store old end p.0 _ (both_change_nothing g.S.Store old mid end _ _ _ _ c.loop-row.invariant c.in_ok-rate.ensures.read))
