@@ -204,7 +204,7 @@ fn are_rows_numbered(moves: &[CashRow]) -> bool
 pub(crate) fn meets_cash(alloc: Global, schema: Schema, sheets: &Sheets) -> Result<bool, AllocError>
     requires form { ConditionHolds (abstract_schema schema) Form (abstract_sheets sheets.now) }
     requires status { HasValidStatuses sheets.now }
-    ensures value { IfOk result (λ holds. IsTrue holds ↔ ConditionHolds (abstract_schema schema) Cash (abstract_sheets sheets.now)) }
+    ensures { IfOk result (λ holds. IsTrue holds ↔ ConditionHolds (abstract_schema schema) Cash (abstract_sheets sheets.now)) }
 {
     let terms = terms_by_id(alloc, &sheets.accounts)?;
     if !schema.has_cash_move_table() {

@@ -47,7 +47,7 @@ fn all_lot_changes(alloc: Global, done: &[&TradeRow]) -> Result<Vec<DealTouch>, 
     requires priced { AllByRecursion (λ row. IsSome row.now.price) done.now }
 
     // At `Ok` the lot changes of exactly these trades; the only fault is `Memory`.
-    ensures changes { IfOk result (λ rows. AreLotChangesOfTrades (map (λ row. abstract_trade_row row.now) done.now) (map abstract_deal_touch rows.items)) }
+    ensures { IfOk result (λ rows. AreLotChangesOfTrades (map (λ row. abstract_trade_row row.now) done.now) (map abstract_deal_touch rows.items)) }
 {
     let mut rows = Vec::new(alloc);
     let mut begin = 0;
@@ -101,7 +101,7 @@ fn touches_equal(touches: &[DealTouch], rows: &[LotChange]) -> bool
 pub(crate) fn meets_history(alloc: Global, sheets: &Sheets) -> Result<bool, AllocError>
     requires form { HasWellFormedRows sheets.now }
     requires status { HasValidStatuses sheets.now }
-    ensures value { IfOk result (λ holds. (schema : Schema) → IsTrue holds ↔ ConditionHolds schema History (abstract_sheets sheets.now)) }
+    ensures { IfOk result (λ holds. (schema : Schema) → IsTrue holds ↔ ConditionHolds schema History (abstract_sheets sheets.now)) }
 {
     let done = sorted_trades(alloc, &sheets.trades)?;
     let mut rows = all_lot_changes(alloc, &done)?;

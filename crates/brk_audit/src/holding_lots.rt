@@ -20,7 +20,7 @@ use brk_trade_rows::Sheets;
 use std::alloc::{AllocError, Global};
 
 fn append_lots(held: &mut Vec<HoldingRow>, trade: &TradeRow, lots: &[Lot]) -> Result<(), AllocError>
-    ensures added { OnOk result (map abstract_holding_row held.new.items
+    ensures { OnOk result (map abstract_holding_row held.new.items
         ≡ map abstract_holding_row held.old.items ++ map (holding_row_in_position_of_trade (abstract_trade_row trade.now)) (map abstract_lot lots.now)) }
 {
     for lot in lots {
@@ -44,7 +44,7 @@ fn final_lots(alloc: Global, done: &[&TradeRow]) -> Result<Vec<HoldingRow>, Allo
     requires priced { AllByRecursion (λ row. IsSome row.now.price) done.now }
 
     // At `Ok` the lots that remain after exactly these trades; the only fault is `Memory`.
-    ensures left { IfOk result (λ held. AreLotsLeftByTrades (map (λ row. abstract_trade_row row.now) done.now) (map abstract_holding_row held.items)) }
+    ensures { IfOk result (λ held. AreLotsLeftByTrades (map (λ row. abstract_trade_row row.now) done.now) (map abstract_holding_row held.items)) }
 {
     let mut held = Vec::new(alloc);
     let mut begin = 0;
@@ -86,7 +86,7 @@ fn holdings_equal(rows: &[HoldingRow], others: &[HoldingRow]) -> bool
 pub(crate) fn meets_lots(alloc: Global, sheets: &Sheets) -> Result<bool, AllocError>
     requires form { HasWellFormedRows sheets.now }
     requires status { HasValidStatuses sheets.now }
-    ensures value { IfOk result (λ holds. (schema : Schema) → IsTrue holds ↔ ConditionHolds schema Lots (abstract_sheets sheets.now)) }
+    ensures { IfOk result (λ holds. (schema : Schema) → IsTrue holds ↔ ConditionHolds schema Lots (abstract_sheets sheets.now)) }
 {
     let done = sorted_trades(alloc, &sheets.trades)?;
     let mut held = final_lots(alloc, &done)?;

@@ -18,7 +18,7 @@ use std::alloc::{AllocError, Global};
 use std::cmp::Ordering;
 
 fn collect_done(alloc: Global, trades: &[TradeRow]) -> Result<Vec<&TradeRow>, AllocError>
-    ensures done { IfOk result (λ done. map (λ row. abstract_trade_row row.now) done.items
+    ensures { IfOk result (λ done. map (λ row. abstract_trade_row row.now) done.items
         ≡ filter is_completed_trade_row (map abstract_trade_row trades.now)) }
 {
     let mut done = Vec::new(alloc);
@@ -101,7 +101,7 @@ pub(crate) fn completed_deal(row: &TradeRow) -> Deal
 
 pub(crate) fn deals_of_trades(alloc: Global, run: &[&TradeRow]) -> Result<Vec<Deal>, AllocError>
     requires { AllByRecursion (λ row. IsSome row.now.price) run.now }
-    ensures deals { IfOk result (λ deals. map abstract_deal deals.items ≡ map (λ row. deal_of_completed_row (abstract_trade_row row.now)) run.now) }
+    ensures { IfOk result (λ deals. map abstract_deal deals.items ≡ map (λ row. deal_of_completed_row (abstract_trade_row row.now)) run.now) }
 {
     let mut deals = Vec::with_capacity(alloc, run.len())?;
     for row in run {

@@ -98,7 +98,7 @@ fn settlements_match_trades(
 pub(crate) fn meets_settlement(alloc: Global, sheets: &Sheets) -> Result<bool, AllocError>
     requires form { HasWellFormedRows sheets.now }
     requires status { HasValidStatuses sheets.now }
-    ensures value { IfOk result (λ holds. (schema : Schema) → IsTrue holds ↔ ConditionHolds schema Settlement (abstract_sheets sheets.now)) }
+    ensures { IfOk result (λ holds. (schema : Schema) → IsTrue holds ↔ ConditionHolds schema Settlement (abstract_sheets sheets.now)) }
 {
     let terms = terms_by_id(alloc, &sheets.accounts)?;
     Ok(settlements_match_trades(&sheets.settlements, &sheets.trades, &sheets.rule, &terms))

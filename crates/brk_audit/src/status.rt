@@ -142,7 +142,7 @@ fn stamps_distinct(
     history: &[HistoryRow],
     moves: &[CashRow],
 ) -> Result<bool, AllocError>
-    ensures value { IfOk result (λ apart. apart
+    ensures { IfOk result (λ apart. apart
         ≡ all_distinct (spec.completion_stamps_of_history (map abstract_history_row history.now)
         ++ spec.movement_stamps_of_cash_rows (map abstract_cash_row moves.now))) }
 {
@@ -162,7 +162,7 @@ fn stamps_distinct(
 
 pub(crate) fn meets_status(alloc: Global, sheets: &Sheets) -> Result<bool, AllocError>
     requires form { HasWellFormedRows sheets.now }
-    ensures value { IfOk result (λ holds. (schema : Schema) → IsTrue holds ↔ ConditionHolds schema condition.Status (abstract_sheets sheets.now)) }
+    ensures { IfOk result (λ holds. (schema : Schema) → IsTrue holds ↔ ConditionHolds schema condition.Status (abstract_sheets sheets.now)) }
 {
     if !all_histories_are_valid(&sheets.trades, &sheets.history) {
         return Ok(false);

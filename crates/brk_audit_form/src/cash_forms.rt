@@ -57,7 +57,7 @@ fn is_trade_text(
     name: &str,
 ) -> Result<bool, AllocError>
     requires { HasSortedKeys sheets.now }
-    ensures value { IfOk result (λ holds. holds ≡ form.is_cash_row_name_of_trade (abstract_sheets sheets.now) name.now (abstract_trade_row trade.now)) }
+    ensures { IfOk result (λ holds. holds ≡ form.is_cash_row_name_of_trade (abstract_sheets sheets.now) name.now (abstract_trade_row trade.now)) }
 {
     let security = security_name(sheets, &trade.symbol);
     let first = text_of_trade(alloc, trade, " shares of ", security)?;
@@ -126,7 +126,7 @@ fn is_valid_cash_row(alloc: Global, sheets: &Sheets, row: &CashRow) -> Result<bo
 
 pub(crate) fn are_valid_old_cash_rows(alloc: Global, sheets: &Sheets) -> Result<bool, AllocError>
     requires { HasSortedKeys sheets.now }
-    ensures value { IfOk result (λ holds. holds
+    ensures { IfOk result (λ holds. holds
         ≡ list_all (form.is_well_formed_cash_transaction_row (abstract_sheets sheets.now)) (map abstract_old_cash_row sheets.now.cash.items)) }
 {
     for row in &sheets.cash {
@@ -140,7 +140,7 @@ pub(crate) fn are_valid_old_cash_rows(alloc: Global, sheets: &Sheets) -> Result<
 
 pub(crate) fn are_valid_cash_rows(alloc: Global, sheets: &Sheets) -> Result<bool, AllocError>
     requires { HasSortedKeys sheets.now }
-    ensures value { IfOk result (λ holds. holds
+    ensures { IfOk result (λ holds. holds
         ≡ list_all (form.is_well_formed_cash_move_row (abstract_sheets sheets.now)) (map abstract_cash_row sheets.now.moves.items)) }
 {
     for row in &sheets.moves {

@@ -30,7 +30,7 @@ fn add_to_sum(sums: &mut BTreeMap<u64, u128>, customer: Id, more: u32) -> Result
 }
 
 fn count_accounts(alloc: Global, accounts: &[AccountRow]) -> Result<BTreeMap<u64, u128>, AllocError>
-    ensures counts { IfOk result (λ counts. (q : ℕ) → sum_at_customer_id counts q ≡ length (filter (λ a. a.account.customer == q) accounts.now)) }
+    ensures { IfOk result (λ counts. (q : ℕ) → sum_at_customer_id counts q ≡ length (filter (λ a. a.account.customer == q) accounts.now)) }
 {
     let mut counts = BTreeMap::new(alloc);
     for row in accounts {
@@ -53,7 +53,7 @@ fn rate_of_tax(sheets: &Sheets, tax: Id) -> u32
 
 fn sum_tax_rates(alloc: Global, sheets: &Sheets) -> Result<BTreeMap<u64, u128>, AllocError>
     requires { HasSortedKeys sheets.now }
-    ensures sums { IfOk result (λ sums. (q : ℕ) → sum_at_customer_id sums q ≡ tax_rate_sum_of_payer (abstract_sheets sheets.now) q) }
+    ensures { IfOk result (λ sums. (q : ℕ) → sum_at_customer_id sums q ≡ tax_rate_sum_of_payer (abstract_sheets sheets.now) q) }
 {
     let mut sums = BTreeMap::new(alloc);
     for row in &sheets.customer_taxes {
@@ -94,7 +94,7 @@ fn all_keep_limits(
 
 pub(crate) fn limits_are_kept(alloc: Global, sheets: &Sheets) -> Result<bool, AllocError>
     requires { HasSortedKeys sheets.now }
-    ensures value { IfOk result (λ holds. holds
+    ensures { IfOk result (λ holds. holds
         ≡ list_all (form.is_within_customer_limits (abstract_sheets sheets.now)) (abstract_sheets sheets.now).customers) }
 {
     let counts = count_accounts(alloc, &sheets.accounts)?;

@@ -73,7 +73,7 @@ fn passes_plain(schema: Schema, sheets: &Sheets) -> bool
 /// last stamp and the first day of one-day settlement are in the calendar, and a table that the
 /// schema lacks has no rows.
 pub fn meets_form(alloc: Global, schema: Schema, sheets: &Sheets) -> Result<bool, AllocError>
-    ensures value { IfOk result (λ holds. IsTrue holds ↔ ConditionHolds (abstract_schema schema) Form (abstract_sheets sheets.now)) }
+    ensures { IfOk result (λ holds. IsTrue holds ↔ ConditionHolds (abstract_schema schema) Form (abstract_sheets sheets.now)) }
 {
     if !passes_plain(schema, sheets) {
         return Ok(false);

@@ -25,7 +25,7 @@ fn insert_trade(seen: &mut BTreeSet<u64>, trade: Option<Id>) -> Result<bool, All
 
 /// Ignores rows without a trade.
 pub(crate) fn trades_differ(alloc: Global, moves: &[CashRow]) -> Result<bool, AllocError>
-    ensures value { IfOk result (λ own. own ≡ all_distinct (trade_ids_of_cash_rows (map abstract_cash_row moves.now))) }
+    ensures { IfOk result (λ own. own ≡ all_distinct (trade_ids_of_cash_rows (map abstract_cash_row moves.now))) }
 {
     let mut seen = BTreeSet::new(alloc);
     for row in moves {

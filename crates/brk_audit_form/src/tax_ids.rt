@@ -7,7 +7,7 @@ use std::alloc::{AllocError, Global};
 use std::collections::BTreeSet;
 
 pub(crate) fn tax_ids_differ(alloc: Global, customers: &[Customer]) -> Result<bool, AllocError>
-    ensures value { IfOk result (λ holds. holds ≡ form.has_distinct_tax_ids (map abstract_customer customers.now)) }
+    ensures { IfOk result (λ holds. holds ≡ form.has_distinct_tax_ids (map abstract_customer customers.now)) }
 {
     let mut seen = BTreeSet::new(alloc);
     for customer in customers {

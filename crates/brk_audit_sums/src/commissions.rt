@@ -48,7 +48,7 @@ impl KeyedSum for Commissions {
 pub fn meets_commission(alloc: Global, sheets: &Sheets) -> Result<bool, AllocError>
     requires form { HasWellFormedRows sheets.now }
     requires status { HasValidStatuses sheets.now }
-    ensures value { IfOk result (λ holds. (schema : Schema) → IsTrue holds ↔ ConditionHolds schema Commission (abstract_sheets sheets.now)) }
+    ensures { IfOk result (λ holds. (schema : Schema) → IsTrue holds ↔ ConditionHolds schema Commission (abstract_sheets sheets.now)) }
 {
     let terms = terms_by_id(alloc, &sheets.accounts)?;
     let postings = trade_postings::<Commissions>(alloc, &terms, &sheets.trades)?;

@@ -47,7 +47,7 @@ impl KeyedSum for TradeCounts {
 pub fn meets_count(alloc: Global, sheets: &Sheets) -> Result<bool, AllocError>
     requires form { HasWellFormedRows sheets.now }
     requires status { HasValidStatuses sheets.now }
-    ensures value { IfOk result (λ holds. (schema : Schema) → IsTrue holds ↔ ConditionHolds schema Count (abstract_sheets sheets.now)) }
+    ensures { IfOk result (λ holds. (schema : Schema) → IsTrue holds ↔ ConditionHolds schema Count (abstract_sheets sheets.now)) }
 {
     let terms = terms_by_id(alloc, &sheets.accounts)?;
     let postings = trade_postings::<TradeCounts>(alloc, &terms, &sheets.trades)?;

@@ -70,7 +70,7 @@ fn summary_postings<'a>(
     alloc: Global,
     rows: &'a [SummaryRow],
 ) -> Result<Vec<KeyedAmount<(u64, &'a str)>>, AllocError>
-    ensures all { IfOk result (λ all. map posting_with_owned_symbol all.items ≡ map (λ r. share_posting_of_summary (abstract_summary_row r)) rows.now) }
+    ensures { IfOk result (λ all. map posting_with_owned_symbol all.items ≡ map (λ r. share_posting_of_summary (abstract_summary_row r)) rows.now) }
 {
     let mut all = Vec::new(alloc);
     for row in rows {
@@ -123,7 +123,7 @@ pub fn all_three(one: bool, other: bool, last: bool) -> bool
 pub fn meets_summary(alloc: Global, sheets: &Sheets) -> Result<bool, AllocError>
     requires form { HasWellFormedRows sheets.now }
     requires status { HasValidStatuses sheets.now }
-    ensures value { IfOk result (λ holds. (schema : Schema) → IsTrue holds ↔ ConditionHolds schema Summary (abstract_sheets sheets.now)) }
+    ensures { IfOk result (λ holds. (schema : Schema) → IsTrue holds ↔ ConditionHolds schema Summary (abstract_sheets sheets.now)) }
 {
     let postings = share_postings(alloc, &sheets.trades)?;
     let claims = summary_postings(alloc, &sheets.summaries)?;

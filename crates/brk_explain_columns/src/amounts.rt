@@ -6,7 +6,7 @@ ghost use Rattle.std.specs.Prelude.{◌≡◌, ◌*ℤ◌, ◌+ℤ◌, ◌-ℤ�
 use brk_money::{Cents, Price, StoreFailed, Wide};
 
 pub fn add_amounts(one: Wide, other: Wide) -> Result<Wide, StoreFailed>
-    ensures sum { IfOk result (λ sum. sum ≡ one +ℤ other) }
+    ensures { IfOk result (λ sum. sum ≡ one +ℤ other) }
 {
     match one.get().checked_add(other.get()) {
         Some(sum) => Ok(Wide::new(sum)),
@@ -15,7 +15,7 @@ pub fn add_amounts(one: Wide, other: Wide) -> Result<Wide, StoreFailed>
 }
 
 pub fn subtract_amounts(one: Wide, other: Wide) -> Result<Wide, StoreFailed>
-    ensures difference { IfOk result (λ difference. difference ≡ one -ℤ other) }
+    ensures { IfOk result (λ difference. difference ≡ one -ℤ other) }
 {
     match one.get().checked_sub(other.get()) {
         Some(difference) => Ok(Wide::new(difference)),
@@ -25,7 +25,7 @@ pub fn subtract_amounts(one: Wide, other: Wide) -> Result<Wide, StoreFailed>
 
 /// Returns the value in cents, below 0 for shares that were sold short.
 pub fn shares_value(shares: i64, price: Price) -> Result<Wide, StoreFailed>
-    ensures value { IfOk result (λ value. value ≡ shares *ℤ pos price) }
+    ensures { IfOk result (λ value. value ≡ shares *ℤ pos price) }
 {
     match i128::from(shares).checked_mul(i128::from(price.get())) {
         Some(value) => Ok(Wide::new(value)),
@@ -35,7 +35,7 @@ pub fn shares_value(shares: i64, price: Price) -> Result<Wide, StoreFailed>
 
 /// Fails with `Store` above the greatest `i128`.
 pub fn wide_of_cents(cents: u128) -> Result<Wide, StoreFailed>
-    ensures amount { IfOk result (λ amount. amount ≡ pos cents) }
+    ensures { IfOk result (λ amount. amount ≡ pos cents) }
 {
     match i128::try_from(cents) {
         Ok(cents) => Ok(Wide::new(cents)),
@@ -45,7 +45,7 @@ pub fn wide_of_cents(cents: u128) -> Result<Wide, StoreFailed>
 
 /// Fails with `Store` if the absolute value is above `Cents::GREATEST`.
 pub fn cents_of_wide(amount: Wide) -> Result<Cents, StoreFailed>
-    ensures cents { IfOk result (λ cents. cents ≡ amount) }
+    ensures { IfOk result (λ cents. cents ≡ amount) }
 {
     let Ok(cents) = i64::try_from(amount.get()) else {
         return Err(StoreFailed);

@@ -16,7 +16,7 @@ use std::alloc::{AllocError, Global};
 
 /// Appends the label and the space after it.
 pub fn put_label(out: &mut Vec<u8>, label: &str) -> Result<(), AllocError>
-    ensures ok { OnOk result (out.new.items ≡ out.old.items ++ left_aligned_text 15 label.now ++ 32 ∷ []) }
+    ensures { OnOk result (out.new.items ≡ out.old.items ++ left_aligned_text 15 label.now ++ 32 ∷ []) }
 {
     append_left(out, 15, label.as_bytes())?;
     out.push(b' ')?;
@@ -25,7 +25,7 @@ pub fn put_label(out: &mut Vec<u8>, label: &str) -> Result<(), AllocError>
 
 #[tactic(auto, unfolding(brk_model_explain::specs::Texts::labeled_text))]
 pub fn label_text(out: &mut Vec<u8>, label: &str, text: &[u8]) -> Result<(), AllocError>
-    ensures ok { OnOk result (out.new.items ≡ out.old.items ++ texts.labeled_text label.now text.now) }
+    ensures { OnOk result (out.new.items ≡ out.old.items ++ texts.labeled_text label.now text.now) }
 {
     put_label(out, label)?;
     put_text(out, text)
@@ -33,7 +33,7 @@ pub fn label_text(out: &mut Vec<u8>, label: &str, text: &[u8]) -> Result<(), All
 
 #[tactic(auto, unfolding(brk_model_explain::specs::Texts::labeled_number, brk_model_explain::specs::Texts::labeled_value))]
 pub fn label_number(out: &mut Vec<u8>, label: &str, n: u64) -> Result<(), AllocError>
-    ensures ok { OnOk result (out.new.items ≡ out.old.items ++ texts.labeled_number label.now n) }
+    ensures { OnOk result (out.new.items ≡ out.old.items ++ texts.labeled_number label.now n) }
 {
     append_left(out, 15, label.as_bytes())?;
     align_number(out, 22, n)
@@ -47,14 +47,14 @@ pub fn label_amount(
     label: &str,
     amount: Wide,
 ) -> Result<(), AllocError>
-    ensures ok { OnOk result (out.new.items ≡ out.old.items ++ texts.labeled_amount label.now amount) }
+    ensures { OnOk result (out.new.items ≡ out.old.items ++ texts.labeled_amount label.now amount) }
 {
     append_left(out, 15, label.as_bytes())?;
     align_cents(alloc, out, 22, amount)
 }
 
 pub fn put_text_fact(out: &mut Vec<u8>, label: &str, text: &[u8]) -> Result<(), AllocError>
-    ensures ok { OnOk result (out.new.items ≡ out.old.items ++ line_with_line_feed (texts.labeled_text label.now text.now)) }
+    ensures { OnOk result (out.new.items ≡ out.old.items ++ line_with_line_feed (texts.labeled_text label.now text.now)) }
 {
     label_text(out, label, text)?;
     end_line(out)
@@ -63,7 +63,7 @@ pub fn put_text_fact(out: &mut Vec<u8>, label: &str, text: &[u8]) -> Result<(), 
 /// Appends the line of a label and a text that is right-aligned as a number would be.
 #[tactic(auto, unfolding(brk_model_explain::specs::Texts::labeled_value))]
 pub fn put_value_fact(out: &mut Vec<u8>, label: &str, value: &[u8]) -> Result<(), AllocError>
-    ensures ok { OnOk result (out.new.items ≡ out.old.items ++ line_with_line_feed (texts.labeled_value label.now value.now)) }
+    ensures { OnOk result (out.new.items ≡ out.old.items ++ line_with_line_feed (texts.labeled_value label.now value.now)) }
 {
     append_left(out, 15, label.as_bytes())?;
     put_column(out, 22, value)?;
@@ -71,7 +71,7 @@ pub fn put_value_fact(out: &mut Vec<u8>, label: &str, value: &[u8]) -> Result<()
 }
 
 pub fn put_number_fact(out: &mut Vec<u8>, label: &str, n: u64) -> Result<(), AllocError>
-    ensures ok { OnOk result (out.new.items ≡ out.old.items ++ line_with_line_feed (texts.labeled_number label.now n)) }
+    ensures { OnOk result (out.new.items ≡ out.old.items ++ line_with_line_feed (texts.labeled_number label.now n)) }
 {
     label_number(out, label, n)?;
     end_line(out)
@@ -79,7 +79,7 @@ pub fn put_number_fact(out: &mut Vec<u8>, label: &str, n: u64) -> Result<(), All
 
 #[tactic(auto, unfolding(brk_model_explain::specs::Texts::labeled_value))]
 pub fn put_signed_fact(out: &mut Vec<u8>, label: &str, n: i64) -> Result<(), AllocError>
-    ensures ok { OnOk result (out.new.items ≡ out.old.items ++ line_with_line_feed (texts.labeled_value label.now (signed_decimal n))) }
+    ensures { OnOk result (out.new.items ≡ out.old.items ++ line_with_line_feed (texts.labeled_value label.now (signed_decimal n))) }
 {
     append_left(out, 15, label.as_bytes())?;
     align_integer(out, 22, i128::from(n))?;
@@ -92,7 +92,7 @@ pub fn put_amount_fact(
     label: &str,
     amount: Wide,
 ) -> Result<(), AllocError>
-    ensures ok { OnOk result (out.new.items ≡ out.old.items ++ line_with_line_feed (texts.labeled_amount label.now amount)) }
+    ensures { OnOk result (out.new.items ≡ out.old.items ++ line_with_line_feed (texts.labeled_amount label.now amount)) }
 {
     label_amount(alloc, out, label, amount)?;
     end_line(out)
@@ -101,7 +101,7 @@ pub fn put_amount_fact(
 /// Writes the day as YYYY-MM-DD.
 #[tactic(auto, unfolding(brk_model_explain::specs::Texts::labeled_text))]
 pub fn put_day_fact(out: &mut Vec<u8>, label: &str, day: Day) -> Result<(), AllocError>
-    ensures ok { OnOk result (out.new.items ≡ out.old.items ++ line_with_line_feed (texts.labeled_text label.now (day_text day))) }
+    ensures { OnOk result (out.new.items ≡ out.old.items ++ line_with_line_feed (texts.labeled_text label.now (day_text day))) }
 {
     put_label(out, label)?;
     append_day(out, day)?;

@@ -13,49 +13,49 @@ use itoa::Buffer;
 use std::alloc::{AllocError, Global};
 
 pub fn end_line(out: &mut Vec<u8>) -> Result<(), AllocError>
-    ensures ok { OnOk result (out.new.items ≡ out.old.items ++ 10 ∷ []) }
+    ensures { OnOk result (out.new.items ≡ out.old.items ++ 10 ∷ []) }
 {
     out.push(b'\n')?;
     Ok(())
 }
 
 pub fn put_text(out: &mut Vec<u8>, text: &[u8]) -> Result<(), AllocError>
-    ensures ok { OnOk result (out.new.items ≡ out.old.items ++ text.now) }
+    ensures { OnOk result (out.new.items ≡ out.old.items ++ text.now) }
 {
     out.extend_from_slice(text)?;
     Ok(())
 }
 
 pub fn put_text_line(out: &mut Vec<u8>, text: &[u8]) -> Result<(), AllocError>
-    ensures ok { OnOk result (out.new.items ≡ out.old.items ++ line_with_line_feed text.now) }
+    ensures { OnOk result (out.new.items ≡ out.old.items ++ line_with_line_feed text.now) }
 {
     put_text(out, text)?;
     end_line(out)
 }
 
 pub fn put_spaced_text(out: &mut Vec<u8>, text: &[u8]) -> Result<(), AllocError>
-    ensures ok { OnOk result (out.new.items ≡ out.old.items ++ 32 ∷ text.now) }
+    ensures { OnOk result (out.new.items ≡ out.old.items ++ 32 ∷ text.now) }
 {
     out.push(b' ')?;
     put_text(out, text)
 }
 
 pub fn put_spaced_line(out: &mut Vec<u8>, text: &[u8]) -> Result<(), AllocError>
-    ensures ok { OnOk result (out.new.items ≡ out.old.items ++ 32 ∷ line_with_line_feed text.now) }
+    ensures { OnOk result (out.new.items ≡ out.old.items ++ 32 ∷ line_with_line_feed text.now) }
 {
     out.push(b' ')?;
     put_text_line(out, text)
 }
 
 pub fn put_number(out: &mut Vec<u8>, n: u64) -> Result<(), AllocError>
-    ensures ok { OnOk result (out.new.items ≡ out.old.items ++ decimal n) }
+    ensures { OnOk result (out.new.items ≡ out.old.items ++ decimal n) }
 {
     let mut buffer = Buffer::new();
     put_text(out, buffer.format(n).as_bytes())
 }
 
 pub fn put_numbered(out: &mut Vec<u8>, text: &str, n: u64) -> Result<(), AllocError>
-    ensures ok { OnOk result (out.new.items ≡ out.old.items ++ text.now ++ decimal n) }
+    ensures { OnOk result (out.new.items ≡ out.old.items ++ text.now ++ decimal n) }
 {
     put_text(out, text.as_bytes())?;
     put_number(out, n)
@@ -63,7 +63,7 @@ pub fn put_numbered(out: &mut Vec<u8>, text: &str, n: u64) -> Result<(), AllocEr
 
 /// Appends the title of an explanation, such as `Trade 7, times in UTC`.
 pub fn put_title_line(out: &mut Vec<u8>, text: &str, id: Id) -> Result<(), AllocError>
-    ensures ok { OnOk result (out.new.items ≡ out.old.items ++ line_with_line_feed (text.now ++ decimal id ++ codes ", times in UTC")) }
+    ensures { OnOk result (out.new.items ≡ out.old.items ++ line_with_line_feed (text.now ++ decimal id ++ codes ", times in UTC")) }
 {
     put_numbered(out, text, id.get())?;
     put_text_line(out, b", times in UTC")
@@ -72,7 +72,7 @@ pub fn put_title_line(out: &mut Vec<u8>, text: &str, id: Id) -> Result<(), Alloc
 /// Appends a space and a text, right-aligned in `places` places; a longer text is appended whole.
 pub fn put_column(out: &mut Vec<u8>, places: usize, text: &[u8]) -> Result<(), AllocError>
     requires { places ≤ 22 }
-    ensures ok { OnOk result (out.new.items ≡ out.old.items ++ 32 ∷ right_aligned_text places text.now) }
+    ensures { OnOk result (out.new.items ≡ out.old.items ++ 32 ∷ right_aligned_text places text.now) }
 {
     out.push(b' ')?;
     append_right(out, places, text)
@@ -80,7 +80,7 @@ pub fn put_column(out: &mut Vec<u8>, places: usize, text: &[u8]) -> Result<(), A
 
 pub fn align_number(out: &mut Vec<u8>, places: usize, n: u64) -> Result<(), AllocError>
     requires { places ≤ 22 }
-    ensures ok { OnOk result (out.new.items ≡ out.old.items ++ 32 ∷ right_aligned_text places (decimal n)) }
+    ensures { OnOk result (out.new.items ≡ out.old.items ++ 32 ∷ right_aligned_text places (decimal n)) }
 {
     let mut buffer = Buffer::new();
     put_column(out, places, buffer.format(n).as_bytes())
@@ -88,7 +88,7 @@ pub fn align_number(out: &mut Vec<u8>, places: usize, n: u64) -> Result<(), Allo
 
 pub fn align_integer(out: &mut Vec<u8>, places: usize, n: i128) -> Result<(), AllocError>
     requires { places ≤ 22 }
-    ensures ok { OnOk result (out.new.items ≡ out.old.items ++ 32 ∷ right_aligned_text places (signed_decimal n)) }
+    ensures { OnOk result (out.new.items ≡ out.old.items ++ 32 ∷ right_aligned_text places (signed_decimal n)) }
 {
     let mut buffer = Buffer::new();
     put_column(out, places, buffer.format(n).as_bytes())
@@ -102,7 +102,7 @@ pub fn align_cents(
     amount: Wide,
 ) -> Result<(), AllocError>
     requires { places ≤ 22 }
-    ensures ok { OnOk result (out.new.items ≡ out.old.items ++ 32 ∷ right_aligned_text places (cents_text amount)) }
+    ensures { OnOk result (out.new.items ≡ out.old.items ++ 32 ∷ right_aligned_text places (cents_text amount)) }
 {
     let mut cents = Vec::new(alloc);
     append_cents(&mut cents, amount)?;

@@ -15,7 +15,7 @@ use std::alloc::{AllocError, Global};
 
 /// Appends a word in 6 places and a date and time in UTC.
 pub fn put_dated_word(out: &mut Vec<u8>, word: &str, stamp: Stamp) -> Result<(), AllocError>
-    ensures ok { OnOk result (out.new.items ≡ out.old.items ++ left_aligned_text 6 word.now ++ 32 ∷ timestamp_text stamp) }
+    ensures { OnOk result (out.new.items ≡ out.old.items ++ left_aligned_text 6 word.now ++ 32 ∷ timestamp_text stamp) }
 {
     append_left(out, 6, word.as_bytes())?;
     out.push(b' ')?;
@@ -23,7 +23,7 @@ pub fn put_dated_word(out: &mut Vec<u8>, word: &str, stamp: Stamp) -> Result<(),
 }
 
 fn put_blank_stamp(out: &mut Vec<u8>) -> Result<(), AllocError>
-    ensures ok { OnOk result (out.new.items ≡ out.old.items ++ 32 ∷ blank_timestamp_text) }
+    ensures { OnOk result (out.new.items ≡ out.old.items ++ 32 ∷ blank_timestamp_text) }
 {
     put_spaced_text(out, b"                       ")
 }
@@ -35,7 +35,7 @@ fn align_deal(
     shares: i128,
     price: Price,
 ) -> Result<(), AllocError>
-    ensures ok { OnOk result (out.new.items
+    ensures { OnOk result (out.new.items
         ≡ out.old.items ++ 32 ∷ right_aligned_text 13 (decimal id) ++ 32 ∷ right_aligned_text 11 (signed_decimal shares) ++ 32
         ∷ right_aligned_text 10 (nonnegative_cents_text price)) }
 {
@@ -56,7 +56,7 @@ pub fn put_row_start(
     shares: i128,
     price: Price,
 ) -> Result<(), AllocError>
-    ensures ok { OnOk result (out.new.items ≡ out.old.items ++ leading_row_columns word.now (timestamp_text stamp) id shares price) }
+    ensures { OnOk result (out.new.items ≡ out.old.items ++ leading_row_columns word.now (timestamp_text stamp) id shares price) }
 {
     put_dated_word(out, word, stamp)?;
     align_deal(alloc, out, id, shares, price)
@@ -72,7 +72,7 @@ pub fn put_undated_row(
     shares: i128,
     price: Price,
 ) -> Result<(), AllocError>
-    ensures ok { OnOk result (out.new.items ≡ out.old.items ++ leading_row_columns word.now blank_timestamp_text id shares price) }
+    ensures { OnOk result (out.new.items ≡ out.old.items ++ leading_row_columns word.now blank_timestamp_text id shares price) }
 {
     append_left(out, 6, word.as_bytes())?;
     put_blank_stamp(out)?;
@@ -82,7 +82,7 @@ pub fn put_undated_row(
 /// Appends an amount, in cents, in 16 places.
 #[tactic(auto, unfolding(brk_model_explain::specs::Texts::value_column))]
 pub fn align_value(alloc: Global, out: &mut Vec<u8>, amount: Wide) -> Result<(), AllocError>
-    ensures ok { OnOk result (out.new.items ≡ out.old.items ++ value_column amount) }
+    ensures { OnOk result (out.new.items ≡ out.old.items ++ value_column amount) }
 {
     align_cents(alloc, out, 16, amount)
 }
@@ -90,7 +90,7 @@ pub fn align_value(alloc: Global, out: &mut Vec<u8>, amount: Wide) -> Result<(),
 /// Appends an amount, in cents, in 22 places.
 #[tactic(auto, unfolding(brk_model_explain::specs::Texts::amount_column))]
 pub fn align_amount(alloc: Global, out: &mut Vec<u8>, amount: Wide) -> Result<(), AllocError>
-    ensures ok { OnOk result (out.new.items ≡ out.old.items ++ amount_column amount) }
+    ensures { OnOk result (out.new.items ≡ out.old.items ++ amount_column amount) }
 {
     align_cents(alloc, out, 22, amount)
 }
@@ -98,7 +98,7 @@ pub fn align_amount(alloc: Global, out: &mut Vec<u8>, amount: Wide) -> Result<()
 /// Appends a number of shares, below 0 if they were sold short, in 11 places.
 #[tactic(auto, unfolding(brk_model_explain::specs::Texts::shares_column))]
 pub fn align_shares(out: &mut Vec<u8>, shares: i64) -> Result<(), AllocError>
-    ensures ok { OnOk result (out.new.items ≡ out.old.items ++ shares_column shares) }
+    ensures { OnOk result (out.new.items ≡ out.old.items ++ shares_column shares) }
 {
     align_integer(out, 11, i128::from(shares))
 }

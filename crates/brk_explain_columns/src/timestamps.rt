@@ -12,7 +12,7 @@ use std::alloc::AllocError;
 #[tactic(auto, using(crate::proofs::Padded::two))]
 fn put_two_digits(out: &mut Vec<u8>, n: u8) -> Result<(), AllocError>
     requires { n < 100 }
-    ensures ok { OnOk result (out.new.items ≡ out.old.items ++ padded_decimal 2 n) }
+    ensures { OnOk result (out.new.items ≡ out.old.items ++ padded_decimal 2 n) }
 {
     let digits = [b'0' + n / 10, b'0' + n % 10];
     out.extend_from_slice(&digits)?;
@@ -22,7 +22,7 @@ fn put_two_digits(out: &mut Vec<u8>, n: u8) -> Result<(), AllocError>
 #[tactic(auto, using(crate::proofs::Padded::three))]
 fn put_three_digits(out: &mut Vec<u8>, n: u16) -> Result<(), AllocError>
     requires { n < 1000 }
-    ensures ok { OnOk result (out.new.items ≡ out.old.items ++ padded_decimal 3 n) }
+    ensures { OnOk result (out.new.items ≡ out.old.items ++ padded_decimal 3 n) }
 {
     let digits = [
         b'0' + (n / 100) as u8,
@@ -37,7 +37,7 @@ fn put_three_digits(out: &mut Vec<u8>, n: u16) -> Result<(), AllocError>
 #[tactic(auto, unfolding(brk_model_explain::specs::Texts::time_of_day_text))]
 fn put_time_of_day(out: &mut Vec<u8>, millis: u32) -> Result<(), AllocError>
     requires { millis < milliseconds_per_day }
-    ensures ok { OnOk result (out.new.items ≡ out.old.items ++ time_of_day_text millis) }
+    ensures { OnOk result (out.new.items ≡ out.old.items ++ time_of_day_text millis) }
 {
     put_two_digits(out, (millis / 3_600_000) as u8)?;
     out.push(b':')?;
@@ -51,7 +51,7 @@ fn put_time_of_day(out: &mut Vec<u8>, millis: u32) -> Result<(), AllocError>
 /// Appends a date and time in UTC, such as `2024-03-01 09:05:00.021`.
 #[tactic(auto, unfolding(brk_model_explain::specs::Texts::timestamp_text))]
 pub fn put_timestamp(out: &mut Vec<u8>, stamp: Stamp) -> Result<(), AllocError>
-    ensures ok { OnOk result (out.new.items ≡ out.old.items ++ timestamp_text stamp) }
+    ensures { OnOk result (out.new.items ≡ out.old.items ++ timestamp_text stamp) }
 {
     append_day(out, day_of(stamp))?;
     out.push(b' ')?;

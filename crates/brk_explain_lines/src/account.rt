@@ -21,7 +21,7 @@ use std::alloc::{AllocError, Global};
 
 #[tactic(auto, unfolding(brk_model_explain::specs::AccountLines::account_header_lines))]
 fn put_header(alloc: Global, out: &mut Vec<u8>, row: &AccountRow) -> Result<(), AllocError>
-    ensures ok { OnOk result (out.new.items ≡ out.old.items ++ text_of_lines (lines.account_header_lines (abstract_account_row row.now))) }
+    ensures { OnOk result (out.new.items ≡ out.old.items ++ text_of_lines (lines.account_header_lines (abstract_account_row row.now))) }
 {
     let account = &row.account;
     put_title_line(out, "Account ", account.id)?;
@@ -38,7 +38,7 @@ fn put_header(alloc: Global, out: &mut Vec<u8>, row: &AccountRow) -> Result<(), 
 
 /// Returns the lines before the cash rows, from the title to the column headings.
 pub fn header_text(alloc: Global, row: &AccountRow) -> Result<Vec<u8>, AllocError>
-    ensures text { IfOk result (λ text. text.items ≡ text_of_lines (lines.account_header_lines (abstract_account_row row.now))) }
+    ensures { IfOk result (λ text. text.items ≡ text_of_lines (lines.account_header_lines (abstract_account_row row.now))) }
 {
     let mut text = Vec::new(alloc);
     put_header(alloc, &mut text, row)?;
@@ -46,7 +46,7 @@ pub fn header_text(alloc: Global, row: &AccountRow) -> Result<Vec<u8>, AllocErro
 }
 
 fn align_trade_id(out: &mut Vec<u8>, trade: Option<Id>) -> Result<(), AllocError>
-    ensures ok { OnOk result (out.new.items ≡ out.old.items ++ 32 ∷ right_aligned_text 13 (lines.trade_id_or_hyphen trade)) }
+    ensures { OnOk result (out.new.items ≡ out.old.items ++ 32 ∷ right_aligned_text 13 (lines.trade_id_or_hyphen trade)) }
 {
     match trade {
         Some(trade) => align_number(out, 13, trade.get()),
@@ -61,7 +61,7 @@ fn put_posting(
     row: &CashRow,
     balance: Wide,
 ) -> Result<(), AllocError>
-    ensures ok { OnOk result (out.new.items ≡ out.old.items ++ line_with_line_feed (lines.cash_posting_line (abstract_cash_row row.now) balance)) }
+    ensures { OnOk result (out.new.items ≡ out.old.items ++ line_with_line_feed (lines.cash_posting_line (abstract_cash_row row.now) balance)) }
 {
     put_dated_word(out, "Posted", row.stamp)?;
     align_number(out, 13, row.id.get())?;
@@ -73,7 +73,7 @@ fn put_posting(
 
 /// Returns the line of a cash row; `balance`, in cents, is the balance after it.
 pub fn posting_text(alloc: Global, row: &CashRow, balance: Wide) -> Result<Vec<u8>, AllocError>
-    ensures line { IfOk result (λ line. line.items ≡ line_with_line_feed (lines.cash_posting_line (abstract_cash_row row.now) balance)) }
+    ensures { IfOk result (λ line. line.items ≡ line_with_line_feed (lines.cash_posting_line (abstract_cash_row row.now) balance)) }
 {
     let mut line = Vec::new(alloc);
     put_posting(alloc, &mut line, row, balance)?;
@@ -82,7 +82,7 @@ pub fn posting_text(alloc: Global, row: &CashRow, balance: Wide) -> Result<Vec<u
 
 #[tactic(auto, unfolding(brk_model_explain::specs::AccountLines::balance_and_lot_header_lines))]
 fn put_lots_head(alloc: Global, out: &mut Vec<u8>, row: &AccountRow) -> Result<(), AllocError>
-    ensures ok { OnOk result (out.new.items ≡ out.old.items ++ text_of_lines (lines.balance_and_lot_header_lines (abstract_account_row row.now))) }
+    ensures { OnOk result (out.new.items ≡ out.old.items ++ text_of_lines (lines.balance_and_lot_header_lines (abstract_account_row row.now))) }
 {
     put_amount_fact(alloc, out, "Balance", Wide::from(row.balance))?;
     put_text_line(
@@ -93,7 +93,7 @@ fn put_lots_head(alloc: Global, out: &mut Vec<u8>, row: &AccountRow) -> Result<(
 
 /// Returns the line of the balance, and the column headings of the lots and holdings.
 pub fn lots_head_text(alloc: Global, row: &AccountRow) -> Result<Vec<u8>, AllocError>
-    ensures text { IfOk result (λ text. text.items ≡ text_of_lines (lines.balance_and_lot_header_lines (abstract_account_row row.now))) }
+    ensures { IfOk result (λ text. text.items ≡ text_of_lines (lines.balance_and_lot_header_lines (abstract_account_row row.now))) }
 {
     let mut text = Vec::new(alloc);
     put_lots_head(alloc, &mut text, row)?;
@@ -101,7 +101,7 @@ pub fn lots_head_text(alloc: Global, row: &AccountRow) -> Result<Vec<u8>, AllocE
 }
 
 fn put_lot_columns(out: &mut Vec<u8>, lot: &[u8]) -> Result<(), AllocError>
-    ensures ok { OnOk result (out.new.items ≡ out.old.items ++ left_aligned_text 6 (codes "Lot") ++ 32 ∷ lot.now) }
+    ensures { OnOk result (out.new.items ≡ out.old.items ++ left_aligned_text 6 (codes "Lot") ++ 32 ∷ lot.now) }
 {
     append_left(out, 6, b"Lot")?;
     put_spaced_text(out, lot)
@@ -110,7 +110,7 @@ fn put_lot_columns(out: &mut Vec<u8>, lot: &[u8]) -> Result<(), AllocError>
 /// Returns the line of a lot, with its quantity below 0 if it was sold short.
 #[tactic(auto, unfolding(brk_model_explain::specs::AccountLines::open_lot_line))]
 pub fn open_lot_text(alloc: Global, row: &HoldingRow) -> Result<Vec<u8>, AllocError>
-    ensures line { IfOk result (λ line. line.items ≡ line_with_line_feed (lines.open_lot_line (abstract_holding_row row.now))) }
+    ensures { IfOk result (λ line. line.items ≡ line_with_line_feed (lines.open_lot_line (abstract_holding_row row.now))) }
 {
     let lot = lot_line(alloc, row)?;
     let mut line = Vec::new(alloc);
@@ -120,13 +120,13 @@ pub fn open_lot_text(alloc: Global, row: &HoldingRow) -> Result<Vec<u8>, AllocEr
 
 // Returns cents, below 0 for shares that were sold short.
 fn market_value_of_holding(held: &PricedHolding) -> Result<Wide, StoreFailed>
-    ensures worth { IfOk result (λ worth. worth ≡ lines.market_value_of_holding (abstract_priced_holding held.now)) }
+    ensures { IfOk result (λ worth. worth ≡ lines.market_value_of_holding (abstract_priced_holding held.now)) }
 {
     shares_value(held.summary.qty, held.price)
 }
 
 fn market_value_of_holdings(all: &[PricedHolding]) -> Result<Wide, StoreFailed>
-    ensures total { IfOk result (λ total. total ≡ lines.market_value_of_holdings (map abstract_priced_holding all.now)) }
+    ensures { IfOk result (λ total. total ≡ lines.market_value_of_holdings (map abstract_priced_holding all.now)) }
 {
     let mut total = Wide::new(0);
     for held in all {
@@ -139,7 +139,7 @@ fn market_value_of_holdings(all: &[PricedHolding]) -> Result<Wide, StoreFailed>
 // The column of the lot ids is empty in the line of a holding.
 #[tactic(auto, unfolding(brk_model_explain::specs::AccountLines::holding_line_start))]
 fn put_line_start(out: &mut Vec<u8>, symbol: &[u8]) -> Result<(), AllocError>
-    ensures ok { OnOk result (out.new.items ≡ out.old.items ++ lines.holding_line_start symbol.now) }
+    ensures { OnOk result (out.new.items ≡ out.old.items ++ lines.holding_line_start symbol.now) }
 {
     put_text(out, b"Held   ")?;
     append_left(out, 15, symbol)?;
@@ -153,7 +153,7 @@ fn align_position(
     qty: i64,
     price: Price,
 ) -> Result<(), AllocError>
-    ensures ok { OnOk result (out.new.items ≡ out.old.items ++ lines.quantity_and_price_columns qty price) }
+    ensures { OnOk result (out.new.items ≡ out.old.items ++ lines.quantity_and_price_columns qty price) }
 {
     align_integer(out, 11, i128::from(qty))?;
     align_cents(alloc, out, 10, Wide::from(price))
@@ -161,7 +161,7 @@ fn align_position(
 
 #[tactic(auto, unfolding(brk_model_explain::specs::AccountLines::holding_line))]
 fn put_holding(alloc: Global, out: &mut Vec<u8>, held: &PricedHolding) -> Result<(), CallFault>
-    ensures ok { OnOk result (out.new.items ≡ out.old.items ++ line_with_line_feed (lines.holding_line (abstract_priced_holding held.now))) }
+    ensures { OnOk result (out.new.items ≡ out.old.items ++ line_with_line_feed (lines.holding_line (abstract_priced_holding held.now))) }
 {
     let worth = market_value_of_holding(held)?;
     put_line_start(out, held.summary.symbol.as_str().as_bytes())?;
@@ -171,7 +171,7 @@ fn put_holding(alloc: Global, out: &mut Vec<u8>, held: &PricedHolding) -> Result
 }
 
 fn put_held_lines(alloc: Global, out: &mut Vec<u8>, all: &[PricedHolding]) -> Result<(), CallFault>
-    ensures ok { OnOk result (out.new.items ≡ out.old.items ++ text_of_lines (map lines.holding_line (map abstract_priced_holding all.now))) }
+    ensures { OnOk result (out.new.items ≡ out.old.items ++ text_of_lines (map lines.holding_line (map abstract_priced_holding all.now))) }
 {
     for held in all {
         put_holding(alloc, out, held)?;
@@ -180,7 +180,7 @@ fn put_held_lines(alloc: Global, out: &mut Vec<u8>, all: &[PricedHolding]) -> Re
 }
 
 fn put_counts(out: &mut Vec<u8>, cash: u64, lots: u64, symbols: usize) -> Result<(), AllocError>
-    ensures ok { OnOk result (out.new.items ≡ out.old.items ++ line_with_line_feed (lines.account_counts_line cash lots symbols)) }
+    ensures { OnOk result (out.new.items ≡ out.old.items ++ line_with_line_feed (lines.account_counts_line cash lots symbols)) }
 {
     put_numbered(out, "Cash rows ", cash)?;
     put_numbered(out, ", lots ", lots)?;
@@ -199,7 +199,7 @@ fn put_totals(
     lots: u64,
     symbols: usize,
 ) -> Result<(), CallFault>
-    ensures ok { OnOk result (out.new.items ≡ out.old.items ++ text_of_lines (lines.account_total_lines balance holdings cash lots symbols)) }
+    ensures { OnOk result (out.new.items ≡ out.old.items ++ text_of_lines (lines.account_total_lines balance holdings cash lots symbols)) }
 {
     let assets = add_amounts(Wide::from(balance), holdings)?;
     put_amount_fact(alloc, out, "Holdings", holdings)?;
@@ -215,7 +215,7 @@ fn put_account_end(
     cash: u64,
     lots: u64,
 ) -> Result<(), CallFault>
-    ensures ok { OnOk result (out.new.items
+    ensures { OnOk result (out.new.items
         ≡ out.old.items ++ text_of_lines (lines.holding_and_total_lines (abstract_account_row row.now) (map abstract_priced_holding held.now) cash lots)) }
 {
     let holdings = market_value_of_holdings(held)?;
@@ -233,7 +233,7 @@ pub fn end_text(
     cash: u64,
     lots: u64,
 ) -> Result<Vec<u8>, CallFault>
-    ensures text { IfOk result (λ text. text.items
+    ensures { IfOk result (λ text. text.items
         ≡ text_of_lines (lines.holding_and_total_lines (abstract_account_row row.now) (map abstract_priced_holding held.now) cash lots)) }
 {
     let mut text = Vec::new(alloc);

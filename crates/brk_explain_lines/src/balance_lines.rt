@@ -20,7 +20,7 @@ use std::alloc::{AllocError, Global};
 
 #[tactic(auto, unfolding(brk_model_explain::specs::TradeLines::trade_cash_row_line))]
 fn put_cash_row(out: &mut Vec<u8>, row: &Option<CashRow>) -> Result<(), AllocError>
-    ensures ok { OnOk result (out.new.items ≡ out.old.items ++ line_with_line_feed (lines.trade_cash_row_line (option_map abstract_cash_row row.now))) }
+    ensures { OnOk result (out.new.items ≡ out.old.items ++ line_with_line_feed (lines.trade_cash_row_line (option_map abstract_cash_row row.now))) }
 {
     let Some(row) = row else {
         return put_value_fact(out, "Cash row", b"none");
@@ -37,7 +37,7 @@ pub(crate) fn put_balance(
     order: &OrderDetails,
     details: &ResultDetails,
 ) -> Result<(), CallFault>
-    ensures ok { OnOk result (out.new.items
+    ensures { OnOk result (out.new.items
         ≡ out.old.items ++ text_of_lines (lines.trade_balance_lines (abstract_order_details order.now) (abstract_result_details details.now))) }
 {
     let opening = Wide::from(order.account.account.opening);
@@ -60,7 +60,7 @@ fn put_trade_count(
     lots: usize,
     cash: u64,
 ) -> Result<(), AllocError>
-    ensures ok { OnOk result (out.new.items ≡ out.old.items ++ line_with_line_feed (lines.counts_line_of_trade statuses lots cash)) }
+    ensures { OnOk result (out.new.items ≡ out.old.items ++ line_with_line_feed (lines.counts_line_of_trade statuses lots cash)) }
 {
     put_numbered(out, "Statuses ", statuses as u64)?;
     put_numbered(out, ", lots closed ", lots as u64)?;
@@ -74,7 +74,7 @@ pub(crate) fn put_trade_end(
     order: &OrderDetails,
     details: &ResultDetails,
 ) -> Result<(), AllocError>
-    ensures ok { OnOk result (out.new.items
+    ensures { OnOk result (out.new.items
         ≡ out.old.items ++ text_of_lines (lines.counts_lines_of_trade (abstract_order_details order.now) (abstract_result_details details.now))) }
 {
     put_trade_count(

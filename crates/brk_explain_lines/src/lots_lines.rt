@@ -28,7 +28,7 @@ fn put_close_head(
     out: &mut Vec<u8>,
     details: &ResultDetails,
 ) -> Result<(), AllocError>
-    ensures ok { OnOk result (out.new.items ≡ out.old.items ++ text_of_lines (lines.price_and_lot_header_lines (abstract_result_details details.now))) }
+    ensures { OnOk result (out.new.items ≡ out.old.items ++ text_of_lines (lines.price_and_lot_header_lines (abstract_result_details details.now))) }
 {
     put_amount_fact(alloc, out, "Price", Wide::from(details.price))?;
     put_text_line(
@@ -46,7 +46,7 @@ fn put_closing(
     price: Price,
     closing: &Closing,
 ) -> Result<(), CallFault>
-    ensures ok { OnOk result (out.new.items ≡ out.old.items ++ line_with_line_feed (lines.lot_closing_line side price (abstract_closing closing.now))) }
+    ensures { OnOk result (out.new.items ≡ out.old.items ++ line_with_line_feed (lines.lot_closing_line side price (abstract_closing closing.now))) }
 {
     let bought = wide_of_cents(buy_value_of_closing(side, price, closing))?;
     let sold = wide_of_cents(sell_value_of_closing(side, price, closing))?;
@@ -73,7 +73,7 @@ fn put_closings(
     price: Price,
     closings: &[Closing],
 ) -> Result<(), CallFault>
-    ensures ok { OnOk result (out.new.items ≡ out.old.items ++ text_of_lines (map (lines.lot_closing_line side price) (map abstract_closing closings.now))) }
+    ensures { OnOk result (out.new.items ≡ out.old.items ++ text_of_lines (map (lines.lot_closing_line side price) (map abstract_closing closings.now))) }
 {
     for closing in closings {
         put_closing(alloc, out, side, price, closing)?;
@@ -89,7 +89,7 @@ fn put_opening(
     price: Price,
     lot: &LotChange,
 ) -> Result<(), AllocError>
-    ensures ok { OnOk result (out.new.items
+    ensures { OnOk result (out.new.items
         ≡ out.old.items ++ line_with_line_feed (lines.opened_lot_line (abstract_trade_row trade.now) price (abstract_lot_change_row lot.now))) }
 {
     let shares = i128::from(lot.after);
@@ -105,7 +105,7 @@ fn put_opened_lot(
     price: Price,
     lot: &Option<LotChange>,
 ) -> Result<(), AllocError>
-    ensures ok { OnOk result (out.new.items
+    ensures { OnOk result (out.new.items
         ≡ out.old.items ++ text_of_lines (lines.opened_lot_lines (abstract_trade_row trade.now) price (option_map abstract_lot_change_row lot.now))) }
 {
     match lot {
@@ -125,7 +125,7 @@ fn opened_count(details: &ResultDetails) -> u64
 
 #[tactic(auto, unfolding(brk_model_explain::specs::TradeLines::share_count_lines))]
 fn put_share_lines(out: &mut Vec<u8>, details: &ResultDetails) -> Result<(), CallFault>
-    ensures ok { OnOk result (out.new.items ≡ out.old.items ++ text_of_lines (lines.share_count_lines (abstract_result_details details.now))) }
+    ensures { OnOk result (out.new.items ≡ out.old.items ++ text_of_lines (lines.share_count_lines (abstract_result_details details.now))) }
 {
     let closed = total_closed_shares(&details.closings)?;
     put_number_fact(out, "Shares closed", closed)?;
@@ -139,7 +139,7 @@ fn put_gain_lines(
     order: &OrderDetails,
     details: &ResultDetails,
 ) -> Result<(), CallFault>
-    ensures ok { OnOk result (out.new.items
+    ensures { OnOk result (out.new.items
         ≡ out.old.items ++ text_of_lines (lines.realised_gain_lines (abstract_order_details order.now) (abstract_result_details details.now))) }
 {
     let side = order.trade.kind.side();
@@ -158,7 +158,7 @@ pub(crate) fn put_booking(
     order: &OrderDetails,
     details: &ResultDetails,
 ) -> Result<(), CallFault>
-    ensures ok { OnOk result (out.new.items
+    ensures { OnOk result (out.new.items
         ≡ out.old.items ++ text_of_lines (lines.lot_and_gain_lines (abstract_order_details order.now) (abstract_result_details details.now))) }
 {
     let side = order.trade.kind.side();

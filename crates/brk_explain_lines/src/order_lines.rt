@@ -20,7 +20,7 @@ use std::alloc::{AllocError, Global};
 
 #[tactic(auto, unfolding(brk_model_explain::specs::TradeLines::status_change_line))]
 fn put_status_line(out: &mut Vec<u8>, row: &HistoryRow) -> Result<(), AllocError>
-    ensures ok { OnOk result (out.new.items ≡ out.old.items ++ line_with_line_feed (lines.status_change_line (abstract_history_row row.now))) }
+    ensures { OnOk result (out.new.items ≡ out.old.items ++ line_with_line_feed (lines.status_change_line (abstract_history_row row.now))) }
 {
     put_dated_word(out, "Status", row.stamp)?;
     put_spaced_text(out, row.status.code().as_bytes())?;
@@ -28,7 +28,7 @@ fn put_status_line(out: &mut Vec<u8>, row: &HistoryRow) -> Result<(), AllocError
 }
 
 fn put_statuses(out: &mut Vec<u8>, rows: &[HistoryRow]) -> Result<(), AllocError>
-    ensures ok { OnOk result (out.new.items ≡ out.old.items ++ text_of_lines (map lines.status_change_line (map abstract_history_row rows.now))) }
+    ensures { OnOk result (out.new.items ≡ out.old.items ++ text_of_lines (map lines.status_change_line (map abstract_history_row rows.now))) }
 {
     for row in rows {
         put_status_line(out, row)?;
@@ -37,7 +37,7 @@ fn put_statuses(out: &mut Vec<u8>, rows: &[HistoryRow]) -> Result<(), AllocError
 }
 
 fn put_account(out: &mut Vec<u8>, order: &OrderDetails) -> Result<(), AllocError>
-    ensures ok { OnOk result (out.new.items ≡ out.old.items ++ line_with_line_feed (lines.trade_account_line (abstract_order_details order.now))) }
+    ensures { OnOk result (out.new.items ≡ out.old.items ++ line_with_line_feed (lines.trade_account_line (abstract_order_details order.now))) }
 {
     label_number(out, "Account", order.trade.account.get())?;
     put_spaced_line(out, order.account.account.name.as_str().as_bytes())
@@ -45,7 +45,7 @@ fn put_account(out: &mut Vec<u8>, order: &OrderDetails) -> Result<(), AllocError
 
 #[tactic(auto, unfolding(brk_model_explain::specs::TradeLines::title_and_party_lines))]
 fn put_party_lines(out: &mut Vec<u8>, order: &OrderDetails) -> Result<(), AllocError>
-    ensures ok { OnOk result (out.new.items ≡ out.old.items ++ text_of_lines (lines.title_and_party_lines (abstract_order_details order.now))) }
+    ensures { OnOk result (out.new.items ≡ out.old.items ++ text_of_lines (lines.title_and_party_lines (abstract_order_details order.now))) }
 {
     let account = &order.account.account;
     put_title_line(out, "Trade ", order.trade.id)?;
@@ -57,7 +57,7 @@ fn put_party_lines(out: &mut Vec<u8>, order: &OrderDetails) -> Result<(), AllocE
 }
 
 fn put_trade_type(out: &mut Vec<u8>, order: &OrderDetails) -> Result<(), AllocError>
-    ensures ok { OnOk result (out.new.items ≡ out.old.items ++ line_with_line_feed (lines.trade_type_line (abstract_order_details order.now))) }
+    ensures { OnOk result (out.new.items ≡ out.old.items ++ line_with_line_feed (lines.trade_type_line (abstract_order_details order.now))) }
 {
     label_text(out, "Type", order.trade.kind.code().as_bytes())?;
     put_spaced_line(out, order.trade.kind.name().as_bytes())
@@ -65,7 +65,7 @@ fn put_trade_type(out: &mut Vec<u8>, order: &OrderDetails) -> Result<(), AllocEr
 
 #[tactic(auto, unfolding(brk_model_explain::specs::Texts::labeled_text))]
 fn put_security(out: &mut Vec<u8>, order: &OrderDetails) -> Result<(), AllocError>
-    ensures ok { OnOk result (out.new.items ≡ out.old.items ++ line_with_line_feed (lines.trade_security_line (abstract_order_details order.now))) }
+    ensures { OnOk result (out.new.items ≡ out.old.items ++ line_with_line_feed (lines.trade_security_line (abstract_order_details order.now))) }
 {
     put_label(out, "Security")?;
     append_left(out, 15, order.trade.symbol.as_str().as_bytes())?;
@@ -84,7 +84,7 @@ fn closing_order_text(is_lifo: bool) -> &'static str
 
 #[tactic(auto, unfolding(brk_model_explain::specs::TradeLines::order_terms_lines))]
 fn put_order_terms(alloc: Global, out: &mut Vec<u8>, order: &OrderDetails) -> Result<(), AllocError>
-    ensures ok { OnOk result (out.new.items ≡ out.old.items ++ text_of_lines (lines.order_terms_lines (abstract_order_details order.now))) }
+    ensures { OnOk result (out.new.items ≡ out.old.items ++ text_of_lines (lines.order_terms_lines (abstract_order_details order.now))) }
 {
     let trade = &order.trade;
     put_trade_type(out, order)?;
@@ -106,7 +106,7 @@ pub(crate) fn put_order_lines(
     out: &mut Vec<u8>,
     order: &OrderDetails,
 ) -> Result<(), AllocError>
-    ensures ok { OnOk result (out.new.items ≡ out.old.items ++ text_of_lines (lines.order_and_status_lines (abstract_order_details order.now))) }
+    ensures { OnOk result (out.new.items ≡ out.old.items ++ text_of_lines (lines.order_and_status_lines (abstract_order_details order.now))) }
 {
     put_party_lines(out, order)?;
     put_order_terms(alloc, out, order)?;

@@ -25,7 +25,7 @@ pub(crate) fn put_settlement(
     order: &OrderDetails,
     details: &ResultDetails,
 ) -> Result<(), AllocError>
-    ensures ok { OnOk result (out.new.items
+    ensures { OnOk result (out.new.items
         ≡ out.old.items ++ text_of_lines (lines.trade_settlement_lines (abstract_order_details order.now) (abstract_result_details details.now))) }
 {
     put_amount_fact(alloc, out, "Value", signed_trade_value(order, details))?;
@@ -47,7 +47,7 @@ pub(crate) fn put_settlement(
 }
 
 fn put_some_day(out: &mut Vec<u8>, label: &str, day: Option<Day>) -> Result<(), AllocError>
-    ensures ok { OnOk result (out.new.items ≡ out.old.items ++ line_with_line_feed (labeled_text label.now (option_map_or day_text day (codes "none")))) }
+    ensures { OnOk result (out.new.items ≡ out.old.items ++ line_with_line_feed (labeled_text label.now (option_map_or day_text day (codes "none")))) }
 {
     match day {
         Some(day) => put_day_fact(out, label, day),
@@ -63,7 +63,7 @@ pub(crate) fn put_due_days(
     order: &OrderDetails,
     details: &ResultDetails,
 ) -> Result<(), AllocError>
-    ensures ok { OnOk result (out.new.items
+    ensures { OnOk result (out.new.items
         ≡ out.old.items ++ text_of_lines (lines.due_day_lines (abstract_order_details order.now) (abstract_result_details details.now))) }
 {
     let completed = day_of(order.trade.stamp);

@@ -39,7 +39,7 @@ pub(crate) fn sell_value_of_closing(side: Side, price: Price, closing: &Closing)
 }
 
 pub(crate) fn total_closed_shares(closings: &[Closing]) -> Result<u64, StoreFailed>
-    ensures total { IfOk result (λ total. total ≡ trades.total_closed_shares (map abstract_closing closings.now)) }
+    ensures { IfOk result (λ total. total ≡ trades.total_closed_shares (map abstract_closing closings.now)) }
 {
     let mut total: u64 = 0;
     for closing in closings {
@@ -56,7 +56,7 @@ pub(crate) fn buy_value_of_closings(
     price: Price,
     closings: &[Closing],
 ) -> Result<Wide, StoreFailed>
-    ensures total { IfOk result (λ total. total ≡ pos (trades.buy_value_of_closings side price (map abstract_closing closings.now))) }
+    ensures { IfOk result (λ total. total ≡ pos (trades.buy_value_of_closings side price (map abstract_closing closings.now))) }
 {
     let mut total: u128 = 0;
     for closing in closings {
@@ -73,7 +73,7 @@ pub(crate) fn sell_value_of_closings(
     price: Price,
     closings: &[Closing],
 ) -> Result<Wide, StoreFailed>
-    ensures total { IfOk result (λ total. total ≡ pos (trades.sell_value_of_closings side price (map abstract_closing closings.now))) }
+    ensures { IfOk result (λ total. total ≡ pos (trades.sell_value_of_closings side price (map abstract_closing closings.now))) }
 {
     let mut total: u128 = 0;
     for closing in closings {
@@ -91,7 +91,7 @@ pub(crate) fn gain_of_closings(
     price: Price,
     closings: &[Closing],
 ) -> Result<Wide, StoreFailed>
-    ensures gain { IfOk result (λ gain. gain ≡ trades.gain_of_closings side price (map abstract_closing closings.now)) }
+    ensures { IfOk result (λ gain. gain ≡ trades.gain_of_closings side price (map abstract_closing closings.now)) }
 {
     let bought = buy_value_of_closings(side, price, closings)?;
     let sold = sell_value_of_closings(side, price, closings)?;
@@ -100,7 +100,7 @@ pub(crate) fn gain_of_closings(
 
 /// Returns hundred-thousandths. Fails with `Store` above the greatest tax rate.
 pub(crate) fn sum_of_tax_rates(rates: &[Tax]) -> Result<TaxRate, StoreFailed>
-    ensures total { IfOk result (λ total. total ≡ trades.sum_of_tax_rates (map abstract_tax_rate rates.now)) }
+    ensures { IfOk result (λ total. total ≡ trades.sum_of_tax_rates (map abstract_tax_rate rates.now)) }
 {
     match tax_sum(rates) {
         Some(total) => Ok(total),
@@ -112,7 +112,7 @@ pub(crate) fn sum_of_tax_rates(rates: &[Tax]) -> Result<TaxRate, StoreFailed>
 // with `Store` if the status is taxable and the absolute value of the gain is above
 // `Cents::GREATEST`.
 fn tax_on_gain(status: TaxStatus, gain: Wide, rates: TaxRate) -> Result<Wide, StoreFailed>
-    ensures tax { IfOk result (λ tax. tax ≡ pos (if base.is_taxable_status status then amounts.tax gain rates else 0)) }
+    ensures { IfOk result (λ tax. tax ≡ pos (if base.is_taxable_status status then amounts.tax gain rates else 0)) }
 {
     if !is_taxable_status(status) {
         return Ok(Wide::new(0));
@@ -126,7 +126,7 @@ pub(crate) fn tax_at_current_rates(
     order: &OrderDetails,
     details: &ResultDetails,
 ) -> Result<Wide, StoreFailed>
-    ensures tax { IfOk result (λ tax. tax ≡ pos (trades.tax_at_current_rates (abstract_order_details order.now) (abstract_result_details details.now))) }
+    ensures { IfOk result (λ tax. tax ≡ pos (trades.tax_at_current_rates (abstract_order_details order.now) (abstract_result_details details.now))) }
 {
     let gain = gain_of_closings(order.trade.kind.side(), details.price, &details.closings)?;
     let rates = sum_of_tax_rates(&details.rates)?;

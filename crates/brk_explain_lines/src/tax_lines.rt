@@ -23,7 +23,7 @@ use std::alloc::{AllocError, Global};
 // Writes the rate in hundred-thousandths.
 #[tactic(auto, unfolding(brk_model_explain::specs::TradeLines::tax_rate_line))]
 fn put_tax_rate(out: &mut Vec<u8>, rate: &Tax) -> Result<(), AllocError>
-    ensures ok { OnOk result (out.new.items ≡ out.old.items ++ line_with_line_feed (lines.tax_rate_line (abstract_tax_rate rate.now))) }
+    ensures { OnOk result (out.new.items ≡ out.old.items ++ line_with_line_feed (lines.tax_rate_line (abstract_tax_rate rate.now))) }
 {
     append_left(out, 6, b"Rate")?;
     align_number(out, 13, rate.id.get())?;
@@ -32,7 +32,7 @@ fn put_tax_rate(out: &mut Vec<u8>, rate: &Tax) -> Result<(), AllocError>
 }
 
 fn put_tax_rates(out: &mut Vec<u8>, rates: &[Tax]) -> Result<(), AllocError>
-    ensures ok { OnOk result (out.new.items ≡ out.old.items ++ text_of_lines (map lines.tax_rate_line (map abstract_tax_rate rates.now))) }
+    ensures { OnOk result (out.new.items ≡ out.old.items ++ text_of_lines (map lines.tax_rate_line (map abstract_tax_rate rates.now))) }
 {
     for rate in rates {
         put_tax_rate(out, rate)?;
@@ -42,14 +42,14 @@ fn put_tax_rates(out: &mut Vec<u8>, rates: &[Tax]) -> Result<(), AllocError>
 
 #[tactic(auto, unfolding(brk_model_explain::specs::TradeLines::account_tax_status_lines))]
 fn put_tax_status(out: &mut Vec<u8>, order: &OrderDetails) -> Result<(), AllocError>
-    ensures ok { OnOk result (out.new.items ≡ out.old.items ++ text_of_lines (lines.account_tax_status_lines (abstract_order_details order.now))) }
+    ensures { OnOk result (out.new.items ≡ out.old.items ++ text_of_lines (lines.account_tax_status_lines (abstract_order_details order.now))) }
 {
     let status = order.account.account.tax_status;
     put_number_fact(out, "Tax status", u64::from(status.number()))
 }
 
 fn put_rate_sum(out: &mut Vec<u8>, rates: TaxRate) -> Result<(), AllocError>
-    ensures ok { OnOk result (out.new.items ≡ out.old.items ++ line_with_line_feed (labeled_number (codes "Rates now") rates ++ codes " of 100000")) }
+    ensures { OnOk result (out.new.items ≡ out.old.items ++ line_with_line_feed (labeled_number (codes "Rates now") rates ++ codes " of 100000")) }
 {
     label_number(out, "Rates now", u64::from(rates.get()))?;
     put_text_line(out, b" of 100000")
@@ -62,7 +62,7 @@ fn put_tax_amounts(
     order: &OrderDetails,
     details: &ResultDetails,
 ) -> Result<(), CallFault>
-    ensures ok { OnOk result (out.new.items
+    ensures { OnOk result (out.new.items
         ≡ out.old.items ++ text_of_lines (lines.current_and_recorded_tax_lines (abstract_order_details order.now) (abstract_result_details details.now))) }
 {
     let rates = sum_of_tax_rates(&details.rates)?;
@@ -79,7 +79,7 @@ pub(crate) fn put_tax_lines(
     order: &OrderDetails,
     details: &ResultDetails,
 ) -> Result<(), CallFault>
-    ensures ok { OnOk result (out.new.items
+    ensures { OnOk result (out.new.items
         ≡ out.old.items ++ text_of_lines (lines.trade_tax_lines (abstract_order_details order.now) (abstract_result_details details.now))) }
 {
     put_tax_status(out, order)?;
@@ -90,7 +90,7 @@ pub(crate) fn put_tax_lines(
 // Writes a text such as ` of 10000 for 1 to 500`; both bounds are included.
 #[tactic(auto, unfolding(brk_model_explain::specs::TradeLines::band_unit_and_bounds_text))]
 fn put_band_bounds(out: &mut Vec<u8>, band: &Band) -> Result<(), AllocError>
-    ensures ok { OnOk result (out.new.items ≡ out.old.items ++ lines.band_unit_and_bounds_text (abstract_band band.now)) }
+    ensures { OnOk result (out.new.items ≡ out.old.items ++ lines.band_unit_and_bounds_text (abstract_band band.now)) }
 {
     put_numbered(out, " of 10000 for ", u64::from(band.from_qty.get()))?;
     put_numbered(out, " to ", u64::from(band.to_qty.get()))
@@ -98,7 +98,7 @@ fn put_band_bounds(out: &mut Vec<u8>, band: &Band) -> Result<(), AllocError>
 
 #[tactic(auto, unfolding(brk_model_explain::specs::TradeLines::band_tier_and_exchange_text))]
 fn put_band_market(out: &mut Vec<u8>, band: &Band) -> Result<(), AllocError>
-    ensures ok { OnOk result (out.new.items ≡ out.old.items ++ lines.band_tier_and_exchange_text (abstract_band band.now)) }
+    ensures { OnOk result (out.new.items ≡ out.old.items ++ lines.band_tier_and_exchange_text (abstract_band band.now)) }
 {
     put_numbered(out, ", tier ", u64::from(band.tier.get()))?;
     put_text(out, b", ")?;
@@ -107,7 +107,7 @@ fn put_band_market(out: &mut Vec<u8>, band: &Band) -> Result<(), AllocError>
 
 #[tactic(auto, unfolding(brk_model_explain::specs::TradeLines::commission_band_line))]
 fn put_band(out: &mut Vec<u8>, band: &Option<Band>) -> Result<(), AllocError>
-    ensures ok { OnOk result (out.new.items ≡ out.old.items ++ line_with_line_feed (lines.commission_band_line (option_map abstract_band band.now))) }
+    ensures { OnOk result (out.new.items ≡ out.old.items ++ line_with_line_feed (lines.commission_band_line (option_map abstract_band band.now))) }
 {
     let Some(band) = band else {
         return put_value_fact(out, "Band now", b"none");
@@ -124,7 +124,7 @@ fn put_commission_now(
     out: &mut Vec<u8>,
     commission: Option<Amount>,
 ) -> Result<(), AllocError>
-    ensures ok { OnOk result (out.new.items ≡ out.old.items ++ line_with_line_feed (lines.current_commission_line commission)) }
+    ensures { OnOk result (out.new.items ≡ out.old.items ++ line_with_line_feed (lines.current_commission_line commission)) }
 {
     match commission {
         Some(amount) => put_amount_fact(alloc, out, "Commission now", Wide::from(amount)),
@@ -139,7 +139,7 @@ pub(crate) fn put_commission(
     order: &OrderDetails,
     details: &ResultDetails,
 ) -> Result<(), AllocError>
-    ensures ok { OnOk result (out.new.items
+    ensures { OnOk result (out.new.items
         ≡ out.old.items ++ text_of_lines (lines.band_and_commission_lines (abstract_order_details order.now) (abstract_result_details details.now))) }
 {
     put_band(out, &details.band)?;

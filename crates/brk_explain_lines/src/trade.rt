@@ -22,7 +22,7 @@ fn put_completed(
     order: &OrderDetails,
     details: &ResultDetails,
 ) -> Result<(), CallFault>
-    ensures ok { OnOk result (out.new.items
+    ensures { OnOk result (out.new.items
         ≡ out.old.items ++ text_of_lines (lines.completed_trade_lines (abstract_order_details order.now) (abstract_result_details details.now))) }
 {
     put_booking(alloc, out, order, details)?;
@@ -41,7 +41,7 @@ fn put_rest(
     order: &OrderDetails,
     details: &Option<ResultDetails>,
 ) -> Result<(), CallFault>
-    ensures ok { OnOk result (out.new.items
+    ensures { OnOk result (out.new.items
         ≡ out.old.items ++ text_of_lines (lines.lines_after_statuses (abstract_order_details order.now) (option_map abstract_result_details details.now))) }
 {
     match details {
@@ -54,7 +54,7 @@ fn put_rest(
 /// shares exceeds its limit, or if the tax rates total more than the greatest rate.
 #[tactic(auto, unfolding(brk_model_explain::specs::TradeLines::trade_explanation_lines))]
 pub fn explained_trade(alloc: Global, details: &TradeDetails) -> Result<Vec<u8>, CallFault>
-    ensures text { IfOk result (λ text. text.items ≡ text_of_lines (lines.trade_explanation_lines (abstract_trade_details details.now))) }
+    ensures { IfOk result (λ text. text.items ≡ text_of_lines (lines.trade_explanation_lines (abstract_trade_details details.now))) }
 {
     let mut text = Vec::new(alloc);
     put_order_lines(alloc, &mut text, &details.order)?;

@@ -37,7 +37,7 @@ fn commission_remark(status: Status) -> &'static str
 }
 
 fn put_priced_text(out: &mut Vec<u8>, words: &str, price: Price) -> Result<(), AllocError>
-    ensures ok { OnOk result (out.new.items ≡ out.old.items ++ (words.now ++ nonnegative_cents_text price)) }
+    ensures { OnOk result (out.new.items ≡ out.old.items ++ (words.now ++ nonnegative_cents_text price)) }
 {
     put_text(out, words.as_bytes())?;
     append_cents(out, Wide::from(price))
@@ -45,7 +45,7 @@ fn put_priced_text(out: &mut Vec<u8>, words: &str, price: Price) -> Result<(), A
 
 // A market type has no trigger, so a pending trade of it waits for a cancel.
 fn put_trigger(out: &mut Vec<u8>, kind: TradeType, price: Price) -> Result<(), AllocError>
-    ensures ok { OnOk result (out.new.items ≡ out.old.items ++ lines.trigger_condition_text kind price) }
+    ensures { OnOk result (out.new.items ≡ out.old.items ++ lines.trigger_condition_text kind price) }
 {
     match kind {
         TradeType::StopLoss | TradeType::LimitBuy => {
@@ -62,7 +62,7 @@ fn put_awaited(
     kind: TradeType,
     price: Price,
 ) -> Result<(), AllocError>
-    ensures ok { OnOk result (out.new.items ≡ out.old.items ++ lines.awaited_event_text status kind price) }
+    ensures { OnOk result (out.new.items ≡ out.old.items ++ lines.awaited_event_text status kind price) }
 {
     match status {
         Status::Pending => put_trigger(out, kind, price),
@@ -73,7 +73,7 @@ fn put_awaited(
 
 #[tactic(auto, unfolding(brk_model_explain::specs::Texts::labeled_text))]
 fn put_event_line(out: &mut Vec<u8>, trade: &TradeRow) -> Result<(), AllocError>
-    ensures ok { OnOk result (out.new.items
+    ensures { OnOk result (out.new.items
         ≡ out.old.items ++ line_with_line_feed (labeled_text (codes "Waits for") (lines.awaited_event_text trade.now.status trade.now.kind trade.now.bid))) }
 {
     put_label(out, "Waits for")?;
@@ -88,14 +88,14 @@ fn put_remarked(
     amount: Wide,
     words: &str,
 ) -> Result<(), AllocError>
-    ensures ok { OnOk result (out.new.items ≡ out.old.items ++ line_with_line_feed (labeled_amount label.now amount ++ 32 ∷ words.now)) }
+    ensures { OnOk result (out.new.items ≡ out.old.items ++ line_with_line_feed (labeled_amount label.now amount ++ 32 ∷ words.now)) }
 {
     label_amount(alloc, out, label, amount)?;
     put_spaced_line(out, words.as_bytes())
 }
 
 fn put_count_line(out: &mut Vec<u8>, count: usize) -> Result<(), AllocError>
-    ensures ok { OnOk result (out.new.items ≡ out.old.items ++ line_with_line_feed (codes "Statuses " ++ decimal count)) }
+    ensures { OnOk result (out.new.items ≡ out.old.items ++ line_with_line_feed (codes "Statuses " ++ decimal count)) }
 {
     put_numbered(out, "Statuses ", count as u64)?;
     end_line(out)
@@ -108,7 +108,7 @@ pub(crate) fn put_uncompleted(
     out: &mut Vec<u8>,
     order: &OrderDetails,
 ) -> Result<(), AllocError>
-    ensures ok { OnOk result (out.new.items ≡ out.old.items ++ text_of_lines (lines.uncompleted_trade_lines (abstract_order_details order.now))) }
+    ensures { OnOk result (out.new.items ≡ out.old.items ++ text_of_lines (lines.uncompleted_trade_lines (abstract_order_details order.now))) }
 {
     let trade = &order.trade;
     let charge = Wide::new(i128::from(trade.charge.get()));

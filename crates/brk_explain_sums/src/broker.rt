@@ -18,7 +18,7 @@ use std::alloc::{AllocError, Global};
 
 #[tactic(auto, unfolding(brk_model_explain::specs::BrokerLines::broker_header_lines))]
 fn put_broker_head(out: &mut Vec<u8>, row: &BrokerRow) -> Result<(), AllocError>
-    ensures ok { OnOk result (out.new.items ≡ out.old.items ++ text_of_lines (lines.broker_header_lines (abstract_broker_row row.now))) }
+    ensures { OnOk result (out.new.items ≡ out.old.items ++ text_of_lines (lines.broker_header_lines (abstract_broker_row row.now))) }
 {
     put_title_line(out, "Broker ", row.broker.id)?;
     put_text_fact(out, "Name", row.broker.name.as_str().as_bytes())?;
@@ -30,7 +30,7 @@ fn put_broker_head(out: &mut Vec<u8>, row: &BrokerRow) -> Result<(), AllocError>
 
 /// Returns the lines before the trades: title, name and column headings.
 pub fn broker_head(alloc: Global, row: &BrokerRow) -> Result<Vec<u8>, AllocError>
-    ensures text { IfOk result (λ text. text.items ≡ text_of_lines (lines.broker_header_lines (abstract_broker_row row.now))) }
+    ensures { IfOk result (λ text. text.items ≡ text_of_lines (lines.broker_header_lines (abstract_broker_row row.now))) }
 {
     let mut text = Vec::new(alloc);
     put_broker_head(&mut text, row)?;
@@ -44,7 +44,7 @@ fn put_trade_line(
     row: &TradeRow,
     total: Wide,
 ) -> Result<(), AllocError>
-    ensures ok { OnOk result (out.new.items ≡ out.old.items ++ line_with_line_feed (lines.trade_commission_line (abstract_trade_row row.now) total)) }
+    ensures { OnOk result (out.new.items ≡ out.old.items ++ line_with_line_feed (lines.trade_commission_line (abstract_trade_row row.now) total)) }
 {
     put_dated_word(out, "Trade", row.stamp)?;
     align_number(out, 13, row.id.get())?;
@@ -57,7 +57,7 @@ fn put_trade_line(
 /// Returns the line of a completed trade; `total`, in cents, is the sum of the commissions up to
 /// and including it.
 pub fn commission_text(alloc: Global, row: &TradeRow, total: Wide) -> Result<Vec<u8>, AllocError>
-    ensures line { IfOk result (λ line. line.items ≡ line_with_line_feed (lines.trade_commission_line (abstract_trade_row row.now) total)) }
+    ensures { IfOk result (λ line. line.items ≡ line_with_line_feed (lines.trade_commission_line (abstract_trade_row row.now) total)) }
 {
     let mut line = Vec::new(alloc);
     put_trade_line(alloc, &mut line, row, total)?;
@@ -65,7 +65,7 @@ pub fn commission_text(alloc: Global, row: &TradeRow, total: Wide) -> Result<Vec
 }
 
 fn put_broker_count(out: &mut Vec<u8>, accounts: usize, trades: u64) -> Result<(), AllocError>
-    ensures ok { OnOk result (out.new.items ≡ out.old.items ++ line_with_line_feed (lines.broker_counts_line accounts trades)) }
+    ensures { OnOk result (out.new.items ≡ out.old.items ++ line_with_line_feed (lines.broker_counts_line accounts trades)) }
 {
     put_numbered(out, "Accounts ", accounts as u64)?;
     put_numbered(out, ", trades ", trades)?;
@@ -80,7 +80,7 @@ fn put_broker_end(
     accounts: usize,
     trades: u64,
 ) -> Result<(), AllocError>
-    ensures ok { OnOk result (out.new.items ≡ out.old.items ++ text_of_lines (lines.broker_total_lines (abstract_broker_row row.now) accounts trades)) }
+    ensures { OnOk result (out.new.items ≡ out.old.items ++ text_of_lines (lines.broker_total_lines (abstract_broker_row row.now) accounts trades)) }
 {
     let commissions = Wide::new(i128::from(row.commissions));
     put_amount_fact(alloc, out, "Commissions", commissions)?;
@@ -96,7 +96,7 @@ pub fn broker_end_text(
     accounts: usize,
     trades: u64,
 ) -> Result<Vec<u8>, AllocError>
-    ensures text { IfOk result (λ text. text.items ≡ text_of_lines (lines.broker_total_lines (abstract_broker_row row.now) accounts trades)) }
+    ensures { IfOk result (λ text. text.items ≡ text_of_lines (lines.broker_total_lines (abstract_broker_row row.now) accounts trades)) }
 {
     let mut text = Vec::new(alloc);
     put_broker_end(alloc, &mut text, row, accounts, trades)?;

@@ -17,7 +17,7 @@ use brk_ref::{AccountRow, Security};
 use std::alloc::{AllocError, Global};
 
 fn put_head_title(out: &mut Vec<u8>, account: Id, symbol: &[u8]) -> Result<(), AllocError>
-    ensures ok { OnOk result (out.new.items ≡ out.old.items ++ line_with_line_feed (lines.holding_title account symbol.now)) }
+    ensures { OnOk result (out.new.items ≡ out.old.items ++ line_with_line_feed (lines.holding_title account symbol.now)) }
 {
     put_numbered(out, "Holding of account ", account.get())?;
     put_text(out, b" in ")?;
@@ -31,7 +31,7 @@ fn put_head_lines(
     row: &AccountRow,
     security: &Security,
 ) -> Result<(), AllocError>
-    ensures ok { OnOk result (out.new.items
+    ensures { OnOk result (out.new.items
         ≡ out.old.items ++ text_of_lines (lines.holding_header_lines (abstract_account_row row.now) (abstract_security_row security.now))) }
 {
     let account = &row.account;
@@ -46,7 +46,7 @@ fn put_head_lines(
 }
 
 fn put_lot_header(out: &mut Vec<u8>) -> Result<(), AllocError>
-    ensures ok { OnOk result (out.new.items ≡ out.old.items ++ line_with_line_feed lines.lot_columns_header) }
+    ensures { OnOk result (out.new.items ≡ out.old.items ++ line_with_line_feed lines.lot_columns_header) }
 {
     put_text_line(
         out,
@@ -60,7 +60,7 @@ fn put_held_lines(
     out: &mut Vec<u8>,
     details: &HoldingDetails,
 ) -> Result<(), CallFault>
-    ensures ok { OnOk result (out.new.items ≡ out.old.items ++ text_of_lines (lines_of_holding_details details.now)) }
+    ensures { OnOk result (out.new.items ≡ out.old.items ++ text_of_lines (lines_of_holding_details details.now)) }
 {
     let done = details.done.as_slice();
     let lots = details.lots.as_slice();
@@ -75,7 +75,7 @@ fn put_held_lines(
 /// Returns all lines of the explanation of a holding. Fails with `Store` if an amount, a quantity
 /// or a count overflows, or if a trade has no price.
 pub fn explained_holding(alloc: Global, details: &HoldingDetails) -> Result<Vec<u8>, CallFault>
-    ensures text { IfOk result (λ text. text.items ≡ text_of_lines (lines_of_holding_details details.now)) }
+    ensures { IfOk result (λ text. text.items ≡ text_of_lines (lines_of_holding_details details.now)) }
 {
     let mut text = Vec::new(alloc);
     put_held_lines(alloc, &mut text, details)?;

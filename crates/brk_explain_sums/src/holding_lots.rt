@@ -37,7 +37,7 @@ pub(crate) fn realised_gain_of_change(
     price: Price,
     change: &PricedLotChange,
 ) -> Result<Wide, StoreFailed>
-    ensures gain { IfOk result (λ gain. gain ≡ holdings.realised_gain_of_change price (abstract_priced_lot_change change.now)) }
+    ensures { IfOk result (λ gain. gain ≡ holdings.realised_gain_of_change price (abstract_priced_lot_change change.now)) }
 {
     match qty_decrease(change).checked_mul(price_increase(price, change)) {
         Some(gain) => Ok(Wide::new(gain)),
@@ -65,14 +65,14 @@ pub(crate) fn remaining_quantity(lot: &LotDetails) -> i64
 /// Returns the cost at the price at which the lot was opened, below 0 if shares that were sold
 /// short remain.
 pub(crate) fn remaining_cost_of_lot(lot: &LotDetails) -> Result<Wide, StoreFailed>
-    ensures cost { IfOk result (λ cost. cost ≡ holdings.remaining_cost_of_lot (abstract_lot_details lot.now)) }
+    ensures { IfOk result (λ cost. cost ≡ holdings.remaining_cost_of_lot (abstract_lot_details lot.now)) }
 {
     let price = completed_price(&lot.trade)?;
     shares_value(remaining_quantity(lot), price)
 }
 
 fn gain_of_changes(price: Price, changes: &[PricedLotChange]) -> Result<Wide, StoreFailed>
-    ensures total { IfOk result (λ total. total ≡ total_by (holdings.realised_gain_of_change price) (map abstract_priced_lot_change changes.now)) }
+    ensures { IfOk result (λ total. total ≡ total_by (holdings.realised_gain_of_change price) (map abstract_priced_lot_change changes.now)) }
 {
     let mut total = Wide::new(0);
     for change in changes {
@@ -83,14 +83,14 @@ fn gain_of_changes(price: Price, changes: &[PricedLotChange]) -> Result<Wide, St
 }
 
 fn realised_gain_of_lot(lot: &LotDetails) -> Result<Wide, StoreFailed>
-    ensures gain { IfOk result (λ gain. gain ≡ holdings.realised_gain_of_lot (abstract_lot_details lot.now)) }
+    ensures { IfOk result (λ gain. gain ≡ holdings.realised_gain_of_lot (abstract_lot_details lot.now)) }
 {
     let price = completed_price(&lot.trade)?;
     gain_of_changes(price, &lot.changes)
 }
 
 pub(crate) fn realised_gain_of_lots(lots: &[LotDetails]) -> Result<Wide, StoreFailed>
-    ensures total { IfOk result (λ total. total ≡ holdings.realised_gain_of_lots (map abstract_lot_details lots.now)) }
+    ensures { IfOk result (λ total. total ≡ holdings.realised_gain_of_lots (map abstract_lot_details lots.now)) }
 {
     let mut total = Wide::new(0);
     for lot in lots {
@@ -101,7 +101,7 @@ pub(crate) fn realised_gain_of_lots(lots: &[LotDetails]) -> Result<Wide, StoreFa
 }
 
 pub(crate) fn remaining_cost_of_lots(lots: &[LotDetails]) -> Result<Wide, StoreFailed>
-    ensures total { IfOk result (λ total. total ≡ holdings.remaining_cost_of_lots (map abstract_lot_details lots.now)) }
+    ensures { IfOk result (λ total. total ≡ holdings.remaining_cost_of_lots (map abstract_lot_details lots.now)) }
 {
     let mut total = Wide::new(0);
     for lot in lots {
@@ -118,7 +118,7 @@ fn open_lot_count(left: i64) -> u64
 }
 
 fn add_counts(one: u64, other: u64) -> Result<u64, StoreFailed>
-    ensures sum { IfOk result (λ sum. sum ≡ one + other) }
+    ensures { IfOk result (λ sum. sum ≡ one + other) }
 {
     match one.checked_add(other) {
         Some(sum) => Ok(sum),
@@ -128,7 +128,7 @@ fn add_counts(one: u64, other: u64) -> Result<u64, StoreFailed>
 
 /// A lot is open if its remaining quantity is not 0.
 pub(crate) fn count_open_lots(lots: &[LotDetails]) -> Result<u64, StoreFailed>
-    ensures count { IfOk result (λ count. count ≡ length (holdings.lots_not_fully_closed (map abstract_lot_details lots.now))) }
+    ensures { IfOk result (λ count. count ≡ length (holdings.lots_not_fully_closed (map abstract_lot_details lots.now))) }
 {
     let mut count: u64 = 0;
     for lot in lots {
@@ -145,7 +145,7 @@ fn change_count(changes: &[PricedLotChange]) -> u64
 
 /// The openings of the lots are not counted.
 pub(crate) fn count_of_lot_changes(lots: &[LotDetails]) -> Result<u64, StoreFailed>
-    ensures count { IfOk result (λ count. count ≡ holdings.count_of_lot_changes (map abstract_lot_details lots.now)) }
+    ensures { IfOk result (λ count. count ≡ holdings.count_of_lot_changes (map abstract_lot_details lots.now)) }
 {
     let mut count: u64 = 0;
     for lot in lots {

@@ -30,7 +30,7 @@ fn put_trading(
     gain: Wide,
     cost: Wide,
 ) -> Result<(), AllocError>
-    ensures ok { OnOk result (out.new.items ≡ out.old.items ++ text_of_lines (lines.purchase_sale_gain_and_cost_lines bought sold gain cost)) }
+    ensures { OnOk result (out.new.items ≡ out.old.items ++ text_of_lines (lines.purchase_sale_gain_and_cost_lines bought sold gain cost)) }
 {
     put_amount_fact(alloc, out, "Purchases", bought)?;
     put_amount_fact(alloc, out, "Sales", sold)?;
@@ -47,7 +47,7 @@ fn put_worth(
     price: Price,
     cost: Wide,
 ) -> Result<(), CallFault>
-    ensures ok { OnOk result (out.new.items ≡ out.old.items ++ text_of_lines (lines.holding_value_lines shares price cost)) }
+    ensures { OnOk result (out.new.items ≡ out.old.items ++ text_of_lines (lines.holding_value_lines shares price cost)) }
 {
     let worth = shares_value(shares, price)?;
     let gain = subtract_amounts(worth, cost)?;
@@ -64,7 +64,7 @@ fn put_lot_counts(
     open_lots: u64,
     changes: u64,
 ) -> Result<(), AllocError>
-    ensures ok { OnOk result (out.new.items ≡ out.old.items ++ line_with_line_feed (lines.holding_counts_line trades lots open_lots changes)) }
+    ensures { OnOk result (out.new.items ≡ out.old.items ++ line_with_line_feed (lines.holding_counts_line trades lots open_lots changes)) }
 {
     put_numbered(out, "Trades ", trades as u64)?;
     put_numbered(out, ", lots ", lots as u64)?;
@@ -82,7 +82,7 @@ pub(crate) fn put_holding_end(
     shares: i64,
     price: Price,
 ) -> Result<(), CallFault>
-    ensures ok { OnOk result (out.new.items
+    ensures { OnOk result (out.new.items
         ≡ out.old.items ++ text_of_lines (lines.holding_total_lines (map abstract_trade_row done.now) (map abstract_lot_details lots.now) shares price)) }
 {
     let bought = total_purchase_value(done)?;

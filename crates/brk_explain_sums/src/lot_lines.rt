@@ -20,7 +20,7 @@ use std::alloc::Global;
 
 #[tactic(auto, unfolding(brk_model_explain::specs::HoldingLines::lot_opening_line))]
 fn put_lot_opening(alloc: Global, out: &mut Vec<u8>, lot: &LotDetails) -> Result<(), CallFault>
-    ensures ok { OnOk result (out.new.items ≡ out.old.items ++ line_with_line_feed (lines.lot_opening_line (abstract_lot_details lot.now))) }
+    ensures { OnOk result (out.new.items ≡ out.old.items ++ line_with_line_feed (lines.lot_opening_line (abstract_lot_details lot.now))) }
 {
     let trade = &lot.trade;
     let price = completed_price(trade)?;
@@ -39,7 +39,7 @@ fn put_lot_change(
     price: Price,
     change: &PricedLotChange,
 ) -> Result<(), CallFault>
-    ensures ok { OnOk result (out.new.items ≡ out.old.items ++ line_with_line_feed (lines.lot_change_line price (abstract_priced_lot_change change.now))) }
+    ensures { OnOk result (out.new.items ≡ out.old.items ++ line_with_line_feed (lines.lot_change_line price (abstract_priced_lot_change change.now))) }
 {
     let gain = realised_gain_of_change(price, change)?;
     let shares = qty_increase(change);
@@ -63,7 +63,7 @@ fn put_lot_changes(
     price: Price,
     changes: &[PricedLotChange],
 ) -> Result<(), CallFault>
-    ensures ok { OnOk result (out.new.items ≡ out.old.items ++ text_of_lines (lines.lot_change_lines price (map abstract_priced_lot_change changes.now))) }
+    ensures { OnOk result (out.new.items ≡ out.old.items ++ text_of_lines (lines.lot_change_lines price (map abstract_priced_lot_change changes.now))) }
 {
     for change in changes {
         put_lot_change(alloc, out, price, change)?;
@@ -73,7 +73,7 @@ fn put_lot_changes(
 
 #[tactic(auto, unfolding(brk_model_explain::specs::HoldingLines::lot_remainder_line))]
 fn put_remainder(alloc: Global, out: &mut Vec<u8>, lot: &LotDetails) -> Result<(), CallFault>
-    ensures ok { OnOk result (out.new.items ≡ out.old.items ++ line_with_line_feed (lines.lot_remainder_line (abstract_lot_details lot.now))) }
+    ensures { OnOk result (out.new.items ≡ out.old.items ++ line_with_line_feed (lines.lot_remainder_line (abstract_lot_details lot.now))) }
 {
     let price = completed_price(&lot.trade)?;
     let cost = remaining_cost_of_lot(lot)?;
@@ -85,7 +85,7 @@ fn put_remainder(alloc: Global, out: &mut Vec<u8>, lot: &LotDetails) -> Result<(
 
 #[tactic(auto, unfolding(brk_model_explain::specs::HoldingLines::lot_history_lines))]
 fn put_lot_history(alloc: Global, out: &mut Vec<u8>, lot: &LotDetails) -> Result<(), CallFault>
-    ensures ok { OnOk result (out.new.items ≡ out.old.items ++ text_of_lines (lines.lot_history_lines (abstract_lot_details lot.now))) }
+    ensures { OnOk result (out.new.items ≡ out.old.items ++ text_of_lines (lines.lot_history_lines (abstract_lot_details lot.now))) }
 {
     let price = completed_price(&lot.trade)?;
     put_lot_opening(alloc, out, lot)?;
@@ -98,7 +98,7 @@ pub(crate) fn put_histories(
     out: &mut Vec<u8>,
     lots: &[LotDetails],
 ) -> Result<(), CallFault>
-    ensures ok { OnOk result (out.new.items ≡ out.old.items ++ text_of_lines (flat_map lines.lot_history_lines (map abstract_lot_details lots.now))) }
+    ensures { OnOk result (out.new.items ≡ out.old.items ++ text_of_lines (flat_map lines.lot_history_lines (map abstract_lot_details lots.now))) }
 {
     for lot in lots {
         put_lot_history(alloc, out, lot)?;

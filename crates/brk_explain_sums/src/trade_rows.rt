@@ -21,7 +21,7 @@ fn put_held_trade(
     row: &TradeRow,
     held: i64,
 ) -> Result<(), CallFault>
-    ensures ok { OnOk result (out.new.items ≡ out.old.items ++ line_with_line_feed (lines.holding_trade_line (abstract_trade_row row.now) held)) }
+    ensures { OnOk result (out.new.items ≡ out.old.items ++ line_with_line_feed (lines.holding_trade_line (abstract_trade_row row.now) held)) }
 {
     let price = completed_price(row)?;
     let value = signed_value_of_trade(row)?;
@@ -38,7 +38,7 @@ pub(crate) fn put_held_trades(
     out: &mut Vec<u8>,
     done: &[TradeRow],
 ) -> Result<(), CallFault>
-    ensures ok { OnOk result (out.new.items ≡ out.old.items ++ text_of_lines (lines.holding_trade_lines (map abstract_trade_row done.now))) }
+    ensures { OnOk result (out.new.items ≡ out.old.items ++ text_of_lines (lines.holding_trade_lines (map abstract_trade_row done.now))) }
 {
     let mut held: i64 = 0;
     for row in done {

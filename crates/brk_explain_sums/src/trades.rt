@@ -11,7 +11,7 @@ use brk_money::{Price, Side, StoreFailed, Wide};
 use brk_ref::TradeRow;
 
 pub(crate) fn completed_price(row: &TradeRow) -> Result<Price, StoreFailed>
-    ensures price { IfOk result (λ price. price ≡ details.completion_price_or_zero (abstract_trade_row row.now)) }
+    ensures { IfOk result (λ price. price ≡ details.completion_price_or_zero (abstract_trade_row row.now)) }
 {
     match row.price {
         Some(price) => Ok(price),
@@ -32,14 +32,14 @@ pub(crate) fn signed_quantity_of_trade(row: &TradeRow) -> i64
 
 /// Returns an amount below 0 for a sale.
 pub(crate) fn signed_value_of_trade(row: &TradeRow) -> Result<Wide, StoreFailed>
-    ensures value { IfOk result (λ value. value ≡ holdings.signed_value_of_trade (abstract_trade_row row.now)) }
+    ensures { IfOk result (λ value. value ≡ holdings.signed_value_of_trade (abstract_trade_row row.now)) }
 {
     let price = completed_price(row)?;
     shares_value(signed_quantity_of_trade(row), price)
 }
 
 pub(crate) fn next_held(held: i64, row: &TradeRow) -> Result<i64, StoreFailed>
-    ensures held { IfOk result (λ after. after ≡ held +ℤ holdings.signed_quantity_of_trade (abstract_trade_row row.now)) }
+    ensures { IfOk result (λ after. after ≡ held +ℤ holdings.signed_quantity_of_trade (abstract_trade_row row.now)) }
 {
     match held.checked_add(signed_quantity_of_trade(row)) {
         Some(after) => Ok(after),
@@ -68,7 +68,7 @@ fn negative_part(amount: Wide) -> Wide
 }
 
 pub(crate) fn total_purchase_value(done: &[TradeRow]) -> Result<Wide, StoreFailed>
-    ensures total { IfOk result (λ total. total ≡ holdings.total_purchase_value (map abstract_trade_row done.now)) }
+    ensures { IfOk result (λ total. total ≡ holdings.total_purchase_value (map abstract_trade_row done.now)) }
 {
     let mut total = Wide::new(0);
     for row in done {
@@ -80,7 +80,7 @@ pub(crate) fn total_purchase_value(done: &[TradeRow]) -> Result<Wide, StoreFaile
 
 /// Returns an amount below 0, or 0 if there is no sale.
 pub(crate) fn negated_total_sale_value(done: &[TradeRow]) -> Result<Wide, StoreFailed>
-    ensures total { IfOk result (λ total. total ≡ holdings.negated_total_sale_value (map abstract_trade_row done.now)) }
+    ensures { IfOk result (λ total. total ≡ holdings.negated_total_sale_value (map abstract_trade_row done.now)) }
 {
     let mut total = Wide::new(0);
     for row in done {

@@ -77,7 +77,7 @@ pub fn route_of_target<D: Service>(
 ) -> Result<Option<Route<D::ViewName>>, AllocError>
     requires routes { router.now ≡ all_router_rows }
     requires named { list_all is_nonempty D.forms.views ≡ Bool.true }
-    ensures route { IfOk result (λ route. option_map (route_in_model D.view_text) route ≡ route_of_target D.forms.views target.now) }
+    ensures { IfOk result (λ route. option_map (route_in_model D.view_text) route ≡ route_of_target D.forms.views target.now) }
 {
     let Ok(text) = str::from_utf8(target) else {
         return Ok(None);

@@ -37,7 +37,7 @@ fn parse_account(
     tax_status: &[u8],
     opening: &[u8],
 ) -> Planned<Account, AllocError>
-    ensures read { IfOk result (λ read. ParsesAs abstract_account read (read_account (id.now ∷ customer.now ∷ broker.now ∷ name.now ∷ tax_status.now
+    ensures { IfOk result (λ read. ParsesAs abstract_account read (read_account (id.now ∷ customer.now ∷ broker.now ∷ name.now ∷ tax_status.now
         ∷ opening.now ∷ []))) }
 {
     let Some(id) = parse_id(id) else {
@@ -75,7 +75,7 @@ fn parse_account_terms(
     broker: &[u8],
     terms: &[&[u8]],
 ) -> Planned<Account, AllocError>
-    ensures read { IfOk result (λ read. ParsesAs abstract_account read (read_account (id.now ∷ customer.now ∷ broker.now ∷ texts_of_fields terms.now))) }
+    ensures { IfOk result (λ read. ParsesAs abstract_account read (read_account (id.now ∷ customer.now ∷ broker.now ∷ texts_of_fields terms.now))) }
 {
     let [name, tax_status, opening] = terms else {
         return Ok(Err(Refusal::BadText));

@@ -52,7 +52,7 @@ fn parse_band(
     high: &[u8],
     rate: &[u8],
 ) -> Planned<Band, AllocError>
-    ensures read { IfOk result (λ read. ParsesAs abstract_band read (read_commission_band (tier.now ∷ kind.now ∷ exchange.now ∷ low.now ∷ high.now ∷ rate.now
+    ensures { IfOk result (λ read. ParsesAs abstract_band read (read_commission_band (tier.now ∷ kind.now ∷ exchange.now ∷ low.now ∷ high.now ∷ rate.now
         ∷ []))) }
 {
     let Some(tier) = Tier::parse(tier) else {
@@ -87,7 +87,7 @@ fn parse_band_terms(
     exchange: &[u8],
     terms: &[&[u8]],
 ) -> Planned<Band, AllocError>
-    ensures read { IfOk result (λ read. ParsesAs abstract_band read (read_commission_band (tier.now ∷ kind.now ∷ exchange.now ∷ texts_of_fields terms.now))) }
+    ensures { IfOk result (λ read. ParsesAs abstract_band read (read_commission_band (tier.now ∷ kind.now ∷ exchange.now ∷ texts_of_fields terms.now))) }
 {
     let [low, high, rate] = terms else {
         return Ok(Err(Refusal::BadText));

@@ -29,7 +29,7 @@ fn parse_customer_fields(
     last_name: &[u8],
     first_name: &[u8],
 ) -> Planned<Customer, AllocError>
-    ensures read { IfOk result (λ read. ParsesAs abstract_customer read (read_customer (id.now ∷ tier.now ∷ tax_id.now ∷ last_name.now ∷ first_name.now
+    ensures { IfOk result (λ read. ParsesAs abstract_customer read (read_customer (id.now ∷ tier.now ∷ tax_id.now ∷ last_name.now ∷ first_name.now
         ∷ []))) }
 {
     let Some(id) = parse_id(id) else {

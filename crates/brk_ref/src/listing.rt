@@ -27,7 +27,7 @@ fn parse_listing(
     sector: &[u8],
     price: &[u8],
 ) -> Planned<Listing, AllocError>
-    ensures read { IfOk result (λ read. ParsesAs abstract_listing read (read_listing (symbol.now ∷ name.now ∷ exchange.now ∷ sector.now ∷ price.now ∷ []))) }
+    ensures { IfOk result (λ read. ParsesAs abstract_listing read (read_listing (symbol.now ∷ name.now ∷ exchange.now ∷ sector.now ∷ price.now ∷ []))) }
 {
     let Some(symbol) = Symbol::parse(alloc, symbol)? else {
         return Ok(Err(Refusal::BadText));

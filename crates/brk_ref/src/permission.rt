@@ -30,7 +30,7 @@ fn parse_permission(
     last_name: &[u8],
     first_name: &[u8],
 ) -> Planned<Permission, AllocError>
-    ensures read { IfOk result (λ read. ParsesAs abstract_permission read (read_permission (account.now ∷ acl.now ∷ tax_id.now ∷ last_name.now ∷ first_name.now
+    ensures { IfOk result (λ read. ParsesAs abstract_permission read (read_permission (account.now ∷ acl.now ∷ tax_id.now ∷ last_name.now ∷ first_name.now
         ∷ []))) }
 {
     let Some(account) = parse_id(account) else {

@@ -96,7 +96,7 @@ fn append_tick(
 }
 
 fn parse_ticks(alloc: Global, fields: &[&[u8]]) -> Planned<Vec<Tick>, AllocError>
-    ensures read { IfOk result (λ read. ParsesAs abstract_ticks_of_vector read (read_ticks (texts_of_fields fields.now))) }
+    ensures { IfOk result (λ read. ParsesAs abstract_ticks_of_vector read (read_ticks (texts_of_fields fields.now))) }
 {
     let mut ticks = Ok(Vec::new(alloc));
     let mut rest = fields;

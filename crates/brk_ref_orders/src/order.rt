@@ -121,7 +121,7 @@ fn order_type_with_price(kind: Option<TradeType>, price: &[u8]) -> Result<OrderT
 }
 
 fn order_of_fields(alloc: Global, told: UnparsedOrder<'_>) -> Planned<Order, AllocError>
-    ensures read { IfOk result (λ read. ParsesAs abstract_order read (read_order (texts_of_order_fields told.entry))) }
+    ensures { IfOk result (λ read. ParsesAs abstract_order read (read_order (texts_of_order_fields told.entry))) }
 {
     let Some(account) = parse_id(told.account) else {
         return Ok(Err(Refusal::BadText));
@@ -162,7 +162,7 @@ fn order_of_fields(alloc: Global, told: UnparsedOrder<'_>) -> Planned<Order, All
 /// Refuses with the first of these that applies: `BadText` (18), `BadQty` (8), `BadPrice` (9), also
 /// if PRICE does not fit TYPE, and `BadType` (7).
 pub fn parse_trade_order(alloc: Global, fields: &[&[u8]]) -> Planned<Order, AllocError>
-    ensures read { IfOk result (λ read. ParsesAs abstract_order read (read_order (texts_of_fields fields.now))) }
+    ensures { IfOk result (λ read. ParsesAs abstract_order read (read_order (texts_of_fields fields.now))) }
 {
     let [
         account,

@@ -7,7 +7,7 @@ use std::alloc::AllocError;
 
 fn append_spaces(out: &mut Vec<u8>, count: usize) -> Result<(), AllocError>
     requires { count ≤ 22 }
-    ensures ok { OnOk result (out.new.items ≡ out.old.items ++ replicate count 32) }
+    ensures { OnOk result (out.new.items ≡ out.old.items ++ replicate count 32) }
 {
     let spaces = [b' '; 22];
     out.extend_from_slice(&spaces[..count])?;
@@ -17,7 +17,7 @@ fn append_spaces(out: &mut Vec<u8>, count: usize) -> Result<(), AllocError>
 /// Appends `text`, padded with spaces on the right to `places` bytes, at most 22.
 pub fn append_left(out: &mut Vec<u8>, places: usize, text: &[u8]) -> Result<(), AllocError>
     requires { places ≤ 22 }
-    ensures ok { OnOk result (out.new.items ≡ out.old.items ++ left_aligned_text places text.now) }
+    ensures { OnOk result (out.new.items ≡ out.old.items ++ left_aligned_text places text.now) }
 {
     out.extend_from_slice(text)?;
     append_spaces(out, places.saturating_sub(text.len()))
@@ -26,7 +26,7 @@ pub fn append_left(out: &mut Vec<u8>, places: usize, text: &[u8]) -> Result<(), 
 /// Appends `text`, padded with spaces on the left to `places` bytes, at most 22.
 pub fn append_right(out: &mut Vec<u8>, places: usize, text: &[u8]) -> Result<(), AllocError>
     requires { places ≤ 22 }
-    ensures ok { OnOk result (out.new.items ≡ out.old.items ++ right_aligned_text places text.now) }
+    ensures { OnOk result (out.new.items ≡ out.old.items ++ right_aligned_text places text.now) }
 {
     append_spaces(out, places.saturating_sub(text.len()))?;
     out.extend_from_slice(text)?;

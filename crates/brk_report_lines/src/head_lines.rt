@@ -14,7 +14,7 @@ use std::alloc::{AllocError, Global};
 
 /// Returns `Statement of account ID`.
 pub fn title_line(alloc: Global, account: Id) -> Result<Vec<u8>, AllocError>
-    ensures line { IfOk result (λ line. line.items ≡ line_with_line_feed (codes "Statement of account " ++ decimal account)) }
+    ensures { IfOk result (λ line. line.items ≡ line_with_line_feed (codes "Statement of account " ++ decimal account)) }
 {
     let mut buffer = Buffer::new();
     let mut line = Vec::from_slice(alloc, b"Statement of account ")?;
@@ -24,7 +24,7 @@ pub fn title_line(alloc: Global, account: Id) -> Result<Vec<u8>, AllocError>
 }
 
 pub fn name_line(alloc: Global, name: &Name) -> Result<Vec<u8>, AllocError>
-    ensures line { IfOk result (λ line. line.items ≡ line_with_line_feed name.now) }
+    ensures { IfOk result (λ line. line.items ≡ line_with_line_feed name.now) }
 {
     let mut line = Vec::from_slice(alloc, name.as_str().as_bytes())?;
     line.push(b'\n')?;
@@ -33,7 +33,7 @@ pub fn name_line(alloc: Global, name: &Name) -> Result<Vec<u8>, AllocError>
 
 /// Returns `From DAY to DAY`, with days in the format YYYY-MM-DD.
 pub fn period_line(alloc: Global, from: Day, to: Day) -> Result<Vec<u8>, AllocError>
-    ensures line { IfOk result (λ line. line.items ≡ line_with_line_feed (codes "From " ++ day_text from ++ codes " to " ++ day_text to)) }
+    ensures { IfOk result (λ line. line.items ≡ line_with_line_feed (codes "From " ++ day_text from ++ codes " to " ++ day_text to)) }
 {
     let mut line = Vec::from_slice(alloc, b"From ")?;
     append_day(&mut line, from)?;
@@ -46,7 +46,7 @@ pub fn period_line(alloc: Global, from: Day, to: Day) -> Result<Vec<u8>, AllocEr
 /// Returns `word`, left-aligned in 10 bytes, a space, and `amount` (in cents), with two decimal
 /// places, right-aligned in 22 bytes.
 pub fn amount_line(alloc: Global, word: &str, amount: Wide) -> Result<Vec<u8>, AllocError>
-    ensures line { IfOk result (λ line. line.items ≡ line_with_line_feed (statement.amount_line word.now amount)) }
+    ensures { IfOk result (λ line. line.items ≡ line_with_line_feed (statement.amount_line word.now amount)) }
 {
     let mut cents = Vec::new(alloc);
     append_cents(&mut cents, amount)?;
@@ -60,7 +60,7 @@ pub fn amount_line(alloc: Global, word: &str, amount: Wide) -> Result<Vec<u8>, A
 
 /// Returns `Cash rows N, lots N`, the last line of a statement.
 pub fn row_counts_line(alloc: Global, cash: u64, lots: u64) -> Result<Vec<u8>, AllocError>
-    ensures line { IfOk result (λ line. line.items ≡ line_with_line_feed (codes "Cash rows " ++ decimal cash ++ codes ", lots " ++ decimal lots)) }
+    ensures { IfOk result (λ line. line.items ≡ line_with_line_feed (codes "Cash rows " ++ decimal cash ++ codes ", lots " ++ decimal lots)) }
 {
     let mut buffer = Buffer::new();
     let mut line = Vec::from_slice(alloc, b"Cash rows ")?;

@@ -14,7 +14,7 @@ use std::alloc::{AllocError, Global};
 /// Returns the UTC day of the row (YYYY-MM-DD), its amount, right-aligned in 22 bytes, and its
 /// name, separated by spaces.
 pub fn cash_row_line(alloc: Global, row: &CashRow) -> Result<Vec<u8>, AllocError>
-    ensures line { IfOk result (λ line. line.items ≡ line_with_line_feed (statement.cash_row_line (abstract_cash_row row.now))) }
+    ensures { IfOk result (λ line. line.items ≡ line_with_line_feed (statement.cash_row_line (abstract_cash_row row.now))) }
 {
     let mut cents = Vec::new(alloc);
     append_cents(&mut cents, Wide::from(row.amount))?;
@@ -32,7 +32,7 @@ pub fn cash_row_line(alloc: Global, row: &CashRow) -> Result<Vec<u8>, AllocError
 /// that opened it in 13, its quantity (below 0 if sold short) in 11 and its price in 10 bytes,
 /// separated by spaces.
 pub fn lot_line(alloc: Global, row: &HoldingRow) -> Result<Vec<u8>, AllocError>
-    ensures line { IfOk result (λ line. line.items ≡ line_with_line_feed (statement.lot_line (abstract_holding_row row.now))) }
+    ensures { IfOk result (λ line. line.items ≡ line_with_line_feed (statement.lot_line (abstract_holding_row row.now))) }
 {
     let mut price = Vec::new(alloc);
     append_cents(&mut price, Wide::new(i128::from(row.price.get())))?;

@@ -167,7 +167,7 @@ fn append_sums(
     outcome: &ResultFigures,
     changes: &mut Vec<Change>,
 ) -> Result<(), AllocError>
-    ensures changes { OnOk result (changes.new.items ≡ changes.old.items ++ spec.summary_broker_settlement_changes found.now outcome.now) }
+    ensures { OnOk result (changes.new.items ≡ changes.old.items ++ spec.summary_broker_settlement_changes found.now outcome.now) }
 {
     let summary = summary_change(found, outcome)?;
     changes.push(summary)?;

@@ -44,10 +44,8 @@ loop-begin-preserved c =
     }
 
 pub returns : goal.returns
-returns c = record {
-  changes =
-      let done = c.args.done.now in
-      let held : List HoldingHistoryRow = map abstract_deal_touch c.loop-begin.rows.items in
-      let none : map seen (drop c.loop-begin.begin done) ≡ [] = ap (map seen) (drop_all c.loop-begin.begin done c.loop-begin-test.false) in
-      subst (AreLotChangesOfTrades (map seen done)) (append-nil held) (c.loop-begin.invariant.left [] (subst (λ (rs : List TradeRow). AreLotChangesOfTrades rs []) (sym none) untouched));
-}
+returns c =
+    let done = c.args.done.now in
+    let held : List HoldingHistoryRow = map abstract_deal_touch c.loop-begin.rows.items in
+    let none : map seen (drop c.loop-begin.begin done) ≡ [] = ap (map seen) (drop_all c.loop-begin.begin done c.loop-begin-test.false) in
+    subst (AreLotChangesOfTrades (map seen done)) (append-nil held) (c.loop-begin.invariant.left [] (subst (λ (rs : List TradeRow). AreLotChangesOfTrades rs []) (sym none) untouched))

@@ -38,30 +38,28 @@ all_lot_changes-requires-clause-priced c =
 
 pub returns : goal.returns
 unfolding ConditionHolds
-returns c = record {
-  value = λ schema.
-      let t : Tables = abstract_sheets c.args.sheets.now in
-      let done = c.deref-2.result.now in
-      let rows = c.in_ok-rows.rows.items in
-      let sorted = c.sort_lot_changes.new.rows.items in
-      let p : IsPermutation (completed_trade_rows t) (map seen done) =
-      rows_moved c.args.sheets.now.trades.items c.deref.result.now t c.in_ok-done.done.items done c.deref.ensures.value c.deref-2.ensures.value
-      (λ i. t.trades) c.in_ok-done.ensures.done in
-      let o : Sorted is_before_by_position (map seen done) =
-      sorted_map is_before_by_position seen done
-      (subst (Sorted (λ r s. is_before_by_position (seen r) (seen s))) (sym c.deref-2.ensures.value)
-      (sorted_by (λ r s. is_before_by_position (seen r) (seen s)) (place_order seen) c.in_ok-done.done.items c.in_ok-done.ensures.order)) in
-      let q : IsPermutation (map abstract_deal_touch rows) (map abstract_deal_touch sorted) = IsPermutation-map abstract_deal_touch rows sorted c.sort_lot_changes.ensures.permutation in
-      let a : Sorted (is_row_key_less holding_history_key) (map abstract_deal_touch sorted) =
-      sorted_map (is_row_key_less holding_history_key) abstract_deal_touch sorted
-      (sorted_by (λ x y. is_row_key_less holding_history_key (abstract_deal_touch x) (abstract_deal_touch y))
-      (key_order (λ x. holding_history_key (abstract_deal_touch x))) sorted c.sort_lot_changes.ensures.order) in
-      let k : (map abstract_deal_touch sorted ≡ t.holding_history) ↔ (t.holding_history ≡ (expected_tables schema t).holding_history) =
-      moves_told schema t c.requires.form c.requires.status (map seen done) (map abstract_deal_touch rows) (map abstract_deal_touch sorted) p o
-      c.in_ok-rows.ensures.changes q a in
-      let left : map abstract_deal_touch c.deref-3.result.now ≡ map abstract_deal_touch sorted = ap (map abstract_deal_touch) c.deref-3.ensures.value in
-      let there : map abstract_lot_change_row c.deref-4.result.now ≡ t.holding_history = ap (map abstract_lot_change_row) c.deref-4.ensures.value in (
-        (λ e. k.0 (sym left ∙ c.touches_equal.ensures.0 e ∙ there)),
-        (λ e. c.touches_equal.ensures.1 (left ∙ k.1 e ∙ sym there)),
-      );
-}
+returns c = λ schema.
+    let t : Tables = abstract_sheets c.args.sheets.now in
+    let done = c.deref-2.result.now in
+    let rows = c.in_ok-rows.rows.items in
+    let sorted = c.sort_lot_changes.new.rows.items in
+    let p : IsPermutation (completed_trade_rows t) (map seen done) =
+    rows_moved c.args.sheets.now.trades.items c.deref.result.now t c.in_ok-done.done.items done c.deref.ensures.value c.deref-2.ensures.value
+    (λ i. t.trades) c.in_ok-done.ensures.done in
+    let o : Sorted is_before_by_position (map seen done) =
+    sorted_map is_before_by_position seen done
+    (subst (Sorted (λ r s. is_before_by_position (seen r) (seen s))) (sym c.deref-2.ensures.value)
+    (sorted_by (λ r s. is_before_by_position (seen r) (seen s)) (place_order seen) c.in_ok-done.done.items c.in_ok-done.ensures.order)) in
+    let q : IsPermutation (map abstract_deal_touch rows) (map abstract_deal_touch sorted) = IsPermutation-map abstract_deal_touch rows sorted c.sort_lot_changes.ensures.permutation in
+    let a : Sorted (is_row_key_less holding_history_key) (map abstract_deal_touch sorted) =
+    sorted_map (is_row_key_less holding_history_key) abstract_deal_touch sorted
+    (sorted_by (λ x y. is_row_key_less holding_history_key (abstract_deal_touch x) (abstract_deal_touch y))
+    (key_order (λ x. holding_history_key (abstract_deal_touch x))) sorted c.sort_lot_changes.ensures.order) in
+    let k : (map abstract_deal_touch sorted ≡ t.holding_history) ↔ (t.holding_history ≡ (expected_tables schema t).holding_history) =
+    moves_told schema t c.requires.form c.requires.status (map seen done) (map abstract_deal_touch rows) (map abstract_deal_touch sorted) p o
+    c.in_ok-rows.ensures q a in
+    let left : map abstract_deal_touch c.deref-3.result.now ≡ map abstract_deal_touch sorted = ap (map abstract_deal_touch) c.deref-3.ensures.value in
+    let there : map abstract_lot_change_row c.deref-4.result.now ≡ t.holding_history = ap (map abstract_lot_change_row) c.deref-4.ensures.value in (
+      (λ e. k.0 (sym left ∙ c.touches_equal.ensures.0 e ∙ there)),
+      (λ e. c.touches_equal.ensures.1 (left ∙ k.1 e ∙ sym there)),
+    )

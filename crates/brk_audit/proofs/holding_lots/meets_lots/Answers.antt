@@ -36,29 +36,27 @@ final_lots-requires-clause-priced c =
 
 pub returns : goal.returns
 unfolding ConditionHolds
-returns c = record {
-  value = λ schema.
-      let t : Tables = abstract_sheets c.args.sheets.now in
-      let done = c.deref-2.result.now in
-      let held = c.in_ok-held.held.items in
-      let sorted = c.sort_unstable_by_key.new.self.items in
-      let p : IsPermutation (completed_trade_rows t) (map seen done) =
-      rows_moved c.args.sheets.now.trades.items c.deref.result.now t c.in_ok-done.done.items done c.deref.ensures.value c.deref-2.ensures.value
-      (λ i. map abstract_trade_row c.args.sheets.now.trades.items) c.in_ok-done.ensures.done in
-      let o : Sorted is_before_by_position (map seen done) =
-      sorted_map is_before_by_position seen done
-      (subst (Sorted (λ r s. is_before_by_position (seen r) (seen s))) (sym c.deref-2.ensures.value)
-      (sorted_by (λ r s. is_before_by_position (seen r) (seen s)) (place_order seen) c.in_ok-done.done.items c.in_ok-done.ensures.order)) in
-      let q : IsPermutation (map abstract_holding_row held) (map abstract_holding_row sorted) = IsPermutation-map abstract_holding_row held sorted c.sort_unstable_by_key.ensures.permutation in
-      let n : IsNonDecreasingBy (λ (h : code.HoldingRow). h.trade) sorted =
-      IsNonDecreasingBy-from_sort_by_key (λ (h : code.HoldingRow). h.trade) _ c.sort_unstable_by_key.ensures.sorted (λ a r b k. search rules) in
-      let a : Ascends (λ h. h.trade) (map abstract_holding_row sorted) = ascends_map (λ (h : HoldingRow). h.trade) abstract_holding_row sorted (ascends (λ (h : code.HoldingRow). h.trade) sorted n) in
-      let k : map abstract_holding_row sorted ≡ (expected_tables schema t).holdings =
-      lots_told schema t c.requires.form c.requires.status (map seen done) (map abstract_holding_row held) (map abstract_holding_row sorted) p o
-      c.in_ok-held.ensures.left q a in
-      let left : map abstract_holding_row c.deref-3.result.now ≡ map abstract_holding_row sorted = ap (map abstract_holding_row) c.deref-3.ensures.value in
-      let there : map abstract_holding_row c.deref-4.result.now ≡ t.holdings = ap (map abstract_holding_row) c.deref-4.ensures.value in (
-        (λ e. sym there ∙ sym (c.holdings_equal.ensures.0 e) ∙ left ∙ k),
-        (λ e. c.holdings_equal.ensures.1 (left ∙ k ∙ sym e ∙ sym there)),
-      );
-}
+returns c = λ schema.
+    let t : Tables = abstract_sheets c.args.sheets.now in
+    let done = c.deref-2.result.now in
+    let held = c.in_ok-held.held.items in
+    let sorted = c.sort_unstable_by_key.new.self.items in
+    let p : IsPermutation (completed_trade_rows t) (map seen done) =
+    rows_moved c.args.sheets.now.trades.items c.deref.result.now t c.in_ok-done.done.items done c.deref.ensures.value c.deref-2.ensures.value
+    (λ i. map abstract_trade_row c.args.sheets.now.trades.items) c.in_ok-done.ensures.done in
+    let o : Sorted is_before_by_position (map seen done) =
+    sorted_map is_before_by_position seen done
+    (subst (Sorted (λ r s. is_before_by_position (seen r) (seen s))) (sym c.deref-2.ensures.value)
+    (sorted_by (λ r s. is_before_by_position (seen r) (seen s)) (place_order seen) c.in_ok-done.done.items c.in_ok-done.ensures.order)) in
+    let q : IsPermutation (map abstract_holding_row held) (map abstract_holding_row sorted) = IsPermutation-map abstract_holding_row held sorted c.sort_unstable_by_key.ensures.permutation in
+    let n : IsNonDecreasingBy (λ (h : code.HoldingRow). h.trade) sorted =
+    IsNonDecreasingBy-from_sort_by_key (λ (h : code.HoldingRow). h.trade) _ c.sort_unstable_by_key.ensures.sorted (λ a r b k. search rules) in
+    let a : Ascends (λ h. h.trade) (map abstract_holding_row sorted) = ascends_map (λ (h : HoldingRow). h.trade) abstract_holding_row sorted (ascends (λ (h : code.HoldingRow). h.trade) sorted n) in
+    let k : map abstract_holding_row sorted ≡ (expected_tables schema t).holdings =
+    lots_told schema t c.requires.form c.requires.status (map seen done) (map abstract_holding_row held) (map abstract_holding_row sorted) p o
+    c.in_ok-held.ensures q a in
+    let left : map abstract_holding_row c.deref-3.result.now ≡ map abstract_holding_row sorted = ap (map abstract_holding_row) c.deref-3.ensures.value in
+    let there : map abstract_holding_row c.deref-4.result.now ≡ t.holdings = ap (map abstract_holding_row) c.deref-4.ensures.value in (
+      (λ e. sym there ∙ sym (c.holdings_equal.ensures.0 e) ∙ left ∙ k),
+      (λ e. c.holdings_equal.ensures.1 (left ∙ k ∙ sym e ∙ sym there)),
+    )

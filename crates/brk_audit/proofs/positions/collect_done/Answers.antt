@@ -20,7 +20,5 @@ loop-row-preserved c =
     ]
 
 pub returns : goal.returns
-returns c = record {
-  done =
-      c.loop-row.invariant ∙ ap (λ rows. filter is_completed_trade_row (map abstract_trade_row rows)) (take_all c.loop-row.row-index c.args.trades.now c.loop-row-test.false);
-}
+returns c =
+    c.loop-row.invariant ∙ ap (λ rows. filter is_completed_trade_row (map abstract_trade_row rows)) (take_all c.loop-row.row-index c.args.trades.now c.loop-row-test.false)

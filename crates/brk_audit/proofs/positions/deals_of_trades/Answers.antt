@@ -12,7 +12,5 @@ loop-row-preserved c =
     c.loop-row.deals.items _ c.completed_deal.result c.loop-row-test.true c.row-item.is c.loop-row.invariant c.completed_deal.ensures c.in_ok-push.ensures.items
 
 pub returns : goal.returns
-returns c = record {
-  deals =
-      c.loop-row.invariant ∙ ap (map (λ row. deal_of_completed_row (abstract_trade_row row.now))) (take_all c.loop-row.row-index c.args.run.now c.loop-row-test.false);
-}
+returns c =
+    c.loop-row.invariant ∙ ap (map (λ row. deal_of_completed_row (abstract_trade_row row.now))) (take_all c.loop-row.row-index c.args.run.now c.loop-row-test.false)

@@ -6,11 +6,9 @@ use Rattle.brk_audit.proofs.SettlingHolds.{settlements_hold}
 use Rattle.brk_audit.proofs.settlements.meets_settlement.Goals as goal
 
 pub returns : goal.returns
-returns c = record {
-  value = λ schema.
-      let terms : HasTerms c.in_ok-terms.terms c.args.sheets.now.accounts.items =
-      λ id. c.in_ok-terms.ensures.terms id ∙ ap (λ accounts. option_map terms_of_account_row (find (λ a. a.account.id == id) accounts)) c.deref.ensures.value in
-      let law = settlements_hold schema c.args.sheets.now c.in_ok-terms.terms c.deref-2.result.now c.deref-3.result.now c.requires.form c.requires.status terms
-      c.deref-2.ensures.value c.deref-3.ensures.value in
-      ((λ h. law.0 (c.settlements_match_trades.ensures.0 h)), (λ h. c.settlements_match_trades.ensures.1 (law.1 h)));
-}
+returns c = λ schema.
+    let terms : HasTerms c.in_ok-terms.terms c.args.sheets.now.accounts.items =
+    λ id. c.in_ok-terms.ensures.terms id ∙ ap (λ accounts. option_map terms_of_account_row (find (λ a. a.account.id == id) accounts)) c.deref.ensures.value in
+    let law = settlements_hold schema c.args.sheets.now c.in_ok-terms.terms c.deref-2.result.now c.deref-3.result.now c.requires.form c.requires.status terms
+    c.deref-2.ensures.value c.deref-3.ensures.value in
+    ((λ h. law.0 (c.settlements_match_trades.ensures.0 h)), (λ h. c.settlements_match_trades.ensures.1 (law.1 h)))

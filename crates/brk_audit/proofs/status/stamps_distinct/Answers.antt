@@ -5,13 +5,11 @@ use Rattle.brk_audit.proofs.Walks.{apart_more, apart_moved, moved_told, not_apar
 use Rattle.brk_audit.proofs.status.stamps_distinct.Goals as goal
 
 pub returns-then-not-branch : goal.returns-then-not-branch
-returns-then-not-branch c = record {
-  value =
-      let h = c.row-item.result in
-      let no = sym c.in_ok-add_completion.ensures.new ∙ c.if-not-branch.true in
-      sym (not_distinct_front (told_stamps c.args.history.now) (moved_told c.args.moves.now)
-      (not_apart c.args.history.now c.loop-row.row-index h (contains nat_cmp c.loop-row.seen h.stamp) c.loop-row-test.true c.row-item.is (c.loop-row.invariant.seen h.stamp) no));
-}
+returns-then-not-branch c =
+    let h = c.row-item.result in
+    let no = sym c.in_ok-add_completion.ensures.new ∙ c.if-not-branch.true in
+    sym (not_distinct_front (told_stamps c.args.history.now) (moved_told c.args.moves.now)
+    (not_apart c.args.history.now c.loop-row.row-index h (contains nat_cmp c.loop-row.seen h.stamp) c.loop-row-test.true c.row-item.is (c.loop-row.invariant.seen h.stamp) no))
 
 pub loop-row-preserved : goal.loop-row-preserved
 loop-row-preserved c =
@@ -26,13 +24,11 @@ loop-row-preserved c =
     }
 
 pub returns-then-not-branch-2 : goal.returns-then-not-branch-2
-returns-then-not-branch-2 c = record {
-  value =
-      let r = c.movement-item.result in
-      let no = sym c.in_ok-add_movement.ensures.new ∙ c.if-not-branch-2.true in
-      sym (not_apart_moved (told_stamps c.args.history.now) c.args.moves.now c.loop-movement.movement-index r (contains nat_cmp c.loop-movement.seen r.stamp)
-      c.loop-movement-test.true c.movement-item.is (c.loop-movement.invariant.seen r.stamp) no);
-}
+returns-then-not-branch-2 c =
+    let r = c.movement-item.result in
+    let no = sym c.in_ok-add_movement.ensures.new ∙ c.if-not-branch-2.true in
+    sym (not_apart_moved (told_stamps c.args.history.now) c.args.moves.now c.loop-movement.movement-index r (contains nat_cmp c.loop-movement.seen r.stamp)
+    c.loop-movement-test.true c.movement-item.is (c.loop-movement.invariant.seen r.stamp) no)
 
 pub loop-movement-preserved : goal.loop-movement-preserved
 loop-movement-preserved c =

@@ -9,22 +9,18 @@ use Rattle.brk_audit_form.proofs.CashNames.{all_not}
 use Rattle.brk_audit_form.proofs.cash_forms.are_valid_cash_rows.Goals as goal
 
 pub returns-then-not-is_formed : goal.returns-then-not-is_formed
-returns-then-not-is_formed c = record {
-  value =
-      let s = c.args.sheets.now in
-      let t = abstract_sheets s in
-      sym (list_all-map (is_well_formed_cash_move_row t) abstract_cash_row s.moves.items ∙ ap (list_all (λ r. is_well_formed_cash_move_row t (abstract_cash_row r))) (sym c.deref-row-items.ensures.value)
-      ∙ all_not (λ r. is_well_formed_cash_move_row t (abstract_cash_row r)) c.deref-row-items.result.now c.loop-row.row-index c.row-item.result c.loop-row-test.true c.row-item.is
-      (sym c.in_ok-is_formed.ensures.value ∙ c.if-not-is_formed.true));
-}
+returns-then-not-is_formed c =
+    let s = c.args.sheets.now in
+    let t = abstract_sheets s in
+    sym (list_all-map (is_well_formed_cash_move_row t) abstract_cash_row s.moves.items ∙ ap (list_all (λ r. is_well_formed_cash_move_row t (abstract_cash_row r))) (sym c.deref-row-items.ensures.value)
+    ∙ all_not (λ r. is_well_formed_cash_move_row t (abstract_cash_row r)) c.deref-row-items.result.now c.loop-row.row-index c.row-item.result c.loop-row-test.true c.row-item.is
+    (sym c.in_ok-is_formed.ensures.value ∙ c.if-not-is_formed.true))
 
 pub returns : goal.returns
-returns c = record {
-  value =
-      let s = c.args.sheets.now in
-      let t = abstract_sheets s in
-      sym (list_all-map (is_well_formed_cash_move_row t) abstract_cash_row s.moves.items
-      ∙ ap (list_all (λ r. is_well_formed_cash_move_row t (abstract_cash_row r)))
-      (sym c.deref-row-items.ensures.value ∙ sym (take_all c.loop-row.row-index c.deref-row-items.result.now c.loop-row-test.false))
-      ∙ c.loop-row.invariant);
-}
+returns c =
+    let s = c.args.sheets.now in
+    let t = abstract_sheets s in
+    sym (list_all-map (is_well_formed_cash_move_row t) abstract_cash_row s.moves.items
+    ∙ ap (list_all (λ r. is_well_formed_cash_move_row t (abstract_cash_row r)))
+    (sym c.deref-row-items.ensures.value ∙ sym (take_all c.loop-row.row-index c.deref-row-items.result.now c.loop-row-test.false))
+    ∙ c.loop-row.invariant)

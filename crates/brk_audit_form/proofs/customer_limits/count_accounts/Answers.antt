@@ -22,7 +22,5 @@ loop-row-preserved c = λ q.
     ∙ sym (length-filter_more (λ a. a.account.customer == q) rows i c.row-item.result c.loop-row-test.true)
 
 pub returns : goal.returns
-returns c = record {
-  counts = λ q.
-      c.loop-row.invariant q ∙ ap (λ l. length (filter (λ a. a.account.customer == q) l)) (take_all c.loop-row.row-index c.args.accounts.now c.loop-row-test.false);
-}
+returns c = λ q.
+    c.loop-row.invariant q ∙ ap (λ l. length (filter (λ a. a.account.customer == q) l)) (take_all c.loop-row.row-index c.args.accounts.now c.loop-row-test.false)

@@ -7,11 +7,9 @@ use Rattle.brk_audit_form.proofs.OwnRows.{not_own, own_more, seen_more, trades}
 use Rattle.brk_audit_form.proofs.own_rows.trades_differ.Goals as goal
 
 pub returns-then-not-branch : goal.returns-then-not-branch
-returns-then-not-branch c = record {
-  value =
-      let no = sym c.in_ok-insert_trade.ensures.new ∙ c.if-not-branch.true in
-      sym (not_own c.args.moves.now c.loop-row.row-index c.row-item.result (contains nat_cmp c.loop-row.seen) c.loop-row-test.true c.row-item.is c.loop-row.invariant.seen no);
-}
+returns-then-not-branch c =
+    let no = sym c.in_ok-insert_trade.ensures.new ∙ c.if-not-branch.true in
+    sym (not_own c.args.moves.now c.loop-row.row-index c.row-item.result (contains nat_cmp c.loop-row.seen) c.loop-row-test.true c.row-item.is c.loop-row.invariant.seen no)
 
 pub loop-row-preserved : goal.loop-row-preserved
 loop-row-preserved c =
@@ -25,7 +23,5 @@ loop-row-preserved c =
     }
 
 pub returns : goal.returns
-returns c = record {
-  value =
-      sym (ap (λ rs. all_distinct (trades rs)) (sym (take_all c.loop-row.row-index c.args.moves.now c.loop-row-test.false)) ∙ c.loop-row.invariant.own);
-}
+returns c =
+    sym (ap (λ rs. all_distinct (trades rs)) (sym (take_all c.loop-row.row-index c.args.moves.now c.loop-row-test.false)) ∙ c.loop-row.invariant.own)

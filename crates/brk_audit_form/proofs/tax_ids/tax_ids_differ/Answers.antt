@@ -14,17 +14,15 @@ forth a false e f = refl
 forth a true e f = absurd (cc)
 
 pub returns-then-not-added : goal.returns-then-not-added
-returns-then-not-added c = record {
-  value =
-      let xs = c.args.customers.now in
-      let i = c.loop-customer.customer-index in
-      let x = c.customer-item.result in
-      let key = c.as_str-tax_id.result in
-      let there = back _ _ c.in_ok-added.ensures.added c.if-not-added.true in
-      sym (own_not xs i x c.loop-customer-test.true c.customer-item.is
-      (sym (ap (λ k. list_any (λ d. bytes_eq k d.tax_id) (take i xs)) c.as_str-tax_id.ensures) ∙ sym (c.loop-customer.invariant.seen key) ∙ there))
-      ∙ own-mapped xs;
-}
+returns-then-not-added c =
+    let xs = c.args.customers.now in
+    let i = c.loop-customer.customer-index in
+    let x = c.customer-item.result in
+    let key = c.as_str-tax_id.result in
+    let there = back _ _ c.in_ok-added.ensures.added c.if-not-added.true in
+    sym (own_not xs i x c.loop-customer-test.true c.customer-item.is
+    (sym (ap (λ k. list_any (λ d. bytes_eq k d.tax_id) (take i xs)) c.as_str-tax_id.ensures) ∙ sym (c.loop-customer.invariant.seen key) ∙ there))
+    ∙ own-mapped xs
 
 pub loop-customer-preserved : goal.loop-customer-preserved
 loop-customer-preserved c =
@@ -40,7 +38,5 @@ loop-customer-preserved c =
     }
 
 pub returns : goal.returns
-returns c = record {
-  value =
-      sym (ap are_own (sym (take_all c.loop-customer.customer-index c.args.customers.now c.loop-customer-test.false)) ∙ c.loop-customer.invariant.own) ∙ own-mapped c.args.customers.now;
-}
+returns c =
+    sym (ap are_own (sym (take_all c.loop-customer.customer-index c.args.customers.now c.loop-customer-test.false)) ∙ c.loop-customer.invariant.own) ∙ own-mapped c.args.customers.now

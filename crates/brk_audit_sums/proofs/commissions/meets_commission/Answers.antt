@@ -20,22 +20,20 @@ use Rattle.brk_audit_sums.proofs.SumRows.{commissions_by_rows}
 use Rattle.brk_audit_sums.proofs.commissions.meets_commission.Goals as goal
 
 pub returns : goal.returns
-returns c = record {
-  value = λ schema.
-      let s : Sheets = c.args.sheets.now in
-      let t : Tables = abstract_sheets s in
-      let terms : BTreeMap ℕ AccountTerms = c.in_ok-terms.terms in
-      let has : HasTerms terms s.accounts.items = λ id. c.in_ok-terms.ensures.terms id ∙ ap (λ rows. option_map terms_of_account_row (find (λ a. a.account.id == id) rows)) c.deref.ensures.value in
-      let sum : (q : ℕ) → sum_at_key nat_cmp c.in_ok-sums.sums q ≡ sum_over_broker_trades t (λ r. pos r.commission) q =
-      broker_sums s terms (λ r. pos r.commission) c.in_ok-sums.sums c.in_ok-postings.postings.items has
-      (λ q. c.in_ok-sums.ensures.sums q ∙ ap (λ ps. total_amount_at_key nat_cmp ps q) c.deref-3.ensures.value)
-      (c.in_ok-postings.ensures.all
-      ∙ ap (filter_map (λ r. broker_posting_of_trade_row (account_broker_in_terms terms) (abstract_trade_row r) (pos (abstract_trade_row r).commission)))
-      c.deref-2.ensures.value) in
-      told_by (λ row. pos row.commissions ≡ sum_at_key nat_cmp c.in_ok-sums.sums row.broker.id)
-      (λ row. pos row.commissions ≡ sum_over_broker_trades t (λ r. pos r.commission) row.id) abstract_broker_row s.brokers.items c.deref-4.result.now
-      c.deref-4.ensures.value c.all_match_sums.ensures
-      (λ row e. e ∙ sum row.broker.id)
-      (λ row e. e ∙ sym (sum row.broker.id))
-      (commissions_by_rows schema t (key_parts t (form_parts c.requires.form.schema t c.requires.form.form).keys).brokers c.requires.status);
-}
+returns c = λ schema.
+    let s : Sheets = c.args.sheets.now in
+    let t : Tables = abstract_sheets s in
+    let terms : BTreeMap ℕ AccountTerms = c.in_ok-terms.terms in
+    let has : HasTerms terms s.accounts.items = λ id. c.in_ok-terms.ensures.terms id ∙ ap (λ rows. option_map terms_of_account_row (find (λ a. a.account.id == id) rows)) c.deref.ensures.value in
+    let sum : (q : ℕ) → sum_at_key nat_cmp c.in_ok-sums.sums q ≡ sum_over_broker_trades t (λ r. pos r.commission) q =
+    broker_sums s terms (λ r. pos r.commission) c.in_ok-sums.sums c.in_ok-postings.postings.items has
+    (λ q. c.in_ok-sums.ensures.sums q ∙ ap (λ ps. total_amount_at_key nat_cmp ps q) c.deref-3.ensures.value)
+    (c.in_ok-postings.ensures.all
+    ∙ ap (filter_map (λ r. broker_posting_of_trade_row (account_broker_in_terms terms) (abstract_trade_row r) (pos (abstract_trade_row r).commission)))
+    c.deref-2.ensures.value) in
+    told_by (λ row. pos row.commissions ≡ sum_at_key nat_cmp c.in_ok-sums.sums row.broker.id)
+    (λ row. pos row.commissions ≡ sum_over_broker_trades t (λ r. pos r.commission) row.id) abstract_broker_row s.brokers.items c.deref-4.result.now
+    c.deref-4.ensures.value c.all_match_sums.ensures
+    (λ row e. e ∙ sum row.broker.id)
+    (λ row e. e ∙ sym (sum row.broker.id))
+    (commissions_by_rows schema t (key_parts t (form_parts c.requires.form.schema t c.requires.form.form).keys).brokers c.requires.status)

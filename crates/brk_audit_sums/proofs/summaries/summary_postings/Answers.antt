@@ -11,7 +11,5 @@ loop-row-preserved c =
     c.summary_posting.result c.loop-row-test.true c.row-item.is c.loop-row.invariant c.summary_posting.ensures c.in_ok-push.ensures.items
 
 pub returns : goal.returns
-returns c = record {
-  all =
-      c.loop-row.invariant ∙ ap (map (λ r. share_posting_of_summary (abstract_summary_row r))) (take_all c.loop-row.row-index c.args.rows.now c.loop-row-test.false);
-}
+returns c =
+    c.loop-row.invariant ∙ ap (map (λ r. share_posting_of_summary (abstract_summary_row r))) (take_all c.loop-row.row-index c.args.rows.now c.loop-row-test.false)

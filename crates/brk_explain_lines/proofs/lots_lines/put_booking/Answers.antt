@@ -6,4 +6,4 @@ use Rattle.brk_explain_lines.proofs.lots_lines.put_booking.Goals as goal
 
 pub returns : goal.returns
 unfolding lot_and_gain_lines lot_closing_lines
-returns c = record { ok = search (rules, append_assoc, flat_map-append) }
+returns c = search (rules, append_assoc, flat_map-append)

@@ -6,4 +6,4 @@ use Rattle.brk_explain_lines.proofs.order_lines.put_order_lines.Goals as goal
 
 pub returns : goal.returns
 unfolding order_and_status_lines
-returns c = record { ok = search (rules, append_assoc, flat_map-append) }
+returns c = search (rules, append_assoc, flat_map-append)

@@ -6,4 +6,4 @@ use Rattle.brk_explain_lines.proofs.tax_lines.put_tax_lines.Goals as goal
 
 pub returns : goal.returns
 unfolding trade_tax_lines
-returns c = record { ok = search (rules, append_assoc, flat_map-append) }
+returns c = search (rules, append_assoc, flat_map-append)

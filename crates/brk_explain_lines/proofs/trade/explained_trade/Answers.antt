@@ -6,4 +6,4 @@ use Rattle.brk_explain_lines.proofs.trade.explained_trade.Goals as goal
 
 pub returns : goal.returns
 unfolding trade_explanation_lines
-returns c = record { text = search (rules, append_assoc, flat_map-append) }
+returns c = search (rules, append_assoc, flat_map-append)

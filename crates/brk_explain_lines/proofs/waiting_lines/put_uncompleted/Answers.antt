@@ -5,4 +5,4 @@ use Rattle.brk_explain_lines.proofs.waiting_lines.put_uncompleted.Goals as goal
 
 pub returns : goal.returns
 unfolding uncompleted_trade_lines
-returns c = record { ok = search (rules, append_assoc, length-map) }
+returns c = search (rules, append_assoc, length-map)

@@ -10,17 +10,13 @@ use Rattle.brk_ref_orders.proofs.order.parse_trade_order.Goals as goal
 use Rattle.brk_ref_orders.proofs.order.parse_trade_order.Goals.{in_default-via-then-fields-lt10, in_default-via-else-fields-lt10+else-fields-lt11}
 
 pub returns-in_default : goal.returns-in_default
-returns-in_default c = record {
-  read =
-      elim c.in_default.branch [
-        | in_default-via-then-fields-lt10 w ↦ not_order c.args.fields.now (λ e. omega (arith, ltb-true, ltb-false))
-        | in_default-via-else-fields-lt10+else-fields-lt11 w ↦ not_order c.args.fields.now (λ e. omega (arith, ltb-true, ltb-false))
-      ];
-}
+returns-in_default c =
+    elim c.in_default.branch [
+      | in_default-via-then-fields-lt10 w ↦ not_order c.args.fields.now (λ e. omega (arith, ltb-true, ltb-false))
+      | in_default-via-else-fields-lt10+else-fields-lt11 w ↦ not_order c.args.fields.now (λ e. omega (arith, ltb-true, ltb-false))
+    ]
 
 pub returns : goal.returns
-returns c = record {
-  read =
-      subst (λ (told : List Text). IfOk c.order_of_fields.result (λ read. ParsesAs abstract_order read (read_order told)))
-      (ten_texts c.args.fields.now _ (omega (arith, c.in-len10.len_at_least, c.in-len10.len_below))) c.order_of_fields.ensures.read;
-}
+returns c =
+    subst (λ (told : List Text). IfOk c.order_of_fields.result (λ read. ParsesAs abstract_order read (read_order told)))
+    (ten_texts c.args.fields.now _ (omega (arith, c.in-len10.len_at_least, c.in-len10.len_below))) c.order_of_fields.ensures

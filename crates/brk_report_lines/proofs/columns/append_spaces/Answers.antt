@@ -7,4 +7,4 @@ take_replicate (suc n) zero h = absurd (omega (arith, h))
 take_replicate (suc n) (suc m) h = ap (λ (l : List ℕ). 32 ∷ l) (take_replicate n m (omega (arith, h)))
 
 pub returns : goal.returns
-returns c = record { ok = c.in_ok-extend_from_slice.ensures.items ∙ ap (λ (l : List ℕ). c.args.out.now.items ++ l) (take_replicate c.args.count 22 c.requires) }
+returns c = c.in_ok-extend_from_slice.ensures.items ∙ ap (λ (l : List ℕ). c.args.out.now.items ++ l) (take_replicate c.args.count 22 c.requires)

@@ -12,4 +12,4 @@ returns-in_default-clause-stops g c = ([], open_lot_line (abstract_holding_row c
 pub returns-in_err-write_line-clause-stops : goal.returns-in_err-write_line-clause-stops
 returns-in_err-write_line-clause-stops g c =
     on_err (FailsWithinLines (open_lot_line (abstract_holding_row c.args.item.now) ∷ []) _ _) _ _ c.from_residual.ensures.1
-    (c.in_err-write_line.ensures.written (open_lot_line (abstract_holding_row c.args.item.now)) c.open_lot_text.ensures.line)
+    (c.in_err-write_line.ensures.written (open_lot_line (abstract_holding_row c.args.item.now)) c.open_lot_text.ensures)

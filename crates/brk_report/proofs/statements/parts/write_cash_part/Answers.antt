@@ -23,7 +23,7 @@ returns-in_err-write_line-clause-written g c = λ clean t holds.
     (breaks_behind (opening_and_cash_lines t c.args.account c.args.from c.args.to c.args.opening) (amount_line (codes "Closing") closing ∷ []) _ _ _ _ done.0
     (subst (λ (z : ℤ). FailsWithinLines (amount_line (codes "Closing") z ∷ []) (g.W.Write.contents c.write_cash_lines.new.writer)
     (g.W.Write.contents c.write_line.new.writer) c.in_err-write_line.field-0.0) done.2
-    (c.in_err-write_line.ensures.written (amount_line (codes "Closing") c.in_ok-moved.moved.total) c.amount_line.ensures.line)))
+    (c.in_err-write_line.ensures.written (amount_line (codes "Closing") c.in_ok-moved.moved.total) c.amount_line.ensures)))
 
 pub returns-clause-written : goal.returns-clause-written
 returns-clause-written g c = λ clean t holds.
@@ -33,6 +33,6 @@ returns-clause-written g c = λ clean t holds.
       then_all (opening_and_cash_lines t c.args.account c.args.from c.args.to c.args.opening) (amount_line (codes "Closing") closing ∷ []) _ _ _ done.0
           (subst (λ (z : ℤ). Appends (g.W.Write.contents c.write_cash_lines.new.writer) (g.W.Write.contents c.write_line.new.writer)
           (text_of_lines (amount_line (codes "Closing") z ∷ []))) done.2
-          (c.in_ok-write_line.ensures.written (amount_line (codes "Closing") c.in_ok-moved.moved.total) c.amount_line.ensures.line)),
+          (c.in_ok-write_line.ensures.written (amount_line (codes "Closing") c.in_ok-moved.moved.total) c.amount_line.ensures)),
       done.1,
     )

@@ -19,7 +19,7 @@ returns-in_err-write_line-clause-written g c = λ clean t holds.
     (amount_line (codes "Holdings") c.args.holdings
     ∷ (codes "Cash rows " ++ decimal c.args.cash ++ codes ", lots " ++ decimal (length (holding_rows_of_account t c.args.account))) ∷ []) _ _ _ _
     (c.in_ok-lots.ensures.written clean t holds).0
-    (line_first _ _ _ _ _ (c.in_err-write_line.ensures.written (amount_line (codes "Holdings") c.args.holdings) c.amount_line.ensures.line)))
+    (line_first _ _ _ _ _ (c.in_err-write_line.ensures.written (amount_line (codes "Holdings") c.args.holdings) c.amount_line.ensures)))
 
 pub returns-clause-written : goal.returns-clause-written
 returns-clause-written g c = λ clean t holds.
@@ -29,7 +29,7 @@ returns-clause-written g c = λ clean t holds.
     ∷ (codes "Cash rows " ++ decimal c.args.cash ++ codes ", lots " ++ decimal (length (holding_rows_of_account t c.args.account))) ∷ []) _ _ _ _ lots.0
     (behind (amount_line (codes "Holdings") c.args.holdings ∷ [])
     ((codes "Cash rows " ++ decimal c.args.cash ++ codes ", lots " ++ decimal (length (holding_rows_of_account t c.args.account))) ∷ []) _ _ _ _
-    (c.in_ok-write_line.ensures.written (amount_line (codes "Holdings") c.args.holdings) c.amount_line.ensures.line)
+    (c.in_ok-write_line.ensures.written (amount_line (codes "Holdings") c.args.holdings) c.amount_line.ensures)
     (subst (λ (n : ℕ). WritesLines ((codes "Cash rows " ++ decimal c.args.cash ++ codes ", lots " ++ decimal n) ∷ [])
     (g.W.Write.contents c.write_line.new.writer) (g.W.Write.contents c.write_line-2.new.writer) c.write_line-2.result) lots.1
-    (c.write_line-2.ensures.written (codes "Cash rows " ++ decimal c.args.cash ++ codes ", lots " ++ decimal c.in_ok-lots.lots) c.row_counts_line.ensures.line)))
+    (c.write_line-2.ensures.written (codes "Cash rows " ++ decimal c.args.cash ++ codes ", lots " ++ decimal c.in_ok-lots.lots) c.row_counts_line.ensures)))

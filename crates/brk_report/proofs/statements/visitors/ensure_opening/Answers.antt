@@ -7,4 +7,4 @@ pub returns-then-is_written : goal.returns-then-is_written
 returns-then-is_written g c = rw c.if-is_written.true (appends_none _)
 
 pub returns : goal.returns
-returns g c = rw c.if-is_written.false (c.write_line.ensures.written (amount_line (codes "Opening") c.args.opening) c.amount_line.ensures.line)
+returns g c = rw c.if-is_written.false (c.write_line.ensures.written (amount_line (codes "Opening") c.args.opening) c.amount_line.ensures)
