@@ -196,7 +196,7 @@ use Rattle.sqlite_draft.specs.declared.join.Step.TheVariants.{{Inner}}
 use Rattle.sqlite_draft.specs.declared.query.Draft.{{Draft}}
 use Rattle.sqlite_draft.specs.Query.{{query_of}}
 use Rattle.sqlite_tied.specs.Compute.{{everything}}
-use Rattle.brk_tables_sql.specs.Partly.{{sql_lowering_definitions}}
+use Rattle.brk_tables_sql.proofs.Partly.{{sql_lowering_definitions}}
 use Rattle.brk_tables_sql.specs.Desk.{{integer_column, text_column, nullable_integer_column, IsTableAt}}
 use Rattle.brk_tables_sql.proofs.Meant.{{meant, inserts, updates_or, deletes_or, reads_or}}
 use Rattle.brk_tables_sql.proofs.Pick.{{selection, whole_page}}
@@ -405,7 +405,9 @@ plain = asks_plainly {shape(t)} statement ask paging is_asked
 
 
 def shapes():
-    out = """-- Written by tools/generate/tables.py: the definition of each table, with its rows at any tree.
+    out = """-- Written by tools/generate/tables.py: the definition of each table: its columns, its primary key, and
+-- its UNIQUE constraints and foreign keys, if any. The database stores its rows under the number
+-- `tree`.
 use Rattle.std.specs.Prelude.{ℕ, List, [], ◌∷◌, codes, Some, None}
 use Rattle.sqlite_schema.specs.declared.schema.Table.{Table}
 use Rattle.brk_tables_sql.specs.Desk.{text_column, integer_column, nullable_integer_column, foreign_key, table_without_checks}
@@ -421,7 +423,7 @@ use Rattle.brk_tables_sql.specs.Desk.{text_column, integer_column, nullable_inte
         refs = [f'foreign_key {spot(i)} ({q(r.split(".")[0])}) ({q(r.split(".")[1])})' for i, (c, k, _, r) in enumerate(cols) if r]
         refs = f'({lst(refs)})' if len(lst(refs)) < 130 else '\n    (' + folded('', refs + ['[]'], '∷').strip() + ')'
         out += f"""
-{remark(f'The definition of the table {sql}, whose rows the database stores under the number `tree`: its columns, its primary key, and its UNIQUE constraints and foreign keys, if any.')}
+-- The definition of the table {sql}.
 abbrev pub {shape(t)} : ℕ → Table
 {shape(t)} tree = table_without_checks ({q(sql)}) tree{cs}
     {'(Some 0)' if rowkey else 'None'} ({primary}) ({lst(uniques)}) {refs}
@@ -1341,8 +1343,7 @@ abbrev pub IsUnchangedAndOpen : State → State → Type 0
 IsUnchangedAndOpen old new = IsTrue old.is_open × (new.now ≡ old.now)
 
 -- The database was open, and the reads changed nothing. The lists `a`, `b`, `c` and `d` are all
--- rows of the tables `first`, `second`, `third` and `fourth` (`ShowsAllRows`). The clause on a
--- table is vacuous if the database does not define it as a desk does.
+-- rows of the tables `first`, `second`, `third` and `fourth` (`ShowsAllRows`).
 pub record ShowsFourTables (first second third fourth : DeskTable) (a b c d : List Row) (old new : State) : Type 0 where
   pub stays : IsUnchangedAndOpen old new
   pub one : ShowsAllRows first a old.now
@@ -1352,22 +1353,19 @@ pub record ShowsFourTables (first second third fourth : DeskTable) (a b c d : Li
 """
     for word, _, _, tables in groups()[1:-1]:
         out += f"""
-{remark(f'The database was open, the reads changed nothing, and the raw rows are all rows of {named(tables)} (`ShowsAllRows`). The clause on a table is vacuous if the database does not define it as a desk does.')}
+{remark(f'`ShowsFourTables` of the raw rows of {named(tables)}.')}
 abbrev pub Shows{word}Tables : {word}Rows → State → State → Type 0
 Shows{word}Tables raw = ShowsFourTables {' '.join(d[2] for d in tables)} {' '.join(f'raw.{raw_field(d)}.items' for d in tables)}
 """
     out += f"""
 -- The reads changed nothing. The lists `a` and `b` are all rows of CASH_MOVE and SETTLE_RULE, or
--- none of a table that the schema `desk` does not have (`ShowsRowsIfInSchema`). The clause on a
--- table is vacuous if the database does not define it as a desk does.
+-- none of a table that the schema `desk` does not have (`ShowsRowsIfInSchema`).
 pub record ShowsTwoLaterTables (desk : Schema) (a b : List Row) (old new : State) : Type 0 where
   pub same : new.now ≡ old.now
   pub moves : ShowsRowsIfInSchema desk CashMoves a old.now
   pub rule : ShowsRowsIfInSchema desk SettleRules b old.now
 
--- The reads changed nothing, and the raw rows are all rows of CASH_MOVE and SETTLE_RULE, or none of
--- a table that the schema `desk` does not have (`ShowsTwoLaterTables`). The clause on a table is
--- vacuous if the database does not define it as a desk does.
+-- `ShowsTwoLaterTables` of the raw rows of CASH_MOVE and SETTLE_RULE.
 abbrev pub ShowsLaterTables : Schema → LaterRows → State → State → Type 0
 ShowsLaterTables desk raw = ShowsTwoLaterTables desk raw.moves.items raw.rule.items
 
@@ -1375,9 +1373,8 @@ ShowsLaterTables desk raw = ShowsTwoLaterTables desk raw.moves.items raw.rule.it
 abbrev pub raw_rows_of_table : List Row → RawSheets → DeskTable → List Row
 {chr(10).join(f'raw_rows_of_table kept raw {d[2]} = ' + ('kept' if d[0] == 'kept' else f'raw.{field}.{raw_field(d)}.items') for _, field, _, tables in groups() for d in tables)}
 
--- The database was open, and its contents are unchanged. The raw rows are all rows of each table of
--- the schema `desk`, and none of other tables (`ShowsRowsIfInSchema`). The clause on a table is
--- vacuous if the database does not define it as a desk does.
+-- The database was open, and the reads changed nothing. The raw rows are all rows of each table of
+-- the schema `desk`, and none of other tables (`ShowsRowsIfInSchema`).
 pub record ShowsAllTables (desk : Schema) (kept : List Row) (raw : RawSheets) (a b : State) : Type 0 where
   pub stays : IsUnchangedAndOpen a b
   pub shown : (w : DeskTable) → ShowsRowsIfInSchema desk w (raw_rows_of_table kept raw w) a.now
@@ -1403,7 +1400,7 @@ def decoded_group(word, field, tables):
 pub record Decodes{word}Tables {'(schema : Schema) ' if first else ''}(sheets : {word}Sheets) (raw : {word}Rows) : Type 0 where
 {fields}
 
-{remark(f'True if each raw row of {named(unkept)} has exactly the columns of its table, each well-formed (`passes_all_cell_checks`)' + counted)}
+{remark('True if each of these raw rows is well-formed (`passes_all_cell_checks`)' + counted)}
 abbrev pub are_{words_of(word)}_rows_well_formed : {'Schema → ' if first else ''}{word}Rows → Bool
 {folded(f'are_{words_of(word)}_rows_well_formed ' + ('desk ' if first else '') + 'raw =', [form(d) for d in unkept], '&&')}
 """
@@ -1434,13 +1431,11 @@ use Rattle.brk_tables_scan.specs.declared.all_tables.RawSheets.{{RawSheets}}
     out += ''.join(decoded_group(word, field, tables) for word, field, _, tables in groups())
     desk = lambda word: 'desk ' if word == 'Owner' else ''
     out += f"""
--- True if each raw row of each table but KEPT has exactly the columns of its table, each well-formed
--- (`passes_all_cell_checks`), there is exactly one row of DESK, with the number of the schema
--- `desk`, and there is at most one row of SETTLE_RULE.
+-- True if the raw rows of each table but KEPT are well-formed.
 abbrev pub are_raw_rows_well_formed : Schema → RawSheets → Bool
 {folded('are_raw_rows_well_formed desk raw =', [f'are_{words_of(word)}_rows_well_formed {desk(word)}raw.{field}' for word, field, _ in GROUPS], '&&')}
 
--- True if each row of KEPT has exactly the columns of its table, each well-formed.
+-- True if each row of KEPT is well-formed.
 abbrev pub are_kept_rows_well_formed : List Row → Bool
 are_kept_rows_well_formed kept = list_all (passes_all_cell_checks kept_column_cell_checks) kept
 
@@ -1451,9 +1446,7 @@ are_raw_sheets_well_formed desk kept raw = are_kept_rows_well_formed kept && are
 
 -- The raw rows of each table are, in order, the encodings of the typed rows `sheets`. Of KEPT,
 -- `sheets` has the keys alone: the raw rows of KEPT are, in order, the encodings of `whole`, typed
--- rows with these keys and any texts. DESK has exactly one row, with the id 1 and the number of the
--- schema `desk`. SETTLE_RULE has one row if `sheets` has a first day of one-day settlement,
--- otherwise none.
+-- rows with these keys and any texts.
 pub record DecodesSheets (desk : Schema) (kept : List Row) (sheets : Sheets) (raw : RawSheets) : Type 0 where
   pub whole : List typed.Kept
   pub keys : keys_of_kept_rows whole ≡ map abstract_key sheets.kept.items
@@ -1469,18 +1462,13 @@ DecodesRows desk sheets raw = (kept : List Row) → AreKeysOfRawRows raw.owners.
 -- well-formed. If `new` is true, `old` is true and `Decodes` holds. If `new` is false, `old` or
 -- `are_well_formed` is false.
 pub record ContinuesDecoding (old new are_well_formed : Bool) (Decodes : Type 0) : Type 0 where
-  -- If the flag is true after the step, it was true before it.
   pub before : new ≡ true → old ≡ true
-  -- If the flag is true after the step, the step decodes its rows.
   pub value : new ≡ true → Decodes
-  -- If the flag is false after the step, it was false before it, or the rows of the step are not
-  -- well-formed.
   pub form : new ≡ false → (old ≡ false) ⊎ (are_well_formed ≡ false)
 
 -- The reads, from the state `a` to the state `b`, return all rows of DESK, BROKER and CUSTOMER, and
--- the keys of `kept`, all rows of KEPT, from an open database (`ShowsAllRows`), and leave its
--- contents unchanged. The flag is `old` before the keys are decoded and `new` after it. The clause
--- on the rows of a table is vacuous if the database does not define it as a desk does.
+-- the keys of `kept`, all rows of KEPT (`ShowsFourTables`). The flag is `old` before the keys are
+-- decoded and `new` after it.
 pub record ReadsOwnerTables (old new : Bool) (raw : OwnerRows) (a b : State) : Type 0 where
   pub kept : List Row
   pub shown : ShowsFourTables TheDesk KeptRows Brokers Customers raw.desk.items kept raw.brokers.items raw.customers.items a b
@@ -1495,11 +1483,8 @@ pub record ReadsRawSheets (desk : Schema) (old new : Bool) (raw : RawSheets) (a 
   pub keys : ContinuesDecoding old new (are_kept_rows_well_formed kept) (AreKeysOfRawRows raw.owners.kept.items kept)
 
 -- The reads, from the state `a` to the state `b`, return all rows of each table of the schema
--- `desk`, and none of other tables (`ShowsRowsIfInSchema`). The database was open, and its contents
--- are unchanged. If the flag `new` after the decoding is true, the flag `old` before it was true,
--- and the typed rows `sheets` are the decoded rows, but for the texts of KEPT. If `new` is false,
--- `old` was false or the rows are malformed (`are_raw_sheets_well_formed`). The clause on the rows
--- of a table is vacuous if the database does not define it as a desk does.
+-- `desk` (`ShowsAllTables`), and the typed rows `sheets` are the decoded rows, but for the texts of
+-- KEPT. The flag is `old` before the decoding and `new` after it.
 pub record ReadsAndDecodesDeskTables (desk : Schema) (old new : Bool) (sheets : Sheets) (a b : State) : Type 0 where
   pub kept : List Row
   pub raw : RawSheets

@@ -95,7 +95,7 @@ fn is_lot_of_position(row: &HoldingRow, account: Id, symbol: &Symbol, stamp: Sta
     row.account == account && row.symbol.as_str() == symbol.as_str() && row.stamp == stamp
 }
 
-// Fails with `Store` also if there is no such row.
+// Fails also if there is no such row.
 fn read_lot_of_age<S: Alter>(
     conn: &mut Connection<S>,
     account: Id,

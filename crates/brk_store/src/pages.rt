@@ -76,7 +76,7 @@ fn is_valid_lot_page(rows: &[HoldingRow]) -> bool
     rows.len() <= PAGE_SIZE && rows.iter().all(|row| row.qty != 0)
 }
 
-// Fails with `Store` also if the page has more than 16 rows or a lot without shares.
+// Fails also if the page has more than 16 rows or a lot without shares.
 fn read_valid_lot_page<S: Alter>(
     store: &mut Store<S>,
     alloc: Global,

@@ -16,8 +16,7 @@ use brk_tables_schema::calls::statement_compiles;
 use brk_trade_rows::Change;
 use sqlite::{Alter, Connection, Transaction};
 
-// A change of a row that does not exist changes nothing. The fault `Store` may also mean a broken
-// constraint of the table.
+// A change of a row that does not exist changes nothing.
 fn apply_change<S: Alter>(tx: &mut Transaction<'_, S>, change: &Change) -> Result<(), StoreFailed>
     ensures same_reference { tx.new.conn.ghost_name ≡ tx.old.conn.ghost_name }
     ensures step { IsTransactionStep (state S.Store tx.old.conn.now) (state S.Store tx.new.conn.now) result
@@ -106,8 +105,8 @@ fn apply_each_change<S: Alter>(
 /// Applies the changes in order in one transaction and commits it. The rows of other tables are
 /// unchanged, unless a foreign key of theirs changes or deletes them.
 ///
-/// Fails with `Store` only, also if a row to add breaks a constraint of its table or if the
-/// `sqlite` crate runs out of memory. A crash after `Ok` exposes the rows with all changes.
+/// Fails also if a row to add breaks a constraint of its table or if the `sqlite` crate runs out of
+/// memory. A crash after `Ok` exposes the rows with all changes.
 pub fn apply_changes<S: Alter>(
     conn: &mut Connection<S>,
     changes: &[Change],

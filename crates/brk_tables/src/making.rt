@@ -54,7 +54,7 @@ fn add_desk_row<S: Alter>(tx: &mut Transaction<'_, S>) -> Result<(), StoreFailed
 }
 
 /// Creates the tables of schema 3, empty but for the one row of DESK, with the schema number 3 and
-/// no stamp. Fails with `Store` also if a table with one of their names exists. After an error,
+/// no stamp. Fails also if a table with one of their names exists. After an error,
 /// some may exist in the transaction.
 pub fn create_desk_tables<S: Alter>(tx: &mut Transaction<'_, S>) -> Result<(), StoreFailed>
     ensures same_reference { tx.new.conn.ghost_name ≡ tx.old.conn.ghost_name }

@@ -40,9 +40,9 @@ fn move_cash_transactions<S: Alter>(
 
 /// Upgrades the tables of `schema`, with any rows, to schema 3: creates the missing tables, sets
 /// the number of the schema, and for schema 1 moves the rows of CASH_TRANSACTION to CASH_MOVE,
-/// numbered from 1 by stamp and then by trade, both ascending. Fails with `Memory` or `Store`, also
-/// if one of these rows is malformed or its trade does not exist; a part of the changes may then be
-/// made in the transaction.
+/// numbered from 1 by stamp and then by trade, both ascending. Fails also if one of these rows is
+/// malformed or its trade does not exist; a part of the changes may then be made in the
+/// transaction.
 ///
 /// The effect is specified only if the tables of `schema` exist, and none that a later schema adds.
 pub fn upgrade_tables<S: Alter>(

@@ -13,8 +13,7 @@ use std::alloc::Global;
 
 /// Returns `schema` and the typed rows of its tables, each list sorted by key, ascending; of KEPT
 /// it returns the keys alone. Returns `None` only if a row is malformed (the texts of KEPT must be
-/// UTF-8) or SETTLE_RULE has two rows or more, and only after all tables were read. Fails with
-/// `Memory` or `Store`.
+/// UTF-8) or SETTLE_RULE has two rows or more, and only after all tables were read.
 ///
 /// The result is specified only if the database has the schema (`database_has_schema`) and its
 /// tables are defined as a desk defines them.

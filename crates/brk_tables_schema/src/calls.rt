@@ -1,5 +1,5 @@
-//! Calls of the database within a transaction. They commit nothing, and fail with the fault `Store`
-//! only, for any error of the database; it is then unchanged or the transaction is rolled back.
+//! Calls of the database within a transaction. They commit nothing. At an error the database is
+//! unchanged or the transaction is rolled back.
 
 ghost use Rattle.std.specs.Prelude.{◌≡◌, ℕ, List, map, Ok, None, IsTrue};
 ghost use Rattle.std.specs.Borrow.{Bor};

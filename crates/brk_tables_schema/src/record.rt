@@ -27,8 +27,7 @@ pub trait Record: Drop {
         ensures form { result ≡ Err Formless → passes_all_cell_checks forms row.now ≡ false };
 }
 
-/// Decodes the first row, or returns `None` if there is no row. Fails with `Store` also if memory
-/// runs out.
+/// Decodes the first row, or returns `None` if there is no row. Fails also if memory runs out.
 pub fn decode_first_row<T: Record>(rows: &[Row]) -> Result<Option<T>, StoreFailed>
     ensures value { IfOk result (λ o. option_map T.cells o ≡ slice_get rows.now 0) }
 {
@@ -38,7 +37,7 @@ pub fn decode_first_row<T: Record>(rows: &[Row]) -> Result<Option<T>, StoreFaile
     }
 }
 
-/// Decodes all rows, in order. A malformed row is the fault `Store`.
+/// Decodes all rows, in order.
 pub fn decode_rows<T: Record>(alloc: Global, rows: &[Row]) -> Result<Vec<T>, CallFault>
     ensures value { IfOk result (λ all. map T.cells all.items ≡ rows.now) }
 {
