@@ -1,4 +1,4 @@
-ghost use Rattle.std.specs.Prelude.{◌≡◌, ◌∷◌, [], IfOk};
+ghost use Rattle.std.specs.Prelude.{◌∷◌, [], IfOk};
 ghost use Rattle.brk_model.specs.Parse.{read_ticks};
 ghost use Rattle.brk_ref_orders.specs.Records.{abstract_tick_as_list};
 ghost use Rattle.brk_ref.specs.Fields.{ParsesAs};

@@ -1,4 +1,4 @@
-ghost use Rattle.std.specs.Prelude.{◌≡◌, IfOk};
+ghost use Rattle.std.specs.Prelude.{IfOk};
 ghost use Rattle.brk_model.specs.Commands.{ChangeExecutors};
 ghost use Rattle.brk_model.specs.Forms.{read_distinct_ids};
 ghost use Rattle.brk_model.specs.Parse.{read_and_wrap, read_cash_type_update, read_cash_name_update};

@@ -1,4 +1,4 @@
-ghost use Rattle.std.specs.Prelude.{◌≡◌, IfOk};
+ghost use Rattle.std.specs.Prelude.{IfOk};
 ghost use Rattle.brk_model.specs.Ask.{read_single_argument};
 ghost use Rattle.brk_model.specs.Forms.{read_id, read_tax_id};
 ghost use Rattle.brk_model.specs.Parse.{read_and_wrap};
