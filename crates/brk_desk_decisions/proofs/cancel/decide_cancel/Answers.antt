@@ -1,6 +1,6 @@
 use Rattle.brk_model.specs.Commands.{CancelTrade}
 use Rattle.brk_trade_theorems.specs.Decisions.{DecidesCommand}
-use Rattle.brk_desk_decisions.proofs.Faults.{same_value}
+use Rattle.brk_desk_decisions.proofs.SameValues.{same_value}
 use Rattle.brk_desk_decisions.proofs.Cancels.{TradeStatusAndLastStampMatch, last_and_status, cancel_decided}
 use Rattle.brk_store.proofs.ReadResults.{decided}
 use Rattle.std.proofs.lemmas.Result.{err_from_is_err_and}

@@ -3,7 +3,7 @@ use Rattle.brk_ref_orders.specs.Records.{abstract_ticks}
 use Rattle.brk_trade_plans.specs.Feed.{states_of_quotes}
 use Rattle.brk_trade_theorems.specs.Decisions.{DecidesCommand}
 use Rattle.brk_store.proofs.ReadResults.{decided}
-use Rattle.brk_desk_decisions.proofs.Faults.{same_value}
+use Rattle.brk_desk_decisions.proofs.SameValues.{same_value}
 use Rattle.brk_desk_decisions.proofs.Feeds.{QuotesAndLastStampMatch, feed_decided}
 use Rattle.brk_desk_decisions.proofs.feed.decide_feed.Goals as goal
 

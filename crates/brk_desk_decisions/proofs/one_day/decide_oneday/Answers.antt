@@ -1,7 +1,7 @@
 use Rattle.brk_model.specs.Commands.{SetOneDay}
 use Rattle.brk_trade_theorems.specs.Decisions.{DecidesCommand}
 use Rattle.brk_store.proofs.ReadResults.{decided}
-use Rattle.brk_desk_decisions.proofs.Faults.{same_value}
+use Rattle.brk_desk_decisions.proofs.SameValues.{same_value}
 use Rattle.brk_desk_decisions.proofs.OneDays.{OneDaySettlementAndLastStampMatch, last_and_rule, one_day_decided}
 use Rattle.std.proofs.lemmas.Result.{err_from_is_err_and}
 use Rattle.brk_store.specs.ReadSequences.{single_read_changes_nothing}

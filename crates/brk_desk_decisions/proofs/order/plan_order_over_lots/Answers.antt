@@ -1,5 +1,5 @@
 use Rattle.std.proofs.Common.{arith}
-use Rattle.brk_desk_decisions.proofs.Faults.{same_value}
+use Rattle.brk_desk_decisions.proofs.SameValues.{same_value}
 use Rattle.brk_desk_decisions.proofs.order.plan_order_over_lots.Goals as goal
 
 pub returns-clause-same_reference : goal.returns-clause-same_reference

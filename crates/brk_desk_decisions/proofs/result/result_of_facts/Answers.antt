@@ -4,7 +4,7 @@ use Rattle.sqlite.specs.State.{HasCleanDisk}
 use Rattle.brk_store_transactions.specs.Holds.{HoldsRows}
 use Rattle.brk_store.specs.ReadSequences.{empty_read_sequence_changes_nothing}
 use Rattle.brk_store.proofs.ReadResults.{kept_at}
-use Rattle.brk_desk_decisions.proofs.Faults.{same_value}
+use Rattle.brk_desk_decisions.proofs.SameValues.{same_value}
 use Rattle.brk_desk_decisions.proofs.Resulting.{none_over, result_over}
 use Rattle.brk_desk_decisions.proofs.result.result_of_facts.Goals as goal
 

@@ -6,7 +6,7 @@ use Rattle.brk_trade_theorems.specs.Decisions.{DecidesCommand}
 use Rattle.brk_store.proofs.ReadResults.{decided}
 use Rattle.brk_store.proofs.Sequences.{none_read, read_with_reads}
 use Rattle.brk_trade_theorems.specs.Corrections.{UpdateFactsMatchTables}
-use Rattle.brk_desk_decisions.proofs.Faults.{same_value}
+use Rattle.brk_desk_decisions.proofs.SameValues.{same_value}
 use Rattle.brk_desk_decisions.proofs.Updates.{UpdateFactsAndLastStampMatch, update_decided}
 use Rattle.std.proofs.lemmas.Result.{err_from_is_err_and}
 use Rattle.brk_store.specs.ReadSequences.{joined_reads_change_nothing, single_read_changes_nothing}
