@@ -43,6 +43,7 @@ pub(crate) fn index_after_changes(index: Option<LotIndex>, changes: &[Change]) -
     }
 }
 
+#[tactic(auto, using(brk_store_transactions::proofs::Ending::read_is_over))]
 fn read_last_stamp<S: Alter>(conn: &mut Connection<S>) -> Result<Option<Stamp>, StoreFailed>
     requires { conn.old.in_transaction ≡ false }
     ensures mode { conn.new.in_transaction ≡ false }
@@ -52,6 +53,7 @@ fn read_last_stamp<S: Alter>(conn: &mut Connection<S>) -> Result<Option<Stamp>, 
     brk_tables_schema::last_stamp(&mut tx)
 }
 
+#[tactic(auto, using(brk_store_transactions::proofs::Ending::read_is_over))]
 fn read_lot_by_trade<S: Alter>(
     conn: &mut Connection<S>,
     trade: Id,
@@ -64,6 +66,7 @@ fn read_lot_by_trade<S: Alter>(
     brk_tables_trading::lot_by_trade(&mut tx, trade)
 }
 
+#[tactic(auto, using(brk_store_transactions::proofs::Ending::read_is_over))]
 fn read_all_lots<S: Alter>(
     conn: &mut Connection<S>,
     alloc: Global,

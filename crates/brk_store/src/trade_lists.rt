@@ -2,6 +2,7 @@
 //! commit (no clause states this). A read fails with `Store` also if a row is malformed or if the
 //! `sqlite` crate runs out of memory. A crash after a read exposes only states that a crash before
 //! it could expose.
+#![tactic(auto, using(brk_store_transactions::proofs::Ending::read_is_over, crate::proofs::KeptIndex::read_keeps_index))]
 
 ghost use Rattle.std.specs.Prelude.{◌≡◌, ◌==◌, map, take};
 ghost use Rattle.brk_ref.specs.Rows.{abstract_history_row, abstract_trade_row};

@@ -2,6 +2,7 @@
 //! and ends it without a commit (no clause states this). A read fails with `Store` also if a row is
 //! malformed or if the `sqlite` crate runs out of memory, and a read of a single row also if its
 //! decoding does. A crash after a read exposes only states that a crash before it could expose.
+#![tactic(auto, using(brk_store_transactions::proofs::Ending::read_is_over, crate::proofs::KeptIndex::read_keeps_index))]
 
 ghost use Rattle.std.specs.Prelude.{◌≡◌, ◌==◌, ◌&&◌, bytes_eq, filter, map, nat_le, option_map, option_to_list, take};
 ghost use Rattle.brk_ref.specs.Rows.{abstract_trade_row};
