@@ -137,7 +137,7 @@ def sql_lines(sql, limit=90):
 def equation(head, sql, limit=150):
     """The equation that a name is an SQL text: a literal, or several that are joined if the line is too long"""
     whole = f'{head} = {q(sql)}'
-    return whole if len(whole) <= limit else '\n    '.join([f'{head} =', '\n    ++ '.join(q(line) for line in sql_lines(sql))])
+    return whole if len(whole) <= limit else '\n    '.join([f'{head} =', '\n    ++ '.join(q(line) for line in sql_lines(sql, limit - 20))])
 
 def col_is(t, c, shown, agg, alias):
     return f'column_is schema at ({shape(t)} tree) found ({q(TABLES[t][0])}) {shown} [] {agg} {alias} ({q(c)}) {index(t, c)} ({kind(t, c)} ({q(c)})) refl refl'
