@@ -63,8 +63,10 @@ pub fn values_view<S: Alter>(
         return Ok(Err(Refusal::NoCustomer));
     };
     let worths = read_worths(alloc, store, found.id)?;
-    let view = position(alloc, worths)?;
-    Ok(Ok(view))
+    match position(alloc, worths) {
+        Ok(view) => Ok(Ok(view)),
+        Err(_) => Err(CallFault::Memory),
+    }
 }
 
 /// Returns the view of `values_view` for the customer with a tax id, and refuses and
@@ -80,6 +82,8 @@ pub fn tax_id_view<S: Alter>(
         return Ok(Err(Refusal::NoCustomer));
     };
     let worths = read_worths(alloc, store, found.id)?;
-    let view = position(alloc, worths)?;
-    Ok(Ok(view))
+    match position(alloc, worths) {
+        Ok(view) => Ok(Ok(view)),
+        Err(_) => Err(CallFault::Memory),
+    }
 }

@@ -30,7 +30,8 @@ fn look_up_trade<S: Alter>(
     let settlement = store.settlement(trade.id)?;
     let cash = store.cash_row(trade.id)?;
     let history = store.history_of_trade(alloc, trade.id)?;
-    create_looked_up_trade(alloc, trade, settlement, cash, &history)
+    let found = create_looked_up_trade(alloc, trade, settlement, cash, &history)?;
+    Ok(found)
 }
 
 fn look_up_trades<S: Alter>(

@@ -15,6 +15,8 @@ pub fn submitted_view<S: Alter>(alloc: Global, store: &mut Store<S>) -> Planned<
     ensures { ReadPost S.Store store.old store.new result (AnswersQueryAsModel SubmittedTrades) }
 {
     let rows = store.submitted_trades(alloc)?;
-    let view = submitted(alloc, &rows)?;
-    Ok(Ok(view))
+    match submitted(alloc, &rows) {
+        Ok(view) => Ok(Ok(view)),
+        Err(_) => Err(CallFault::Memory),
+    }
 }

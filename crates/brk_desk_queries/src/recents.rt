@@ -56,6 +56,8 @@ pub fn recent_view<S: Alter>(
         return Ok(Err(Refusal::NoAccount));
     };
     let (trades, history) = recent_trades(alloc, store, account)?;
-    let view = recent(alloc, trades, history)?;
-    Ok(Ok(view))
+    match recent(alloc, trades, history) {
+        Ok(view) => Ok(Ok(view)),
+        Err(_) => Err(CallFault::Memory),
+    }
 }

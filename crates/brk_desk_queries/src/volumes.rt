@@ -152,6 +152,8 @@ pub fn volume_view<S: Alter>(
 {
     let names = names.names();
     let found = named_volumes(alloc, store, sector, names)?;
-    let view = broker_volume(alloc, found)?;
-    Ok(Ok(view))
+    match broker_volume(alloc, found) {
+        Ok(view) => Ok(Ok(view)),
+        Err(_) => Err(CallFault::Memory),
+    }
 }
