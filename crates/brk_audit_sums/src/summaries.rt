@@ -11,7 +11,7 @@ ghost use Rattle.brk_model.specs.Shares.{signed_by_side};
 ghost use Rattle.brk_ref.specs.Rows.{abstract_summary_row, abstract_trade_row};
 ghost use Rattle.brk_trade_rows.specs.Sheets.{abstract_sheets};
 ghost use Rattle.brk_audit_sums.specs.Conditions.{HasWellFormedRows, HasValidStatuses};
-ghost use Rattle.brk_audit_sums.specs.PositionSums.{HasNonzeroQuantity, posting_with_owned_symbol, share_posting_of_trade, share_posting_of_summary};
+ghost use Rattle.brk_audit_sums.specs.PositionSums.{posting_with_owned_symbol, share_posting_of_trade, share_posting_of_summary};
 ghost use Rattle.brk_audit_sums.specs.Tally.{sum_at_key};
 
 use crate::completion::is_completed;

@@ -10,7 +10,7 @@ use Rattle.brk_model.specs.Keys.{holding_history_key, is_row_key_less}
 use Rattle.brk_model.specs.Tables.{Tables}
 use Rattle.brk_audit_theorems.proofs.FormBack.{All-unmapped}
 use Rattle.brk_trade_books.proofs.Order.{Sorted}
-use Rattle.brk_audit_sums.specs.Completed.{completed_trade_rows}
+use Rattle.brk_audit_sums.proofs.Sums.{completed_trade_rows}
 use Rattle.brk_audit.specs.Positions.{is_before_by_position}
 use Rattle.brk_audit.proofs.LotRows.{all_moved, clash_apart, clash_moved, priced_rows, rows_moved}
 use Rattle.brk_audit.proofs.MoveRows.{moves_told}

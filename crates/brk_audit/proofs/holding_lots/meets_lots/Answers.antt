@@ -9,7 +9,7 @@ use Rattle.brk_model.specs.Audit.{ConditionHolds, expected_tables}
 use Rattle.brk_model.specs.Tables.{HoldingRow, Tables}
 use Rattle.brk_audit_theorems.proofs.FormBack.{All-unmapped}
 use Rattle.brk_trade_books.proofs.Order.{Sorted}
-use Rattle.brk_audit_sums.specs.Completed.{completed_trade_rows}
+use Rattle.brk_audit_sums.proofs.Sums.{completed_trade_rows}
 use Rattle.brk_audit.specs.Positions.{is_before_by_position}
 use Rattle.brk_audit.proofs.LotRows.{all_moved, clash_apart, clash_moved, lots_told, priced_rows, rows_moved}
 use Rattle.brk_trade_books.proofs.Orders.{Ascends, ascends, ascends_map, sorted_by, sorted_map}

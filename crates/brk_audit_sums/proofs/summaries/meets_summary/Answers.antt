@@ -6,13 +6,14 @@ use Rattle.brk_ref.specs.Rows.{abstract_summary_row, abstract_trade_row}
 use Rattle.brk_trade_rows.specs.Sheets.{abstract_sheets}
 use Rattle.brk_trade_rows.specs.declared.sheets.Sheets.{Sheets}
 use Rattle.brk_model.specs.Tables.{Tables}
-use Rattle.brk_audit_sums.specs.PositionSums.{position_cmp, share_posting_of_trade, share_posting_of_summary}
+use Rattle.brk_audit_sums.specs.PositionSums.{share_posting_of_trade, share_posting_of_summary}
 use Rattle.brk_ref.specs.declared.summary_row.SummaryRow.{SummaryRow}
 use Rattle.brk_audit_sums.specs.declared.tally.KeyedAmount.{KeyedAmount}
 use Rattle.brk_audit_sums.specs.Tally.{total_amount_at_key}
 use Rattle.brk_audit_sums.proofs.SummaryChecked.{Agree, Place, Tallied, they_agree, they_hold}
 use Rattle.brk_audit_sums.proofs.SummaryRows.{summaries_by_rows}
 use Rattle.brk_audit_sums.proofs.summaries.meets_summary.Goals as goal
+use Rattle.brk_audit_sums.proofs.Sums.{position_cmp}
 
 abbrev Tells : SummaryRow → Type 0
 Tells r = is_zero r.qty ≡ false
