@@ -123,10 +123,10 @@ def literal(sql, before, blanks, limit=100):
         return f'"{sql}"'
     return '"' + f'\\\n{blanks}'.join(sql_lines(sql, limit - len(f'{blanks}\\'))) + '"'
 
-def sql_lines(sql, limit=90):
+def sql_lines(sql, limit=90, broken=r'(^CREATE TABLE \w+ \(| (?=FROM ))'):
     """The lines of an SQL text that is broken"""
     lines = []
-    for clause in re.sub(r'(^CREATE TABLE \w+ \(| (?=FROM ))', r'\1\n', sql).split('\n'):
+    for clause in re.sub(broken, r'\1\n', sql).split('\n'):
         lines.append('')
         for part in re.split(r'(?<=, )(?![^(]*\)\))', clause):
             if lines[-1] and len(f'{lines[-1]}{part}') > limit:
@@ -137,7 +137,7 @@ def sql_lines(sql, limit=90):
 def equation(head, sql, limit=150):
     """The equation that a name is an SQL text: a literal, or several that are joined if the line is too long"""
     whole = f'{head} = {q(sql)}'
-    return whole if len(whole) <= limit else '\n    '.join([f'{head} =', '\n    ++ '.join(q(line) for line in sql_lines(sql, limit - 20))])
+    return whole if len(whole) <= limit else '\n    '.join([f'{head} =', '\n    ++ '.join(q(line) for line in sql_lines(sql, limit - 20, r'( (?=FROM ))'))])
 
 def col_is(t, c, shown, agg, alias):
     return f'column_is schema at ({shape(t)} tree) found ({q(TABLES[t][0])}) {shown} [] {agg} {alias} ({q(c)}) {index(t, c)} ({kind(t, c)} ({q(c)})) refl refl'
@@ -480,7 +480,7 @@ abbrev pub {t}_cells : {row} → Row
 def desk():
     both = lambda f: '\n'.join(f(d) for d in DATA)
     out = f"""-- Written by tools/generate/tables.py: the tables of a desk, and the list of rows that each holds.
-use Rattle.std.specs.Prelude.{{◌≡◌, ℕ, Bool, true, List, [], ◌∷◌, Option, Some, None, map, filter, not, refl}}
+use Rattle.std.specs.Prelude.{{◌≡◌, ℕ, Bool, true, List, [], ◌∷◌, Option, Some, None, filter, not, refl}}
 use Rattle.std.specs.declared.cmp.Ordering.{{Ordering}}
 use Rattle.sqlite_value.specs.Order.{{Row}}
 use Rattle.sqlite_schema.specs.declared.schema.Table.{{Table}}
@@ -592,10 +592,6 @@ tables_of_later_schemas schema = filter (λ w. not (schema_has_table schema w)) 
 -- The SQL name of the table `w`, in ASCII.
 abbrev pub table_name : DeskTable → List ℕ
 table_name w = (table_definition_at_tree w 0).name
-
--- The SQL names of all tables of a desk, in ASCII, in the order of `all_tables`.
-abbrev pub all_table_names : List (List ℕ)
-all_table_names = map table_name all_tables
 """
     save(f'{SPECS}/Desk.antt', out)
 
@@ -850,18 +846,18 @@ pub(crate) static DEFINITIONS: [Definition; {len(DATA)}] = [
     save('crates/brk_tables_definitions/src/desk_tables.rt', out)
     every = ', '.join(d[2] for d in DATA)
     out = f"""-- Written by tools/generate/tables.py: a desk's tables are known by their names, and their foreign keys write no rows.
-use Rattle.std.proofs.Common.{{◌≡◌, ℕ, List, Option, Some, true, refl, sym, ap, ◌∙◌, slice_get}}
+use Rattle.std.proofs.Common.{{◌≡◌, ℕ, List, Option, Some, true, map, refl, sym, ap, ◌∙◌, slice_get}}
 use Rattle.std.specs.Prelude.{{bytes_eq, option_and_then}}
 use Rattle.std.specs.List.{{position_from}}
 use Rattle.brk_tables_sql.specs.Desk.{{has_no_writing_foreign_keys}}
-use Rattle.brk_tables_schema.specs.Desk.{{DeskTable, {every}, all_tables, all_table_names, table_definition_at_tree}}
+use Rattle.brk_tables_schema.specs.Desk.{{DeskTable, {every}, all_tables, table_name, table_definition_at_tree}}
 
 -- No foreign key of a desk's table changes or deletes rows.
 pub keys_write_nothing : (w : DeskTable) (tree : ℕ) → has_no_writing_foreign_keys (table_definition_at_tree w tree) ≡ true
 {chr(10).join(f'keys_write_nothing {d[2]} tree = refl' for d in DATA)}
 
 abbrev table_of_name : List ℕ → Option DeskTable
-table_of_name name = option_and_then (slice_get all_tables) (position_from (bytes_eq name) 0 all_table_names)
+table_of_name name = option_and_then (slice_get all_tables) (position_from (bytes_eq name) 0 (map table_name all_tables))
 
 known_by_name : (w : DeskTable) (tree : ℕ) → table_of_name (table_definition_at_tree w tree).name ≡ Some w
 {chr(10).join(f'known_by_name {d[2]} tree = refl' for d in DATA)}

@@ -32,16 +32,11 @@ abbrev pub completed_trades_by_stamp : Tables → List TradeRow
 completed_trades_by_stamp t = sort_by_key (λ r. r.stamp) (filter (λ r. is_same_trade_status r.status Completed) t.trades)
 
 -- The records `all` equal the whole list that `list` selects from the rows that the store holds.
--- Vacuous if the store is open and satisfies `HasDeskTables` for no `t`. If the store is closed, or
--- the disk assumption fails, `all` has to equal `list t` for all rows `t`: no records do, if the
--- list depends on the rows.
+-- Vacuous if the store is open and satisfies `HasDeskTables` for no `t`.
 abbrev pub EqualsStoredList : {S M : Type 0} → Ghosts S → Held S → (Tables → List M) → List M → Type 0
 EqualsStoredList g store list all = (t : Tables) → HoldsRows g store t → all ≡ list t
 
--- The records `first` are a prefix of the list that `list` selects from the rows that the store
--- holds, possibly empty. Vacuous if the store is open and satisfies `HasDeskTables` for no `t`. If
--- the store is closed, or the disk assumption fails, `first` has to be a prefix of `list t` for all
--- rows `t`: only the empty list is one, if `list t` is empty for some rows `t`.
+-- The records `first` are a prefix of that list, possibly empty; vacuous as `EqualsStoredList` is.
 abbrev pub IsPrefixOfStoredList : {S M : Type 0} → Ghosts S → Held S → (Tables → List M) → List M → Type 0
 IsPrefixOfStoredList {S} {M} g store list first = (t : Tables) → HoldsRows g store t → (rest : List M) × (first ++ rest ≡ list t)
 

@@ -1,5 +1,5 @@
 -- Written by tools/generate/tables.py: the tables of a desk, and the list of rows that each holds.
-use Rattle.std.specs.Prelude.{◌≡◌, ℕ, Bool, true, List, [], ◌∷◌, Option, Some, None, map, filter, not, refl}
+use Rattle.std.specs.Prelude.{◌≡◌, ℕ, Bool, true, List, [], ◌∷◌, Option, Some, None, filter, not, refl}
 use Rattle.std.specs.declared.cmp.Ordering.{Ordering}
 use Rattle.sqlite_value.specs.Order.{Row}
 use Rattle.sqlite_schema.specs.declared.schema.Table.{Table}
@@ -270,7 +270,3 @@ tables_of_later_schemas schema = filter (λ w. not (schema_has_table schema w)) 
 -- The SQL name of the table `w`, in ASCII.
 abbrev pub table_name : DeskTable → List ℕ
 table_name w = (table_definition_at_tree w 0).name
-
--- The SQL names of all tables of a desk, in ASCII, in the order of `all_tables`.
-abbrev pub all_table_names : List (List ℕ)
-all_table_names = map table_name all_tables

@@ -26,14 +26,11 @@ TableWalkEndsEarly {X} {M} {V} Begins of takes stops before after (Cause e) =
     (taken : List X) × (next : X) × (at : V) × FoldsTo takes before taken at × stops at next e after × Begins (map of (taken ++ next ∷ []))
 
 -- The database `db` is open, and the records `all` equal the list that `list` selects from the rows
--- of a desk's tables in `db`. The second part is vacuous if `db` does not contain all tables of a
--- desk in schema 3.
+-- of a desk's tables in `db`; vacuous if `db` does not contain all tables of a desk in schema 3.
 abbrev pub AreAllRecordsOfList : {M : Type 0} → State → (Tables → List M) → List M → Type 0
 AreAllRecordsOfList db list all = IsTrue db.is_open × ((t : Tables) → HasDeskTables t db.now → all ≡ list t)
 
--- The list `first` is empty; or the database `db` is open, and `first` is a prefix of the list that
--- `list` selects from the rows of a desk's tables in `db`. The last part is vacuous if `db` does
--- not contain all tables of a desk in schema 3.
+-- The list `first` is empty; or the database `db` is open, and `first` is a prefix of that list.
 abbrev pub IsPrefixOfList : {M : Type 0} → State → (Tables → List M) → List M → Type 0
 IsPrefixOfList {M} db list first = (first ≡ []) ⊎ (IsTrue db.is_open × ((t : Tables) → HasDeskTables t db.now → (rest : List M) × (first ++ rest ≡ list t)))
 
