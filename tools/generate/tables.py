@@ -524,8 +524,7 @@ abbrev pub schema_has_table : Schema → DeskTable → Bool
 {chr(10).join(f'schema_has_table schema {d[2]} = schema.{LATER[d[0]]}' for d in DATA if d[0] in LATER)}
 schema_has_table schema w = true
 
--- The definition of the table `w` of a desk, with its rows at the given tree: its SQL name,
--- columns, keys and foreign keys.
+-- The definition of the table `w` of a desk, with its rows at the given tree.
 abbrev pub table_definition_at_tree : DeskTable → ℕ → Table
 {both(lambda d: f'table_definition_at_tree {d[2]} = {shape(d[0])}')}
 
@@ -545,13 +544,11 @@ abbrev pub encoded_row : (w : DeskTable) → RecordOfTable w → Row
 abbrev pub primary_key_of_record : (w : DeskTable) → RecordOfTable w → List KeyPart
 {both(lambda d: f'primary_key_of_record {d[2]} = {d[4]}')}
 
--- The ordering of two records of the table `w` by their primary keys, part by part, in the order of
--- SQL values.
+-- The ordering of two records of the table `w` by their primary keys, part by part.
 abbrev pub ordering_by_primary_key : (w : DeskTable) → RecordOfTable w → RecordOfTable w → Ordering
 ordering_by_primary_key w = ordering_by_key (primary_key_of_record w)
 
--- The records of the table `w` of a desk with the tables `t`. Only the record of DESK depends on
--- the schema.
+-- The records of the table `w` of a desk with the tables `t`; that of DESK depends on the schema.
 abbrev pub rows_of_table_in_schema : Schema → (w : DeskTable) → Tables → List (RecordOfTable w)
 {both(lambda d: f'rows_of_table_in_schema schema {d[2]} t = {d[5]}')}
 
@@ -559,8 +556,7 @@ abbrev pub rows_of_table_in_schema : Schema → (w : DeskTable) → Tables → L
 abbrev pub rows_of_table : (w : DeskTable) → Tables → List (RecordOfTable w)
 rows_of_table = rows_of_table_in_schema third_schema
 
--- All tables of a desk, also those that `schema` lacks, as the tables of a program: their
--- definitions, records, encodings and orders. The row of DESK has the number of `schema`.
+-- All tables of a desk, also those that `schema` lacks, as the tables of a program.
 abbrev pub desk_tables_of_schema : Schema → ProgramTables DeskTable Tables
 desk_tables_of_schema schema = record {{
   shape = table_definition_at_tree;
@@ -571,8 +567,7 @@ desk_tables_of_schema schema = record {{
   list = rows_of_table_in_schema schema;
 }}
 
--- All tables of a desk in schema 3 as the tables of a program: their definitions, records,
--- encodings and orders.
+-- All tables of a desk in schema 3 as the tables of a program.
 abbrev pub desk_tables : ProgramTables DeskTable Tables
 desk_tables = desk_tables_of_schema third_schema
 
@@ -584,8 +579,7 @@ abbrev pub all_tables : List DeskTable
 abbrev pub tables_in_schema : Schema → List DeskTable
 tables_in_schema schema = filter (schema_has_table schema) all_tables
 
--- The list of the tables of a desk that the schema `schema` does not have and later schemas add, in
--- the order of `all_tables`; empty for schema 3.
+-- The list of the tables that the schema `schema` does not have, in the order of `all_tables`.
 abbrev pub tables_of_later_schemas : Schema → List DeskTable
 tables_of_later_schemas schema = filter (λ w. not (schema_has_table schema w)) all_tables
 
