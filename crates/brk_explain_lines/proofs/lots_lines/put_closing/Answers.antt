@@ -1,5 +1,5 @@
 use Rattle.brk_model_explain.specs.Texts.{timestamp_text, value_column, shares_column, leading_row_columns}
-use Rattle.brk_explain_columns.proofs.Chains.{more, on_ok}
+use Rattle.brk_explain_columns.proofs.Chains.{more}
 use Rattle.std.specs.Int.{w128}
 use Rattle.std.proofs.Common.{◌≡◌, ◌∙◌, ◌++◌, ◌∷◌, [], ap, codes, pos, of_z, to_z, w64, rules}
 use Rattle.brk_model_explain.specs.TradeLines.{lot_closing_line}
@@ -33,6 +33,7 @@ returns c =
     let h4 = more o s3 t4a x3 x4 h3 c.in_ok-align_shares.ensures in
     let x5 = c.end_line.new.out.items in
     let t5a = 10 ∷ [] in
-    on_ok {P = x5 ≡ x4 ++ t5a} c.end_line.result c.end_line.ensures (λ h. more o s4 t5a x4 x5 h4 h
+    let h : x5 ≡ x4 ++ t5a = c.in_ok-end_line.ensures in
+    more o s4 t5a x4 x5 h4 h
     ∙ (λ i. o ++ ((((((leading_row_columns (codes "Closed") (timestamp_text closing.stamp) closing.lot (shares i) closing.price) ++ (value_column (bought i)))
-    ++ (value_column (sold i))) ++ (shares_column (left i))) ++ (10 ∷ [])))))
+    ++ (value_column (sold i))) ++ (shares_column (left i))) ++ (10 ∷ []))))

@@ -1,7 +1,7 @@
 use Rattle.brk_model_explain.specs.Texts.{labeled_number, labeled_amount}
 use Rattle.brk_model.specs.Statement.{text_of_lines}
 use Rattle.brk_report_lines.specs.Written.{line_with_line_feed}
-use Rattle.brk_explain_columns.proofs.Chains.{more, last, on_ok}
+use Rattle.brk_explain_columns.proofs.Chains.{more, last}
 use Rattle.brk_ref.specs.Records.{abstract_tax_rate}
 use Rattle.std.proofs.Common.{◌≡◌, ◌∙◌, ◌++◌, ◌∷◌, [], List, ap, codes, map}
 use Rattle.brk_model_explain.specs.TradeLines.{current_and_recorded_tax_lines}
@@ -22,8 +22,8 @@ returns c =
     let a3 = line_with_line_feed (labeled_amount (codes "Tax recorded") c.from.result) in
     let r3 = a3 ++ [] in
     let r2 = a2 ++ r3 in
-    on_ok {P = x3 ≡ x2 ++ a3} c.put_amount_fact-2.result c.put_amount_fact-2.ensures
-    (λ h. more o a1 r2 x1 x3 c.in_ok-put_rate_sum.ensures (more x1 a2 r3 x2 x3 c.in_ok-put_amount_fact.ensures (last x2 a3 x3 h))
+    let h : x3 ≡ x2 ++ a3 = c.in_ok-put_amount_fact-2.ensures in
+    more o a1 r2 x1 x3 c.in_ok-put_rate_sum.ensures (more x1 a2 r3 x2 x3 c.in_ok-put_amount_fact.ensures (last x2 a3 x3 h))
     ∙ (λ i. o ++ text_of_lines
     ((labeled_number (codes "Rates now") (rates i) ++ codes " of 100000") ∷ (labeled_amount (codes "Tax now") (c.in_ok-now.ensures i))
-    ∷ (labeled_amount (codes "Tax recorded") (c.from.ensures i)) ∷ [])))
+    ∷ (labeled_amount (codes "Tax recorded") (c.from.ensures i)) ∷ []))

@@ -2,7 +2,7 @@ use Rattle.std.proofs.Common.{◌++◌}
 use Rattle.brk_model_explain.specs.TradeLines as lines
 use Rattle.brk_model_explain.specs.TradeLines.{completed_trade_lines}
 use Rattle.brk_explain_rows.specs.Details.{abstract_order_details, abstract_result_details}
-use Rattle.brk_explain_columns.proofs.Chains.{more_lines, on_ok}
+use Rattle.brk_explain_columns.proofs.Chains.{more_lines}
 use Rattle.brk_explain_lines.proofs.trade.put_completed.Goals as goal
 
 pub returns : goal.returns
@@ -29,5 +29,5 @@ returns c =
     let h4 = more_lines o x3 x4 (l1 ++ l2 ++ l3) l4 h3 c.in_ok-put_settlement.ensures in
     let h5 = more_lines o x4 x5 (l1 ++ l2 ++ l3 ++ l4) l5 h4 c.in_ok-put_due_days.ensures in
     let h6 = more_lines o x5 x6 (l1 ++ l2 ++ l3 ++ l4 ++ l5) l6 h5 c.in_ok-put_balance.ensures in
-    on_ok c.put_trade_end.result c.put_trade_end.ensures
-    (λ h. more_lines o x6 x7 (l1 ++ l2 ++ l3 ++ l4 ++ l5 ++ l6) (lines.counts_lines_of_trade order details) h6 h)
+    let h = c.in_ok-put_trade_end.ensures in
+    more_lines o x6 x7 (l1 ++ l2 ++ l3 ++ l4 ++ l5 ++ l6) (lines.counts_lines_of_trade order details) h6 h

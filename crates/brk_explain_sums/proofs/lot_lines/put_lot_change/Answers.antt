@@ -1,5 +1,5 @@
 use Rattle.brk_model_explain.specs.Texts.{timestamp_text, value_column, shares_column, leading_row_columns}
-use Rattle.brk_explain_columns.proofs.Chains.{more, on_ok}
+use Rattle.brk_explain_columns.proofs.Chains.{more}
 use Rattle.std.specs.Int.{w128}
 use Rattle.std.proofs.Common.{◌≡◌, ◌∙◌, ◌++◌, ◌∷◌, [], codes, of_z, to_z, w64, rules}
 use Rattle.brk_model_explain.specs.HoldingLines.{lot_change_line}
@@ -27,6 +27,7 @@ returns c =
     let h3 = more o s2 t3a x2 x3 h2 c.in_ok-align_shares.ensures in
     let x4 = c.end_line.new.out.items in
     let t4a = 10 ∷ [] in
-    on_ok {P = x4 ≡ x3 ++ t4a} c.end_line.result c.end_line.ensures (λ h. more o s3 t4a x3 x4 h3 h
+    let h : x4 ≡ x3 ++ t4a = c.in_ok-end_line.ensures in
+    more o s3 t4a x3 x4 h3 h
     ∙ (λ i. o ++ (((((leading_row_columns (codes "Change") (timestamp_text change.stamp) change.trade (shares i) change.price)
-    ++ (value_column (c.in_ok-gain.ensures i))) ++ (shares_column (left i))) ++ (10 ∷ [])))))
+    ++ (value_column (c.in_ok-gain.ensures i))) ++ (shares_column (left i))) ++ (10 ∷ []))))

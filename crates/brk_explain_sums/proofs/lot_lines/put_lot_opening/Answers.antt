@@ -1,5 +1,5 @@
 use Rattle.brk_model_explain.specs.Texts.{timestamp_text, value_column, leading_row_columns}
-use Rattle.brk_explain_columns.proofs.Chains.{more, on_ok}
+use Rattle.brk_explain_columns.proofs.Chains.{more}
 use Rattle.std.specs.Int.{w128}
 use Rattle.std.proofs.Common.{◌≡◌, ◌∙◌, ◌++◌, ◌∷◌, [], ◌*ℤ◌, codes, pos, of_z, to_z, w64, rules}
 use Rattle.brk_model_explain.specs.HoldingLines.{lot_opening_line}
@@ -25,5 +25,6 @@ returns c =
     let h2 = more o s1 t2a x1 x2 h1 c.in_ok-align_value.ensures in
     let x3 = c.end_line.new.out.items in
     let t3a = 10 ∷ [] in
-    on_ok {P = x3 ≡ x2 ++ t3a} c.end_line.result c.end_line.ensures (λ h. more o s2 t3a x2 x3 h2 h
-    ∙ (λ i. o ++ ((((leading_row_columns (codes "Lot") (timestamp_text lot.trade.stamp) lot.trade.id (shares i) (price i)) ++ (value_column (cost i))) ++ (10 ∷ [])))))
+    let h : x3 ≡ x2 ++ t3a = c.in_ok-end_line.ensures in
+    more o s2 t3a x2 x3 h2 h
+    ∙ (λ i. o ++ ((((leading_row_columns (codes "Lot") (timestamp_text lot.trade.stamp) lot.trade.id (shares i) (price i)) ++ (value_column (cost i))) ++ (10 ∷ []))))

@@ -1,6 +1,6 @@
 use Rattle.brk_model_explain.specs.Texts.{timestamp_text, value_column, shares_column, leading_row_columns}
 use Rattle.brk_report_lines.specs.Written.{line_with_line_feed}
-use Rattle.brk_explain_columns.proofs.Chains.{more, line_end, on_ok}
+use Rattle.brk_explain_columns.proofs.Chains.{more, line_end}
 use Rattle.std.specs.Int.{w128}
 use Rattle.std.proofs.Common.{◌≡◌, ◌∙◌, ◌++◌, ◌∷◌, codes, of_z, to_z, w64, rules}
 use Rattle.brk_model_explain.specs.HoldingLines.{holding_trade_line}
@@ -30,7 +30,8 @@ returns c =
     let h3 = more o s2 t3a x2 x3 h2 c.in_ok-align_shares.ensures in
     let x4 = c.put_spaced_line.new.out.items in
     let t4a = 32 ∷ c.as_bytes.result.now in
-    on_ok {P = x4 ≡ x3 ++ line_with_line_feed t4a} c.put_spaced_line.result c.put_spaced_line.ensures (λ h. line_end o s3 t4a x3 x4 h3 h
+    let h : x4 ≡ x3 ++ line_with_line_feed t4a = c.in_ok-put_spaced_line.ensures in
+    line_end o s3 t4a x3 x4 h3 h
     ∙ (λ i. o ++ (line_with_line_feed
     ((((leading_row_columns (codes "Trade") (timestamp_text row.stamp) row.id (shares i) (c.in_ok-price.ensures i))
-    ++ (value_column (c.in_ok-value.ensures i))) ++ (shares_column (held i))) ++ (32 ∷ (code i))))))
+    ++ (value_column (c.in_ok-value.ensures i))) ++ (shares_column (held i))) ++ (32 ∷ (code i)))))
