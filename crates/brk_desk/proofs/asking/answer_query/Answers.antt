@@ -11,8 +11,8 @@ returns g c = record {
 
 pub returns-in_err-view_of_query : goal.returns-in_err-view_of_query
 returns-in_err-view_of_query g c =
-    let p = err_from_is_err_and c.from_residual-in_err-view_of_query.result c.from_residual-in_err-view_of_query.ensures.1 in
+    let p = err_from_is_err_and c.from_residual.result c.from_residual.ensures.1 in
     record {
       asked = rw (p.1, p.2)
-          (is_failed g.S.Store c.args.store.now c.view_of_query.new.store (abstract_query c.args.query.now) c.in_err-view_of_query.field-0 _ c.in_err-view_of_query.ensures);
+          (is_failed g.S.Store c.args.store.now c.view_of_query.new.store (abstract_query c.args.query.now) _ _ c.in_err-view_of_query.ensures);
     }

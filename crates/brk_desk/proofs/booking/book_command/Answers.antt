@@ -10,8 +10,8 @@ use Rattle.brk_desk.proofs.Calling.{DecidesCommandOfNewKey, books_it, books_none
 use Rattle.brk_desk.proofs.Seen.{sought_some}
 use Rattle.brk_desk.proofs.booking.book_command.Goals as goal
 
-pub returns-in_ok-answer_retry-in-Some : goal.returns-in_ok-answer_retry-in-Some
-returns-in_ok-answer_retry-in-Some g c =
+pub returns-in-Some : goal.returns-in-Some
+returns-in-Some g c =
     let old = c.args.store.now in
     let key = optional_model_key (option_copied c.args.key) in
     let formed : MeetsAuditFormats (abstract_command c.args.command.now)
@@ -19,17 +19,17 @@ returns-in_ok-answer_retry-in-Some g c =
     let sought = rw c.in-Some.is at c.in_ok-kept.ensures in
     record {
       called = repeats g.S.Store old c.read_kept.new.store c.args.now (abstract_command c.args.command.now) key formed (abstract_kept_row c.in-Some.kept)
-          c.in_ok-answer_retry-in-Some.field-0 c.in_ok-answer_retry-in-Some.ensures (sought_some g.S.Store old c.read_kept.new.store key c.in-Some.kept sought);
+          c.in_ok-answer_retry.field-0 c.in_ok-answer_retry.ensures (sought_some g.S.Store old c.read_kept.new.store key c.in-Some.kept sought);
     }
 
-pub returns-in_err-answer_retry-in-Some : goal.returns-in_err-answer_retry-in-Some
-returns-in_err-answer_retry-in-Some g c =
+pub returns-in_err-answer_retry : goal.returns-in_err-answer_retry
+returns-in_err-answer_retry g c =
     let old = c.args.store.now in
     let key = optional_model_key (option_copied c.args.key) in
     let formed : MeetsAuditFormats (abstract_command c.args.command.now)
     × IfSome key IsWellFormedKey = (c.prove_formats.ensures.command, c.prove_formats.ensures.key) in
     let sought = rw c.in-Some.is at c.in_ok-kept.ensures in
-    let p = err_from_is_err_and c.from_residual-in_err-answer_retry-in-Some.result c.from_residual-in_err-answer_retry-in-Some.ensures.1 in
+    let p = err_from_is_err_and c.from_residual-in_err-answer_retry.result c.from_residual-in_err-answer_retry.ensures.1 in
     record {
       called = rw (p.1, p.2)
           (fails g.S.Store old c.read_kept.new.store c.args.now (abstract_command c.args.command.now) key formed _
