@@ -30,9 +30,9 @@ fn close_connection(conn: Connection<FileStore<File>>) -> Result<(), StoreFailed
 }
 
 /// Closes the file of a desk. At `Ok`, under the disk assumption, the database file contains the
-/// last commit even without its log, and a crash exposes only this commit. At `Store` the file
-/// handle is dropped, and a part of the committed data may still be only in the log beside the
-/// file.
+/// last commit even without its log, and a crash exposes only this commit. At `StoreFailed` the
+/// file handle is dropped, and a part of the committed data may still be only in the log beside
+/// the file.
 pub fn close_desk_file(store: FileDesk) -> Result<(), StoreFailed>
     ensures { OnOk result (HasLastCommitInFile store) }
 {
