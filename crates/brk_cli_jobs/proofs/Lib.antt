@@ -2,6 +2,7 @@ pub mod Adopted
 pub mod Batched
 pub mod Computed
 pub mod Explained
+pub mod Frames
 pub mod Outcomes
 pub mod Placed
 pub mod Printed

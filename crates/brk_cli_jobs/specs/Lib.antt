@@ -1,8 +1,10 @@
 pub mod BatchText
 pub mod Endings
+pub mod Examined
 pub mod Files
 pub mod Jobs
 pub mod Opened
 pub mod Opening
 pub mod Places
 pub mod Requested
+pub mod Words

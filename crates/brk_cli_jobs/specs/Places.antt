@@ -12,9 +12,13 @@ use Rattle.brk_cli_exit.specs.Ending.{ending_after_close}
 use Rattle.brk_cli_exit.specs.declared.ending.Ending.{Ending}
 use Rattle.brk_cli_exit.specs.declared.ending.Ending.TheVariants as ending
 use Rattle.brk_money.specs.Spelling.{Text}
+use Rattle.brk_io.specs.declared.report_fault.ReportFault.TheVariants.{Refused}
 use Rattle.brk_money.specs.declared.fault.Fault.{Fault}
+use Rattle.brk_money.specs.declared.fault.Fault.TheVariants.{Memory}
+use Rattle.brk_money.specs.declared.refusal.Refusal.{Refusal}
 use Rattle.brk_store_transactions.specs.Holds.{CreatePost}
 use Rattle.brk_cli_jobs.specs.Jobs.{ExecutesJob, InputAndOutput, WritesAuditOk}
+use Rattle.brk_cli_jobs.specs.Words.{HasWords, result_of_words}
 
 -- The desk could not be opened or created: the job was not executed, and nothing was written.
 abbrev pub FailsToOpen : Fault → InputAndOutput → Ending → Type 0
@@ -67,6 +71,20 @@ pub record ExecutesJobInFile {S R : Type 0} (g : Ghosts S) (opens : OpenRelation
   pub opened : opens path result
   pub executed : ExecutesJobOnOpened g closes machine job result io end
 
+-- The words of the job have the result `words`. `Ok`: the file at the path was opened, and the job
+-- was executed on its store. `Err`: the ending is the refusal, no job was executed, and nothing was
+-- written.
+abbrev pub OpensUnlessRefused : {S R : Type 0} → Result (Unit {0}) Refusal → Ghosts S → OpenRelation S → CloseRelation S → Bor R → Job → List ℕ → InputAndOutput
+    → Ending → Type 0
+OpensUnlessRefused (Ok u) g opens closes machine job path io end = ExecutesJobInFile g opens closes machine job path io end
+OpensUnlessRefused (Err refusal) g opens closes machine job path io end = (end ≡ ending.Statement (Refused refusal)) × (io.after ≡ io.before)
+
+-- The job was executed in the file at the path, unless its words are refused
+-- (`OpensUnlessRefused`), or memory ran out before its words were parsed, and nothing was written.
+abbrev pub ExecutesJobInExistingFile : {S R : Type 0} → Ghosts S → OpenRelation S → CloseRelation S → Bor R → Job → List ℕ → InputAndOutput → Ending → Type 0
+ExecutesJobInExistingFile g opens closes machine job path io end =
+    (HasWords job × FailsToOpen Memory io end) ⊎ OpensUnlessRefused (result_of_words job) g opens closes machine job path io end
+
 -- The place of a desk: in memory, in the file at a path, where a desk is created if there is none,
 -- or in the file at a path, which must exist.
 pub data DeskPlace : Type 0 where
@@ -94,7 +112,7 @@ abbrev pub ExecutesJobAt : {S R : Type 0} → Ghosts S → OpenRelation S → Op
     → Type 0
 ExecutesJobAt g creates opens closes machine job InMemory io end = ExecutesJobInMemory machine job io end
 ExecutesJobAt g creates opens closes machine job (InFileOrNewFile path) io end = ExecutesJobInFile g creates closes machine job path io end
-ExecutesJobAt g creates opens closes machine job (InFile path) io end = ExecutesJobInFile g opens closes machine job path io end
+ExecutesJobAt g creates opens closes machine job (InFile path) io end = ExecutesJobInExistingFile g opens closes machine job path io end
 
 -- After an audit that passed, and the close of its file, `ok` was written (`WritesAuditOk`).
 -- Otherwise the ending stays, and nothing more was written.

@@ -7,6 +7,7 @@ ghost use Rattle.brk_cli_jobs.specs.Files.{HasLastCommitInFile, IsNewConnectionT
 ghost use Rattle.brk_cli_jobs.specs.Opened.{RepresentsRowsOfFile};
 ghost use Rattle.brk_cli_jobs.specs.Opening.{IsAdoptionResult, OpenOrCreatePost, OpenPost};
 
+use crate::examining::may_open_or_create;
 use brk_money::{Condition, Fault, StoreFailed};
 use brk_store::Store;
 use sqlite::{Alter, Connection, File, FileStore};
@@ -39,10 +40,14 @@ pub fn close_desk_file(store: FileDesk) -> Result<(), StoreFailed>
     close_connection(store.into_conn())
 }
 
-// A missing file becomes a new database.
+// A missing file becomes a new database. A file that may not be opened, or over which none may be
+// made, is left as it is, with its log.
 fn open_connection(rt: &HostRuntime, path: &str) -> Result<Connection<FileStore<File>>, StoreFailed>
     ensures { IfOk result IsNewConnectionToFile }
 {
+    if !may_open_or_create(rt, path) {
+        return Err(StoreFailed);
+    }
     match Connection::open(rt, path) {
         Ok(conn) => Ok(conn),
         Err(_) => Err(StoreFailed),
@@ -76,7 +81,9 @@ fn adopt_file(rt: &HostRuntime, conn: Connection<FileStore<File>>) -> Result<Fil
 /// Opens the desk in the file at `path`, and upgrades a file of an older schema. Creates a desk if
 /// the file is missing or empty or has no table of a desk. Fails with `Damaged` and the first
 /// condition that fails if the file has a table of a desk and does not pass the audit, or with
-/// `Memory` or `Store`; a new desk may then have been created.
+/// `Memory` or `Store`; a new desk may then have been created. Fails with `Store`, and changes
+/// nothing, if the file is missing or empty and its log has a commit, or if the file is neither a
+/// database nor what a creation that was stopped leaves.
 ///
 /// A new desk is closed and opened again, so that its tables are in the file itself, and a file
 /// that then loses its log is never treated as a new one.
@@ -109,7 +116,9 @@ fn is_missing_or_empty(rt: &HostRuntime, path: &str) -> bool {
 
 /// Opens the desk in the file at `path`, and upgrades a file of an older schema. Creates no desk.
 /// Fails with `Damaged(Schema)` if the file is missing or empty, with `Damaged` and the first
-/// condition that fails if it does not pass the audit, or with `Memory` or `Store`.
+/// condition that fails if it does not pass the audit, or with `Memory` or `Store`. Fails with
+/// `Store`, and changes nothing, if the file is neither a database nor what a creation that was
+/// stopped leaves.
 pub fn open_desk_file(rt: &HostRuntime, path: &str) -> Result<FileDesk, Fault>
     ensures opened { OpenPost result }
     ensures represented { IfOk result (λ store. RepresentsRowsOfFile over_files store) }

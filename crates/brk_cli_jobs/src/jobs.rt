@@ -1,15 +1,17 @@
 ghost use Rattle.std.specs.Prelude.{◌≡◌};
 ghost use Rattle.brk_cli_jobs.specs.BatchText.{CompletesBatchOfJob, PrintsBatchOfJob};
-ghost use Rattle.brk_cli_jobs.specs.Places.{ExecutesJobAt, PrintsOkAfterAudit, RunsJob, place_of_job, place_of_optional_path};
+ghost use Rattle.brk_cli_jobs.specs.Places.{ExecutesJobAt, ExecutesJobInExistingFile, PrintsOkAfterAudit, RunsJob, place_of_job, place_of_optional_path};
 ghost use Rattle.brk_cli_jobs.specs.Requested.{AnswersRequest, WritesHelpText, abstract_place};
 
 use crate::audit::write_audit_ok;
 use crate::desk::{execute_in_memory, execute_on_file};
 use crate::pipe::PipeWriter;
 use crate::places::DeskFiles;
+use crate::words::check_words;
 use brk_cli_args::{Job, UsageFault};
 use brk_cli_exit::Ending;
 use brk_io::write_all_bytes;
+use brk_report::ReportFault;
 use brk_store::Store;
 use sqlite::Alter;
 use std::io::{Read, Write};
@@ -57,6 +59,28 @@ fn job_place(job: &Job) -> Place<'_>
     }
 }
 
+// Wrong words are refused before the file is opened.
+fn execute_in_existing_file<S: Alter, F: DeskFiles<Desk = Store<S>>, R: Read + Drop, W: Write>(
+    rt: &HostRuntime,
+    files: &F,
+    path: &str,
+    job: &Job,
+    input: R,
+    output: &mut PipeWriter<W>,
+) -> Ending
+    ensures { ExecutesJobInExistingFile S.Store F.opens F.closes rt.entry job.now path.now
+        (record { input = R.remaining input; before = W.contents output.old.output; after = W.contents output.new.output }) result }
+{
+    match check_words(rt.alloc(), job) {
+        Ok(Ok(())) => {
+            let opened = files.open(path);
+            execute_on_file(rt, files, opened, job, input, output)
+        }
+        Ok(Err(refusal)) => Ending::Statement(ReportFault::Refused(refusal)),
+        Err(fault) => Ending::Open(fault),
+    }
+}
+
 fn execute_job_at_place<S: Alter, F: DeskFiles<Desk = Store<S>>, R: Read + Drop, W: Write>(
     rt: &HostRuntime,
     files: &F,
@@ -73,10 +97,7 @@ fn execute_job_at_place<S: Alter, F: DeskFiles<Desk = Store<S>>, R: Read + Drop,
             let opened = files.open_or_create(path);
             execute_on_file(rt, files, opened, job, input, output)
         }
-        Place::ExistingFile(path) => {
-            let opened = files.open(path);
-            execute_on_file(rt, files, opened, job, input, output)
-        }
+        Place::ExistingFile(path) => execute_in_existing_file(rt, files, path, job, input, output),
     }
 }
 

@@ -5,6 +5,7 @@ mod ask;
 mod audit;
 mod batch;
 mod desk;
+mod examining;
 mod explain;
 pub mod file;
 pub mod jobs;
@@ -12,6 +13,7 @@ pub mod pipe;
 pub mod places;
 mod serve;
 mod statement;
+mod words;
 
 pub use jobs::{execute_job, execute_requested_job};
 pub use pipe::PipeWriter;

@@ -204,26 +204,14 @@ fn expect_plan(alloc: Global, plan: &Plan, line: &str, rows: usize) -> Result<()
     expect_equal(count_rows_of_purchase(&plan.changes), rows)
 }
 
-fn plan_of_order(alloc: Global, order: &Order) -> Result<Plan, Fail> {
-    let found = purchase_facts(0)?;
+// The plan adds the trade and its first status.
+fn expect_order_plan(alloc: Global, found: &OrderPlanFacts) -> Result<(), Fail> {
+    let order = parse_trade_order(alloc, &PURCHASE)??;
     let position = Position::new(alloc);
     let mut end = position.from_end(false);
-    Ok(planned_order(alloc, order, &found, &mut end, None, stamp_at(16))??)
-}
-
-// The plan adds the trade and its first status.
-fn expect_order_plan(alloc: Global) -> Result<(), Fail> {
-    let order = parse_trade_order(alloc, &PURCHASE)??;
-    let plan = plan_of_order(alloc, &order)?;
+    let plan = planned_order(alloc, &order, found, &mut end, None, stamp_at(16))??;
     let line = "1709251200016,1,SBMT,10.00,0.00,0.00,0.00,10.00,5.00,10000.00";
     expect_plan(alloc, &plan, line, 2)
-}
-
-fn estimate_of_order(alloc: Global, order: &Order) -> Result<Reply, Fail> {
-    let found = purchase_facts(0)?;
-    let position = Position::new(alloc);
-    let mut end = position.from_end(false);
-    Ok(planned_estimate(order, &found, &mut end)??)
 }
 
 fn expect_estimate(alloc: Global, reply: &Reply) -> Result<(), Fail> {
@@ -232,10 +220,17 @@ fn expect_estimate(alloc: Global, reply: &Reply) -> Result<(), Fail> {
     expect_text(told.as_str(), "10.00,0.00,0.00,0.00,10.00,5.00,10000.00")
 }
 
-fn expect_estimate_plan(alloc: Global) -> Result<(), Fail> {
+fn expect_estimate_plan(alloc: Global, found: &OrderPlanFacts) -> Result<(), Fail> {
     let order = parse_trade_order(alloc, &PURCHASE)??;
-    let reply = estimate_of_order(alloc, &order)?;
+    let position = Position::new(alloc);
+    let mut end = position.from_end(false);
+    let reply = planned_estimate(&order, found, &mut end)??;
     expect_estimate(alloc, &reply)
+}
+
+fn expect_plans_of_purchase(alloc: Global, found: &OrderPlanFacts) -> Result<(), Fail> {
+    expect_order_plan(alloc, found)?;
+    expect_estimate_plan(alloc, found)
 }
 
 // The rows that decide on a result: the account's, the broker's, and the summary's or none.
@@ -274,8 +269,10 @@ fn expect_result_plan(alloc: Global) -> Result<(), Fail> {
 }
 
 fn expect_plans_over_lots(alloc: Global) -> Result<(), Fail> {
-    expect_order_plan(alloc)?;
-    expect_estimate_plan(alloc)?;
+    match purchase_facts(0) {
+        Ok(found) => expect_plans_of_purchase(alloc, &found)?,
+        Err(failure) => return Err(failure),
+    }
     expect_result_plan(alloc)
 }
 

@@ -4,32 +4,21 @@ import collections
 import csv
 import datetime
 import hashlib
-import importlib.machinery
-import importlib.util
 import io
-import pathlib
 import random
 import shutil
 import subprocess
 import sys
 
-TOP = pathlib.Path(__file__).resolve().parents[3]
+from cases import script, TOP
+
 REPORTS = TOP / "examples" / "reports"
 OFFSETS = (0, 1, 2, 3, 30, 31, 305, 306)
 # the batch of this day ends after midnight
 LATE = 3
 
-
-def peers():
-    """The module of try_peers, which has the generator."""
-    loader = importlib.machinery.SourceFileLoader("try_peers", str(TOP / "tools/trials/try_peers"))
-    module = importlib.util.module_from_spec(importlib.util.spec_from_loader("try_peers", loader))
-    sys.modules["try_peers"] = module
-    loader.exec_module(module)
-    return module
-
-
-PEERS = peers()
+# the generator
+PEERS = script("try_peers")
 FIRST, DAY_MS = PEERS.FIRST, PEERS.DAY_MS
 amount_of, cents_of, date_of = PEERS.amount_of, PEERS.cents_of, PEERS.date_of
 
