@@ -130,8 +130,8 @@ UpgradesAuditedRows db after =
     (schema : typed_schema.Schema) × (t : Tables) × (passed : StoresRowsWithAuditResult (abstract_schema schema) t db None)
     × HasDeskTables (sheets (base_of_tables t)) after × PreservesTablesOutside (IsTableOfSchema (abstract_schema schema)) passed.0.0 db after
 
--- The disk contents `trees` are those of the upgrade of the database `db` from a schema older than 3
--- (`UpgradesAuditedRows`).
+-- The disk contents `trees` are what the upgrade of the database `db` from a schema older than 3
+-- writes (`UpgradesAuditedRows`).
 abbrev pub IsUpgradedDiskContent : Database → Trees → Type 0
 IsUpgradedDiskContent db trees =
     (schema : typed_schema.Schema) × (t : Tables) × (schema ≢ Third) × StoresRowsWithAuditResult (abstract_schema schema) t db None
