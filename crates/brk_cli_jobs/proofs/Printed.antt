@@ -34,8 +34,9 @@ use Rattle.brk_money.specs.declared.fault.Fault.{Fault}
 use Rattle.brk_cli_jobs.proofs.Computed.{appended, completes}
 use Rattle.brk_cli_jobs.specs.BatchText.{CompletesBatchInFile, CompletesBatchOfJob, PrintsBatchAt, PrintsBatchOfJob, PrintsWholeBatch, result_of_batch_at}
 use Rattle.brk_cli_jobs.specs.Endings.{ending_of_batch}
+use Rattle.brk_cli_jobs.specs.Files.{CloseRelation, OpenRelation}
 use Rattle.brk_cli_jobs.specs.Jobs.{ExecutesBatch, InputAndOutput, clock_and_output}
-use Rattle.brk_cli_jobs.specs.Places.{CloseRelation, ExecutesJobInFile, ExecutesJobInMemory, ExecutesJobOnNewStore, ExecutesJobOnOpened, FailsToOpen, OpenRelation, RunsJob}
+use Rattle.brk_cli_jobs.specs.Places.{ExecutesJobInFile, ExecutesJobInMemory, ExecutesJobOnNewStore, ExecutesJobOnOpened, FailsToOpen, RunsJob}
 use Rattle.sqlite_trees.specs.declared.store.Store.{Ghosts}
 
 -- all readings of a fixed clock are its timestamp

@@ -11,6 +11,7 @@ pub mod file;
 pub mod jobs;
 pub mod pipe;
 pub mod places;
+mod reopening;
 mod serve;
 mod statement;
 mod words;

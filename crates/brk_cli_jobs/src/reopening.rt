@@ -1,0 +1,55 @@
+//! A desk whose store a fault has closed, opened again from its file.
+
+ghost use Rattle.brk_cli_jobs.specs.Serving.{AsksDesk, OpensFileAgain, ReadiesDesk};
+
+use crate::places::DeskFiles;
+use brk_desk::{Desk, Query};
+use brk_money::{Fault, Id};
+use brk_store::Store;
+use sqlite::Alter;
+use std::alloc::Global;
+
+// A query for which the desk reads one row, unless the account with the greatest id exists. On a
+// store that is closed it fails with `Store`.
+fn fails_with_store<S: Alter>(alloc: Global, desk: &mut Desk<S>) -> bool
+    ensures { AsksDesk S.Store desk.old desk.new result }
+{
+    let account = Id::new(Id::GREATEST).unwrap();
+    match desk.ask(alloc, &Query::Recent(account)) {
+        Ok(_) => false,
+        Err(Fault::Store) => true,
+        Err(_) => false,
+    }
+}
+
+// The close between the two opens writes what the first one found into the file itself, and syncs
+// it: after a sync that failed it may be in the memory of the system alone.
+fn open_file_again<S: Alter, F: DeskFiles<Desk = Store<S>>>(
+    files: &F,
+    path: &str,
+) -> Result<Store<S>, Fault>
+    ensures { OpensFileAgain F.opens F.closes path.now result }
+{
+    let found = files.open(path)?;
+    files.close(found)?;
+    files.open(path)
+}
+
+/// Returns the store for the next stream: the store itself or, if a query on it fails with `Store`,
+/// as each does once a fault has closed it, the store of its file, which is opened and adopted
+/// again. Fails if it cannot be.
+pub(crate) fn ready_store<S: Alter, F: DeskFiles<Desk = Store<S>>>(
+    alloc: Global,
+    files: &F,
+    path: &str,
+    store: Store<S>,
+) -> Result<Store<S>, Fault>
+    ensures { ReadiesDesk S.Store F.opens F.closes path.now store result }
+{
+    let mut desk = Desk::new(store);
+    if !fails_with_store(alloc, &mut desk) {
+        return Ok(desk.into_store());
+    }
+    let _ = files.close(desk.into_store());
+    open_file_again(files, path)
+}
