@@ -9,7 +9,7 @@ use Rattle.sqlite.specs.Held.{Held}
 use Rattle.brk_cli_exit.specs.Ending.{ending_after_close}
 use Rattle.brk_cli_exit.specs.declared.ending.Ending.{Ending}
 use Rattle.brk_cli_exit.specs.declared.ending.Ending.TheVariants as ending
-use Rattle.brk_desk.specs.Runs.{IsRunWithOutcomes}
+use Rattle.brk_desk.specs.Runs.{IsRunWithOutcomes, IsSomeDeskRun}
 use Rattle.brk_desk.specs.declared.call.Call as made
 use Rattle.brk_desk.specs.declared.call.Call.TheVariants as call
 use Rattle.brk_desk.specs.declared.call.Outcome as came
@@ -88,6 +88,13 @@ ServesInSequence {S} {C} g opens closes gives path (suc count) clock later old n
 abbrev pub ClosesWithEnding : {S : Type 0} → CloseRelation S → Held S → Ending → Ending → Type 0
 ClosesWithEnding closes new reached end = (closed : Result (Unit {0}) Fault) × closes new closed × (end ≡ ending_after_close reached closed)
 
+-- One stream was served by the desk `old`. `Ok`: to its end, and `new` is the desk after it. `Err`:
+-- serving failed, and the desk was closed (`ClosesWithEnding`).
+abbrev pub ServesStreamOrCloses : {S C : Type 0} → Ghosts S → CloseRelation S → (C → ℕ → C → Type 0) → C → C → Held S → Result (Held S) Ending → Type 0
+ServesStreamOrCloses g closes gives clock later old (Ok new) = ServesListener g gives 1 clock later old new (Ok tt)
+ServesStreamOrCloses {S} g closes gives clock later old (Err end) =
+    (new : Held S) × (reached : Ending) × ServesListener g gives 1 clock later old new (Err reached) × ClosesWithEnding closes new reached end
+
 -- After the desk `old` no stream could be served to its end: the file could not be opened again,
 -- and the ending is `Open` with the fault; or serving failed, and the desk was closed.
 abbrev pub FailsAtStream : {S C : Type 0} → Ghosts S → OpenRelation S → CloseRelation S → (C → ℕ → C → Type 0) → List ℕ → C → Held S → Ending → Type 0
@@ -109,6 +116,11 @@ abbrev pub EndsServing : {S C : Type 0} → Ghosts S → OpenRelation S → Clos
 EndsServing g opens closes gives path streams count clock desk end =
     ((count ≡ streams) × ClosesWithEnding closes desk ending.Done end) ⊎ ((count < streams) × FailsAtStream g opens closes gives path clock desk end)
 
+-- The desk `new` came about by calls of the desk alone from the desk `old`, or from a desk of the
+-- file as it was opened.
+abbrev pub RunsSinceOpening : {S : Type 0} → Ghosts S → OpenRelation S → List ℕ → Held S → Held S → Type 0
+RunsSinceOpening {S} g opens path old new = (first : Held S) × ((first ≡ old) ⊎ opens path (Ok first)) × IsSomeDeskRun g first new
+
 -- `streams` streams were served in sequence after the desk `old`, or serving them failed.
 pub record ServesStreamsAndCloses {S C : Type 0} (g : Ghosts S) (opens : OpenRelation S) (closes : CloseRelation S) (gives : C → ℕ → C → Type 0) (path : List ℕ)
     (streams : ℕ) (clock : C) (old : Held S) (end : Ending) : Type 0 where
@@ -117,6 +129,8 @@ pub record ServesStreamsAndCloses {S C : Type 0} (g : Ghosts S) (opens : OpenRel
   pub later : C
   pub last : Held S
   pub served : ServesInSequence g opens closes gives path count clock later old last
+  -- Since the last opening the desk changed only by calls of the desk.
+  pub run : RunsSinceOpening g opens path old last
   pub ended : EndsServing g opens closes gives path streams count later last end
 
 -- The job served its streams from the desk in the file at the path, with the readings of the

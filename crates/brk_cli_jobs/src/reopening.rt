@@ -3,9 +3,10 @@
 ghost use Rattle.brk_cli_jobs.specs.Serving.{AsksDesk, OpensFileAgain, ReadiesDesk};
 
 use crate::places::DeskFiles;
-use brk_desk::{Desk, Query};
+use brk_desk::Desk;
 use brk_money::{Fault, Id};
 use brk_store::Store;
+use brk_view_rows::Query;
 use sqlite::Alter;
 use std::alloc::Global;
 
@@ -18,7 +19,8 @@ fn fails_with_store<S: Alter>(alloc: Global, desk: &mut Desk<S>) -> bool
     match desk.ask(alloc, &Query::Recent(account)) {
         Ok(_) => false,
         Err(Fault::Store) => true,
-        Err(_) => false,
+        Err(Fault::Memory) => false,
+        Err(Fault::Damaged(_)) => false,
     }
 }
 

@@ -3,7 +3,7 @@
 ghost use Rattle.std.specs.Prelude.{◌≡◌};
 ghost use Rattle.brk_cli_jobs.specs.Endings.{ending_of_serving, result_of_serving};
 ghost use Rattle.brk_cli_jobs.specs.Jobs.{ServesListener, ServesStreams};
-ghost use Rattle.brk_cli_jobs.specs.Serving.{ServesNextStream, ServesStreamsAndCloses, ServesStreamsInFile};
+ghost use Rattle.brk_cli_jobs.specs.Serving.{ServesNextStream, ServesStreamOrCloses, ServesStreamsAndCloses, ServesStreamsInFile};
 
 use crate::places::DeskFiles;
 use crate::reopening::ready_store;
@@ -71,6 +71,23 @@ pub(crate) fn execute_serve_job<S: Alter>(
     ending_of_serving(serve_on(rt.alloc(), &listener, streams, &mut clock, desk))
 }
 
+// If the stream ends because memory ran out, or cannot be accepted, the file is closed.
+fn serve_stream_or_close<S: Alter, F: DeskFiles<Desk = Store<S>>, C: Clock>(
+    alloc: Global,
+    files: &F,
+    listener: &TcpListener,
+    clock: &mut C,
+    store: Store<S>,
+) -> Result<Store<S>, Ending>
+    ensures { ServesStreamOrCloses S.Store F.closes C.gives clock.old clock.new store result }
+{
+    let mut desk = Desk::new(store);
+    match serve_on(alloc, listener, 1, clock, &mut desk) {
+        Ok(()) => Ok(desk.into_store()),
+        Err(ending) => Err(ending_after_close(ending, files.close(desk.into_store()))),
+    }
+}
+
 fn serve_next_stream<S: Alter, F: DeskFiles<Desk = Store<S>>, C: Clock>(
     alloc: Global,
     files: &F,
@@ -81,17 +98,9 @@ fn serve_next_stream<S: Alter, F: DeskFiles<Desk = Store<S>>, C: Clock>(
 ) -> Result<Store<S>, Ending>
     ensures { ServesNextStream S.Store F.opens F.closes C.gives path.now clock.old clock.new store result }
 {
-    let store = match ready_store(alloc, files, path, store) {
-        Ok(store) => store,
-        Err(fault) => return Err(Ending::Open(fault)),
-    };
-    let mut desk = Desk::new(store);
-    match serve_on(alloc, listener, 1, clock, &mut desk) {
-        Ok(()) => Ok(desk.into_store()),
-        Err(ending) => {
-            let closed = files.close(desk.into_store());
-            Err(ending_after_close(ending, closed))
-        }
+    match ready_store(alloc, files, path, store) {
+        Ok(store) => serve_stream_or_close(alloc, files, listener, clock, store),
+        Err(fault) => Err(Ending::Open(fault)),
     }
 }
 
@@ -107,11 +116,13 @@ fn serve_streams_and_close<S: Alter, F: DeskFiles<Desk = Store<S>>, C: Clock>(
     ensures { ServesStreamsAndCloses S.Store F.opens F.closes C.gives path.now streams clock.old store result }
 {
     let mut store = store;
-    for _ in 0..streams {
-        match serve_next_stream(alloc, files, path, listener, clock, store) {
-            Ok(next) => store = next,
+    let mut served = 0u32;
+    'streams: while served < streams {
+        store = match serve_next_stream(alloc, files, path, listener, clock, store) {
+            Ok(next) => next,
             Err(ending) => return ending,
-        }
+        };
+        served += 1;
     }
     ending_after_close(Ending::Done, files.close(store))
 }
