@@ -1,30 +1,24 @@
 -- A query of a desk, and the fault that it failed with.
-use Rattle.std.proofs.Common.{◌≡◌, ◌∙◌, Bool, true, false, List, [], ◌∷◌, ℕ, Result, Ok, Err, refl}
+use Rattle.std.proofs.Common.{◌≡◌, ◌∙◌, Bool, false, List, [], ◌∷◌, ℕ, Result, Ok, Err, refl}
 use Rattle.sqlite_trees.specs.declared.store.Store.{Ghosts}
 use Rattle.sqlite.specs.Held.{Held}
 use Rattle.brk_desk.proofs.Made.{run_of}
 use Rattle.brk_desk.specs.Answers.{outcome_of_query}
 use Rattle.brk_desk.specs.CallPosts.{AskPost}
 use Rattle.brk_desk.specs.declared.call.Call.TheVariants as call
-use Rattle.brk_money.specs.declared.fault.Condition.{Condition}
 use Rattle.brk_money.specs.declared.fault.Fault.{Fault}
-use Rattle.brk_money.specs.declared.fault.Fault.TheVariants as fault
 use Rattle.brk_money.specs.declared.refusal.Refusal.{Refusal}
 use Rattle.brk_view_rows.specs.Queries.{abstract_query}
 use Rattle.brk_view_rows.specs.declared.query.Query.{Query}
 use Rattle.brk_view_rows.specs.declared.view.View.{View}
-use Rattle.brk_cli_jobs.specs.Serving.{AsksDesk, is_store_fault}
+use Rattle.brk_cli_jobs.specs.Serving.{AsksDesk, is_store, is_store_fault}
 
 abbrev pub failed_with_store : Result (Result View Refusal) Fault → Bool
-failed_with_store (Err fault.Store) = true
-failed_with_store (Err fault.Memory) = false
-failed_with_store (Err (fault.Damaged c)) = false
+failed_with_store (Err fault) = is_store fault
 failed_with_store (Ok seen) = false
 
 same_fault : (result : Result (Result View Refusal) Fault) → failed_with_store result ≡ is_store_fault (outcome_of_query result)
-same_fault (Err fault.Store) = refl
-same_fault (Err fault.Memory) = refl
-same_fault (Err (fault.Damaged c)) = refl
+same_fault (Err fault) = refl
 same_fault (Ok (Ok view)) = refl
 same_fault (Ok (Err refusal)) = refl
 

@@ -1,13 +1,16 @@
 -- Streams that are served in sequence on the desk of a file.
-use Rattle.std.proofs.Common.{◌≡◌, ◌+◌, ℕ, Bool, true, false, List, [], ◌∷◌, Result, Ok, Err, refl, inl, inr, subst, sym, add-one}
+use Rattle.std.proofs.Common.{◌≡◌, ◌+◌, ℕ, Bool, true, false, List, [], ◌∷◌, Option, Result, Ok, Err, refl, inl, inr, subst, sym, add-one}
+use Rattle.std.specs.Borrow.{Bor}
 use Rattle.sqlite_trees.specs.declared.store.Store.{Ghosts}
 use Rattle.sqlite.specs.Held.{Held}
 use Rattle.brk_cli_exit.specs.declared.ending.Ending.{Ending}
 use Rattle.brk_desk.proofs.Made.{not_run, run_then}
+use Rattle.brk_io.specs.Readings.{ReturnsReading, program_clock}
+use Rattle.brk_io.specs.declared.program_clock.ProgramClock.{ProgramClock}
 use Rattle.brk_money.specs.declared.fault.Fault.{Fault}
 use Rattle.brk_cli_jobs.specs.Files.{CloseRelation, OpenRelation}
 use Rattle.brk_cli_jobs.specs.Jobs.{ServesListener}
-use Rattle.brk_cli_jobs.specs.Serving.{AsksDesk, OpensFileAgain, ReadiesDesk, RunsSinceOpening, ServesInSequence, ServesNextStream, ServesStream, ServesStreamOrCloses}
+use Rattle.brk_cli_jobs.specs.Serving.{AsksDesk, OpensFileAgain, ReadiesDesk, RunsSinceOpening, ServesInSequence, ServesNextStream, ServesStream, ServesStreamOrCloses, ServesStreamsAndCloses, ServesStreamsInFile}
 
 pub just_opened : {S : Type 0} (g : Ghosts S) (opens : OpenRelation S) (path : List ℕ) (old : Held S) → RunsSinceOpening g opens path old old
 just_opened g opens path old = (old, inl refl, not_run g old old refl)
@@ -72,3 +75,9 @@ module _ {S : Type 0} (g : Ghosts S) (opens : OpenRelation S) (closes : CloseRel
         → ServesStream g opens closes gives path mid later last new (Ok tt) → ServesInSequence g opens closes gives path (count + 1) clock later old new
     one_more count clock mid later old last new before served =
         subst (λ (n : ℕ). ServesInSequence g opens closes gives path n clock later old new) (sym (add-one count)) (mid, last, before, served)
+
+  module _ {R : Type 0} (machine : Bor R) (at : Option ℕ) where
+    pub with_program_clock : (streams : ℕ) (clock : ProgramClock R) (old : Held S) (end : Ending) → clock ≡ program_clock machine at
+        → ServesStreamsAndCloses g opens closes ReturnsReading path streams clock old end → ServesStreamsInFile g opens closes machine path at streams old end
+    with_program_clock streams clock old end is served =
+        inr (subst (λ (k : ProgramClock R). ServesStreamsAndCloses g opens closes ReturnsReading path streams k old end) is served)

@@ -21,9 +21,15 @@ use Rattle.brk_money.specs.declared.fault.Fault.TheVariants as fault
 use Rattle.brk_cli_jobs.specs.Files.{CloseRelation, OpenRelation}
 use Rattle.brk_cli_jobs.specs.Jobs.{ServesListener}
 
+-- The fault is `Store`.
+abbrev pub is_store : Fault → Bool
+is_store fault.Store = true
+is_store fault.Memory = false
+is_store (fault.Damaged c) = false
+
 -- The outcome is the fault `Store`.
 abbrev pub is_store_fault : came.Outcome → Bool
-is_store_fault (outcome.Failed fault.Store) = true
+is_store_fault (outcome.Failed fault) = is_store fault
 is_store_fault other = false
 
 -- The call is a query.

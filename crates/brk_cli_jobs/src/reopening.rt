@@ -1,6 +1,7 @@
 //! A desk whose store a fault has closed, opened again from its file.
 
-ghost use Rattle.brk_cli_jobs.specs.Serving.{AsksDesk, OpensFileAgain, ReadiesDesk};
+ghost use Rattle.std.specs.Prelude.{◌≡◌};
+ghost use Rattle.brk_cli_jobs.specs.Serving.{AsksDesk, OpensFileAgain, ReadiesDesk, is_store};
 
 use crate::places::DeskFiles;
 use brk_desk::Desk;
@@ -10,17 +11,22 @@ use brk_view_rows::Query;
 use sqlite::Alter;
 use std::alloc::Global;
 
-// A query for which the desk reads one row, unless the account with the greatest id exists. On a
-// store that is closed it fails with `Store`.
-fn fails_with_store<S: Alter>(alloc: Global, desk: &mut Desk<S>) -> bool
+fn is_store(fault: Fault) -> bool
+    ensures { result ≡ is_store fault }
+{
+    match fault {
+        Fault::Store => true,
+        Fault::Memory => false,
+        Fault::Damaged(_) => false,
+    }
+}
+
+fn fails_with_store<S: Alter>(alloc: Global, desk: &mut Desk<S>, query: &Query) -> bool
     ensures { AsksDesk S.Store desk.old desk.new result }
 {
-    let account = Id::new(Id::GREATEST).unwrap();
-    match desk.ask(alloc, &Query::Recent(account)) {
+    match desk.ask(alloc, query) {
         Ok(_) => false,
-        Err(Fault::Store) => true,
-        Err(Fault::Memory) => false,
-        Err(Fault::Damaged(_)) => false,
+        Err(fault) => is_store(fault),
     }
 }
 
@@ -49,7 +55,9 @@ pub(crate) fn ready_store<S: Alter, F: DeskFiles<Desk = Store<S>>>(
     ensures { ReadiesDesk S.Store F.opens F.closes path.now store result }
 {
     let mut desk = Desk::new(store);
-    if !fails_with_store(alloc, &mut desk) {
+    // The desk reads one row for it, unless the account with the greatest id exists.
+    let query = Query::Recent(Id::new(Id::GREATEST).unwrap());
+    if !fails_with_store(alloc, &mut desk, &query) {
         return Ok(desk.into_store());
     }
     let _ = files.close(desk.into_store());

@@ -5,8 +5,8 @@ use Rattle.brk_cli_jobs.proofs.serve.serve_streams_and_close.Goals as goal
 pub streams-init : goal.streams-init
 streams-init g c = record {
   within = omega arith;
-  so_far = none_served g.S.Store g.F.DeskFiles.opens g.F.DeskFiles.closes _ g.C.Clock.gives _ _;
-  run = just_opened g.S.Store g.F.DeskFiles.opens _ _;
+  so_far = none_served g.S.Store g.F.DeskFiles.opens g.F.DeskFiles.closes c.args.path.now g.C.Clock.gives _ _;
+  run = just_opened g.S.Store g.F.DeskFiles.opens c.args.path.now c.args.store;
 }
 
 pub streams-preserved : goal.streams-preserved
