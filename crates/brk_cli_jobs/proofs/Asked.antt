@@ -1,5 +1,5 @@
 -- A query of a desk, and the fault that it failed with.
-use Rattle.std.proofs.Common.{◌≡◌, ◌∙◌, Bool, false, List, [], ◌∷◌, ℕ, Result, Ok, Err, refl}
+use Rattle.std.proofs.Common.{◌≡◌, ◌∙◌, Bool, List, [], ◌∷◌, ℕ, Result, Ok, Err, refl}
 use Rattle.sqlite_trees.specs.declared.store.Store.{Ghosts}
 use Rattle.sqlite.specs.Held.{Held}
 use Rattle.brk_desk.proofs.Made.{run_of}
@@ -11,19 +11,15 @@ use Rattle.brk_money.specs.declared.refusal.Refusal.{Refusal}
 use Rattle.brk_view_rows.specs.Queries.{abstract_query}
 use Rattle.brk_view_rows.specs.declared.query.Query.{Query}
 use Rattle.brk_view_rows.specs.declared.view.View.{View}
-use Rattle.brk_cli_jobs.specs.Serving.{AsksDesk, is_store, is_store_fault}
+use Rattle.brk_cli_jobs.specs.Serving.{AsksDesk, has_store_fault, is_store_fault}
 
-abbrev pub failed_with_store : Result (Result View Refusal) Fault → Bool
-failed_with_store (Err fault) = is_store fault
-failed_with_store (Ok seen) = false
-
-same_fault : (result : Result (Result View Refusal) Fault) → failed_with_store result ≡ is_store_fault (outcome_of_query result)
+same_fault : (result : Result (Result View Refusal) Fault) → has_store_fault result ≡ is_store_fault (outcome_of_query result)
 same_fault (Err fault) = refl
 same_fault (Ok (Ok view)) = refl
 same_fault (Ok (Err refusal)) = refl
 
 module _ {S : Type 0} (g : Ghosts S) (old new : Held S) (query : Query) where
-  pub asks : (result : Result (Result View Refusal) Fault) (failed : Bool) → failed ≡ failed_with_store result → AskPost g old new (abstract_query query) result
+  pub asks : (result : Result (Result View Refusal) Fault) (failed : Bool) → failed ≡ has_store_fault result → AskPost g old new (abstract_query query) result
       → AsksDesk g old new failed
   asks result failed flag asked = record {
     time = 0;

@@ -1,5 +1,5 @@
 -- Streams that are served in sequence on the desk of a file.
-use Rattle.std.proofs.Common.{◌≡◌, ◌+◌, ℕ, Bool, true, false, List, [], ◌∷◌, Option, Result, Ok, Err, refl, inl, inr, subst, sym, add-one}
+use Rattle.std.proofs.Common.{◌≡◌, ◌+◌, ℕ, Bool, true, List, [], ◌∷◌, Option, Result, Ok, Err, refl, inl, inr, subst, sym, add-one}
 use Rattle.std.specs.Borrow.{Bor}
 use Rattle.sqlite_trees.specs.declared.store.Store.{Ghosts}
 use Rattle.sqlite.specs.Held.{Held}
@@ -25,10 +25,6 @@ module _ {S : Type 0} (g : Ghosts S) (opens : OpenRelation S) (closes : CloseRel
   asked_same old desk after last failed is began ended flag asked =
       subst (λ (d : Held S). AsksDesk g d last is) began
       (subst (λ (d : Held S). AsksDesk g desk d is) (sym ended) (subst (λ (b : Bool). AsksDesk g desk after b) flag asked))
-
-  pub keeps : (old desk after new : Held S) (failed : Bool) → desk ≡ old → new ≡ after → failed ≡ false → AsksDesk g desk after failed
-      → ReadiesDesk g opens closes path old (Ok new)
-  keeps old desk after new failed began ended flag asked = inl (asked_same old desk after new failed false began ended flag asked)
 
   pub reopens : (old desk after last : Held S) (failed : Bool) (closed : Result (Unit {0}) Fault) (result : Result (Held S) Fault) → desk ≡ old → last ≡ after
       → failed ≡ true → AsksDesk g desk after failed → closes last closed → OpensFileAgain opens closes path result

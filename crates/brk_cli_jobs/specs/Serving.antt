@@ -27,6 +27,11 @@ is_store fault.Store = true
 is_store fault.Memory = false
 is_store (fault.Damaged c) = false
 
+-- The result is the fault `Store`.
+abbrev pub has_store_fault : {A : Type 0} → Result A Fault → Bool
+has_store_fault (Ok answer) = false
+has_store_fault (Err fault) = is_store fault
+
 -- The outcome is the fault `Store`.
 abbrev pub is_store_fault : came.Outcome → Bool
 is_store_fault (outcome.Failed fault) = is_store fault

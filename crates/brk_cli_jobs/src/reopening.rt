@@ -1,7 +1,7 @@
 //! A desk whose store a fault has closed, opened again from its file.
 
 ghost use Rattle.std.specs.Prelude.{◌≡◌};
-ghost use Rattle.brk_cli_jobs.specs.Serving.{AsksDesk, OpensFileAgain, ReadiesDesk, is_store};
+ghost use Rattle.brk_cli_jobs.specs.Serving.{AsksDesk, OpensFileAgain, ReadiesDesk, has_store_fault, is_store};
 
 use crate::places::DeskFiles;
 use brk_desk::Desk;
@@ -21,13 +21,20 @@ fn is_store(fault: Fault) -> bool
     }
 }
 
+fn has_store_fault<T>(answered: &Result<T, Fault>) -> bool
+    ensures { result ≡ has_store_fault answered.now }
+{
+    match answered {
+        Ok(_) => false,
+        Err(fault) => is_store(*fault),
+    }
+}
+
 fn fails_with_store<S: Alter>(alloc: Global, desk: &mut Desk<S>, query: &Query) -> bool
     ensures { AsksDesk S.Store desk.old desk.new result }
 {
-    match desk.ask(alloc, query) {
-        Ok(_) => false,
-        Err(fault) => is_store(fault),
-    }
+    let answered = desk.ask(alloc, query);
+    has_store_fault(&answered)
 }
 
 // The close between the two opens writes what the first one found into the file itself, and syncs
