@@ -60,7 +60,7 @@ module _ {S : Type 0} (g : Ghosts S) (opens : OpenRelation S) (closes : CloseRel
           before.0,
           before.1,
           run_then g before.0 last new before.2
-          (run_then g last served.desk new (record { calls = (asked.time, asked.query) ∷ []; outcomes = asked.outcome ∷ []; run = asked.run }) served.served.served),
+              (run_then g last served.desk new (record { calls = (asked.time, asked.query) ∷ []; outcomes = asked.outcome ∷ []; run = asked.run }) served.served.served),
         )
         continued (inr again) = (served.desk, inr again.reopened.3, served.served.served)
 
