@@ -127,11 +127,11 @@ def calls_of(program, job):
 
 
 class Client:
-    """Sends all rows, each until it is answered, as docs/formats/http.md says: it starts a server again that has ended, and ends one
-    that replies 503 again and again."""
+    """Sends all rows, each until it is answered, as docs/formats/http.md says, and starts a server again that has ended. It ends a
+    server itself whose fault goes on; after any other fault the server has to answer again within some streams, or to end."""
 
-    def __init__(self, program, job, path, **faults):
-        self.program, self.job, self.path = program, job, path
+    def __init__(self, program, job, path, goes_on, **faults):
+        self.program, self.job, self.path, self.goes_on = program, job, path, goes_on
         self.server = Server(program, path, **faults)
         self.came = set()
 
@@ -149,6 +149,7 @@ class Client:
             elif reply[0] != 503:
                 return reply
             elif turn == PATIENCE:
+                expect(self.goes_on, f"row {number}: no reply but 503 in {PATIENCE} streams")
                 self.server.kill()
                 self.start_again("ended after 503 again and again")
             else:
@@ -167,7 +168,7 @@ def try_faults(sweep, job, cases):
 
     def one(case, path):
         placed(path, job.before)
-        client = Client(sweep.program, job, path, **case.faults())
+        client = Client(sweep.program, job, path, case.goes_on, **case.faults())
         try:
             client.send_all()
         finally:
