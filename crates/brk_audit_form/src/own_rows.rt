@@ -24,7 +24,7 @@ fn insert_trade(seen: &mut BTreeSet<u64>, trade: Option<Id>) -> Result<bool, All
 }
 
 /// Ignores rows without a trade.
-pub(crate) fn trades_differ(alloc: Global, moves: &[CashRow]) -> Result<bool, AllocError>
+pub(crate) fn have_distinct_trades(alloc: Global, moves: &[CashRow]) -> Result<bool, AllocError>
     ensures { IfOk result (λ own. own ≡ all_distinct (trade_ids_of_cash_rows (map abstract_cash_row moves.now))) }
 {
     let mut seen = BTreeSet::new(alloc);

@@ -10,7 +10,7 @@ use brk_ref::TradeRow;
 use std::collections::BTreeMap;
 
 /// Returns `None` if the trade is not completed.
-pub(crate) fn at_broker(
+pub(crate) fn posting_at_broker(
     terms: &BTreeMap<u64, AccountTerms>,
     trade: &TradeRow,
     amount: i64,

@@ -48,5 +48,5 @@ pub(crate) fn execute_ask_job<S: Alter, W: Write>(
         return Ending::Open(Fault::Memory);
     };
     let written = write_asked(alloc, desk, view, &arguments, form, output);
-    output.after_write(written)
+    output.ending_of_write(written)
 }

@@ -44,5 +44,5 @@ pub(crate) fn execute_explain_job<S: Alter, W: Write>(
         Err(_) => return Ending::Open(Fault::Memory),
     };
     let written = write_explanation(alloc, desk, &what, output);
-    output.after_write(written)
+    output.ending_of_write(written)
 }

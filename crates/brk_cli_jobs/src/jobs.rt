@@ -103,7 +103,7 @@ fn execute_job_at_place<S: Alter, F: DeskFiles<Desk = Store<S>>, R: Read + Drop,
 }
 
 // The file is closed by then: `ok` is printed only if its close succeeded.
-fn print_ok<W: Write>(job: &Job, ending: Ending, output: &mut W) -> Ending
+fn print_ok_after_audit<W: Write>(job: &Job, ending: Ending, output: &mut W) -> Ending
     ensures { PrintsOkAfterAudit job.now ending (W.contents output.old) (W.contents output.new) result }
 {
     match (job, ending) {
@@ -136,7 +136,7 @@ pub fn execute_job<S: Alter, F: DeskFiles<Desk = Store<S>>, R: Read + Drop, W: W
         (record { input = R.remaining input; before = W.contents output.old.output; after = W.contents output.new.output }) result }
 {
     let ending = execute_job_at_place(rt, files, job, input, output);
-    print_ok(job, ending, output)
+    print_ok_after_audit(job, ending, output)
 }
 
 /// Executes the job that the command-line arguments request (`read_words`, `execute_job`). If they

@@ -32,7 +32,7 @@ pub enum Outcome {
 }
 
 impl Outcome {
-    pub(crate) fn command_outcome(answered: Result<Answer, Fault>) -> Outcome
+    pub(crate) fn from_command_result(answered: Result<Answer, Fault>) -> Outcome
         ensures { result ≡ outcome_of_command answered }
     {
         match answered {
@@ -41,7 +41,7 @@ impl Outcome {
         }
     }
 
-    pub(crate) fn query_outcome(seen: Planned<View>) -> Outcome
+    pub(crate) fn from_query_result(seen: Planned<View>) -> Outcome
         ensures { result ≡ outcome_of_query seen }
     {
         match seen {

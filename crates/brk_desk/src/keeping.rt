@@ -53,7 +53,7 @@ pub(crate) fn answer_retry(
 }
 
 // The stored reply is the last change of the plan.
-pub(crate) fn plan_with_reply(
+pub(crate) fn plan_with_stored_reply(
     alloc: Global,
     plan: Plan,
     command: &Command,

@@ -12,7 +12,7 @@ ghost use Rattle.brk_ref.specs.Fields.{ParsesAs, texts_of_fields};
 ghost use Rattle.brk_desk_commands.specs.Commands.{abstract_command};
 
 use crate::command::Command;
-use crate::parse_order::trade_of_kind;
+use crate::parse_order::parse_trade_kinds;
 use brk_money::{Planned, Refusal};
 use brk_ref::{
     check_account, check_band, check_broker, check_charge, check_customer, check_customer_tax,
@@ -110,7 +110,7 @@ fn customer_tax_command(fields: &[&[u8]]) -> Result<Command, Refusal>
 }
 
 // Refuses `broker`, `customer` and `account` as unknown kinds: the caller has parsed these.
-fn record_of_kind(alloc: Global, kind: &[u8], fields: &[&[u8]]) -> Planned<Command, AllocError>
+fn parse_record_kinds(alloc: Global, kind: &[u8], fields: &[&[u8]]) -> Planned<Command, AllocError>
     ensures { IfOk result (λ read. ParsesAs abstract_command read (parse_by_first_field (other_reference_row_parsers ++ order_feed_and_cancel_parsers
         ++ result_row_parsers ++ update_row_parsers ++ movement_and_one_day_settlement_row_parsers) (kind.now
         ∷ texts_of_fields fields.now))) }
@@ -133,7 +133,7 @@ fn record_of_kind(alloc: Global, kind: &[u8], fields: &[&[u8]]) -> Planned<Comma
     if kind == b"custtax".as_slice() {
         return Ok(customer_tax_command(fields));
     }
-    trade_of_kind(alloc, kind, fields)
+    parse_trade_kinds(alloc, kind, fields)
 }
 
 fn parse_kind(alloc: Global, kind: &[u8], fields: &[&[u8]]) -> Planned<Command, AllocError>
@@ -148,7 +148,7 @@ fn parse_kind(alloc: Global, kind: &[u8], fields: &[&[u8]]) -> Planned<Command, 
     if kind == b"account".as_slice() {
         return account_command(alloc, fields);
     }
-    record_of_kind(alloc, kind, fields)
+    parse_record_kinds(alloc, kind, fields)
 }
 
 /// Parses the command of a row from its fields, the kind first.

@@ -6,7 +6,7 @@ ghost use Rattle.brk_model.specs.Form.{has_account, has_broker, has_customer, ha
 ghost use Rattle.brk_trade_books.specs.Reads.{account_count_of_customer, contains_customer_with_tax_id, contains_tax_rate};
 ghost use Rattle.brk_store_transactions.specs.Holds.{ReadPost};
 
-use crate::terms::{band_facts, charge_facts, permission_facts, taxpayer_facts};
+use crate::terms::{band_facts, charge_facts, customer_tax_facts, permission_facts};
 use brk_money::{CallFault, Id};
 use brk_ref::{Account, Broker, Customer, Symbol, TaxId};
 use brk_store::Store;
@@ -153,6 +153,6 @@ pub(crate) fn reference_facts<S: Alter>(
         Reference::Charge(charge) => charge_facts(store, charge),
         Reference::Band(band) => band_facts(alloc, store, band),
         Reference::TaxRate(tax) => tax_facts(store, tax.id),
-        Reference::CustomerTax(pays) => taxpayer_facts(alloc, store, pays),
+        Reference::CustomerTax(pays) => customer_tax_facts(alloc, store, pays),
     }
 }

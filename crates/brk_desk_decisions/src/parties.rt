@@ -6,7 +6,7 @@ ghost use Rattle.brk_model.specs.Joins.{account_row_with_id};
 ghost use Rattle.brk_store_transactions.specs.Holds.{ReadPost};
 ghost use Rattle.brk_ref.specs.Records.{abstract_account_row};
 
-use crate::amounts::tax_rate_sum;
+use crate::amounts::require_tax_rate_sum;
 use brk_money::{CallFault, Id};
 use brk_ref::AccountRow;
 use brk_store::Store;
@@ -26,7 +26,7 @@ fn parties_of_row<S: Alter>(
 {
     let account = &row.account;
     let customer = require_customer(store, account.customer)?;
-    let rates = tax_rate_sum(alloc, store, account.customer)?;
+    let rates = require_tax_rate_sum(alloc, store, account.customer)?;
     let broker = require_broker_totals(store, account.broker)?;
     Ok(TradeParties {
         account: row,

@@ -66,7 +66,7 @@ fn read_taxes<S: Alter>(
 
 // The sum is in hundred-thousandths. Fails with `Store` also if one of the customer's taxes does
 // not exist.
-pub(crate) fn limited_tax_sum<S: Alter>(
+pub(crate) fn checked_tax_rate_sum<S: Alter>(
     alloc: Global,
     store: &mut Store<S>,
     customer: Id,
@@ -123,7 +123,7 @@ pub(crate) fn band_facts<S: Alter>(
 }
 
 // Fails with `Store` also if a tax that the customer already pays does not exist.
-pub(crate) fn taxpayer_facts<S: Alter>(
+pub(crate) fn customer_tax_facts<S: Alter>(
     alloc: Global,
     store: &mut Store<S>,
     pays: &CustomerTax,
@@ -133,7 +133,7 @@ pub(crate) fn taxpayer_facts<S: Alter>(
     let customer = customer_exists(store, pays.customer)?;
     let rate = stored_rate(store, pays.tax)?;
     let same_id = pays_tax(store, pays.customer, pays.tax)?;
-    let rates = limited_tax_sum(alloc, store, pays.customer)?;
+    let rates = checked_tax_rate_sum(alloc, store, pays.customer)?;
     Ok(ReferenceFacts {
         same_id,
         customer,

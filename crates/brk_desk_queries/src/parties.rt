@@ -14,7 +14,7 @@ use brk_store_required::require_customer;
 use brk_view_rows::{AccountStatus, TradeStatus};
 use sqlite::Alter;
 
-fn require_name<S: Alter>(store: &mut Store<S>, id: Id) -> Result<Name, CallFault>
+fn require_broker_name<S: Alter>(store: &mut Store<S>, id: Id) -> Result<Name, CallFault>
     ensures { ReadPost S.Store store.old store.new result (λ name t. name ≡ broker_name_with_id t id) }
 {
     match store.broker(id)? {
@@ -31,7 +31,7 @@ pub(crate) fn account_status<S: Alter>(
     ensures { ReadPost S.Store store.old store.new result (IsAccountStatusWithTrades (abstract_account_row row.now) trades) }
 {
     let customer = require_customer(store, row.account.customer)?;
-    let broker = require_name(store, row.account.broker)?;
+    let broker = require_broker_name(store, row.account.broker)?;
     Ok(AccountStatus {
         last_name: customer.last_name,
         first_name: customer.first_name,

@@ -17,7 +17,7 @@ use sqlite::Alter;
 use std::alloc::{AllocError, Global};
 
 // Fails with `Store` also if the security does not exist.
-fn trade_status_of<S: Alter>(
+fn trade_with_security<S: Alter>(
     store: &mut Store<S>,
     trade: TradeRow,
 ) -> Result<TradeStatus, CallFault>
@@ -54,7 +54,7 @@ fn security_of_symbol(
 }
 
 // Reads the security of each symbol once.
-fn trade_statuses<S: Alter>(
+fn fifty_trades_with_securities<S: Alter>(
     alloc: Global,
     store: &mut Store<S>,
     account: Id,
@@ -68,7 +68,7 @@ fn trade_statuses<S: Alter>(
         if let Some(security) = security_of_symbol(&statuses, &trade.symbol)? {
             statuses.push(TradeStatus { trade, security })?;
         } else {
-            let status = trade_status_of(store, trade)?;
+            let status = trade_with_security(store, trade)?;
             statuses.push(status)?;
         }
     }
@@ -90,7 +90,7 @@ pub fn status_view<S: Alter>(
     let Some(row) = store.account(account)? else {
         return Ok(Err(Refusal::NoAccount));
     };
-    let trades = trade_statuses(alloc, store, account)?;
+    let trades = fifty_trades_with_securities(alloc, store, account)?;
     let found = account_status(store, &row, trades)?;
     Ok(Ok(status(found)))
 }

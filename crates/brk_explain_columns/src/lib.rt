@@ -17,5 +17,5 @@ pub use pieces::{
     put_spaced_text, put_text, put_text_line, put_title_line,
 };
 pub use starts::{
-    align_amount, align_shares, align_value, put_dated_word, put_row_start, put_undated_row,
+    align_amount, align_shares, align_value, put_dated_word, put_row_start, put_undated_row_start,
 };

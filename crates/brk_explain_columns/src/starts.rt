@@ -28,7 +28,7 @@ fn put_blank_stamp(out: &mut Vec<u8>) -> Result<(), AllocError>
     put_spaced_text(out, b"                       ")
 }
 
-fn align_deal(
+fn align_id_shares_price(
     alloc: Global,
     out: &mut Vec<u8>,
     id: Id,
@@ -59,12 +59,12 @@ pub fn put_row_start(
     ensures { OnOk result (out.new.items ≡ out.old.items ++ leading_row_columns word.now (timestamp_text stamp) id shares price) }
 {
     put_dated_word(out, word, stamp)?;
-    align_deal(alloc, out, id, shares, price)
+    align_id_shares_price(alloc, out, id, shares, price)
 }
 
 /// Appends the first columns of a row without a time, with 23 spaces in its place.
 #[tactic(auto, unfolding(brk_model_explain::specs::Texts::leading_row_columns))]
-pub fn put_undated_row(
+pub fn put_undated_row_start(
     alloc: Global,
     out: &mut Vec<u8>,
     word: &str,
@@ -76,7 +76,7 @@ pub fn put_undated_row(
 {
     append_left(out, 6, word.as_bytes())?;
     put_blank_stamp(out)?;
-    align_deal(alloc, out, id, shares, price)
+    align_id_shares_price(alloc, out, id, shares, price)
 }
 
 /// Appends an amount, in cents, in 16 places.

@@ -54,7 +54,7 @@ pub(crate) fn put_balance(
 }
 
 // Counts the lots of which the trade closed shares, and the cash rows before it.
-fn put_trade_count(
+fn put_trade_counts(
     out: &mut Vec<u8>,
     statuses: usize,
     lots: usize,
@@ -77,7 +77,7 @@ pub(crate) fn put_trade_end(
     ensures { OnOk result (out.new.items
         ≡ out.old.items ++ text_of_lines (lines.counts_lines_of_trade (abstract_order_details order.now) (abstract_result_details details.now))) }
 {
-    put_trade_count(
+    put_trade_counts(
         out,
         order.statuses.len(),
         details.closings.len(),

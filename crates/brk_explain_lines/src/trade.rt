@@ -6,7 +6,7 @@ ghost use Rattle.brk_explain_rows.specs.Details.{abstract_order_details, abstrac
 ghost use Rattle.brk_model.specs.Statement.{text_of_lines};
 
 use crate::balance_lines::{put_balance, put_trade_end};
-use crate::lots_lines::put_booking;
+use crate::lots_lines::put_lots_with_gain;
 use crate::order_lines::put_order_lines;
 use crate::settlement_lines::{put_due_days, put_settlement};
 use crate::tax_lines::{put_commission, put_tax_lines};
@@ -25,7 +25,7 @@ fn put_completed(
     ensures { OnOk result (out.new.items
         ≡ out.old.items ++ text_of_lines (lines.completed_trade_lines (abstract_order_details order.now) (abstract_result_details details.now))) }
 {
-    put_booking(alloc, out, order, details)?;
+    put_lots_with_gain(alloc, out, order, details)?;
     put_tax_lines(alloc, out, order, details)?;
     put_commission(alloc, out, order, details)?;
     put_settlement(alloc, out, order, details)?;
@@ -35,7 +35,7 @@ fn put_completed(
 }
 
 #[tactic(auto, unfolding(brk_model_explain::specs::TradeLines::lines_after_statuses))]
-fn put_rest(
+fn put_lines_after_statuses(
     alloc: Global,
     out: &mut Vec<u8>,
     order: &OrderDetails,
@@ -58,6 +58,6 @@ pub fn explained_trade(alloc: Global, details: &TradeDetails) -> Result<Vec<u8>,
 {
     let mut text = Vec::new(alloc);
     put_order_lines(alloc, &mut text, &details.order)?;
-    put_rest(alloc, &mut text, &details.order, &details.result)?;
+    put_lines_after_statuses(alloc, &mut text, &details.order, &details.result)?;
     Ok(text)
 }

@@ -55,7 +55,7 @@ fn put_lot_header(out: &mut Vec<u8>) -> Result<(), AllocError>
 }
 
 #[tactic(auto, unfolding(brk_model_explain::specs::HoldingLines::holding_lines_from_trades_and_lots))]
-fn put_held_lines(
+fn put_holding_lines(
     alloc: Global,
     out: &mut Vec<u8>,
     details: &HoldingDetails,
@@ -78,6 +78,6 @@ pub fn explained_holding(alloc: Global, details: &HoldingDetails) -> Result<Vec<
     ensures { IfOk result (λ text. text.items ≡ text_of_lines (lines_of_holding_details details.now)) }
 {
     let mut text = Vec::new(alloc);
-    put_held_lines(alloc, &mut text, details)?;
+    put_holding_lines(alloc, &mut text, details)?;
     Ok(text)
 }

@@ -22,7 +22,7 @@ use std::alloc::{AllocError, Global};
 
 // `sold` is the total of the sales, negated.
 #[tactic(auto, unfolding(brk_model_explain::specs::HoldingLines::purchase_sale_gain_and_cost_lines))]
-fn put_trading(
+fn put_trade_totals(
     alloc: Global,
     out: &mut Vec<u8>,
     bought: Wide,
@@ -91,7 +91,7 @@ pub(crate) fn put_holding_end(
     let cost = remaining_cost_of_lots(lots)?;
     let open_lots = count_open_lots(lots)?;
     let changes = count_of_lot_changes(lots)?;
-    put_trading(alloc, out, bought, sold, gain, cost)?;
+    put_trade_totals(alloc, out, bought, sold, gain, cost)?;
     put_worth(alloc, out, shares, price, cost)?;
     put_lot_counts(out, done.len(), lots.len(), open_lots, changes)?;
     Ok(())

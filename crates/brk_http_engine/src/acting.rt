@@ -32,7 +32,7 @@ pub enum ServiceResponse<R, V> {
     Failed(Fault),
 }
 
-fn row_response<D: Service>(
+fn execute_command<D: Service>(
     alloc: Global,
     desk: &mut D::Desk,
     now: Stamp,
@@ -83,7 +83,7 @@ pub fn respond<C: Clock, D: Service>(
         RequestedCall::BadQuery(refusal) => ServiceResponse::NoView(refusal),
         RequestedCall::Row(command, key) => {
             let now = clock.now();
-            row_response::<D>(alloc, desk, now, &command, &key)
+            execute_command::<D>(alloc, desk, now, &command, &key)
         }
         RequestedCall::View(query) => execute_query::<D>(alloc, desk, &query),
     }

@@ -59,7 +59,7 @@ enum OutOfMemoryPoint {
 }
 
 // A fault of the desk, even `Memory`, is no failure: the reply reports it.
-fn draft_reply<C: Clock, D: Service>(
+fn execute_request<C: Clock, D: Service>(
     alloc: Global,
     router: &Router<RouteKind>,
     clock: &mut C,
@@ -151,7 +151,7 @@ pub fn serve_request<R: Read, W: Write, C: Clock, D: Service>(
             }
         }
         NextRequest::Whole(places) => {
-            let draft = match draft_reply::<C, D>(
+            let draft = match execute_request::<C, D>(
                 alloc, router, clock, desk, buffer, places, done,
             ) {
                 Ok(draft) => draft,

@@ -16,7 +16,7 @@ fn precedes_next(lot: &Lot, rest: &[Lot]) -> bool
     }
 }
 
-fn each_precedes(lots: &[Lot]) -> bool
+fn is_one_sided_ascending(lots: &[Lot]) -> bool
     ensures { IsTrue result ↔ IsOneSidedAndAscending lots.now }
 {
     for (i, lot) in lots.iter().enumerate() {
@@ -36,7 +36,7 @@ fn differs_from_next(trade: Id, rest: &[Lot]) -> bool
     }
 }
 
-fn neighbours_differ(lots: &[Lot]) -> bool
+fn neighbours_differ_in_trade(lots: &[Lot]) -> bool
     ensures { IsTrue result ↔ NeighboursDifferInTrade lots.now }
 {
     for (i, lot) in lots.iter().enumerate() {
@@ -66,11 +66,11 @@ pub(crate) fn is_position(lots: &mut [Lot]) -> bool
     ensures lots { lots.new ≡ lots.old }
     ensures position { IsTrue result ↔ IsPosition lots.old }
 {
-    if !each_precedes(lots) {
+    if !is_one_sided_ascending(lots) {
         return false;
     }
     sort_by_trades(lots);
-    let distinct = neighbours_differ(lots);
+    let distinct = neighbours_differ_in_trade(lots);
     sort_by_stamps(lots);
     distinct
 }

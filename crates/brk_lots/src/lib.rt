@@ -27,6 +27,6 @@ pub use end::PositionEnd;
 pub use lot::{Lot, Touch, are_same_side, signed_qty};
 pub use position::Position;
 pub use replay::DealTouch;
-pub use shares::shares_to_close;
+pub use shares::shares_to_close_in_lot;
 pub use source::LotSource;
 pub use values::estimate_values;

@@ -42,7 +42,7 @@ impl Lot {
         self.qty.unsigned_abs()
     }
 
-    fn left_after(&self, shares: u32) -> i64
+    fn qty_after_closing(&self, shares: u32) -> i64
         requires { shares ≤ unsigned_abs self.now.qty }
         ensures { result ≡ signed_by_side (side_of_qty self.now.qty) (unsigned_abs self.now.qty - shares) }
     {
@@ -53,7 +53,7 @@ impl Lot {
         }
     }
 
-    pub(crate) fn touch_closing(&self, shares: u32) -> Touch
+    pub(crate) fn closing_touch(&self, shares: u32) -> Touch
         requires { shares ≤ unsigned_abs self.now.qty }
         ensures { result
             ≡ record { lot = self.now.trade; before = self.now.qty; after = signed_by_side (side_of_qty self.now.qty) (unsigned_abs self.now.qty - shares) } }
@@ -61,7 +61,7 @@ impl Lot {
         Touch {
             lot: self.trade,
             before: self.qty,
-            after: self.left_after(shares),
+            after: self.qty_after_closing(shares),
         }
     }
 }

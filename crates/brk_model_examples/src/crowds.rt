@@ -10,7 +10,7 @@ ghost use Rattle.brk_model_examples.specs.Crowds.{setting_with_twenty_one_margin
 /// Shows, for an account with fifty-one pending trades, that the view `recent` has the ids of the
 /// ten with the latest stamps, and the view `status`, after the customer's name, those of the fifty
 /// with the latest stamps, both with the latest first.
-pub fn views_return_last_trades()
+pub fn views_return_latest_trades()
     ensures ten { trade_ids_of_view (view_by_name_and_arguments setting_with_fifty_one_pending_trades (codes "recent") (codes "100" ∷ []))
         ≡ codes "51" ∷ codes "50" ∷ codes "49" ∷ codes "48" ∷ codes "47" ∷ codes "46" ∷ codes "45" ∷ codes "44" ∷ codes "43" ∷ codes "42" ∷ [] }
     ensures fifty { first_fields_of_view (view_by_name_and_arguments setting_with_fifty_one_pending_trades (codes "status") (codes "100" ∷ []))

@@ -50,7 +50,9 @@ pub use account::{Account, AccountRow, check_account};
 pub use acl::Acl;
 pub use answer::Answer;
 pub use authority::permitted;
-pub use band::{Band, band_contains_quantity, band_for, check_band, overlaps, overlaps_band};
+pub use band::{
+    Band, are_overlapping_bands, band_contains_quantity, band_for, check_band, overlaps,
+};
 pub use batch_name::BatchName;
 pub use borrowed::borrow_texts;
 pub use broker::{Broker, BrokerRow, check_broker};

@@ -143,7 +143,7 @@ fn read_lots_of_ages<S: Alter>(
     Ok(page)
 }
 
-fn read_page_of_ages<S: Alter>(
+fn read_indexed_page<S: Alter>(
     conn: &mut Connection<S>,
     alloc: Global,
     account: Id,
@@ -207,7 +207,7 @@ impl<S: Alter> Store<S> {
     }
 
     // Scans HOLDING if there is no index or the desk has few lots.
-    fn page_of_indexed_lots(
+    fn page_with_prepared_index(
         &mut self,
         alloc: Global,
         account: Id,
@@ -221,14 +221,14 @@ impl<S: Alter> Store<S> {
         if self.known {
             if let Some(index) = &self.index {
                 if index.len() > MOST_SCANNED_LOTS {
-                    return read_page_of_ages(
+                    return read_indexed_page(
                         &mut self.conn,
                         alloc,
                         account,
                         symbol,
                         lifo,
                         skipped,
-                        index.lots(account, symbol),
+                        index.ages_of_position(account, symbol),
                     );
                 }
             }
@@ -248,6 +248,6 @@ impl<S: Alter> Store<S> {
             ≡ page_after_skipped skipped (lot_rows_in_closing_order lifo account symbol.now t)) }
     {
         self.prepare_index(alloc);
-        self.page_of_indexed_lots(alloc, account, symbol, lifo, skipped)
+        self.page_with_prepared_index(alloc, account, symbol, lifo, skipped)
     }
 }

@@ -1,7 +1,7 @@
 use crate::indexed::index_after_changes;
 use brk_money::Fault;
 use brk_store_lots::LotIndex;
-use brk_store_transactions::{apply_changes, create_tables_in_transaction};
+use brk_store_transactions::{apply_changes, create_tables_atomically};
 use brk_trade_rows::Change;
 use sqlite::{Alter, Connection};
 use std::marker::Model;
@@ -83,7 +83,7 @@ impl<S: Alter> Store<S> {
         if !conn.is_autocommit() {
             return Err((conn, Fault::Store));
         }
-        match create_tables_in_transaction(&mut conn) {
+        match create_tables_atomically(&mut conn) {
             Ok(()) => Ok(Store {
                 conn,
                 known: true,

@@ -86,7 +86,7 @@ impl<S: Alter> Store<S> {
             && (r.tax == tax))) }
     {
         let mut tx = begin_transaction(&mut self.conn);
-        brk_tables_reference::paid_tax(&mut tx, customer, tax)
+        brk_tables_reference::customer_tax_by_ids(&mut tx, customer, tax)
     }
 
     /// Returns a row of CUSTOMER_TAXRATE for each tax that the customer pays, sorted by the id of

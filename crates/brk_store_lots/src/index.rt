@@ -136,7 +136,7 @@ impl LotIndex {
     }
 
     /// Returns the ages of the lots of a position, the oldest first.
-    pub fn lots(&self, account: Id, symbol: &Symbol) -> Option<&VecDeque<LotAge>>
+    pub fn ages_of_position(&self, account: Id, symbol: &Symbol) -> Option<&VecDeque<LotAge>>
         ensures { ages_in (option_copied result) ≡ lots_at self.now account symbol.now }
     {
         self.positions.ages(account, symbol)

@@ -39,7 +39,7 @@ pub(crate) fn audit_rows_of_schema<S: Alter>(
     }
 }
 
-fn first_failing_condition<S: Alter>(
+fn audit_by_third_schema<S: Alter>(
     tx: &mut Transaction<'_, S>,
     alloc: Global,
 ) -> Result<Option<Condition>, CallFault>
@@ -65,7 +65,7 @@ pub fn audit_database<S: Alter>(conn: &mut Connection<S>, alloc: Global) -> Resu
     ensures condition { IfErr result (λ f. f ≢ fault.Damaged NotEmpty) }
 {
     let mut tx = begin_transaction(conn);
-    match first_failing_condition(&mut tx, alloc)? {
+    match audit_by_third_schema(&mut tx, alloc)? {
         None => Ok(()),
         Some(condition) => Err(Fault::Damaged(condition)),
     }

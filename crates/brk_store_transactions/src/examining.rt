@@ -42,7 +42,7 @@ fn schema_of_database<S: Alter>(tx: &mut Transaction<'_, S>) -> Result<Option<Sc
 }
 
 /// Returns `Fails` with `Schema` if the database has none of the three schemas.
-pub(crate) fn audit_by_own_schema<S: Alter>(
+pub(crate) fn audit_by_database_schema<S: Alter>(
     tx: &mut Transaction<'_, S>,
     alloc: Global,
 ) -> Result<AuditResult, CallFault>

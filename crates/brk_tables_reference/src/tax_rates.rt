@@ -59,7 +59,7 @@ pub fn tax_rate_by_id<S: Alter>(
 }
 
 /// Returns `None` if the customer does not pay the tax.
-pub fn paid_tax<S: Alter>(
+pub fn customer_tax_by_ids<S: Alter>(
     tx: &mut Transaction<'_, S>,
     customer: Id,
     tax: Id,

@@ -57,7 +57,7 @@ pub fn last_stamp_in_desk_rows(schema: Schema, rows: &[Row]) -> Result<Option<St
     }
 }
 
-fn last_stamp_of_third(rows: &[Row]) -> Result<Option<Stamp>, StoreFailed>
+fn last_stamp_in_third_schema(rows: &[Row]) -> Result<Option<Stamp>, StoreFailed>
     ensures value { IfOk result (λ last. map desk_row_cells (desk_rows third_schema last) ≡ rows.now) }
 {
     Ok(last_stamp_in_desk_rows(Schema::Third, rows)?)
@@ -75,5 +75,5 @@ pub fn last_stamp<S: Alter>(tx: &mut Transaction<'_, S>) -> Result<Option<Stamp>
         "SELECT D_ID, D_SCHEMA, D_LAST FROM DESK ORDER BY D_ID",
         &[],
     )?;
-    last_stamp_of_third(&rows)
+    last_stamp_in_third_schema(&rows)
 }

@@ -41,12 +41,15 @@ pub fn decode_first_row<T: Record>(rows: &[Row]) -> Result<Option<T>, StoreFaile
 pub fn decode_rows<T: Record>(alloc: Global, rows: &[Row]) -> Result<Vec<T>, CallFault>
     ensures value { IfOk result (λ all. map T.cells all.items ≡ rows.now) }
 {
-    Ok(decode_records(alloc, rows)?)
+    Ok(decode_rows_with_reason(alloc, rows)?)
 }
 
 /// Decodes all rows, in order, and fails at the first malformed one.
 #[tactic(auto, using(crate::proofs::Unformed::not_all))]
-pub fn decode_records<T: Record>(alloc: Global, rows: &[Row]) -> Result<Vec<T>, DecodeError>
+pub fn decode_rows_with_reason<T: Record>(
+    alloc: Global,
+    rows: &[Row],
+) -> Result<Vec<T>, DecodeError>
     ensures value { IfOk result (λ all. map T.cells all.items ≡ rows.now) }
     ensures form { result ≡ Err Formless → list_all (passes_all_cell_checks T.forms) rows.now ≡ false }
 {

@@ -53,7 +53,7 @@ fn holding_change(touch: &Touch) -> Change
     }
 }
 
-fn history_change(trade: Id, touch: &Touch) -> Change
+fn lot_history_change(trade: Id, touch: &Touch) -> Change
     ensures { result ≡ spec.row_change_adding_lot_history trade touch.now }
 {
     Change::AddLotChange(LotChange {
@@ -68,7 +68,7 @@ fn append_touch(trade: Id, touch: &Touch, changes: &mut Vec<Change>) -> Result<(
     ensures changes { OnOk result (changes.new.items ≡ changes.old.items ++ spec.row_changes_of_touched_lot trade touch.now) }
 {
     changes.push(holding_change(touch))?;
-    changes.push(history_change(trade, touch))?;
+    changes.push(lot_history_change(trade, touch))?;
     Ok(())
 }
 
@@ -162,7 +162,7 @@ fn settling_change(trade: &TradeRow, completed: &Completed) -> Change
     })
 }
 
-fn append_sums(
+fn append_sums_with_settlement(
     found: &ResultPlanFacts,
     outcome: &ResultFigures,
     changes: &mut Vec<Change>,
@@ -182,7 +182,7 @@ fn append_qty(name: &mut String, qty: Qty) -> Result<(), AllocError>
     write!(name, " {} shares of ", qty.get())
 }
 
-// For example `Limit-Buy 100 shares of Acme`. Text updates (`toggle_text`) and the audit
+// For example `Limit-Buy 100 shares of Acme`. Text updates (`toggle_cash_text`) and the audit
 // (`text_of_trade`) rely on the words.
 fn trade_cash_text(alloc: Global, trade: &TradeRow, security: &Name) -> Result<String, AllocError>
     ensures { IfOk result (λ name. string_bytes name ≡ spec.cash_text_of_trade trade.now security.now) }
@@ -233,7 +233,7 @@ fn append_cash(
     Ok(())
 }
 
-fn row_changes(
+fn changes_with_cash_row(
     alloc: Global,
     found: &ResultPlanFacts,
     price: Price,
@@ -249,7 +249,7 @@ fn row_changes(
     append_trade(trade.id, price, completed, &mut changes)?;
     append_touches(trade.id, &closed.touched, &mut changes)?;
     append_opened(trade, closed.opened, &mut changes)?;
-    append_sums(found, outcome, &mut changes)?;
+    append_sums_with_settlement(found, outcome, &mut changes)?;
     append_cash(trade.account, completed, cash, &mut changes)?;
     changes.push(Change::SetLastStamp(completed.stamp))?;
     Ok(changes)
@@ -265,6 +265,6 @@ pub(crate) fn result_changes(
     ensures changes { IfOk result (λ changes. AreResultChanges found.now price closed.now outcome.now changes.items) }
 {
     let cash = result_cash_row(alloc, found, &outcome.completed)?;
-    let changes = row_changes(alloc, found, price, closed, outcome, cash)?;
+    let changes = changes_with_cash_row(alloc, found, price, closed, outcome, cash)?;
     Ok(changes)
 }

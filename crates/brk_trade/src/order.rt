@@ -247,7 +247,7 @@ fn new_request_row(
     }))
 }
 
-fn trade_changes(
+fn new_trade_changes(
     alloc: Global,
     row: TradeRow,
     request: Option<RequestRow>,
@@ -284,7 +284,7 @@ fn order_changes(
     let terms = &placement.terms;
     let row = new_trade_row(alloc, order, terms, commission, trade, stamp)?;
     let request = new_request_row(order, placement, trade)?;
-    let changes = trade_changes(alloc, row, request)?;
+    let changes = new_trade_changes(alloc, row, request)?;
     Ok(changes)
 }
 

@@ -8,7 +8,7 @@ ghost use Rattle.brk_trade.specs.Outcomes.{checks_before_reading_lots, checks_af
 
 use crate::result_found::ResultPlanFacts;
 use crate::settling::{
-    balance_after, checked_commissions, checked_due_day, commission_of, settled_amount,
+    balance_after_settlement, checked_commissions, checked_due_day, commission_of, settled_amount,
     tax_on_closed,
 };
 use brk_lots::{ClosedLots, signed_qty};
@@ -62,7 +62,7 @@ fn checked_summary(found: &ResultPlanFacts) -> Option<i64>
     Some(after as i64)
 }
 
-pub(crate) fn checked_before_lots(found: &ResultPlanFacts) -> Result<RateAndSummary, Refusal>
+pub(crate) fn check_before_lots(found: &ResultPlanFacts) -> Result<RateAndSummary, Refusal>
     ensures { MatchResult result
         (λ known. (first_refusal (checks_before_reading_lots found.now) ≡ None) × (found.now.listed.rate ≡ Some known.rate)
         × (known.summary ≡ spec.shares_held_after_trade found.now))
@@ -81,7 +81,7 @@ pub(crate) fn checked_before_lots(found: &ResultPlanFacts) -> Result<RateAndSumm
 }
 
 // Refuses a missing stamp only after the balance and the broker's commissions.
-pub(crate) fn checked_figures(
+pub(crate) fn check_after_lots(
     found: &ResultPlanFacts,
     price: Price,
     known: &RateAndSummary,
@@ -102,7 +102,7 @@ pub(crate) fn checked_figures(
     let commission = commission_of(&found.trade, price, known.rate);
     let tax = tax_on_closed(found, values);
     let amount = settled_amount(found, price, commission, tax);
-    let Some(balance) = balance_after(found, amount) else {
+    let Some(balance) = balance_after_settlement(found, amount) else {
         return Err(Refusal::Range(Limit::Balance));
     };
     let Some(commissions) = checked_commissions(found.parties.broker, commission) else {

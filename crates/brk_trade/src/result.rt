@@ -12,7 +12,7 @@ ghost use Rattle.brk_trade.specs.Results.{AreLotsBeforeTrade, ResultReadsAtMostO
 ghost use Rattle.brk_trade.specs.Results.{IsResultRefusal, ClosesNoHeldShares, stamp_or_clock_reading};
 
 use crate::completion::result_changes;
-use crate::outcome::{checked_before_lots, checked_figures, shares_held_before_trade};
+use crate::outcome::{check_after_lots, check_before_lots, shares_held_before_trade};
 use crate::result_found::ResultPlanFacts;
 use brk_lots::{ClosedLots, LotSource, close_lots, is_trade_closing_lots, opening_effect};
 use brk_money::{Fault, Planned, Price, Refusal, Stamp, stamp_after};
@@ -91,7 +91,7 @@ pub fn plan_result<L: LotSource>(
     let Some(found) = found else {
         return Ok(Err(Refusal::NoTrade));
     };
-    let known = match checked_before_lots(found) {
+    let known = match check_before_lots(found) {
         Ok(known) => known,
         Err(refusal) => return Ok(Err(refusal)),
     };
@@ -103,7 +103,7 @@ pub fn plan_result<L: LotSource>(
         None => now,
     };
     let closed = effect_of_trade_on_lots(alloc, source, found, price, at)?;
-    let outcome = match checked_figures(found, price, &known, &closed, moved) {
+    let outcome = match check_after_lots(found, price, &known, &closed, moved) {
         Ok(outcome) => outcome,
         Err(refusal) => return Ok(Err(refusal)),
     };

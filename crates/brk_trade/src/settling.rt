@@ -83,7 +83,7 @@ pub(crate) fn settled_amount(
 }
 
 // Returns the balance unchanged for a margin trade.
-pub(crate) fn balance_after(found: &ResultPlanFacts, amount: Cents) -> Option<Cents>
+pub(crate) fn balance_after_settlement(found: &ResultPlanFacts, amount: Cents) -> Option<Cents>
     ensures { MatchOption result
         (found.now.trade.is_cash && nat_lt greatest_amount (nat_abs (spec.balance_after_settlement_amount found.now amount)) ≡ true)
         (λ after. (after ≡ spec.balance_after_settlement_amount found.now amount)

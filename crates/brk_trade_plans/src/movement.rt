@@ -92,7 +92,7 @@ fn moved_cash_row(
     })
 }
 
-fn move_changes(
+fn movement_changes(
     alloc: Global,
     account: Id,
     row: CashRow,
@@ -118,7 +118,7 @@ fn movement_plan(
     ensures moved { IfOk result (λ plan. AppliesMovement movement.now number balance stamp plan) }
 {
     let row = moved_cash_row(alloc, movement, number, stamp)?;
-    let changes = move_changes(alloc, movement.account, row, balance, stamp)?;
+    let changes = movement_changes(alloc, movement.account, row, balance, stamp)?;
     Ok(Plan {
         changes,
         reply: Reply::Moved {

@@ -7,7 +7,7 @@ use brk_trade_rows::Change;
 use std::alloc::AllocError;
 
 // Sets the status and the stamp, adds a history row and deletes the trade's request.
-pub(crate) fn append_pending_changes(
+pub(crate) fn append_status_after_pending(
     trade: Id,
     status: Status,
     stamp: Stamp,

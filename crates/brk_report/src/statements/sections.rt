@@ -5,7 +5,7 @@ ghost use Rattle.brk_report.specs.CashWalk.{WritesCashLines, WritesLinesOfCashWa
 ghost use Rattle.brk_report.specs.StatementOutput.{PreservesDesk, HoldsForStoredTables, WritesLotLines};
 ghost use Rattle.brk_store.specs.Walked.{cash_rows_in_span};
 
-use crate::statements::visitors::{CashLineWriter, CashProgress, LineWriter, ensure_opening};
+use crate::statements::visitors::{CashLineWriter, CashProgress, LineWriter, write_opening_once};
 use crate::walk_faults::fault_from_walk_error;
 use brk_desk::Desk;
 use brk_money::{Cents, Day, Id, Stamp, Wide};
@@ -70,7 +70,7 @@ pub(crate) fn write_cash_lines<W: Write, S: Alter>(
         opening,
         writer,
     )?;
-    ensure_opening(alloc, moved.is_opened, moved.total, writer)?;
+    write_opening_once(alloc, moved.is_opened, moved.total, writer)?;
     Ok(moved)
 }
 
