@@ -10,9 +10,9 @@ ghost use Rattle.brk_audit_form.specs.Groups.{passes_nonallocating_form_checks};
 
 use crate::bands::are_disjoint;
 use crate::cash_forms::{are_valid_cash_rows, are_valid_old_cash_rows};
+use crate::cash_trades::have_distinct_trades;
 use crate::customer_limits::limits_are_kept;
 use crate::numbers::{are_numbered, is_within_movement_limit};
-use crate::own_rows::have_distinct_trades;
 use crate::tables::{are_reference_rows_valid, are_trading_rows_valid, has_sorted_tables};
 use crate::tax_ids::have_distinct_tax_ids;
 use brk_money::{Day, Stamp};

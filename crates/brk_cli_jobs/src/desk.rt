@@ -3,8 +3,8 @@
 ghost use Rattle.brk_cli_jobs.specs.Jobs.{ExecutesJob};
 ghost use Rattle.brk_cli_jobs.specs.Places.{ExecutesJobInMemory, ExecutesJobOnOpened};
 
+use crate::desk_files::DeskFiles;
 use crate::pipe::PipeWriter;
-use crate::places::DeskFiles;
 use crate::{ask, batch, explain, serve, statement};
 use brk_ask::Form;
 use brk_cli_args::Job;

@@ -5,8 +5,8 @@ ghost use Rattle.brk_cli_jobs.specs.Requested.{AnswersRequest, WritesHelpText, a
 
 use crate::audit::write_audit_ok;
 use crate::desk::{execute_in_memory, execute_on_file};
+use crate::desk_files::DeskFiles;
 use crate::pipe::PipeWriter;
-use crate::places::DeskFiles;
 use crate::words::check_words;
 use brk_cli_args::{Job, UsageFault};
 use brk_cli_exit::Ending;

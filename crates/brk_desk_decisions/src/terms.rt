@@ -10,7 +10,7 @@ ghost use Rattle.brk_model.specs.Limits.{greatest_tax_rate};
 ghost use Rattle.brk_ref.specs.Records.{abstract_band, abstract_tax_rate};
 ghost use Rattle.brk_store_transactions.specs.Holds.{ReadPost};
 
-use crate::finding::{NO_REFERENCE_FACTS, account_exists, customer_exists};
+use crate::reference_finding::{NO_REFERENCE_FACTS, account_exists, customer_exists};
 use brk_money::{CallFault, Id, TaxRate};
 use brk_ref::{Band, Charge, CustomerTax, Permission, Tax, TaxId, overlaps, tax_sum};
 use brk_store::Store;

@@ -8,14 +8,14 @@ pub mod closing;
 mod cutting;
 pub mod deal;
 pub mod end;
-mod lawful;
-pub mod laws;
 pub mod lot;
 pub mod position;
+mod position_checks;
 pub mod replay;
 mod rows;
 pub mod shares;
 pub mod source;
+pub mod theorems;
 pub mod values;
 mod walk;
 
