@@ -1,3 +1,5 @@
+//! One query: parsed from texts, executed on a desk, and its view formatted and written.
+
 ghost use Rattle.std.specs.Prelude.{◌≡◌, IfOk, Ok};
 ghost use Rattle.brk_ask.specs.Asked.{AsksQueryAndWritesView, PrintViewPost, WritesTextOrFails};
 ghost use Rattle.brk_ask.specs.Printed.{printed_view_text};

@@ -102,6 +102,7 @@ struct CashMoveFigures {
     amount: Cents,
 }
 
+// Returns `None` for a deposit or a withdrawal, which has no trade.
 fn figures_of_row(row: &CashRow) -> Option<CashMoveFigures>
     ensures { option_map abstract_posted_figures result ≡ posted_figures_of_row (abstract_cash_row row.now) }
 {
@@ -137,7 +138,7 @@ fn is_cash_move_of_trade(row: CashMoveFigures, trade: &TradeRow, tax_status: Tax
         && row.amount.get() == settling_amount(trade, tax_status)
 }
 
-// Does for figures what `strip_row` does for rows.
+// Does for rows of CASH_MOVE what `strip_row` does for those of CASH_TRANSACTION.
 fn strip_cash_move<'a>(
     rows: &'a [CashMoveFigures],
     trade: &TradeRow,

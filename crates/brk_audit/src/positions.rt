@@ -71,6 +71,7 @@ fn positions_equal(one: &TradeRow, other: &TradeRow) -> bool
     one.account == other.account && one.symbol.as_str() == other.symbol.as_str()
 }
 
+// Returns how many trades at the front of `done` have the account and the security of `trade`.
 pub(crate) fn position_trade_count(trade: &TradeRow, done: &[&TradeRow]) -> usize
     ensures within { result ≤ length done.now }
     ensures same { AllByRecursion (λ other. has_same_position (abstract_trade_row trade.now) (abstract_trade_row other.now) ≡ true) (take result done.now) }

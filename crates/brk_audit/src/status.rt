@@ -86,6 +86,7 @@ fn is_valid_trade_history(trade: &TradeRow, rows: &[HistoryRow]) -> bool
     }
 }
 
+// Counts only the rows at the front of `history`, up to the first of another trade.
 fn row_count_of(history: &[HistoryRow], trade: Id) -> usize
     ensures { result ≡ prefix_len (λ h. h.trade == trade) history.now }
 {

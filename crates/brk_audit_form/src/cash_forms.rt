@@ -18,6 +18,7 @@ use brk_ref::{CashRow, OldCashRow, Symbol, TradeRow};
 use brk_trade_rows::Sheets;
 use std::alloc::{AllocError, Global};
 
+// Returns an empty text if the symbol is unknown.
 fn security_name<'a>(sheets: &'a Sheets, symbol: &Symbol) -> &'a str
     requires { HasSortedKeys sheets.now }
     ensures { result.now ≡ security_name_or_empty (abstract_sheets sheets.now) symbol.now }

@@ -1,3 +1,5 @@
+//! The check that no two cash rows are of the same trade.
+
 ghost use Rattle.std.specs.Prelude.{◌≡◌, ◌||◌, ◌==◌, ℕ, false, not, IfOk, OnOk, map};
 ghost use Rattle.std.specs.BTreeSet.{contains};
 ghost use Rattle.std.specs.Option.{option_map_or};

@@ -1,3 +1,5 @@
+//! The checks of all tables, by group: keys in order, rows well-formed.
+
 ghost use Rattle.std.specs.Prelude.{◌≡◌};
 ghost use Rattle.brk_model.specs.Form as form;
 ghost use Rattle.brk_trade_rows.specs.Schemas.{abstract_schema};

@@ -1,3 +1,5 @@
+//! The check that no two customers have the same tax id.
+
 ghost use Rattle.std.specs.Prelude.{◌≡◌, IfOk, map};
 ghost use Rattle.brk_model.specs.Form as form;
 ghost use Rattle.brk_ref.specs.Records.{abstract_customer};

@@ -1,3 +1,5 @@
+//! The posting of a completed trade at the broker of its account.
+
 ghost use Rattle.std.specs.Prelude.{◌≡◌};
 ghost use Rattle.brk_ref.specs.Rows.{abstract_trade_row};
 ghost use Rattle.brk_audit_sums.specs.AccountTerms.{account_broker_in_terms};

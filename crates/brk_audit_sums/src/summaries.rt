@@ -111,6 +111,7 @@ fn has_no_zero(rows: &[SummaryRow]) -> bool
     true
 }
 
+/// Returns `one && other && last`; its clause names the three apart.
 pub fn all_three(one: bool, other: bool, last: bool) -> bool
     ensures { IsTrue result ↔ (IsTrue one × IsTrue other × IsTrue last) }
 {

@@ -169,7 +169,8 @@ fn add_subcommand<'a>(
     command?.subcommand(added?)
 }
 
-// Without arguments, parsing fails with the help of `brk` as the error text.
+// `brk` without its subcommands. Without arguments, parsing fails with the help of `brk` as the
+// error text.
 fn program_command<'a>(alloc: Global) -> Result<Command<'a>, AllocError> {
     Command::new(alloc, "brk")
         .version(VERSION)
@@ -179,6 +180,7 @@ fn program_command<'a>(alloc: Global) -> Result<Command<'a>, AllocError> {
         .bin_name("brk")
 }
 
+// `brk` with its six subcommands.
 fn whole_command<'a>(alloc: Global) -> Result<Command<'a>, AllocError> {
     let command = add_subcommand(program_command(alloc), batch_command(alloc));
     let command = add_subcommand(command, statement_command(alloc));

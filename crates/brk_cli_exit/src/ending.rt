@@ -1,3 +1,5 @@
+//! The endings of the program, with their exit statuses and error lines.
+
 ghost use Rattle.std.specs.Prelude.{◌≡◌, OnErr, OnOk};
 ghost use Rattle.std.specs.Io.KnownBytes.{Appends};
 ghost use Rattle.brk_cli_exit.specs.Ending as spec;

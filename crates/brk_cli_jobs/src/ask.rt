@@ -1,3 +1,5 @@
+//! The job that prints a view, and the check of its query before the file is opened.
+
 ghost use Rattle.std.specs.Prelude.{◌≡◌, IfOk, None, map, string_bytes};
 ghost use Rattle.brk_cli_jobs.specs.Jobs.{WritesView};
 ghost use Rattle.brk_cli_jobs.specs.Words.{without_value};

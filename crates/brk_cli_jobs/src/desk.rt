@@ -78,7 +78,8 @@ fn execute_job_at_store<R: Read + Drop, W: Write, S: Alter>(
     (ending, desk.into_store())
 }
 
-/// If the job is done but the file cannot be closed, returns `Open` with the fault of the close.
+/// Executes the job on the opened desk, and closes its file. If the job is done but the file cannot
+/// be closed, returns `Open` with the fault of the close.
 pub(crate) fn execute_on_file<S: Alter, F: DeskFiles<Desk = Store<S>>, R: Read + Drop, W: Write>(
     rt: &HostRuntime,
     files: &F,

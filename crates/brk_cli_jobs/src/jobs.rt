@@ -1,3 +1,5 @@
+//! A job: the place of its desk, its execution there, and the `ok` after an audit.
+
 ghost use Rattle.std.specs.Prelude.{◌≡◌};
 ghost use Rattle.brk_cli_jobs.specs.BatchText.{CompletesBatchOfJob, PrintsBatchOfJob};
 ghost use Rattle.brk_cli_jobs.specs.Places.{ExecutesJobAt, ExecutesJobInExistingFile, PrintsOkAfterAudit, RunsJob, place_of_job, place_of_optional_path};

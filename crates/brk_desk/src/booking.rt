@@ -1,5 +1,5 @@
 //! Execution of a command: the decision on it and, if it is accepted, the commit of its row changes
-//! with its key.
+//! with its key. First, `prove_formats` applies the proofs of `formats` to the command and its key.
 
 ghost use Rattle.std.specs.Prelude.{IfSome};
 ghost use Rattle.std.specs.Option.{option_copied};

@@ -1,3 +1,5 @@
+//! A call of a run, which is a command or a query, and its outcome.
+
 ghost use Rattle.std.specs.Prelude.{◌≡◌};
 ghost use Rattle.brk_desk.specs.Answers.{outcome_of_command, outcome_of_query};
 

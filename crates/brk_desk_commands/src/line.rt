@@ -40,6 +40,7 @@ fn append_estimate(line: &mut String, estimate: &Estimate) -> Result<(), AllocEr
     )
 }
 
+// Stamp, trade id and status, which begin the line of an accepted order.
 fn ordered_line_start(alloc: Global, ordered: &Ordered) -> Result<String, AllocError>
     ensures { IfOk result (λ line. string_bytes line
         ≡ model.comma_separated_text (decimal ordered.now.stamp ∷ decimal ordered.now.trade ∷ trade_status_code ordered.now.status ∷ [])) }
@@ -112,7 +113,7 @@ fn append_day(line: &mut String, day: &str) -> Result<(), AllocError>
     write!(line, ",{day}")
 }
 
-// The values are the buy and the sell value of the closed shares.
+// The fields are the buy and the sell value of the closed shares, and the balance.
 fn append_closing_with_balance(line: &mut String, completed: &Completed) -> Result<(), AllocError>
     ensures { OnOk result (string_bytes line.new
         ≡ string_bytes line.old ++ fields_after_separators 44 (drop 4 (model.completion_fields (abstract_completion completed.now)))) }

@@ -36,6 +36,7 @@ pub fn row_of_movement(alloc: Global, movement: &Movement) -> Result<String, All
     }
 }
 
+// `day` is the text of the day.
 fn format_oneday_row(alloc: Global, day: &str) -> Result<String, AllocError>
     ensures { IfOk result (λ row. string_bytes row ≡ join_with_byte 31 (codes "oneday" ∷ day.now ∷ [])) }
 {

@@ -1,5 +1,6 @@
-//! Parsing of the fields of a row. The kinds are split over five functions of four modules, so that
-//! each pattern stays within the limits of the prover.
+//! Parsing of the fields of a row, by its kind: here of the rows that set a desk up, in
+//! `parse_order`, `parse_update` and `parse_movement` of the others. The kinds are split over five
+//! functions, so that each pattern stays within the limits of the prover.
 
 ghost use Rattle.std.specs.Prelude.{◌≡◌, ◌∷◌, ◌++◌, IfOk, OnErr, Err};
 ghost use Rattle.brk_model.specs.Parse.{parse_by_first_field, read_account, read_and_wrap, read_commission_band, read_broker, read_charge};
@@ -109,7 +110,8 @@ fn customer_tax_command(fields: &[&[u8]]) -> Result<Command, Refusal>
     }
 }
 
-// Refuses `broker`, `customer` and `account` as unknown kinds: the caller has parsed these.
+// Parses the other rows that set a desk up and, by `parse_trade_kinds`, all other kinds. Refuses
+// `broker`, `customer` and `account` as unknown kinds: the caller has parsed these.
 fn parse_record_kinds(alloc: Global, kind: &[u8], fields: &[&[u8]]) -> Planned<Command, AllocError>
     ensures { IfOk result (λ read. ParsesAs abstract_command read (parse_by_first_field (other_reference_row_parsers ++ order_feed_and_cancel_parsers
         ++ result_row_parsers ++ update_row_parsers ++ movement_and_one_day_settlement_row_parsers) (kind.now

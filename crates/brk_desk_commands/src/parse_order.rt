@@ -50,6 +50,8 @@ fn result_command(fields: &[&[u8]]) -> Result<Command, Refusal>
     }
 }
 
+// Parses `order`, `feed`, `cancel` and `result` and, by `parse_update_kinds`, the kinds after
+// these.
 pub(crate) fn parse_trade_kinds(
     alloc: Global,
     kind: &[u8],

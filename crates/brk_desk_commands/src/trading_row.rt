@@ -15,6 +15,7 @@ use brk_ref::{cash_or_margin_word, lifo_or_fifo_word};
 use brk_ref_orders::{Completion, Order, Tick};
 use std::alloc::{AllocError, Global};
 
+// Kind, account, type, symbol and quantity, which begin the row of an order.
 fn order_row_start(alloc: Global, order: &Order) -> Result<String, AllocError>
     ensures { IfOk result (λ row. string_bytes row ≡ join_with_byte 31 (codes "order" ∷ take 4 (model.order_fields (abstract_order order.now)))) }
 {

@@ -11,6 +11,7 @@ use brk_ref::{Span, Symbol};
 use brk_ref_orders::Update;
 use std::alloc::{AllocError, Global};
 
+// Appends the id of a trade that `upname` names.
 fn append_updated_trade(row: &mut String, trade: Id) -> Result<(), AllocError>
     ensures { OnOk result (string_bytes row.new ≡ string_bytes row.old ++ 31 ∷ decimal trade) }
 {

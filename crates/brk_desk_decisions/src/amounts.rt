@@ -52,8 +52,9 @@ fn add_balance(balance: Cents, worth: Wide) -> Option<Wide>
     }
 }
 
-// Reads the account's summaries once for both. Fails with `Store` also if a held symbol has no last
-// price, or if the sum overflows.
+// Returns the assets of an account, and the number of its shares of the symbol. Reads the account's
+// summaries once for both. Fails with `Store` also if a held symbol has no last price, or if the
+// sum overflows.
 fn account_assets_with_shares<S: Alter>(
     alloc: Global,
     store: &mut Store<S>,
@@ -71,6 +72,8 @@ fn account_assets_with_shares<S: Alter>(
     }
 }
 
+// Reads the amounts for the estimate of `order`. Fails with `Store` also as `require_tax_rate_sum`
+// and `account_assets_with_shares` do.
 pub(crate) fn estimate_amounts<S: Alter>(
     alloc: Global,
     store: &mut Store<S>,

@@ -1,4 +1,4 @@
-//! Reads of the facts that decide on an order.
+//! Reads of the facts that decide on an order, and of those for its estimate.
 
 ghost use Rattle.std.specs.Prelude.{◌≡◌};
 ghost use Rattle.brk_trade_theorems.specs.OrderPlans.{EstimateFactsMatchTables, OrderFactsMatchTables};
@@ -56,6 +56,7 @@ fn facts_with_account(
     }
 }
 
+// Fails with `Store` also if the account's customer does not exist, and as `estimate_amounts` does.
 fn estimate_facts_of_account<S: Alter>(
     alloc: Global,
     store: &mut Store<S>,

@@ -1,4 +1,5 @@
-//! Reads of the facts that decide on a command that adds a reference record.
+//! Reads of the facts that decide on a command that adds a reference record; those of permissions,
+//! charges, bands and taxes of customers are in `terms`.
 
 ghost use Rattle.std.specs.Prelude.{◌≡◌};
 ghost use Rattle.brk_trade_theorems.specs.Found.{ReferenceFactsMatchTables, AccountFactsMatchTables};

@@ -70,6 +70,7 @@ fn trade_facts<S: Alter>(
     })
 }
 
+// Returns `None` if the trade does not exist.
 pub(crate) fn facts_of_result<S: Alter>(
     alloc: Global,
     store: &mut Store<S>,

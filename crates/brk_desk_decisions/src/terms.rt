@@ -1,5 +1,5 @@
-//! Reads of permissions and taxes, and of the facts that decide on commands that add permissions,
-//! charges, commission bands and taxes of customers.
+//! Reads of the facts that decide on commands that add permissions, charges, commission bands and
+//! taxes of customers; and the sum of the tax rates of a customer.
 
 ghost use Rattle.std.specs.Prelude.{◌≡◌, ◌==◌, ◌≤◌, SomeIff, Some, filter, map};
 ghost use Rattle.brk_trade_theorems.specs.Found.{CustomerTaxFactsMatchTables};
@@ -64,8 +64,8 @@ fn read_taxes<S: Alter>(
     Ok(taxes)
 }
 
-// The sum is in hundred-thousandths. Fails with `Store` also if one of the customer's taxes does
-// not exist.
+// Returns the sum of a customer's tax rates, in hundred-thousandths, or `None` if it exceeds the
+// greatest rate. Fails with `Store` also if one of the customer's taxes does not exist.
 pub(crate) fn checked_tax_rate_sum<S: Alter>(
     alloc: Global,
     store: &mut Store<S>,

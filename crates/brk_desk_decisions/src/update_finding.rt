@@ -99,6 +99,7 @@ pub(crate) fn cash_type_facts<S: Alter>(
     Ok(Some(TextUpdate::CashTypes(settled)))
 }
 
+// Returns `None` if no security has the symbol.
 fn security_name<S: Alter>(store: &mut Store<S>, symbol: &Symbol) -> Result<Option<Name>, CallFault>
     ensures { ReadPost S.Store store.old store.new result (λ name t. MatchOption name (is_none (security_row_with_symbol t symbol.now)
         ≡ true) (SecurityHasName t symbol.now)) }

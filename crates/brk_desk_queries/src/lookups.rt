@@ -18,8 +18,9 @@ use brk_view_rows::{
 use sqlite::Alter;
 use std::alloc::Global;
 
-// The settlement and the cash row may be missing. The result is specified only if the tables are
-// those of a base that satisfies the books invariant and the audit invariant.
+// Adds to `trade` its settlement and its cash row, each of which may be missing, and its history.
+// The result is specified only if the tables represent a base that satisfies the books invariant
+// and the audit invariant.
 fn look_up_trade<S: Alter>(
     alloc: Global,
     store: &mut Store<S>,

@@ -1,5 +1,5 @@
-//! The parties of an account: its customer and its broker. If one of them does not exist, the fault
-//! is `Store`.
+//! The names of an account's customer and broker, added to its trades for the view of `statuses`.
+//! If one of the two does not exist, the fault is `Store`.
 
 ghost use Rattle.std.specs.Prelude.{◌≡◌};
 ghost use Rattle.brk_desk_queries.specs.Parties.{IsAccountStatusWithTrades};
@@ -23,6 +23,7 @@ fn require_broker_name<S: Alter>(store: &mut Store<S>, id: Id) -> Result<Name, C
     }
 }
 
+// Adds to `trades` the names of the account's customer and broker.
 pub(crate) fn account_status<S: Alter>(
     store: &mut Store<S>,
     row: &AccountRow,

@@ -36,6 +36,7 @@ fn is_trade_of_symbol(status: &TradeStatus, symbol: &Symbol) -> bool
     status.trade.symbol.as_str() == symbol.as_str()
 }
 
+// Returns the security that a trade of `statuses` has, if one has the symbol. Reads no table.
 fn security_of_symbol(
     statuses: &[TradeStatus],
     symbol: &Symbol,
@@ -53,7 +54,8 @@ fn security_of_symbol(
     Ok(Some(security))
 }
 
-// Reads the security of each symbol once.
+// Returns the last fifty trades of an account, each with its security. Reads the security of each
+// symbol once.
 fn fifty_trades_with_securities<S: Alter>(
     alloc: Global,
     store: &mut Store<S>,

@@ -23,7 +23,8 @@ fn require_stamp<S: Alter>(store: &mut Store<S>, trade: Id) -> Result<Stamp, Cal
     }
 }
 
-// A change has the stamp of the last status of the trade that made it.
+// Returns the changes of a lot, each with the stamp of the last status of the trade that made it.
+// Fails with `Store` also if one of these trades does not exist.
 fn stamped_lot_changes<S: Alter>(
     alloc: Global,
     store: &mut Store<S>,
@@ -44,7 +45,8 @@ fn stamped_lot_changes<S: Alter>(
     Ok(touches)
 }
 
-// Merges lot by lot, so that no more than 20 changes are kept.
+// Returns the first 20 changes, by any trade, of the lots that `trade` touched. Merges lot by lot,
+// so that no more than 20 changes are kept.
 fn touched_lots_of_trade<S: Alter>(
     alloc: Global,
     store: &mut Store<S>,

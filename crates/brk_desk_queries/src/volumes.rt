@@ -31,6 +31,7 @@ fn is_in_sector<S: Alter>(
     }
 }
 
+// Appends a copy of `row` if it is a request of `broker` for a security of the sector.
 fn append_sector_request<S: Alter>(
     store: &mut Store<S>,
     sector: &Name,
@@ -121,7 +122,8 @@ fn append_volumes_of_name<S: Alter>(
     Ok(())
 }
 
-// Reads the pending requests once for all brokers.
+// Returns the volumes of the brokers with the names. Reads the pending requests once for all
+// brokers.
 fn named_volumes<S: Alter>(
     alloc: Global,
     store: &mut Store<S>,

@@ -1,5 +1,6 @@
-//! The columns of rows. A value that is longer than its column is written whole. The functions fail
-//! with `Memory` only, and may then have appended a part.
+//! The columns with which the row of a trade or a lot begins, and columns of amounts and shares
+//! after them. A value that is longer than its column is written whole. The functions fail with
+//! `Memory` only, and may then have appended a part.
 
 ghost use Rattle.std.specs.Fmt.{signed_decimal};
 ghost use Rattle.std.specs.Prelude.{◌≡◌, ◌++◌, ◌∷◌, OnOk, decimal};

@@ -29,7 +29,7 @@ fn put_cash_row(out: &mut Vec<u8>, row: &Option<CashRow>) -> Result<(), AllocErr
     put_spaced_line(out, row.name.as_bytes())
 }
 
-/// Writes `none` and 0.00 for a trade without a cash row.
+/// Writes also the cash row of the trade. Writes `none` and 0.00 for a trade without one.
 #[tactic(auto, unfolding(brk_model_explain::specs::TradeLines::trade_balance_lines))]
 pub(crate) fn put_balance(
     alloc: Global,

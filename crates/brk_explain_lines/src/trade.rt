@@ -1,4 +1,4 @@
-//! The text of the explanation of a trade.
+//! The text of the explanation of a trade. After an error a part of the lines may be appended.
 
 ghost use Rattle.std.specs.Prelude.{◌≡◌, ◌++◌, IfOk, OnOk, option_map};
 ghost use Rattle.brk_model_explain.specs.TradeLines as lines;

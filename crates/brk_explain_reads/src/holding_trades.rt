@@ -82,7 +82,8 @@ fn push_opened_lot(lots: &mut Vec<LotDetails>, lot: Option<LotDetails>) -> Resul
     Ok(())
 }
 
-// After an error the lot may be appended without the trade.
+// Appends also the lot of the trade, if it has one. After an error the lot may be appended without
+// the trade.
 fn push_trade(held: &mut TradesAndLots, one: TradeAndLot) -> Result<(), AllocError>
     ensures done { OnOk result (held.new.done.items ≡ held.old.done.items ++ one.trade ∷ []) }
     ensures lots { OnOk result (map abstract_lot_details held.new.lots.items

@@ -83,6 +83,7 @@ fn with_price(change: &LotChange, stamp: Stamp, price: Price) -> PricedLotChange
     }
 }
 
+// Fails with `Store` also if the trade of the change does not exist or has no price.
 fn read_priced_change<S: Alter>(
     store: &mut Store<S>,
     change: &LotChange,
@@ -129,6 +130,7 @@ fn sort_changes(
     Ok(sorted)
 }
 
+// Returns the changes by other trades in the order of their completion.
 pub(crate) fn read_changes<S: Alter>(
     alloc: Global,
     store: &mut Store<S>,

@@ -62,6 +62,7 @@ fn band_with_quantity(bands: Vec<Band>, qty: Qty) -> Option<Band>
     found
 }
 
+// Reads the bands of `tier`, and returns the one that applies to the order, if there is one.
 fn band_for_tier<S: Alter>(
     alloc: Global,
     store: &mut Store<S>,

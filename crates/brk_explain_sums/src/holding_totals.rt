@@ -38,7 +38,8 @@ fn put_trade_totals(
     put_amount_fact(alloc, out, "Cost basis", cost)
 }
 
-// The unrealised gain is the worth minus `cost`, the cost basis.
+// Writes also the shares and the last price. The unrealised gain is the worth minus `cost`, the
+// cost basis.
 #[tactic(auto, unfolding(brk_model_explain::specs::HoldingLines::holding_value_lines))]
 fn put_worth(
     alloc: Global,
@@ -57,6 +58,7 @@ fn put_worth(
     Ok(put_amount_fact(alloc, out, "Unrealised gain", gain)?)
 }
 
+// Writes the numbers of trades, lots, open lots and changes.
 fn put_lot_counts(
     out: &mut Vec<u8>,
     trades: usize,

@@ -1,3 +1,5 @@
+//! The execution of the call that a request makes, and the response to it.
+
 ghost use Rattle.std.specs.Prelude.{◌≡◌, ℕ, List};
 ghost use Rattle.brk_model.specs.Run.{Ask, Do, Outcome};
 ghost use Rattle.brk_model_http.specs.Replies.{FromOutcome};

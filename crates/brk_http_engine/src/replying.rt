@@ -1,3 +1,5 @@
+//! The reply to a response: its status, its head and its body.
+
 ghost use Rattle.std.specs.Prelude.{◌≡◌, ◌++◌, [], IfOk, OnOk, decimal, string_bytes, unwrap_or};
 ghost use Rattle.http.specs.StatusCode.{reason_phrase};
 ghost use Rattle.brk_model_http.specs.Replies.{FromOutcome, is_method_not_allowed, response_body, fault_word, http_head_line, is_fault_response};

@@ -1,3 +1,5 @@
+//! One exchange of a stream: the next request is read and executed, and its reply is written.
+
 ghost use Rattle.std.specs.Prelude.{◌≡◌, ◌==◌, ◌||◌, ◌+◌, ◌<◌, ◌++◌, ℕ, Bool, List, Option, Ok, Err, IfErr, IfOk, IfSome, length, string_bytes};
 ghost use Rattle.std.specs.Io.KnownBytes.{prepend_known};
 ghost use Rattle.std.specs.List.{list_all};
@@ -58,7 +60,8 @@ enum OutOfMemoryPoint {
     After,
 }
 
-// A fault of the desk, even `Memory`, is no failure: the reply reports it.
+// Executes the request at `places` and formats its reply, but writes nothing. A fault of the desk,
+// even `Memory`, is no failure: the reply reports it.
 fn execute_request<C: Clock, D: Service>(
     alloc: Global,
     router: &Router<RouteKind>,

@@ -1,3 +1,6 @@
+//! The engine of a batch: reads the header, then the records, one ahead of the row that it
+//! executes, and writes the line of each row and the end line.
+
 ghost use Rattle.std.specs.Prelude.{◌≡◌, ◌+◌, ◌<◌, ◌∷◌, [], ℕ, List, Option, IfOk, IfErr, OnOk, option_map};
 ghost use Rattle.std.specs.Io.KnownBytes.{Appends};
 ghost use Rattle.csv.specs.Reading.{reader_state, source_of};
@@ -58,6 +61,7 @@ fn refuse_last_row<W: Write, D: Rows>(alloc: Global, writer: &mut W, n: u64) -> 
     }
 }
 
+// Writes the end line if the end record has the number `n` of rows; otherwise fails with `BadEnd`.
 fn answer_end_record<W: Write>(
     alloc: Global,
     writer: &mut W,
@@ -116,6 +120,7 @@ fn read_batch_name<R: Read>(alloc: Global, records: &mut Reader<R>) -> Result<Ba
     }
 }
 
+// Fails with `NoEnd` if there is no such record.
 fn read_record_after_header<R: Read>(
     records: &mut Reader<R>,
     row: &mut ByteRecord,
@@ -171,6 +176,7 @@ fn look_ahead<R: Read, W: Write, D: Rows>(
     Ok(())
 }
 
+// Executes row `settled + 1`, and writes the line of its answer.
 fn answer_row<W: Write, C: Clock, D: Rows>(
     alloc: Global,
     name: &BatchName,

@@ -1,3 +1,6 @@
+//! The records of the input of a batch: read in order, and tested for the header and the end
+//! record.
+
 ghost use Rattle.std.specs.Prelude.{◌≡◌, ◌⊎◌, ◌↔◌, ◌∷◌, ◌++◌, [], ℕ, List, Option, Some, IsTrue, IfOk};
 ghost use Rattle.std.specs.Prelude.{IfErr, OnOk, MatchBool, MatchOption, option_map};
 ghost use Rattle.std.specs.Io.Take.{take_remaining};

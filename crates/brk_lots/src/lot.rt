@@ -1,3 +1,5 @@
+//! Lots and their changes, and the side and the sign of a number of shares.
+
 ghost use Rattle.std.specs.Prelude.{◌≡◌, ◌≤◌, ◌-◌};
 ghost use Rattle.std.specs.Int.RustNames.{unsigned_abs};
 ghost use Rattle.brk_money.specs.Kinds.{is_same_side};

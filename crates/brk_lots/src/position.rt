@@ -93,8 +93,8 @@ impl Position {
         Ok(())
     }
 
-    /// Returns a source of the lots: the newest first if `lifo` is true, otherwise the oldest
-    /// first.
+    /// Returns the lots of this position as a source: the newest first if `lifo` is true, otherwise
+    /// the oldest first.
     pub fn from_end(&self, lifo: bool) -> PositionEnd<'_>
         ensures remaining { ⟦<PositionEnd<'static> as LotSource>⟧.remaining result (list_reversed_if_lifo lifo self.now) }
         ensures asked { ⟦<PositionEnd<'static> as LotSource>⟧.asked result ≡ 0 }

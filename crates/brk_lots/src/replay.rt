@@ -1,3 +1,5 @@
+//! The replay of deals from no lots, and the changes of lots that it makes.
+
 ghost use Rattle.std.specs.Prelude.{◌≡◌, ◌++◌, [], map, IfOk, IfErr, OnOk};
 ghost use Rattle.std.specs.Option.{option_to_list};
 ghost use Rattle.brk_model.specs.Shares.{replay};

@@ -1,3 +1,5 @@
+//! Closing the lots of a source one by one, with the cost and the values of their shares.
+
 ghost use Rattle.std.specs.Prelude.{◌+◌, ◌*◌, ◌≤◌, List, [], length, IfOk};
 ghost use Rattle.brk_model.specs.Limits.{greatest_price};
 ghost use Rattle.brk_lots.specs.declared.lot.Lot.{Lot};

@@ -1,4 +1,4 @@
-//! The format checks of fields, and the order of their refusals.
+//! The format checks of fields, the order of their refusals, and canonical texts.
 #![tactic(auto, unfolding(crate::proofs::OnLiterals::model_on_literals))]
 
 ghost use Rattle.std.specs.Prelude.{◌≡◌, ◌∷◌, [], Err, Some, None, pos, negsuc, codes};

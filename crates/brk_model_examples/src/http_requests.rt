@@ -1,5 +1,4 @@
-//! Checks of requests: the end of a head, the length of a body, routes, lists of texts, and the
-//! order of the checks.
+//! Checks of HTTP requests: heads, lengths of bodies, routes, lists of texts, and their order.
 #![tactic(auto, unfolding(crate::proofs::WebOnLiterals::web_on_literals))]
 
 ghost use Rattle.std.specs.Prelude.{◌≡◌, ◌∷◌, [], ℕ, Ok, Err, Some, None, codes};

@@ -1,4 +1,4 @@
-//! The executors, charges and bands that an order needs.
+//! What an order needs: account, security, executor, charge and commission band.
 #![tactic(auto, unfolding(crate::proofs::OnLiterals::model_on_literals))]
 
 ghost use Rattle.std.specs.Prelude.{◌∷◌, [], codes};

@@ -1,4 +1,4 @@
-//! Wrong statuses, limits, and the greatest stamp.
+//! Results that are refused: of a trade that is not submitted, or above a limit.
 #![tactic(auto, unfolding(crate::proofs::OnLiterals::model_on_literals))]
 
 ghost use Rattle.std.specs.Prelude.{◌≡◌, ◌∷◌, [], Ok, codes};

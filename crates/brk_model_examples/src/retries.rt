@@ -1,4 +1,4 @@
-//! Retried rows, and inputs that are cut.
+//! Batches, rows, orders and deposits that are retried.
 #![tactic(auto, unfolding(crate::proofs::OnLiterals::model_on_literals))]
 
 ghost use Rattle.std.specs.Prelude.{◌≡◌, ◌∷◌, [], codes, ℕ, map, ℤ, pos};

@@ -1,4 +1,4 @@
-//! Single rules, each at its limits.
+//! Single definitions at their limits: rounding, triggers, withheld tax, due days, executors.
 #![tactic(auto, unfolding(crate::proofs::OnLiterals::model_on_literals))]
 
 ghost use Rattle.std.specs.Prelude.{◌≡◌, ◌∷◌, [], ℤ, pos, negsuc, map, true, false, Some, None};

@@ -1,4 +1,4 @@
-//! The first day of one-day settlement, and large quantities.
+//! Due days: the first day of one-day settlement, and completions at the end of the calendar.
 #![tactic(auto, unfolding(crate::proofs::OnLiterals::model_on_literals))]
 
 ghost use Rattle.std.specs.Prelude.{◌≡◌, ◌∷◌, [], ℕ, map, Some, replicate, codes};

@@ -1,4 +1,4 @@
-//! Statements.
+//! Statements of accounts, and their lines of amounts.
 #![tactic(auto, unfolding(crate::proofs::OnLiterals::model_on_literals))]
 
 ghost use Rattle.std.specs.Prelude.{◌≡◌, ◌∷◌, [], Ok, Err, codes, negsuc, pos};

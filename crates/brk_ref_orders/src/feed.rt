@@ -1,3 +1,5 @@
+//! Market feeds, their parser, and which refusal counts if several ticks are malformed.
+
 ghost use Rattle.std.specs.Prelude.{◌≡◌, IfOk, nat_le, if◌then◌else◌};
 ghost use Rattle.brk_model.specs.Forms as forms;
 ghost use Rattle.brk_model.specs.Forms.{one_to_twenty_elements};

@@ -1,3 +1,5 @@
+//! The parser of the first day of one-day settlement.
+
 ghost use Rattle.std.specs.Prelude.{◌≡◌};
 ghost use Rattle.std.specs.Option.{ok_or};
 ghost use Rattle.brk_model.specs.Forms.{read_day};
@@ -7,6 +9,7 @@ ghost use Rattle.brk_ref.specs.Fields.{ParsesAs, texts_of_fields};
 
 use brk_money::{Day, Refusal, parse_day};
 
+// `parse_day`; its clause also states the limit of the day.
 fn parse_day_with_limit(bytes: &[u8]) -> Option<Day>
     ensures { ok_or result BadText ≡ read_day bytes.now }
 {

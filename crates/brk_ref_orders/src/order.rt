@@ -77,6 +77,7 @@ fn parse_executor(
     }))
 }
 
+// Refuses a price with `BadPrice`.
 fn market_type_without_price(order_type: OrderType, price: &[u8]) -> Result<OrderType, Refusal>
     ensures { result ≡ forms.market_type_if_price_is_empty order_type price.now }
 {

@@ -92,6 +92,7 @@ fn read_lot_index<S: Alter>(conn: &mut Connection<S>, alloc: Global) -> Result<L
     }
 }
 
+// The lot must also have been opened at `stamp`.
 fn is_lot_of_position(row: &HoldingRow, account: Id, symbol: &Symbol, stamp: Stamp) -> bool
     ensures { result ≡ ((row.now.account == account) && (bytes_eq row.now.symbol symbol.now && (row.now.stamp == stamp))) }
 {
@@ -206,7 +207,8 @@ impl<S: Alter> Store<S> {
         }
     }
 
-    // Scans HOLDING if there is no index or the desk has few lots.
+    // Reads by the index, if there is one and the desk has more than `MOST_SCANNED_LOTS` lots;
+    // otherwise scans HOLDING.
     fn page_with_prepared_index(
         &mut self,
         alloc: Global,

@@ -216,6 +216,7 @@ impl<S: Alter> Pages<'_, S, Page> {
         Ok(page)
     }
 
+    // Reads the next page and returns its first lot, or `None` if no lot remains.
     fn first_lot_of_next_page(&mut self) -> Result<Option<Lot>, CallFault>
         // All lots of the current page were returned.
         requires { length self.old.page.rows.items ≤ self.old.page.returned }

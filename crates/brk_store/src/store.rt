@@ -1,3 +1,6 @@
+//! The store: its creation, the changes of its rows, and its connection; `adoption` opens an
+//! existing database.
+
 use crate::indexed::index_after_changes;
 use brk_money::Fault;
 use brk_store_lots::LotIndex;

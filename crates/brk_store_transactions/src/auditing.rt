@@ -1,4 +1,5 @@
-//! The audit of rows by the conditions of a schema, and of a database by those of schema 3.
+//! The audit of rows by the conditions of a schema, and of a database by those of schema 3;
+//! `examining` audits a database by the schema that it has.
 
 ghost use Rattle.std.specs.Prelude.{◌≡◌, ◌≢◌, IfErr, IfOk, IsTrue, Some, false};
 ghost use Rattle.brk_money.specs.declared.fault.Condition.TheVariants.{NotEmpty};

@@ -1,4 +1,4 @@
-//! The row of SETTLE_RULE.
+//! The row of SETTLE_RULE: the first day of one-day settlement.
 
 ghost use Rattle.std.specs.Prelude.{◌≡◌, IfOk, map};
 ghost use Rattle.brk_trade_rows.specs.Changes.{tables_with_one_day_settlement_start};

@@ -68,6 +68,7 @@ fn desk_definitions() -> &'static [Definition]
     &DEFINITIONS
 }
 
+// Returns true also if tables are missing.
 pub(crate) fn has_definitions_of_desk(schema: &Schema) -> bool
     ensures { IsTrue result ↔ ((w : DeskTable) → IsDefinedAsDeskDefines schema.now w) }
 {

@@ -1,3 +1,5 @@
+//! The row of DESK: the stamp of the last accepted command, set, read and decoded.
+
 ghost use Rattle.std.specs.Prelude.{◌≡◌, ◌∷◌, [], IfOk, map, Err, false};
 ghost use Rattle.brk_tables_sql.specs.Model.{IsConnectionStep};
 ghost use Rattle.brk_model.specs.Schemas.{third_schema};

@@ -1,3 +1,5 @@
+//! The rows of KEPT, stored requests and replies: added, decoded, and read by key.
+
 ghost use Rattle.std.specs.Prelude.{◌≡◌, ◌==◌, ◌&&◌, bytes_eq};
 ghost use Rattle.brk_ref.specs.Records.{abstract_kept_row};
 ghost use Rattle.brk_trade_rows.specs.Changes.{tables_with_stored_reply};

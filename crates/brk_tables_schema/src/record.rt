@@ -37,14 +37,14 @@ pub fn decode_first_row<T: Record>(rows: &[Row]) -> Result<Option<T>, StoreFaile
     }
 }
 
-/// Decodes all rows, in order.
+/// Decodes all rows, in order. Fails with `Store` at the first malformed one.
 pub fn decode_rows<T: Record>(alloc: Global, rows: &[Row]) -> Result<Vec<T>, CallFault>
     ensures value { IfOk result (λ all. map T.cells all.items ≡ rows.now) }
 {
     Ok(decode_rows_with_reason(alloc, rows)?)
 }
 
-/// Decodes all rows, in order, and fails at the first malformed one.
+/// Decodes all rows, in order. Fails at the first malformed one, with the reason.
 #[tactic(auto, using(crate::proofs::Unformed::not_all))]
 pub fn decode_rows_with_reason<T: Record>(
     alloc: Global,

@@ -1,4 +1,4 @@
-//! The decoding of the row of SETTLE_RULE.
+//! The decoding of the row of SETTLE_RULE, the first day of one-day settlement.
 
 ghost use Rattle.std.specs.Prelude.{◌≡◌, ◌∷◌, [], Err, IfOk, Some, false, map};
 ghost use Rattle.brk_tables_schema.specs.Cells.{rule_cells};

@@ -162,6 +162,7 @@ fn settling_change(trade: &TradeRow, completed: &Completed) -> Change
     })
 }
 
+// Appends the changes of the summary, of the broker's totals and of the settlement.
 fn append_sums_with_settlement(
     found: &ResultPlanFacts,
     outcome: &ResultFigures,

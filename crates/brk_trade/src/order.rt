@@ -1,3 +1,5 @@
+//! The plan of an order, and its estimate as a reply.
+
 ghost use Rattle.std.specs.Prelude.{◌≡◌, ◌⊎◌, ◌++◌, ◌∷◌, [], ℕ, List, drop, IfOk, IfErr, OnErr, MatchResult, MatchOption, Some, None, false, string_bytes};
 ghost use Rattle.brk_lots.specs.declared.lot.Lot.{Lot};
 ghost use Rattle.brk_lots.specs.Against.{is_trade_closing_lots};
@@ -74,6 +76,8 @@ fn bid_price_of_order(order: &Order, last: Price) -> Price
     order.order_type.price().unwrap_or(last)
 }
 
+// Returns the terms of an order that passes the checks that an estimate makes too, or their first
+// refusal.
 fn checked_placement(order: &Order, found: &OrderPlanFacts) -> Result<Placement, Refusal>
     ensures { MatchResult result
         (IsCheckedPlacement order.now found.now)

@@ -1,4 +1,4 @@
-//! The figures of a result for the trade that it completes.
+//! The checks of a result, before lots are read and after, and its figures.
 
 ghost use Rattle.std.specs.Prelude.{◌≡◌, ◌*◌, ◌≤◌, true, false, nat_lt, nat_abs, MatchOption, MatchResult, None, Some};
 ghost use Rattle.brk_model.specs.Limits.{greatest_price, greatest_summary_quantity};

@@ -103,7 +103,8 @@ pub(crate) fn checked_commissions(broker: BrokerTotals, commission: Amount) -> O
     Amount::new(broker.commissions.get() + commission.get())
 }
 
-// Returns `None` if the due day is after 9999-12-31.
+// `completion_due_day`, with a clause for each outcome. Returns `None` if the due day is after
+// 9999-12-31.
 pub(crate) fn checked_due_day(rule: Option<Day>, stamp: Stamp) -> Option<Day>
     ensures { MatchOption result
         (nat_lt greatest_day (derived.due_day_of_completion_stamp rule stamp) ≡ true)

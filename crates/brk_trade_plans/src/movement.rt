@@ -57,6 +57,7 @@ pub fn add_within_balance_limit(balance: Cents, amount: Cents) -> Option<Cents>
     Cents::new(balance.get() + amount.get())
 }
 
+// Returns the balance after the movement, or the first refusal of the checks before the clock's.
 fn checked_balance(movement: &Movement, found: &MovementPlanFacts) -> Result<Cents, Refusal>
     ensures { MatchResult result
         (λ balance. (first_refusal (movement_checks movement.now found.now) ≡ None) × (balance ≡ spec.balance_after_movement movement.now found.now))

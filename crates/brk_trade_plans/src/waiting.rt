@@ -1,3 +1,5 @@
+//! The row changes of a pending trade that is submitted or canceled.
+
 ghost use Rattle.std.specs.Prelude.{◌≡◌, ◌++◌, OnOk};
 ghost use Rattle.brk_trade_plans.specs.Waiting.{row_changes_of_status_after_pending};
 

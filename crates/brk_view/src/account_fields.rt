@@ -108,6 +108,7 @@ fn party_texts(alloc: Global, account: &AccountStatus) -> Result<Vec<String>, Al
     Ok(texts)
 }
 
+// Returns the fields 1 to 5 of a trade.
 fn first_status_fields(alloc: Global, trade: &TradeRow) -> Result<Vec<String>, AllocError>
     ensures { IfOk result (λ texts. texts_of_record texts ≡ statuses.first_five_status_fields trade.now) }
 {
@@ -120,6 +121,7 @@ fn first_status_fields(alloc: Global, trade: &TradeRow) -> Result<Vec<String>, A
     Ok(texts)
 }
 
+// Appends the fields 6 to 10 of a trade.
 fn append_last_status_fields(
     alloc: Global,
     texts: &mut Vec<String>,

@@ -34,6 +34,7 @@ fn append_lot_rows(
     Ok(())
 }
 
+// Returns the first record of the view: the id of the trade that touched the lots.
 fn touching_trade_texts(alloc: Global, lots: &TouchedLots) -> Result<Vec<String>, AllocError>
     ensures { IfOk result (λ texts. texts_of_record texts ≡ decimal lots.now.trade ∷ []) }
 {

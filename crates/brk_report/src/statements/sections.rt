@@ -1,4 +1,5 @@
-//! The parts of a statement that are written row by row.
+//! The lines of the cash rows, with that of the opening amount, and those of the lots, written row
+//! by row while the desk walks; `parts` adds the closing amount and the totals.
 
 ghost use Rattle.std.specs.Prelude.{◌≤◌};
 ghost use Rattle.brk_report.specs.CashWalk.{WritesCashLines, WritesLinesOfCashWalk};
@@ -45,8 +46,8 @@ fn walk_cash_lines<W: Write, S: Alter>(
     }
 }
 
-/// Returns the number of rows that have a line and the closing amount; no clause states
-/// `is_opened`.
+/// Writes the opening amount also if no row has a line. Returns the number of rows that have a line
+/// and the closing amount; no clause states `is_opened`.
 pub(crate) fn write_cash_lines<W: Write, S: Alter>(
     alloc: Global,
     desk: &mut Desk<S>,

@@ -67,7 +67,7 @@ pub(crate) fn write_opening_once<W: Write>(
     write_line(writer, amount_line(alloc, "Opening", opening))
 }
 
-// The opening amount is the total before the row.
+// Before the first row, also writes the opening amount, which is the total before the row.
 fn write_cash_row<W: Write>(
     alloc: Global,
     moved: CashProgress,

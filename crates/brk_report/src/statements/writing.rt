@@ -1,3 +1,5 @@
+//! The statement of an account: its checks, then all its lines, from the header to the counts.
+
 ghost use Rattle.std.specs.Prelude.{◌≤◌};
 ghost use Rattle.brk_report.specs.StatementParts.{all_statement_lines};
 ghost use Rattle.brk_report.specs.StatementOutput.{StatementPost, PreservesDesk, HoldsForStoredTables};
